@@ -1,0 +1,60 @@
+-- The plain run is a run that can't go on.
+use Rattle.std.proofs.Common.{◌≡◌, ℕ, zero, suc, ◌<◌, ◌≤◌, true, false, cond, Option, Some, None, inl, inr, refl, sym, ◌∙◌, subst, arith}
+use Rattle.std.proofs.lemmas.Bool.{cond-true, cond-false, cases_eq, cases_Bool, true≢false, false_from_ne_true}
+use Rattle.std.proofs.lemmas.Option.{same_Some}
+use Rattle.wire_types.specs.Plan.{Plan, process_count}
+use Rattle.wire_plan.specs.State.{State, start, next_event}
+use Rattle.wire_plan.specs.Machine.{is_enabled, step, IsInterleaving, run_from, IsEnd}
+use Rattle.wire_plan.specs.Plain.{or_else, lowest, go_on, plain_from, plain_run, PlainRuns}
+use Rattle.wire_plan.proofs.Basics.{process_within}
+use Rattle.wire_plan.proofs.Due.{has_event}
+use Rattle.wire_plan.proofs.Length.{left_from, left_falls, left_at_start}
+use Rattle.wire_plan.proofs.OneEnd.{settled_one_end}
+
+-- a process that may go on is one of the plan's
+enabled_within : (plan : Plan) (s : State) (p : ℕ) → is_enabled plan s p ≡ true → p < process_count plan
+enabled_within plan s p h = let v = has_event plan s p (next_event plan s p) refl h in process_within plan p (s.done p) v.0 v.1
+
+lowest_enabled : (plan : Plan) (s : State) (n p : ℕ) → lowest plan s n ≡ Some p → is_enabled plan s p ≡ true
+lowest_enabled plan s zero p h = cc
+lowest_enabled plan s (suc n) p h = go (lowest plan s n) refl h (lowest_enabled plan s n p)
+  where
+    go : (o : Option ℕ) → lowest plan s n ≡ o → or_else o (cond (is_enabled plan s n) (Some n) None) ≡ Some p → (lowest plan s n ≡ Some p → is_enabled plan s p ≡ true) → is_enabled plan s p ≡ true
+    go (Some q) e h ih = ih (e ∙ h)
+    go None e h ih = elim (cases_Bool (is_enabled plan s n)) [
+      | inl t ↦ (let r : n ≡ p = same_Some _ _ (sym (cond-true _ _ _ t) ∙ h) in subst (λ q. is_enabled plan s q ≡ true) r t)
+      | inr f ↦ (let r : None ≡ Some p = sym (cond-false _ _ _ f) ∙ h in cc)
+    ]
+
+none_enabled : (plan : Plan) (s : State) (n p : ℕ) → lowest plan s n ≡ None → p < n → is_enabled plan s p ≡ false
+none_enabled plan s zero p h lt = absurd (omega (arith, lt))
+none_enabled plan s (suc n) p h lt = go (lowest plan s n) refl h (none_enabled plan s n p)
+  where
+    go : (o : Option ℕ) → lowest plan s n ≡ o → or_else o (cond (is_enabled plan s n) (Some n) None) ≡ None → (lowest plan s n ≡ None → p < n → is_enabled plan s p ≡ false) → is_enabled plan s p ≡ false
+    go (Some q) e h ih = cc
+    go None e h ih = elim (cases_Bool (is_enabled plan s n)) [
+      | inl t ↦ (let r : Some n ≡ None = sym (cond-true _ _ _ t) ∙ h in cc)
+      | inr f ↦ elim (cases_eq p n) [ inl e' ↦ subst (λ q. is_enabled plan s q ≡ false) (sym e') f | inr ne ↦ ih e (omega (arith, lt, ne)) ]
+    ]
+
+plain_is_run : (plan : Plan) (fuel : ℕ) (s : State) → IsInterleaving plan s (plain_from plan fuel s)
+plain_is_run plan zero s = tt
+plain_is_run plan (suc fuel) s = go (lowest plan s (process_count plan)) refl (λ p. plain_is_run plan fuel (step plan s p))
+  where
+    go : (o : Option ℕ) → lowest plan s (process_count plan) ≡ o → ((p : ℕ) → IsInterleaving plan (step plan s p) (plain_from plan fuel (step plan s p))) → IsInterleaving plan s (go_on o (λ p. plain_from plan fuel (step plan s p)))
+    go None e rest = tt
+    go (Some p) e rest = (lowest_enabled plan s (process_count plan) p e, rest p)
+
+plain_ends : (plan : Plan) (fuel : ℕ) (s : State) → left_from plan.processes s.done 0 ≤ fuel → IsEnd plan (run_from plan s (plain_from plan fuel s))
+plain_ends plan zero s le = λ p. false_from_ne_true _ (λ h. let f = left_falls plan s p h in omega (arith, f, le))
+plain_ends plan (suc fuel) s le = go (lowest plan s (process_count plan)) refl (λ p. plain_ends plan fuel (step plan s p))
+  where
+    go : (o : Option ℕ) → lowest plan s (process_count plan) ≡ o → ((p : ℕ) → left_from plan.processes (step plan s p).done 0 ≤ fuel → IsEnd plan (run_from plan (step plan s p) (plain_from plan fuel (step plan s p)))) → IsEnd plan (run_from plan s (go_on o (λ p. plain_from plan fuel (step plan s p))))
+    go None e rest = λ p. false_from_ne_true _ (λ h. true≢false (sym h ∙ none_enabled plan s (process_count plan) p e (enabled_within plan s p h)))
+    go (Some p) e rest = rest p (let f = left_falls plan s p (lowest_enabled plan s (process_count plan) p e) in omega (arith, f, le))
+
+pub plain_runs : (plan : Plan) → PlainRuns plan
+plain_runs plan =
+    let ends : IsEnd plan (run_from plan start (plain_run plan)) = plain_ends plan _ start (left_at_start plan.processes 0) in
+    let is_run : IsInterleaving plan start (plain_run plan) = plain_is_run plan _ start in
+    record { is_run = is_run; ends = ends; is_the_end = λ w settled h e. settled_one_end plan w (plain_run plan) settled h is_run e ends }

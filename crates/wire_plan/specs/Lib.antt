@@ -1,0 +1,13 @@
+pub use Rattle.wire_types.specs.Plan
+pub use Rattle.wire_types.specs.Puts
+pub use Rattle.wire_types.specs.Fences
+pub mod State
+pub mod Names
+pub mod Sight
+pub mod Machine
+pub mod Order
+pub mod Races
+pub mod Findings
+pub mod Fate
+pub mod Laws
+pub mod Plain

@@ -1,0 +1,4 @@
+//! Plans, and the laws of their runs.
+#![tactic(auto)]
+
+pub mod laws;

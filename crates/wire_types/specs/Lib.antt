@@ -1,0 +1,6 @@
+pub mod Counting
+pub mod Fault
+pub mod Front
+pub mod Plan
+pub mod Puts
+pub mod Fences

@@ -1,0 +1,59 @@
+//! Processes, and the places of calls and events.
+
+ghost use Rattle.std.specs.Prelude.{◌≡◌};
+
+use std::marker::Model;
+
+/// A process, by its number in process order: the file's job order, then rank. Counted from 0.
+#[derive(Clone, Copy, Debug, PartialEq, Eq, PartialOrd, Ord)]
+pub struct Proc {
+    number: u32,
+}
+
+impl Model for Proc {
+    ghost use Rattle.std.specs.Prelude.{ℕ};
+
+    ghost Value = { ℕ };
+
+    ghost view = { λ p. p.number };
+
+    ghost inverse = { λ n. record { number = n } };
+}
+
+impl Proc {
+    /// The process of a number.
+    pub fn new(number: u32) -> Proc
+        ensures { result ≡ number }
+    {
+        Proc { number }
+    }
+
+    /// Its number in process order.
+    pub fn number(self) -> u32
+        ensures { result ≡ self }
+    {
+        self.number
+    }
+
+    /// Its number in process order, as an index.
+    pub fn index(self) -> usize
+        ensures { result ≡ self }
+    {
+        self.number as usize
+    }
+}
+
+/// The place of a call: its process, and its number among the calls of that process, from 0.
+#[derive(Clone, Copy, Debug, PartialEq, Eq, PartialOrd, Ord)]
+pub struct CallAt {
+    pub proc: Proc,
+    pub call: u32,
+}
+
+/// The place of an event: its process, and its number among the events of that process, from 0.
+/// A call is one event, a fence is two.
+#[derive(Clone, Copy, Debug, PartialEq, Eq, PartialOrd, Ord)]
+pub struct Event {
+    pub proc: Proc,
+    pub at: u32,
+}
