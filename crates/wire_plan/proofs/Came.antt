@@ -7,7 +7,8 @@ use Rattle.wire_types.specs.declared.Event.{Event as Place}
 use Rattle.wire_plan.specs.State.{State, IsDone}
 use Rattle.wire_types.specs.Puts.{own, stored}
 use Rattle.wire_types.specs.Fences.{arrivals, is_member, is_complete, is_collecting, has_node}
-use Rattle.wire_plan.specs.Sight.{held, served, scope_of, for_others, brings, delivered, brought, get_now_sees}
+use Rattle.wire_types.specs.Puts.{scope_of}
+use Rattle.wire_plan.specs.Sight.{held, served, for_others, brings, delivered, brought, get_now_sees}
 use Rattle.wire_plan.specs.Order.{IsArrival, Live, Before}
 use Rattle.wire_plan.specs.Races.{Delivery, ByFence, IsOf, Delivers, ComesSurely, IsSettled}
 use Rattle.wire_plan.proofs.Basics.{arrivals_rise, arrivals_step, event_within}

@@ -1,3 +1,4 @@
+pub mod Planning
 pub mod Confluence
 pub mod Basics
 pub mod Due

@@ -1,6 +1,9 @@
 pub use Rattle.wire_types.specs.Plan
 pub use Rattle.wire_types.specs.Puts
 pub use Rattle.wire_types.specs.Fences
+pub use Rattle.wire_types.specs.Outcome
+pub use Rattle.wire_rehearsal.specs.Scripts
+pub use Rattle.wire_rehearsal.specs.Planned
 pub mod State
 pub mod Names
 pub mod Sight
@@ -11,3 +14,5 @@ pub mod Findings
 pub mod Fate
 pub mod Laws
 pub mod Plain
+pub mod Kinds
+pub mod Ends

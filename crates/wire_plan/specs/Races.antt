@@ -6,7 +6,7 @@ use Rattle.wire_types.specs.declared.Event.{Event as Place}
 use Rattle.wire_types.specs.Puts.{own, stored, put_count}
 use Rattle.wire_types.specs.Fences.{is_member, is_full, is_collecting, has_node}
 use Rattle.wire_plan.specs.Names.{writes_name, calls_name}
-use Rattle.wire_plan.specs.Sight.{scope_of}
+use Rattle.wire_types.specs.Puts.{scope_of}
 use Rattle.wire_plan.specs.Order.{Stores, IsArrival, PublishesOnce, Live, Before}
 
 -- y puts again the key that x put first

@@ -1,10 +1,8 @@
 -- What a get sees.
 use Rattle.std.specs.Prelude.{ℕ, zero, suc, List, Bool, true, false, ◌&&◌, Option, Some, None, ◌==◌, if◌then◌else◌}
 use Rattle.wire_types.specs.Plan.{Plan, Event, Put, Arrive, event_at, event_count, node_of, same_node, admits}
-use Rattle.wire_types.specs.declared.Scope.{Scope}
-use Rattle.wire_types.specs.declared.Scope.TheVariants.{Global}
 use Rattle.wire_plan.specs.State.{State}
-use Rattle.wire_types.specs.Puts.{own, stored}
+use Rattle.wire_types.specs.Puts.{own, stored, scope_of}
 use Rattle.wire_types.specs.Fences.{arrivals, is_member, is_complete, is_collecting, has_node}
 
 -- nothing, something that isn't for the reader's node, or the value of the owner's put of this number
@@ -12,14 +10,6 @@ pub data Sight : Type 0 where
   Nothing : Sight
   Outside : Sight
   Shown : (put : ℕ) → Sight
-
-abbrev pub scope_in : Option Event → Scope
-scope_in (Some (Put key scope)) = scope
-scope_in _ = Global
-
--- the scope of a put
-abbrev pub scope_of : Plan → ℕ → ℕ → Scope
-scope_of plan p i = scope_in (event_at plan p i)
 
 -- one's own put
 abbrev pub held : Option ℕ → Sight

@@ -1,4 +1,9 @@
-//! Plans, and the laws of their runs.
+//! Plans: the events that scripts are made of, and the laws of their runs.
 #![tactic(auto)]
 
+mod kind;
 pub mod laws;
+mod plan;
+
+pub use kind::Kind;
+pub use plan::Plan;

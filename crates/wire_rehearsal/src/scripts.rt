@@ -29,7 +29,13 @@ impl Model for Scripts {
 }
 
 impl Scripts {
-    pub fn new(nodes: Texts, jobs: Texts, keys: Texts, values: Texts, processes: Vec<Process>) -> Scripts
+    pub fn new(
+        nodes: Texts,
+        jobs: Texts,
+        keys: Texts,
+        values: Texts,
+        processes: Vec<Process>,
+    ) -> Scripts
         requires { IsCounted processes.items }
         ensures { result ≡ record { nodes = nodes; jobs = jobs; keys = keys; values = values; processes = processes.items } }
     {

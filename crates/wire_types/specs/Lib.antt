@@ -1,6 +1,7 @@
 pub mod Counting
 pub mod Fault
 pub mod Front
+pub mod Outcome
 pub mod Plan
 pub mod Puts
 pub mod Fences

@@ -1,7 +1,7 @@
 -- Puts and commits, by places in the scripts (PMIx Standard 5.0, Posting Key-Value Pairs).
 -- They are told of any numbered events, so that a server's store and a process's script share them.
 use Rattle.std.specs.Prelude.{ℕ, zero, suc, Option, Some, None, ◌==◌, if◌then◌else◌}
-use Rattle.wire_types.specs.Plan.{Plan, Event, Put, Commit, event_at}
+use Rattle.wire_types.specs.Plan.{Plan, Scope, Global, Event, Put, Commit, event_at}
 
 abbrev pub own_with : ℕ → ℕ → Option ℕ → Option Event → Option ℕ
 own_with key n before (Some (Put k scope)) = if k == key then Some n else before
@@ -41,3 +41,11 @@ stored plan p key n = stored_put (event_at plan p) key n
 -- how often p puts the key before its event number n
 abbrev pub put_count : Plan → ℕ → ℕ → ℕ → ℕ
 put_count plan p key n = count_puts (event_at plan p) key n
+
+abbrev pub scope_in : Option Event → Scope
+scope_in (Some (Put key scope)) = scope
+scope_in _ = Global
+
+-- the scope of p's put
+abbrev pub scope_of : Plan → ℕ → ℕ → Scope
+scope_of plan p i = scope_in (event_at plan p i)

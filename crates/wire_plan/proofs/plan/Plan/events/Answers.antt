@@ -1,0 +1,21 @@
+use Rattle.std.proofs.Common.{◌≡◌, ◌<◌, ◌≤◌, sym, refl, subst, map, length, Some, None}
+use Rattle.std.specs.Prelude.{slice_get, slice_index_or}
+use Rattle.std.proofs.lemmas.Option.{slice_get_read, slice_get_past}
+use Rattle.wire_plan.specs.Kinds.{event_of}
+use Rattle.wire_plan.proofs.Planning.{events_shown, events_past}
+use Rattle.wire_plan.proofs.plan.Plan.events.Goals as goal
+
+pub returns-in-Some : goal.returns-in-Some
+returns-in-Some c =
+    let rows = c.self.inside.events.items in
+    let lookup = rw (c.deref.ensures.value, c.index.ensures) at c.in-Some.ensures.lookup in
+    rw (c.as_slice.ensures.value, ← c.self.view_is)
+    (sym (events_shown (λ kinds. map event_of kinds.items) c.self.inside.scripts rows c.self.invariant.events c.args.proc c.in-Some.kinds.now
+    (slice_get_read rows (length rows) c.args.proc c.in-Some.kinds.now refl lookup.3.0 lookup.1)))
+
+pub returns-in-None : goal.returns-in-None
+returns-in-None c =
+    let rows = c.self.inside.events.items in
+    let lookup = rw (c.deref.ensures.value, c.index.ensures) at c.in-None.ensures.lookup in
+    rw (← c.self.view_is)
+    (sym (events_past (λ kinds. map event_of kinds.items) c.self.inside.scripts rows c.self.invariant.events c.args.proc (slice_get_past rows c.args.proc lookup.3)))
