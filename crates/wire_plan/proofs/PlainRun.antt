@@ -12,10 +12,10 @@ use Rattle.wire_plan.proofs.Length.{left_from, left_falls, left_at_start}
 use Rattle.wire_plan.proofs.OneEnd.{settled_one_end}
 
 -- a process that may go on is one of the plan's
-enabled_within : (plan : Plan) (s : State) (p : ℕ) → is_enabled plan s p ≡ true → p < process_count plan
+pub enabled_within : (plan : Plan) (s : State) (p : ℕ) → is_enabled plan s p ≡ true → p < process_count plan
 enabled_within plan s p h = let v = has_event plan s p (next_event plan s p) refl h in process_within plan p (s.done p) v.0 v.1
 
-lowest_enabled : (plan : Plan) (s : State) (n p : ℕ) → lowest plan s n ≡ Some p → is_enabled plan s p ≡ true
+pub lowest_enabled : (plan : Plan) (s : State) (n p : ℕ) → lowest plan s n ≡ Some p → is_enabled plan s p ≡ true
 lowest_enabled plan s zero p h = cc
 lowest_enabled plan s (suc n) p h = go (lowest plan s n) refl h (lowest_enabled plan s n p)
   where
@@ -26,7 +26,7 @@ lowest_enabled plan s (suc n) p h = go (lowest plan s n) refl h (lowest_enabled 
       | inr f ↦ (let r : None ≡ Some p = sym (cond-false _ _ _ f) ∙ h in cc)
     ]
 
-none_enabled : (plan : Plan) (s : State) (n p : ℕ) → lowest plan s n ≡ None → p < n → is_enabled plan s p ≡ false
+pub none_enabled : (plan : Plan) (s : State) (n p : ℕ) → lowest plan s n ≡ None → p < n → is_enabled plan s p ≡ false
 none_enabled plan s zero p h lt = absurd (omega (arith, lt))
 none_enabled plan s (suc n) p h lt = go (lowest plan s n) refl h (none_enabled plan s n p)
   where
@@ -36,6 +36,17 @@ none_enabled plan s (suc n) p h lt = go (lowest plan s n) refl h (none_enabled p
       | inl t ↦ (let r : Some n ≡ None = sym (cond-true _ _ _ t) ∙ h in cc)
       | inr f ↦ elim (cases_eq p n) [ inl e' ↦ subst (λ q. is_enabled plan s q ≡ false) (sym e') f | inr ne ↦ ih e (omega (arith, lt, ne)) ]
     ]
+
+-- the lowest of the first n is the lowest of more
+pub lowest_stays : (plan : Plan) (s : State) (n m p : ℕ) → n ≤ m → lowest plan s n ≡ Some p → lowest plan s m ≡ Some p
+lowest_stays plan s n zero p le h = elim (cases_eq n 0) [
+  | inl e ↦ subst (λ k. lowest plan s k ≡ Some p) e h
+  | inr ne ↦ absurd (omega (arith, le, ne))
+]
+lowest_stays plan s n (suc m) p le h = elim (cases_eq n (suc m)) [
+  | inl e ↦ subst (λ k. lowest plan s k ≡ Some p) e h
+  | inr ne ↦ rw (lowest_stays plan s n m p (omega (arith, le, ne)) h) refl
+]
 
 plain_is_run : (plan : Plan) (fuel : ℕ) (s : State) → IsInterleaving plan s (plain_from plan fuel s)
 plain_is_run plan zero s = tt

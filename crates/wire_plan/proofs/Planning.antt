@@ -1,6 +1,6 @@
 -- The events of calls, one call after another, and those of the processes of a plan.
 use Rattle.std.proofs.Common.{◌≡◌, ◌∙◌, ap, sym, refl, subst, ℕ, zero, suc, ◌+◌, ◌*◌, ◌-◌, ◌^◌, ◌<◌, ◌≤◌, List, [], ◌∷◌, ◌++◌, length, map, Option, Some, None, inl, inr, cond, ltb, arith, append_assoc}
-use Rattle.std.specs.Prelude.{slice_get, option_map}
+use Rattle.std.specs.Prelude.{slice_get, option_map, sum_by}
 use Rattle.std.proofs.lemmas.Option.{slice_get-map, slice_get_cases, slice_get_within}
 use Rattle.std.proofs.lemmas.List.{length-map}
 use Rattle.std.proofs.lemmas.List.Sums.{sum_by-cons}
@@ -11,6 +11,7 @@ use Rattle.wire_types.specs.declared.Call.TheVariants as written
 use Rattle.wire_rehearsal.specs.Scripts.{Process, Scripts, call_count}
 use Rattle.wire_rehearsal.specs.Planned.{planned_call, planned_process, plan_of}
 use Rattle.wire_plan.specs.Kinds.{events_planned}
+use Rattle.wire_plan.specs.Laws.{all_events}
 use Rattle.wire_plan.specs.Ends.{call_number, calls_of, process_calls}
 
 -- a first call's events, and then those of the others
@@ -119,3 +120,22 @@ call_same s p n = subst (λ o. n < length (process_events o) → call_number (pr
 pub node_planned : (s : Scripts) (p : ℕ) (q : Process) → slice_get s.processes p ≡ Some q → node_of (plan_of s) p ≡ q.node
 unfolding node_of
 node_planned s p q is = ap process_node (slice_get-map planned_process s.processes p ∙ ap (option_map planned_process) is)
+
+-- the events of all rows that show them are those of the plan
+pub total_shown : {V : Type 0} (view : V → List Event) (s : Scripts) (rows : List V) → map view rows ≡ events_planned s.processes → sum_by (λ row. length (view row)) rows ≡ all_events (plan_of s)
+total_shown view s rows shown = sym (sum_by-map length view rows) ∙ ap (sum_by length) shown ∙ sum_by-map length (λ p. events_of (map planned_call p.calls)) s.processes ∙ sym (sum_by-map (λ process. length (events_of process.calls)) planned_process s.processes)
+  where
+    sum_by-map : {A B : Type 0} (f : B → ℕ) (g : A → B) (xs : List A) → sum_by f (map g xs) ≡ sum_by (λ x. f (g x)) xs
+    sum_by-map f g [] = refl
+    sum_by-map f g (x ∷ xs) = sum_by-cons f (g x) (map g xs) ∙ ap (λ n. f (g x) + n) (sum_by-map f g xs) ∙ sym (sum_by-cons (λ y. f (g y)) x xs)
+
+pub total_fits : (s : Scripts) → call_count s.processes < 2 ^ 31 → all_events (plan_of s) < 2 ^ 32
+total_fits s few = let le = go s.processes in omega (arith, le, few)
+  where
+    go : (ps : List Process) → sum_by (λ process. length (events_of process.calls)) (map planned_process ps) ≤ 2 * call_count ps
+    go [] = omega arith
+    go (p ∷ ps) = omega (arith, go ps, events_few (map planned_call p.calls), length-map p.calls planned_call, sum_by-cons (λ q. length q.calls) p ps, sum_by-cons (λ process. length (events_of process.calls)) (planned_process p) (map planned_process ps))
+
+pub sum_same : {X : Type 0} (f g : X → ℕ) (xs : List X) → ((x : X) → f x ≡ g x) → sum_by f xs ≡ sum_by g xs
+sum_same f g [] same = refl
+sum_same f g (x ∷ xs) same = sum_by-cons f x xs ∙ ap (λ n. n + sum_by f xs) (same x) ∙ ap (λ n. g x + n) (sum_same f g xs same) ∙ sym (sum_by-cons g x xs)

@@ -1,10 +1,11 @@
 //! A plan: scripts with the events of each process.
 
-ghost use Rattle.std.specs.Prelude.{◌≡◌, ◌<◌, ◌^◌, Some, length, map, IfOk, IfErr};
+ghost use Rattle.std.specs.Prelude.{◌≡◌, ◌<◌, ◌^◌, Some, length, map, sum_by, vec_len, IfOk, IfErr};
 ghost use Rattle.wire_types.specs.Plan.{process_count, events, event_at, event_count, node_of, events_of};
 ghost use Rattle.wire_rehearsal.specs.Planned.{planned_call, plan_of};
 ghost use Rattle.wire_plan.specs.Kinds.{event_of, events_planned};
 ghost use Rattle.wire_plan.specs.Ends.{call_at};
+ghost use Rattle.wire_plan.specs.Laws.{all_events};
 
 use crate::kind::{Kind, kind_of};
 use std::alloc::{AllocError, Global};
@@ -53,6 +54,14 @@ fn all_kinds(alloc: Global, processes: &[Process]) -> Result<Vec<Vec<Kind>>, All
     Ok(all)
 }
 
+/// How many events these rows hold.
+fn total_of(rows: &[Vec<Kind>]) -> usize
+    requires { sum_by (λ kinds. vec_len kinds) rows.now < 2 ^ 64 }
+    ensures { result ≡ sum_by (λ kinds. vec_len kinds) rows.now }
+{
+    rows.iter().map(|kinds| kinds.len()).sum()
+}
+
 impl Plan {
     /// The plan of scripts. The one fault is `Fault::Memory`.
     pub fn build(alloc: Global, scripts: Scripts) -> Result<Plan, Fault>
@@ -93,6 +102,14 @@ impl Plan {
     {
         let _scripts = &self.scripts;
         self.events(proc).len() as u32
+    }
+
+    /// How many events all processes have.
+    pub fn event_total(&self) -> usize
+        ensures total { result ≡ all_events (plan_of self.now) }
+        ensures fits { result < 2 ^ 32 }
+    {
+        total_of(&self.events)
     }
 
     /// What an event of the plan is.
