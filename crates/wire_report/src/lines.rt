@@ -1,0 +1,59 @@
+//! The lines of a report.
+
+ghost use Rattle.std.specs.Prelude.{◌≡◌, ◌++◌, map, OnOk};
+ghost use Rattle.wire_report.specs.Report.{call_line, process_lines, all_lines};
+
+use crate::words::{push_end, push_number, push_process, verb};
+use std::alloc::AllocError;
+use wire_rehearsal::{Process, Scripts};
+use wire_types::{Call, CallEnd};
+
+/// Appends the lines of all processes, each with its row.
+pub fn push_all(
+    out: &mut Vec<u8>,
+    scripts: &Scripts,
+    rows: &[Vec<CallEnd>],
+) -> Result<(), AllocError>
+    ensures { OnOk result (out.new.items ≡ out.old.items ++ all_lines scripts.now scripts.now.processes (map (λ row. row.items) rows.now)) }
+{
+    for (process, row) in scripts.processes().iter().zip(rows) {
+        push_process_lines(out, scripts, process, row.as_slice())?;
+    }
+    Ok(())
+}
+
+/// Appends the lines of a process.
+fn push_process_lines(
+    out: &mut Vec<u8>,
+    scripts: &Scripts,
+    process: &Process,
+    ends: &[CallEnd],
+) -> Result<(), AllocError>
+    ensures { OnOk result (out.new.items ≡ out.old.items ++ process_lines scripts.now process.now ends.now) }
+{
+    for (i, (call, end)) in process.calls().iter().zip(ends).enumerate() {
+        push_line(out, scripts, process, i + 1, call, end)?;
+    }
+    Ok(())
+}
+
+/// Appends the line of a process's call, by the number of the call from 1.
+fn push_line(
+    out: &mut Vec<u8>,
+    scripts: &Scripts,
+    process: &Process,
+    number: usize,
+    call: &Call,
+    end: &CallEnd,
+) -> Result<(), AllocError>
+    ensures { OnOk result (out.new.items ≡ out.old.items ++ call_line scripts.now process.now number call.now end.now) }
+{
+    push_process(out, scripts, process)?;
+    out.extend_from_slice(b" ")?;
+    push_number(out, number as u64)?;
+    out.extend_from_slice(b" ")?;
+    out.extend_from_slice(verb(call).as_bytes())?;
+    out.extend_from_slice(b" ")?;
+    push_end(out, scripts, end)?;
+    out.extend_from_slice(b"\n")
+}

@@ -1,0 +1,132 @@
+-- What a store tells of puts.
+use Rattle.std.proofs.Common.{◌≡◌, ◌∙◌, ℕ, zero, suc, Bool, true, false, List, [], ◌∷◌, ◌++◌, map, reverse, find, cond, ◌&&◌, ◌==◌, is_some, Option, Some, None, option_map, inl, inr, refl, sym, ap}
+use Rattle.std.proofs.lemmas.Bool.{cases_Bool}
+use Rattle.std.proofs.lemmas.List.{reverse-append, map-append}
+use Rattle.wire_types.specs.Plan.{Event, Put, Commit, admits}
+use Rattle.wire_types.specs.Puts.{own_with, own_put, stored_with, stored_put, scope_in}
+use Rattle.wire_types.specs.declared.Scope.{Scope}
+use Rattle.wire_types.specs.declared.CallAt.{CallAt}
+use Rattle.wire_store.specs.declared.seen.Seen.{Seen}
+use Rattle.wire_store.specs.declared.seen.Seen.TheVariants.{Value, Outside, Nothing}
+use Rattle.wire_store.specs.Kept.{KeptPut, first_commit, store_by, last_put, last_stored, seen, kept_with, kept_after}
+use Rattle.wire_store.specs.Told.{seen_put, StoreTells}
+
+-- a put that came last is the last of its key
+pub last_put-push : (key : ℕ) (puts : List KeptPut) (put : KeptPut) → last_put key (puts ++ put ∷ []) ≡ cond (put.key == key) (Some put) (last_put key puts)
+last_put-push key puts put = ap (find (λ p. p.key == key)) (reverse-append puts (put ∷ []))
+
+pub last_stored-push : (key : ℕ) (puts : List KeptPut) (put : KeptPut) → put.stored_by ≡ None → last_stored key (puts ++ put ∷ []) ≡ last_stored key puts
+last_stored-push key puts put none =
+    ap (find (λ p. p.key == key && is_some p.stored_by)) (reverse-append puts (put ∷ []))
+    ∙ elim (cases_Bool (put.key == key)) [
+      | inl t ↦ rw (t, none) refl
+      | inr f ↦ rw f refl
+    ]
+
+find_map_same : {A : Type 0} (test before : A → Bool) (f : A → A) → ((x : A) → test (f x) ≡ before x) → (xs : List A) → find test (map f xs) ≡ option_map f (find before xs)
+find_map_same test before f same [] = refl
+find_map_same test before f same (x ∷ xs) = elim (cases_Bool (before x)) [
+  | inl t ↦ rw (same x, t) refl
+  | inr n ↦ rw (same x, n) (find_map_same test before f same xs)
+]
+
+reverse-map : {A : Type 0} (f : A → A) (xs : List A) → reverse (map f xs) ≡ map f (reverse xs)
+reverse-map f [] = refl
+reverse-map f (x ∷ xs) =
+    reverse-append (f x ∷ []) (map f xs)
+    ∙ ap (λ ys. ys ++ f x ∷ []) (reverse-map f xs)
+    ∙ sym (map-append f (reverse xs) (x ∷ []))
+    ∙ ap (map f) (sym (reverse-append (x ∷ []) xs))
+
+-- a commit stores the last put of each key
+pub last_put-store : (key at : ℕ) (puts : List KeptPut) → last_put key (map (store_by at) puts) ≡ option_map (store_by at) (last_put key puts)
+last_put-store key at puts =
+    ap (find (λ p. p.key == key)) (reverse-map (store_by at) puts)
+    ∙ find_map_same (λ p. p.key == key) (λ p. p.key == key) (store_by at) (λ _. refl) (reverse puts)
+
+stored_then : (o : Option ℕ) (at : ℕ) → is_some (first_commit o at) ≡ true
+stored_then None at = refl
+stored_then (Some earlier) at = refl
+
+and_true : (b : Bool) → (b && true) ≡ b
+and_true true = refl
+and_true false = refl
+
+pub last_stored-store : (key at : ℕ) (puts : List KeptPut) → last_stored key (map (store_by at) puts) ≡ option_map (store_by at) (last_put key puts)
+last_stored-store key at puts =
+    ap (find (λ p. p.key == key && is_some p.stored_by)) (reverse-map (store_by at) puts)
+    ∙ find_map_same (λ p. p.key == key && is_some p.stored_by) (λ p. p.key == key) (store_by at)
+    (λ p. ap (λ b. p.key == key && b) (stored_then p.stored_by at) ∙ and_true (p.key == key)) (reverse puts)
+
+-- what a put shows
+abbrev shown : KeptPut → CallAt × Scope
+shown put = (put.call, put.scope)
+
+shown-store : (at : ℕ) (o : Option KeptPut) → option_map shown (option_map (store_by at) o) ≡ option_map shown o
+shown-store at None = refl
+shown-store at (Some put) = refl
+
+module _ (event_of : ℕ → Option Event) (call_of : ℕ → CallAt) where
+  abbrev shown_at : ℕ → CallAt × Scope
+  shown_at i = (call_of i, scope_in (event_of i))
+
+  own_step : (key n : ℕ) (puts : List KeptPut) (before : Option ℕ) (o : Option Event) → event_of n ≡ o → option_map shown (last_put key puts) ≡ option_map shown_at before → option_map shown (last_put key (kept_with n (call_of n) puts o)) ≡ option_map shown_at (own_with key n before o)
+  own_step key n puts before (Some (Put k scope)) e same =
+      let put : KeptPut = record { at = n; key = k; scope = scope; call = call_of n; stored_by = None } in
+      ap (option_map shown) (last_put-push key puts put)
+      ∙ elim (cases_Bool (k == key)) [
+        | inl t ↦ rw t (ap (λ x. Some (call_of n, scope_in x)) (sym e))
+        | inr f ↦ rw f same
+      ]
+  own_step key n puts before (Some Commit) e same = ap (option_map shown) (last_put-store key n puts) ∙ shown-store n (last_put key puts) ∙ same
+  own_step key n puts before _ e same = same
+
+  own_shown : (key n : ℕ) → option_map shown (last_put key (kept_after event_of call_of n)) ≡ option_map shown_at (own_put event_of key n)
+  own_shown key zero = refl
+  own_shown key (suc n) = own_step key n (kept_after event_of call_of n) (own_put event_of key n) (event_of n) refl (own_shown key n)
+
+  stored_step : (key n : ℕ) (puts : List KeptPut) (before committed : Option ℕ) (o : Option Event) → option_map shown (last_put key puts) ≡ option_map shown_at committed → option_map shown (last_stored key puts) ≡ option_map shown_at before → option_map shown (last_stored key (kept_with n (call_of n) puts o)) ≡ option_map shown_at (stored_with committed before o)
+  stored_step key n puts before committed (Some (Put k scope)) own same =
+      let put : KeptPut = record { at = n; key = k; scope = scope; call = call_of n; stored_by = None } in
+      ap (option_map shown) (last_stored-push key puts put refl) ∙ same
+  stored_step key n puts before committed (Some Commit) own same = ap (option_map shown) (last_stored-store key n puts) ∙ shown-store n (last_put key puts) ∙ own
+  stored_step key n puts before committed _ own same = same
+
+  stored_shown : (key n : ℕ) → option_map shown (last_stored key (kept_after event_of call_of n)) ≡ option_map shown_at (stored_put event_of key n)
+  stored_shown key zero = refl
+  stored_shown key (suc n) =
+      stored_step key n (kept_after event_of call_of n) (stored_put event_of key n) (own_put event_of key n) (event_of n) (own_shown key n) (stored_shown key n)
+
+  abbrev seen_shown : Bool → Option (CallAt × Scope) → Seen
+  seen_shown same None = Nothing
+  seen_shown same (Some p) = cond (admits p.1 same) (Value p.0) Outside
+
+  shown_call : (o : Option KeptPut) → option_map (λ put. put.call) o ≡ option_map (λ p. p.0) (option_map shown o)
+  shown_call None = refl
+  shown_call (Some put) = refl
+
+  shown_at_call : (o : Option ℕ) → option_map (λ p. p.0) (option_map shown_at o) ≡ option_map call_of o
+  shown_at_call None = refl
+  shown_at_call (Some i) = refl
+
+  seen_is_shown : (same : Bool) (o : Option KeptPut) → seen same o ≡ seen_shown same (option_map shown o)
+  seen_is_shown same None = refl
+  seen_is_shown same (Some put) = refl
+
+  shown_is_seen : (same : Bool) (o : Option ℕ) → seen_shown same (option_map shown_at o) ≡ seen_put event_of call_of same o
+  shown_is_seen same None = refl
+  shown_is_seen same (Some i) = refl
+
+  -- the owner sees its last put of the key
+  pub tells_own : (key n : ℕ) → option_map (λ put. put.call) (last_put key (kept_after event_of call_of n)) ≡ option_map call_of (own_put event_of key n)
+  tells_own key n = shown_call (last_put key (kept_after event_of call_of n)) ∙ ap (option_map (λ p. p.0)) (own_shown key n) ∙ shown_at_call (own_put event_of key n)
+
+  -- others see its last put of the key that a commit follows
+  pub tells_seen : (key n : ℕ) (same : Bool) → seen same (last_stored key (kept_after event_of call_of n)) ≡ seen_put event_of call_of same (stored_put event_of key n)
+  tells_seen key n same =
+      seen_is_shown same (last_stored key (kept_after event_of call_of n))
+      ∙ ap (seen_shown same) (stored_shown key n)
+      ∙ shown_is_seen same (stored_put event_of key n)
+
+pub store_tells : StoreTells
+store_tells event_of call_of key n = record { own = tells_own event_of call_of key n; others = tells_seen event_of call_of key n }

@@ -1,0 +1,109 @@
+//! The store of one process.
+
+ghost use Rattle.std.specs.Prelude.{◌≡◌, ◌+◌, ◌<◌, [], ◌∷◌, ◌++◌, map, option_map, IfOk, IsOkUnless};
+ghost use Rattle.wire_store.specs.Kept.{store_by, last_put, last_stored, seen};
+
+use crate::chain::{Slot, last_below, store_all};
+use crate::seen::{Seen, admits};
+use std::alloc::Global;
+use std::collections::HashMap;
+use std::marker::Model;
+use wire_types::{CallAt, Fault, Scope};
+
+/// What one process has put and committed, for a fixed number of puts.
+#[derive(Drop)]
+pub struct RankStore {
+    slots: Vec<Slot>,
+    committed: usize,
+    newest: HashMap<u32, usize>,
+    room: usize,
+}
+
+impl Model for RankStore {
+    ghost use Rattle.std.specs.Prelude.{ℕ, ◌+◌, ◌≤◌, map, nat_eq, vec_len, vec_capacity};
+    ghost use Rattle.std.specs.HashMap.{get, spare};
+    ghost use Rattle.wire_store.specs.Kept.{Kept};
+    ghost use Rattle.wire_store.specs.Slots.{put_in, IsIndexed};
+
+    ghost Value = { Kept };
+
+    ghost view = { λ s. record { puts = map put_in s.slots.items; room = s.room } };
+
+    ghost invariant = { λ s. IsIndexed s.slots.items s.committed (get nat_eq s.newest) × (vec_len s.slots + s.room ≤ vec_capacity s.slots) × (s.room ≤ spare s.newest) };
+}
+
+impl RankStore {
+    /// An empty store with room for so many puts. The only error is `Fault::Memory`.
+    pub fn new(alloc: Global, puts: usize) -> Result<RankStore, Fault>
+        ensures ok { IfOk result (λ store. store ≡ record { puts = []; room = puts }) }
+        ensures memory { IsOkUnless result Fault.Memory }
+    {
+        Ok(RankStore {
+            slots: Vec::with_capacity(alloc, puts)?,
+            committed: 0,
+            newest: HashMap::with_capacity(alloc, puts)?,
+            room: puts,
+        })
+    }
+
+    /// Takes a put: the number of its event among the owner's, its scope, its key and its call. It is
+    /// held until the next commit. It takes no memory.
+    pub fn put(&mut self, at: u32, scope: Scope, key: u32, call: CallAt)
+        requires { 0 < self.old.room }
+        ensures puts { self.new.puts ≡ self.old.puts ++ record { at = at; key = key; scope = scope; call = call; stored_by = None } ∷ [] }
+        ensures room { self.new.room + 1 ≡ self.old.room }
+    {
+        let previous = self.newest.get(&key).copied();
+        let number = self.slots.len();
+        let slot = Slot {
+            at,
+            key,
+            scope,
+            call,
+            stored_by: None,
+            previous,
+        };
+        let pushed: Result<_, _> = self.slots.push(slot);
+        pushed.unwrap();
+        let inserted: Result<_, _> = self.newest.insert(key, number);
+        inserted.unwrap();
+        self.room -= 1;
+    }
+
+    /// Takes a commit, by the number of its event among the owner's: it stores all puts that no commit
+    /// has stored before.
+    pub fn commit(&mut self, at: u32)
+        ensures puts { self.new.puts ≡ map (store_by at) self.old.puts }
+        ensures room { self.new.room ≡ self.old.room }
+    {
+        store_all(&mut self.slots[self.committed..], at);
+        self.committed = self.slots.len();
+    }
+
+    /// What the owner itself sees under a key: its last put of it, committed or not.
+    pub fn own(&self, key: u32) -> Option<CallAt>
+        ensures { result ≡ option_map (λ put. put.call) (last_put key self.now.puts) }
+    {
+        match self.newest.get(&key) {
+            Some(i) => Some(self.slots[*i].call),
+            None => None,
+        }
+    }
+
+    /// What a process that is, or isn't, on the owner's node sees under a key: the last put of it that a
+    /// commit has stored.
+    pub fn seen_from(&self, key: u32, same_node: bool) -> Seen
+        ensures { result ≡ seen same_node (last_stored key self.now.puts) }
+    {
+        let newest = self.newest.get(&key).copied();
+        let Some(i) = last_below(&self.slots, newest, self.committed) else {
+            return Seen::Nothing;
+        };
+        let slot = self.slots[i];
+        if admits(slot.scope, same_node) {
+            Seen::Value(slot.call)
+        } else {
+            Seen::Outside
+        }
+    }
+}
