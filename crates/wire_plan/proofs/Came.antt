@@ -3,7 +3,7 @@ use Rattle.std.proofs.Common.{◌≡◌, ℕ, suc, ◌<◌, ◌≤◌, true, fal
 use Rattle.std.proofs.lemmas.Option.{same_Some}
 use Rattle.std.proofs.lemmas.Bool.{cond-true, cond-false, cond_both, cases_eq, cases_lt, cases_Bool, and_parts, and_from, true≢false}
 use Rattle.wire_types.specs.Plan.{Plan, GetNow, event, event_count, node_of, same_node, admits}
-use Rattle.wire_types.specs.declared.Event.{Event as Place}
+use Rattle.wire_types.specs.Plan.{Place}
 use Rattle.wire_plan.specs.State.{State, IsDone}
 use Rattle.wire_types.specs.Puts.{own, stored}
 use Rattle.wire_types.specs.Fences.{arrivals, is_member, is_complete, is_collecting, has_node}

@@ -3,7 +3,7 @@ use Rattle.std.proofs.Common.{◌≡◌, ℕ, suc, ◌≤◌, List, [], ◌∷�
 use Rattle.std.proofs.Math.Path.{fun_ext}
 use Rattle.std.proofs.lemmas.Bool.{cond-false, cond_both, cases_eq, cases_Bool, true≢false}
 use Rattle.wire_types.specs.Plan.{Plan, Event, Leave, Get, GetNow, Publish, Lookup, LookupWait, Unpublish, event}
-use Rattle.wire_types.specs.declared.Event.{Event as Place}
+use Rattle.wire_types.specs.Plan.{Place}
 use Rattle.wire_plan.specs.State.{State, Duplicate, Success, NotFound, next_place}
 use Rattle.wire_types.specs.Fences.{is_complete}
 use Rattle.wire_plan.specs.Sight.{get_sees, get_now_sees}

@@ -3,7 +3,7 @@ use Rattle.std.proofs.Common.{◌≡◌, ℕ, suc, ◌<◌, ◌≤◌, List, [],
 use Rattle.std.proofs.lemmas.Bool.{cond-true, cond-false, cond_both, cases_eq, cases_lt, or_left, true≢false}
 use Rattle.std.proofs.lemmas.Option.{same_Some}
 use Rattle.wire_types.specs.Plan.{Plan, Event, Leave, Get, Publish, Unpublish, event, event_count, same_node}
-use Rattle.wire_types.specs.declared.Event.{Event as Place}
+use Rattle.wire_types.specs.Plan.{Place}
 use Rattle.wire_plan.specs.State.{State, start, next_place, next_event, IsDone}
 use Rattle.wire_types.specs.Puts.{own, stored}
 use Rattle.wire_types.specs.Fences.{is_complete}

@@ -4,7 +4,7 @@ use Rattle.std.specs.Prelude.{slice_get}
 use Rattle.std.proofs.lemmas.Option.{slice_get-get_or}
 use Rattle.std.proofs.lemmas.Bool.{cond-true, cond-false, cases_eq, cases_lt, cases_Bool, true≢false}
 use Rattle.wire_types.specs.Plan.{Plan, Event, Leave, Get, GetNow, Publish, Lookup, LookupWait, Unpublish, event, event_count}
-use Rattle.wire_types.specs.declared.Event.{Event as Place}
+use Rattle.wire_types.specs.Plan.{Place}
 use Rattle.wire_plan.specs.State.{Answer, Duplicate, Success, NotFound, State, start, next_place, IsDone}
 use Rattle.wire_plan.specs.Names.{calls_name}
 use Rattle.wire_types.specs.Fences.{arrivals, is_complete}

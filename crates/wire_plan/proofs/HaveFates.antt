@@ -4,7 +4,7 @@ use Rattle.std.specs.Prelude.{◌↔◌, slice_get}
 use Rattle.std.proofs.lemmas.List.{length_push}
 use Rattle.std.proofs.lemmas.Bool.{cond-true, cond-false, cases_eq, cases_lt, cases_Bool, true≢false}
 use Rattle.wire_types.specs.Plan.{Plan, event, event_count, process_count}
-use Rattle.wire_types.specs.declared.Event.{Event as Place}
+use Rattle.wire_types.specs.Plan.{Place}
 use Rattle.wire_plan.specs.State.{Answer, Silent, State}
 use Rattle.wire_plan.specs.Names.{writes_name}
 use Rattle.wire_plan.specs.Order.{Edge, Live, live, Before, edge, further}

@@ -2,7 +2,7 @@
 use Rattle.std.proofs.Common.{◌≡◌, ℕ, zero, suc, ◌+◌, ◌-◌, ◌<◌, ◌≤◌, List, [], ◌∷◌, true, ◌⊎◌, inl, inr, ⊎_elim, refl, sym, ap, ◌∙◌, subst, arith}
 use Rattle.std.proofs.lemmas.Bool.{cases_eq, cases_Bool, true≢false}
 use Rattle.wire_types.specs.Plan.{Plan, event}
-use Rattle.wire_types.specs.declared.Event.{Event as Place}
+use Rattle.wire_types.specs.Plan.{Place}
 use Rattle.wire_plan.specs.State.{State, start, next_place, IsDone}
 use Rattle.wire_plan.specs.Machine.{name_after, step}
 use Rattle.wire_plan.specs.Order.{Edge, Follows, Announces, Live, live, Before, edge, further}

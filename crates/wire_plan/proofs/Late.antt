@@ -2,7 +2,7 @@
 use Rattle.std.proofs.Common.{◌≡◌, ℕ, suc, ◌<◌, ◌≤◌, true, false, Some, is_some, inl, inr, refl, arith}
 use Rattle.std.proofs.lemmas.Bool.{cases_lt}
 use Rattle.wire_types.specs.Plan.{Plan, GetNow, event, event_count, node_of, same_node}
-use Rattle.wire_types.specs.declared.Event.{Event as Place}
+use Rattle.wire_types.specs.Plan.{Place}
 use Rattle.wire_types.specs.Puts.{stored}
 use Rattle.wire_plan.specs.Order.{Live, Before}
 use Rattle.wire_plan.specs.Races.{Delivery, IsOf, Brings, ComesSurely, IsSettled}

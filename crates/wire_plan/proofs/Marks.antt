@@ -1,7 +1,7 @@
 -- How a computed set of marks is shown to be the live events.
 use Rattle.std.proofs.Common.{◌≡◌, Bool, true}
 use Rattle.wire_types.specs.Plan.{Plan, event}
-use Rattle.wire_types.specs.declared.Event.{Event as Place}
+use Rattle.wire_types.specs.Plan.{Place}
 use Rattle.wire_plan.specs.Order.{Edge, may_come, Live, live}
 
 -- the live events are in each set that is closed

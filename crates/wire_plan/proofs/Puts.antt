@@ -2,7 +2,7 @@
 use Rattle.std.proofs.Common.{◌≡◌, ℕ, zero, suc, ◌<◌, ◌≤◌, true, ◌==◌, Option, Some, None, is_some, inl, inr, refl, sym, ap, ◌∙◌, subst, arith, eqb-true}
 use Rattle.std.proofs.lemmas.Bool.{cond_both, cases_eq, cases_Bool, true≢false}
 use Rattle.wire_types.specs.Plan.{Plan, Event, Put, Commit, event_at}
-use Rattle.wire_types.specs.declared.Event.{Event as Place}
+use Rattle.wire_types.specs.Plan.{Place}
 use Rattle.wire_types.specs.declared.Scope.{Scope}
 use Rattle.wire_types.specs.Puts.{own_with, own, stored_with, stored, put_count_with, put_count}
 use Rattle.wire_plan.specs.Order.{Stores}

@@ -3,7 +3,7 @@ use Rattle.std.proofs.Common.{◌≡◌, ℕ, zero, suc, ◌<◌, ◌≤◌, Lis
 use Rattle.std.proofs.lemmas.Bool.{cond-false, cases_eq, cases_lt, cases_Bool, ltb-true, ltb-false, true≢false}
 use Rattle.std.proofs.lemmas.Option.{slice_get_past}
 use Rattle.wire_types.specs.Plan.{Plan, events, process_events, event_count, process_count}
-use Rattle.wire_types.specs.declared.Event.{Event as Place}
+use Rattle.wire_types.specs.Plan.{Place}
 use Rattle.wire_plan.specs.State.{State, start, next_place, IsDone}
 use Rattle.wire_plan.specs.Machine.{is_enabled, step, IsInterleaving, run_from}
 use Rattle.wire_plan.specs.Order.{Edge, Live, live, Before, edge, further}

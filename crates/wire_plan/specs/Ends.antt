@@ -6,7 +6,7 @@ use Rattle.wire_types.specs.Outcome.{Ends}
 use Rattle.wire_types.specs.declared.CallAt.{CallAt}
 use Rattle.wire_types.specs.declared.CallEnd.{CallEnd}
 use Rattle.wire_types.specs.declared.CallEnd.TheVariants.{Replied, Waiting, Ready, Unreached}
-use Rattle.wire_types.specs.declared.Event.{Event as Place}
+use Rattle.wire_types.specs.Plan.{Place}
 use Rattle.wire_types.specs.declared.Reply.{Reply}
 use Rattle.wire_types.specs.declared.Status.{Status}
 use Rattle.wire_types.specs.declared.Status.TheVariants as status
@@ -32,7 +32,7 @@ calls_of plan p = process_calls (slice_get plan.processes p)
 
 -- the call to which an event belongs
 abbrev pub call_at : Plan → Place → CallAt
-call_at plan x = record { proc = x.proc; call = call_number (calls_of plan x.proc) x.at }
+call_at plan x = record { proc = record { number = x.proc }; call = call_number (calls_of plan x.proc) x.at }
 
 -- a reply that brings nothing but its status
 abbrev pub bare : Status → Reply

@@ -1,7 +1,7 @@
 -- What an event does, told by what is before it alone.
 use Rattle.std.specs.Prelude.{◌≡◌, ℕ, ◌<◌, ◌≤◌, List, [], ◌∷◌, true, ◌⊎◌, ◌↔◌, Option, Some, None, slice_get, if◌then◌else◌}
 use Rattle.wire_types.specs.Plan.{Plan, event, event_count}
-use Rattle.wire_types.specs.declared.Event.{Event as Place}
+use Rattle.wire_types.specs.Plan.{Place}
 use Rattle.wire_plan.specs.State.{State, Answer, IsDone}
 use Rattle.wire_plan.specs.Names.{writes_name}
 use Rattle.wire_plan.specs.Machine.{may_do, reply, name_after}

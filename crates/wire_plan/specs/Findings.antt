@@ -1,7 +1,7 @@
 -- The list of what the checker finds.
 use Rattle.std.specs.Prelude.{◌≡◌, ℕ, ◌<◌, List, [], ◌∷◌, Bool, true, ◌⊎◌, ◌↔◌}
 use Rattle.wire_types.specs.Plan.{Plan}
-use Rattle.wire_types.specs.declared.Event.{Event as Place}
+use Rattle.wire_types.specs.Plan.{Place}
 use Rattle.wire_plan.specs.Races.{IsRewrite, IsNodeRace, IsDeliveryRace, IsNameRace}
 
 -- the lower place stands first

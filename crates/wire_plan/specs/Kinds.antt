@@ -10,7 +10,7 @@ use Rattle.wire_plan.specs.declared.kind.Kind.TheVariants.{Put, Commit, Get}
 abbrev pub event_of : Kind → Event
 event_of (Put scope key) = plan.Put key scope
 event_of Commit = plan.Commit
-event_of (Get owner key) = plan.Get owner key
+event_of (Get owner key) = plan.Get owner.number key
 
 -- the events that the calls of each process are made of
 abbrev pub events_planned : List Process → List (List Event)

@@ -1,7 +1,7 @@
 -- The laws of runs.
 use Rattle.std.specs.Prelude.{slice_get, ◌↔◌, Some, ◌≡◌, ◌≢◌, ℕ, ◌≤◌, List, [], Bool, true, length, sum_by}
 use Rattle.wire_types.specs.Plan.{Plan, events_of}
-use Rattle.wire_types.specs.declared.Event.{Event as Place}
+use Rattle.wire_types.specs.Plan.{Place}
 use Rattle.wire_plan.specs.State.{Answer, State, start, next_place, IsDone}
 use Rattle.wire_plan.specs.Machine.{is_enabled, step, IsInterleaving, run, IsEnd, IsReachable}
 use Rattle.wire_plan.specs.Fate.{Fate, Waits, Says, HasFate, IsSoundCut}

@@ -1,7 +1,7 @@
 -- States, steps and runs.
 use Rattle.std.specs.Prelude.{◌≡◌, ℕ, suc, List, [], ◌∷◌, ◌++◌, Bool, true, false, Option, Some, None, is_some, ◌==◌, if◌then◌else◌}
 use Rattle.wire_types.specs.Plan.{Plan, Event, Put, Commit, Arrive, Leave, Get, GetNow, Publish, Lookup, LookupWait, Unpublish, Fixed, update}
-use Rattle.wire_types.specs.declared.Event.{Event as Place}
+use Rattle.wire_types.specs.Plan.{Place}
 use Rattle.wire_types.specs.Fences.{arrivals, is_complete}
 use Rattle.wire_plan.specs.State.{Answer, Silent, Success, NotFound, ExistsOutside, Duplicate, Value, Published, Reserved, State, start, next_place, next_event}
 use Rattle.wire_plan.specs.Sight.{Sight, Nothing, Outside, Shown, get_sees, get_now_sees}

@@ -1,7 +1,7 @@
 -- Which calls concern a name.
 use Rattle.std.specs.Prelude.{ℕ, Bool, false, Option, Some, ◌==◌}
 use Rattle.wire_types.specs.Plan.{Plan, Event, Publish, Lookup, LookupWait, Unpublish}
-use Rattle.wire_types.specs.declared.Event.{Event as Place}
+use Rattle.wire_types.specs.Plan.{Place}
 
 -- whether it may take the name away.
 abbrev pub takes_name : Plan → ℕ → Place → Option Event → Bool

@@ -1,7 +1,7 @@
 -- Which events come before which, in every run.
 use Rattle.std.specs.Prelude.{◌≡◌, ◌≢◌, ℕ, suc, List, Bool, true, false, ◌||◌, Option, Some, None, is_some, ◌==◌, nat_le, if◌then◌else◌}
 use Rattle.wire_types.specs.Plan.{Plan, Event, Arrive, Leave, Get, Publish, LookupWait, event, event_count}
-use Rattle.wire_types.specs.declared.Event.{Event as Place}
+use Rattle.wire_types.specs.Plan.{Place}
 use Rattle.wire_plan.specs.Names.{takes_name}
 use Rattle.wire_types.specs.Puts.{own, stored, put_count}
 use Rattle.wire_types.specs.Fences.{arrivals, is_member, is_full}

@@ -2,7 +2,7 @@
 use Rattle.std.specs.Prelude.{◌≡◌, ◌≢◌, ℕ, ◌<◌, ◌≤◌, List, true, false, Some, None}
 use Rattle.wire_types.specs.Plan.{Plan, Put, GetNow, LookupWait, event, event_count, node_of, same_node, admits}
 use Rattle.wire_types.specs.declared.Scope.{Scope}
-use Rattle.wire_types.specs.declared.Event.{Event as Place}
+use Rattle.wire_types.specs.Plan.{Place}
 use Rattle.wire_types.specs.Puts.{own, stored, put_count}
 use Rattle.wire_types.specs.Fences.{is_member, is_full, is_collecting, has_node}
 use Rattle.wire_plan.specs.Names.{writes_name, calls_name}

@@ -1,7 +1,7 @@
 -- Answers and states.
 use Rattle.std.specs.Prelude.{ℕ, ◌<◌, List, [], Option, None}
 use Rattle.wire_types.specs.Plan.{Plan, Event, event_at}
-use Rattle.wire_types.specs.declared.Event.{Event as Place}
+use Rattle.wire_types.specs.Plan.{Place}
 use Rattle.wire_types.specs.declared.Reply.{Reply}
 
 pub data Answer : Type 0 where

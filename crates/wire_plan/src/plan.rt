@@ -1,7 +1,7 @@
 //! A plan: scripts with the events of each process.
 
 ghost use Rattle.std.specs.Prelude.{◌≡◌, ◌<◌, ◌^◌, Some, length, map, sum_by, vec_len, IfOk, IfErr};
-ghost use Rattle.wire_types.specs.Plan.{process_count, events, event_at, event_count, node_of, events_of};
+ghost use Rattle.wire_types.specs.Plan.{place_of, process_count, events, event_at, event_count, node_of, events_of};
 ghost use Rattle.wire_rehearsal.specs.Planned.{planned_call, plan_of};
 ghost use Rattle.wire_plan.specs.Kinds.{event_of, events_planned};
 ghost use Rattle.wire_plan.specs.Ends.{call_at};
@@ -88,7 +88,7 @@ impl Plan {
 
     /// What the events of a process are, in their order; none where it isn't of the plan.
     pub fn events(&self, proc: Proc) -> &[Kind]
-        ensures { map event_of result.now ≡ events (plan_of self.now) proc }
+        ensures { map event_of result.now ≡ events (plan_of self.now) proc.number }
     {
         match self.events.get(proc.index()) {
             Some(kinds) => kinds.as_slice(),
@@ -98,7 +98,7 @@ impl Plan {
 
     /// How many events a process has, none where it isn't of the plan.
     pub fn event_count(&self, proc: Proc) -> u32
-        ensures { result ≡ event_count (plan_of self.now) proc }
+        ensures { result ≡ event_count (plan_of self.now) proc.number }
     {
         let _scripts = &self.scripts;
         self.events(proc).len() as u32
@@ -114,16 +114,16 @@ impl Plan {
 
     /// What an event of the plan is.
     pub fn kind(&self, event: Event) -> Kind
-        requires { event.at < event_count (plan_of self.now) event.proc }
-        ensures { event_at (plan_of self.now) event.proc event.at ≡ Some (event_of result) }
+        requires { event.at < event_count (plan_of self.now) event.proc.number }
+        ensures { event_at (plan_of self.now) event.proc.number event.at ≡ Some (event_of result) }
     {
         self.events(event.proc)[event.at as usize]
     }
 
     /// The call that an event of the plan belongs to.
     pub fn call_of(&self, event: Event) -> CallAt
-        requires { event.at < event_count (plan_of self.now) event.proc }
-        ensures { result ≡ call_at (plan_of self.now) event }
+        requires { event.at < event_count (plan_of self.now) event.proc.number }
+        ensures { result ≡ call_at (plan_of self.now) (place_of event) }
     {
         CallAt {
             proc: event.proc,
@@ -133,8 +133,8 @@ impl Plan {
 
     /// The number of the node of a process of the plan.
     pub fn node_of(&self, proc: Proc) -> u32
-        requires { proc < process_count (plan_of self.now) }
-        ensures { result ≡ node_of (plan_of self.now) proc }
+        requires { proc.number < process_count (plan_of self.now) }
+        ensures { result ≡ node_of (plan_of self.now) proc.number }
     {
         self.scripts.processes()[proc.index()].node()
     }

@@ -9,7 +9,7 @@ use Rattle.wire_rehearsal.specs.Scripts.{Process, Scripts}
 abbrev pub planned_call : Call → plan.Call
 planned_call (Put scope key value) = CallPut key scope
 planned_call Commit = CallCommit
-planned_call (Get owner key) = CallGet owner key
+planned_call (Get owner key) = CallGet owner.number key
 
 abbrev pub planned_process : Process → plan.Process
 planned_process p = record { node = p.node; calls = map planned_call p.calls }

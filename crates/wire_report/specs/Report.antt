@@ -33,7 +33,7 @@ verb_of (Get owner key) = codes "get"
 
 -- the call at a place, where there is one
 abbrev pub call_at : Scripts → CallAt → Option Call
-call_at scripts place = option_and_then (λ process. slice_get process.calls place.call) (slice_get scripts.processes place.proc)
+call_at scripts place = option_and_then (λ process. slice_get process.calls place.call) (slice_get scripts.processes place.proc.number)
 
 -- the text of the value that a call gives, empty where it gives none
 abbrev pub given_text : Scripts → Option Call → List ℕ

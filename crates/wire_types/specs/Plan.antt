@@ -1,11 +1,19 @@
 -- Plans: processes with their calls, and the events that the calls are made of.
 -- Keys, names, nodes and processes are numbers. A value is named by the place of its put.
--- A Place is what the code calls an Event: a process, and the number of one of its events, from 0.
 use Rattle.std.specs.Prelude.{ℕ, List, [], ◌∷◌, Bool, true, not, Option, Some, None, slice_get, length, ◌==◌, nat_lt, if◌then◌else◌}
-pub use Rattle.wire_types.specs.declared.place.Event.{Event as Place}
-pub use Rattle.wire_types.specs.declared.call.Scope.{Scope}
-pub use Rattle.wire_types.specs.declared.call.Scope.TheVariants.{Local, Remote, Global}
-pub use Rattle.wire_types.specs.declared.reply.Reply.{Reply}
+use Rattle.wire_types.specs.declared.place.Event.{Event as EventPlace}
+use Rattle.wire_types.specs.declared.call.Scope.{Scope}
+use Rattle.wire_types.specs.declared.call.Scope.TheVariants.{Local, Remote, Global}
+use Rattle.wire_types.specs.declared.reply.Reply.{Reply}
+
+-- the place of an event: the number of its process, and its number among the events of that process, from 0
+pub record Place : Type 0 where
+  pub proc : ℕ
+  pub at : ℕ
+
+-- what the code calls an Event
+abbrev pub place_of : EventPlace → Place
+place_of e = record { proc = e.proc.number; at = e.at }
 
 -- a call. Fixed is a call of a reserved key, whose reply is known at once
 pub data Call : Type 0 where

@@ -1,7 +1,9 @@
 -- Puts and commits, by places in the scripts (PMIx Standard 5.0, Posting Key-Value Pairs).
 -- They are told of any numbered events, so that a server's store and a process's script share them.
 use Rattle.std.specs.Prelude.{ℕ, zero, suc, Option, Some, None, ◌==◌, if◌then◌else◌}
-use Rattle.wire_types.specs.Plan.{Plan, Scope, Global, Event, Put, Commit, event_at}
+use Rattle.wire_types.specs.Plan.{Plan, Event, Put, Commit, event_at}
+use Rattle.wire_types.specs.declared.call.Scope.{Scope}
+use Rattle.wire_types.specs.declared.call.Scope.TheVariants.{Global}
 
 abbrev pub own_with : ℕ → ℕ → Option ℕ → Option Event → Option ℕ
 own_with key n before (Some (Put k scope)) = if k == key then Some n else before

@@ -2,42 +2,23 @@
 
 ghost use Rattle.std.specs.Prelude.{◌≡◌};
 
-use std::marker::Model;
-
 /// A process, by its number in process order: the file's job order, then rank. Counted from 0.
 #[derive(Clone, Copy, Debug, PartialEq, Eq, PartialOrd, Ord)]
 pub struct Proc {
-    number: u32,
-}
-
-impl Model for Proc {
-    ghost use Rattle.std.specs.Prelude.{ℕ};
-
-    ghost Value = { ℕ };
-
-    ghost view = { λ p. p.number };
-
-    ghost inverse = { λ n. record { number = n } };
+    pub number: u32,
 }
 
 impl Proc {
     /// The process of a number.
     pub fn new(number: u32) -> Proc
-        ensures { result ≡ number }
+        ensures { result ≡ record { number = number } }
     {
         Proc { number }
     }
 
-    /// Its number in process order.
-    pub fn number(self) -> u32
-        ensures { result ≡ self }
-    {
-        self.number
-    }
-
     /// Its number in process order, as an index.
     pub fn index(self) -> usize
-        ensures { result ≡ self }
+        ensures { result ≡ self.number }
     {
         self.number as usize
     }

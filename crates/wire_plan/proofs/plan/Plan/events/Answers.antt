@@ -10,12 +10,12 @@ returns-in-Some c =
     let rows = c.self.inside.events.items in
     let lookup = rw (c.deref.ensures.value, c.index.ensures) at c.in-Some.ensures.lookup in
     rw (c.as_slice.ensures.value, ← c.self.view_is)
-    (sym (events_shown (λ kinds. map event_of kinds.items) c.self.inside.scripts rows c.self.invariant.events c.args.proc c.in-Some.kinds.now
-    (slice_get_read rows (length rows) c.args.proc c.in-Some.kinds.now refl lookup.3.0 lookup.1)))
+    (sym (events_shown (λ kinds. map event_of kinds.items) c.self.inside.scripts rows c.self.invariant.events c.args.proc.number c.in-Some.kinds.now
+    (slice_get_read rows (length rows) c.args.proc.number c.in-Some.kinds.now refl lookup.3.0 lookup.1)))
 
 pub returns-in-None : goal.returns-in-None
 returns-in-None c =
     let rows = c.self.inside.events.items in
     let lookup = rw (c.deref.ensures.value, c.index.ensures) at c.in-None.ensures.lookup in
     rw (← c.self.view_is)
-    (sym (events_past (λ kinds. map event_of kinds.items) c.self.inside.scripts rows c.self.invariant.events c.args.proc (slice_get_past rows c.args.proc lookup.3)))
+    (sym (events_past (λ kinds. map event_of kinds.items) c.self.inside.scripts rows c.self.invariant.events c.args.proc.number (slice_get_past rows c.args.proc.number lookup.3)))

@@ -1,7 +1,7 @@
 use Rattle.std.proofs.Common.{◌≡◌, ◌<◌, ◌∙◌, ap, sym, refl, length, map, Some, arith}
 use Rattle.std.specs.Prelude.{slice_get, option_map}
 use Rattle.std.proofs.lemmas.List.{length-map}
-use Rattle.std.proofs.lemmas.Option.{slice_get-map, slice_get_read}
+use Rattle.std.proofs.lemmas.Option.{slice_get-map, slice_get-get_or}
 use Rattle.wire_types.specs.Plan.{events, event_count, event_at}
 use Rattle.wire_rehearsal.specs.Planned.{plan_of}
 use Rattle.wire_plan.specs.Kinds.{event_of}
@@ -10,13 +10,13 @@ use Rattle.wire_plan.proofs.plan.Plan.kind.Goals as goal
 pub bounds-events-event : goal.bounds-events-event
 unfolding event_count
 bounds-events-event c =
-    let counted : length c.events.result.now ≡ event_count (plan_of c.args.self.now) c.args.event.proc = sym (length-map c.events.result.now event_of) ∙ ap length c.events.ensures in
+    let counted : length c.events.result.now ≡ event_count (plan_of c.args.self.now) c.args.event.proc.number = sym (length-map c.events.result.now event_of) ∙ ap length c.events.ensures in
     rw counted c.requires
 
 pub returns : goal.returns
 unfolding event_count event_at
 returns c =
-    let counted : length c.events.result.now ≡ event_count (plan_of c.args.self.now) c.args.event.proc = sym (length-map c.events.result.now event_of) ∙ ap length c.events.ensures in
+    let counted : length c.events.result.now ≡ event_count (plan_of c.args.self.now) c.args.event.proc.number =
+    sym (length-map c.events.result.now event_of) ∙ ap length c.events.ensures in
     let within : c.args.event.at < length c.events.result.now = rw counted c.requires in
-    let there = slice_get_read c.events.result.now (length c.events.result.now) c.args.event.at c.index-events-event.result refl within c.index-events-event.is in
-    rw (← c.events.ensures) (slice_get-map event_of c.events.result.now c.args.event.at ∙ ap (option_map event_of) there)
+    rw (← c.events.ensures) (slice_get-map event_of c.events.result.now c.args.event.at ∙ ap (option_map event_of) (slice_get-get_or c.events.result.now c.args.event.at _ within))
