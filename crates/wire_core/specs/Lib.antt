@@ -1,0 +1,4 @@
+pub mod Puts
+pub mod Course
+pub mod Shown
+pub mod Ranks

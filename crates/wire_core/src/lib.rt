@@ -1,2 +1,8 @@
-//! To come.
+//! The run of a plan, one event at a time.
 #![tactic(auto)]
+
+mod rank;
+mod replies;
+mod running;
+
+pub use running::Core;

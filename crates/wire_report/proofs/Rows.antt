@@ -19,14 +19,14 @@ row = record {
   values = codes "v" ∷ [];
   processes =
       record { job = 0; rank = 0; node = 0; calls = Put Global 0 0 ∷ (Commit ∷ []) }
-      ∷ (record { job = 0; rank = 1; node = 1; calls = Get 0 0 ∷ [] } ∷ []);
+      ∷ (record { job = 0; rank = 1; node = 1; calls = Get (record { number = 0 }) 0 ∷ [] } ∷ []);
 }
 
 done : CallEnd
 done = Replied (record { status = Success; value = value.Nothing })
 
 -- the get brought what call number 0 of process 0 put
-all_done : report row (record { rows = (done ∷ (done ∷ [])) ∷ ((Replied (record { status = Success; value = value.Put (record { proc = 0; call = 0 }) }) ∷ []) ∷ []); waiting = 0 })
+all_done : report row (record { rows = (done ∷ (done ∷ [])) ∷ ((Replied (record { status = Success; value = value.Put (record { proc = record { number = 0 }; call = 0 }) }) ∷ []) ∷ []); waiting = 0 })
     ≡ codes "app:0 1 put PMIX_SUCCESS\napp:0 2 commit PMIX_SUCCESS\napp:1 1 get PMIX_SUCCESS v\nwaiting 0\n"
 unfolding row done digits
 all_done = refl

@@ -9,17 +9,17 @@ returns-then-i-limit c = λ key is.
 
 pub loop-last-smaller : goal.loop-last-smaller
 loop-last-smaller c =
-    steps_fall c.args.slots.now c.in-Some.i c.index-slots-i.result c.loop-last.last c.requires.linked (c.loop-last.invariant.there c.in-Some.i c.in-Some.is) c.in-Some.is
+    steps_fall c.args.slots.now c.in-Some.i _ c.loop-last.last c.requires.linked (c.loop-last.invariant.there c.in-Some.i c.in-Some.is) c.in-Some.is
 
 pub loop-last-preserved : goal.loop-last-preserved
 loop-last-preserved c =
     let within = c.loop-last.invariant.there c.in-Some.i c.in-Some.is in
     record {
       there = λ j is.
-          let below = previous_below c.args.slots.now c.in-Some.i c.index-slots-i.result c.requires.linked within j is in
+          let below = previous_below c.args.slots.now c.in-Some.i _ c.requires.linked within j is in
           omega (arith, below, within);
       back = λ key is.
-          back_step c.args.slots.now key c.args.limit c.in-Some.i c.index-slots-i.result c.requires.linked within c.if-i-limit.false
+          back_step c.args.slots.now key c.args.limit c.in-Some.i _ c.requires.linked within c.if-i-limit.false
           (subst (IsBackTo c.args.slots.now key c.args.limit) c.in-Some.is (c.loop-last.invariant.back key is));
     }
 

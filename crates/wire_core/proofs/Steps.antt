@@ -1,0 +1,202 @@
+-- Steps of a core: its ranks stay those of the state that its history leads to.
+use Rattle.std.proofs.Common.{◌≡◌, ◌∙◌, ap, sym, refl, subst, ℕ, zero, suc, ◌+◌, ◌-◌, ◌<◌, ◌≤◌, List, [], ◌∷◌, ◌++◌, length, map, drop, Bool, true, false, cond, Option, Some, None, arith, ◌⊎◌, inl, inr, append_assoc}
+use Rattle.std.specs.Prelude.{slice_get, slice_set, vec_capacity}
+use Rattle.std.specs.List.{flat_map}
+use Rattle.std.proofs.lemmas.Bool.{cases_eq}
+use Rattle.std.proofs.lemmas.Option.{slice_get_within, slice_get_past, get_or_from_slice_get, same_Some}
+use Rattle.std.proofs.lemmas.List.{length-map, length-set}
+use Rattle.std.proofs.lemmas.List.Concat.{flat_map-append}
+use Rattle.std.proofs.Math.Seq.{drop-cons}
+use Rattle.wire_types.specs.Plan.{Plan, process_count, Event, events, event_at, event_count, event}
+use Rattle.wire_types.specs.declared.CallAt.{CallAt}
+use Rattle.wire_types.specs.declared.Reply.{Reply}
+use Rattle.wire_rehearsal.specs.Scripts.{Scripts}
+use Rattle.wire_rehearsal.specs.Planned.{plan_of}
+use Rattle.wire_store.specs.Kept.{kept_with, kept_after}
+use Rattle.wire_plan.specs.declared.Kind.{Kind}
+use Rattle.wire_plan.specs.Kinds.{event_of}
+use Rattle.wire_plan.specs.State.{State, start, next_place}
+use Rattle.wire_plan.specs.Machine.{is_enabled, step, reply, IsInterleaving, run, run_from}
+use Rattle.wire_plan.specs.Ends.{given, replies_of}
+use Rattle.wire_plan.specs.Laws.{all_events}
+use Rattle.wire_plan.specs.Plain.{lowest, go_on, plain_from}
+use Rattle.wire_plan.proofs.Basics.{event_within}
+use Rattle.wire_plan.proofs.Length.{runs_end}
+use Rattle.wire_plan.proofs.Due.{done_same, done_other}
+use Rattle.wire_plan.proofs.Known.{replies_same, replies_other}
+use Rattle.wire_core.specs.Puts.{is_put, puts_in}
+use Rattle.wire_core.specs.Ranks.{puts_left, calls_at, IsRankOf, AreRanksOf, IsCourse}
+use Rattle.wire_core.specs.declared.rank.Rank.{Rank}
+
+-- elements of a list that grew at its end
+pub get_push : {A : Type 0} (xs : List A) (y : A) (i : ℕ) (x : A) → slice_get (xs ++ y ∷ []) i ≡ Some x → (slice_get xs i ≡ Some x) ⊎ ((i ≡ length xs) × (x ≡ y))
+get_push [] y zero x h = inr (refl, sym (same_Some _ _ h))
+get_push [] y (suc i) x h = inl h
+get_push (z ∷ xs) y zero x h = inl h
+get_push (z ∷ xs) y (suc i) x h = elim (get_push xs y i x h) [ inl l ↦ inl l | inr r ↦ inr (ap suc r.0, r.1) ]
+
+-- elements of a list in which one was replaced
+pub get_set : {A : Type 0} (xs : List A) (p : ℕ) (y : A) (i : ℕ) (x : A) → slice_get (slice_set xs p y) i ≡ Some x → ((i ≡ p) × (x ≡ y)) ⊎ ((i ≡ p → ⊥) × (slice_get xs i ≡ Some x))
+get_set [] p y i x h = inr (λ e. absurd (none i h), h)
+  where
+    none : (i : ℕ) → slice_get [] i ≡ Some x → ⊥
+    none i h = let lt = slice_get_within [] i x h in omega (arith, lt)
+get_set (z ∷ xs) zero y zero x h = inl (refl, sym (same_Some _ _ h))
+get_set (z ∷ xs) zero y (suc i) x h = inr ((λ e. omega (arith, e)), h)
+get_set (z ∷ xs) (suc p) y zero x h = inr ((λ e. omega (arith, e)), h)
+get_set (z ∷ xs) (suc p) y (suc i) x h = elim (get_set xs p y i x h) [
+  | inl l ↦ inl (ap suc l.0, l.1)
+  | inr r ↦ inr ((λ e. r.0 (omega (arith, e))), r.1)
+]
+
+-- a process that hasn't begun
+pub new_rank : (plan : Plan) (p : ℕ) (kinds : List Kind) (rank : Rank) → map event_of kinds ≡ events plan p → rank.done ≡ 0 → rank.store ≡ record { puts = []; room = puts_in (map event_of kinds) } → rank.replies.items ≡ [] → vec_capacity rank.replies ≡ length kinds → IsRankOf plan start p rank
+unfolding event_count
+new_rank plan p kinds rank shown done store replies space = record {
+  done = done;
+  puts = ap (λ s. s.puts) store;
+  room = ap (λ s. s.room) store ∙ ap puts_in shown;
+  replies = replies;
+  space = let same : length kinds ≡ length (events plan p) = sym (length-map kinds event_of) ∙ ap length shown in
+    let none : length rank.replies.items ≡ 0 = ap length replies in
+    omega (arith, same, none, space);
+}
+
+-- a process that another's step leaves alone
+pub rank_other : (plan : Plan) (s : State) (p q : ℕ) (rank : Rank) → (q ≡ p → ⊥) → IsRankOf plan s q rank → IsRankOf plan (step plan s p) q rank
+rank_other plan s p q rank ne told =
+    let same = done_other plan s p q ne in
+    record {
+      done = told.done ∙ sym same;
+      puts = told.puts ∙ ap (kept_after (event_at plan q) (calls_at plan q)) (sym same);
+      room = told.room ∙ ap (puts_left plan q) (sym same);
+      replies = told.replies ∙ ap (replies_of plan) (sym (replies_other plan s p q ne));
+      space = rw same told.space;
+    }
+
+-- what a rank is after one event
+pub record IsAdvanced (old new : Rank) (call : CallAt) (e : Event) (r : Reply) : Type 0 where
+  pub done : new.done ≡ old.done + 1
+  pub puts : new.store.puts ≡ kept_with old.done call old.store.puts (Some e)
+  pub room : new.store.room + cond (is_put e) 1 0 ≡ old.store.room
+  pub replies : new.replies.items ≡ old.replies.items ++ r ∷ []
+  pub space : vec_capacity new.replies ≡ vec_capacity old.replies
+
+puts_first : (e : Event) (es : List Event) → puts_in (e ∷ es) ≡ puts_in es + cond (is_put e) 1 0
+puts_first e es = go (is_put e)
+  where
+    go : (b : Bool) → cond b (1 + puts_in es) (puts_in es) ≡ puts_in es + cond b 1 0
+    go true = omega arith
+    go false = omega arith
+
+pub left_first : (plan : Plan) (p n : ℕ) (e : Event) → event_at plan p n ≡ Some e → puts_left plan p n ≡ puts_left plan p (suc n) + cond (is_put e) 1 0
+unfolding event_at
+left_first plan p n e is =
+    let within = slice_get_within (events plan p) n e is in
+    let here = get_or_from_slice_get (events plan p) n e e is in
+    ap puts_in (drop-cons (events plan p) n e within ∙ ap (λ x. x ∷ drop (suc n) (events plan p)) here)
+    ∙ puts_first e (drop (suc n) (events plan p))
+
+-- the process that steps
+pub rank_step : (plan : Plan) (s : State) (p : ℕ) (old new : Rank) (e : Event) (r : Reply) → IsRankOf plan s p old → event_at plan p (s.done p) ≡ Some e → given plan (reply plan s (next_place s p) (Some e)) ≡ r ∷ [] → IsAdvanced old new (calls_at plan p (s.done p)) e r → IsRankOf plan (step plan s p) p new
+rank_step plan s p old new e r told is answered after =
+    let same = done_same plan s p in
+    let was = told.done in
+    let within = event_within plan p (s.done p) e is in
+    let next = after.done in
+    let left = left_first plan p (s.done p) e is in
+    let taken = after.room in
+    let before = told.room in
+    let longer : length new.replies.items ≡ suc (length old.replies.items) = ap length after.replies ∙ length-push old.replies.items r in
+    let filled = told.space in
+    let kept = after.space in
+    let room : new.store.room ≡ puts_left plan p (suc (s.done p)) = omega (arith, left, taken, before) in
+    let space : length new.replies.items + (event_count plan p - suc (s.done p)) ≤ vec_capacity new.replies = omega (arith, longer, filled, within, kept) in
+    record {
+      done = omega (arith, next, was, same);
+      puts = after.puts ∙ ap (λ n. kept_with n (calls_at plan p (s.done p)) old.store.puts (Some e)) told.done ∙ ap (λ puts. kept_with (s.done p) (calls_at plan p (s.done p)) puts (Some e)) told.puts
+        ∙ ap (kept_with (s.done p) (calls_at plan p (s.done p)) (kept_after (event_at plan p) (calls_at plan p) (s.done p))) (sym is) ∙ ap (kept_after (event_at plan p) (calls_at plan p)) (sym same);
+      room = room ∙ ap (puts_left plan p) (sym same);
+      replies = after.replies ∙ ap (λ rs. rs ++ r ∷ []) told.replies ∙ ap (λ rs. replies_of plan (s.replies p) ++ rs) (sym answered)
+        ∙ ap (λ rs. replies_of plan (s.replies p) ++ rs) (no_more (given plan (reply plan s (next_place s p) (Some e))))
+        ∙ sym (flat_map-append (given plan) (s.replies p) (reply plan s (next_place s p) (Some e) ∷ []))
+        ∙ ap (λ o. replies_of plan (s.replies p ++ reply plan s (next_place s p) o ∷ [])) (sym is)
+        ∙ ap (replies_of plan) (sym (replies_same plan s p));
+      space = subst (λ n. length new.replies.items + (event_count plan p - n) ≤ vec_capacity new.replies) (sym same) space;
+    }
+  where
+    length-push : {A : Type 0} (xs : List A) (x : A) → length (xs ++ x ∷ []) ≡ suc (length xs)
+    length-push [] x = refl
+    length-push (y ∷ xs) x = ap suc (length-push xs x)
+
+    no_more : (xs : List Reply) → xs ≡ xs ++ []
+    no_more [] = refl
+    no_more (x ∷ xs) = ap (λ ys. x ∷ ys) (no_more xs)
+
+-- all processes
+pub ranks_step : (plan : Plan) (s : State) (p : ℕ) (ranks : List Rank) (new : Rank) → AreRanksOf plan s ranks → IsRankOf plan (step plan s p) p new → AreRanksOf plan (step plan s p) (slice_set ranks p new)
+ranks_step plan s p ranks new told now = record {
+  count = length-set ranks p new ∙ told.count;
+  each = λ q rank is. elim (get_set ranks p new q rank is) [
+    | inl e ↦ subst (λ n. IsRankOf plan (step plan s p) n rank) (sym e.0) (subst (λ x. IsRankOf plan (step plan s p) p x) (sym e.1) now)
+    | inr o ↦ rank_other plan s p q rank o.0 (told.each q rank o.1)
+  ];
+}
+
+pub run_push : (plan : Plan) (s : State) (w : List ℕ) (p : ℕ) → run_from plan s (w ++ p ∷ []) ≡ step plan (run_from plan s w) p
+run_push plan s [] p = refl
+run_push plan s (q ∷ w) p = run_push plan (step plan s q) w p
+
+pub legal_push : (plan : Plan) (s : State) (w : List ℕ) (p : ℕ) → IsInterleaving plan s w → is_enabled plan (run_from plan s w) p ≡ true → IsInterleaving plan s (w ++ p ∷ [])
+legal_push plan s [] p legal on = (on, tt)
+legal_push plan s (q ∷ w) p legal on = (legal.0, legal_push plan (step plan s q) w p legal.1 on)
+
+-- the course after one step of a process that is enabled
+pub course_step : (scripts : Scripts) (history : List ℕ) (ranks : List Rank) (p : ℕ) (new : Rank) → IsCourse scripts history ranks → is_enabled (plan_of scripts) (run (plan_of scripts) history) p ≡ true → IsRankOf (plan_of scripts) (step (plan_of scripts) (run (plan_of scripts) history) p) p new → IsCourse scripts (history ++ p ∷ []) (slice_set ranks p new)
+course_step scripts history ranks p new course on now = record {
+  legal = legal_push (plan_of scripts) start history p course.legal on;
+  told = subst (λ s. AreRanksOf (plan_of scripts) s (slice_set ranks p new)) (sym (run_push (plan_of scripts) start history p)) (ranks_step (plan_of scripts) (run (plan_of scripts) history) p ranks new course.told now);
+}
+
+-- a put that comes has room in its store
+pub step_room : (plan : Plan) (s : State) (p : ℕ) (old : Rank) (e : Event) → IsRankOf plan s p old → event_at plan p (s.done p) ≡ Some e → is_put e ≡ true → 0 < old.store.room
+step_room plan s p old e told is put =
+    let left = left_first plan p (s.done p) e is in
+    let one : ◌≡◌ {A = ℕ} (cond (is_put e) 1 0) 1 = rw put refl in
+    let room = told.room in
+    omega (arith, left, one, room)
+
+-- its reply has room too
+pub step_space : (plan : Plan) (s : State) (p : ℕ) (old : Rank) (e : Event) → IsRankOf plan s p old → event_at plan p (s.done p) ≡ Some e → length old.replies.items < vec_capacity old.replies
+step_space plan s p old e told is =
+    let within = event_within plan p (s.done p) e is in
+    let space = told.space in
+    omega (arith, within, space)
+
+pub length_push : (w : List ℕ) (p : ℕ) → length (w ++ p ∷ []) ≡ suc (length w)
+length_push [] p = refl
+length_push (q ∷ w) p = ap suc (length_push w p)
+
+-- and so has the history
+pub step_history : (plan : Plan) (w : List ℕ) (p : ℕ) → IsInterleaving plan start w → is_enabled plan (run plan w) p ≡ true → length w < all_events plan
+step_history plan w p legal on =
+    let longer = runs_end plan (w ++ p ∷ []) (legal_push plan start w p legal on) in
+    let one = length_push w p in
+    omega (arith, longer, one)
+
+-- the plain run goes on with the lowest process that is enabled
+pub ahead_step : (plan : Plan) (h : List ℕ) (p fuel left : ℕ) (all : List ℕ) → lowest plan (run plan h) (process_count plan) ≡ Some p → left ≡ suc fuel → h ++ plain_from plan left (run plan h) ≡ all → (h ++ p ∷ []) ++ plain_from plan fuel (run plan (h ++ p ∷ [])) ≡ all
+ahead_step plan h p fuel left all low more is =
+    let next : plain_from plan (suc fuel) (run plan h) ≡ p ∷ plain_from plan fuel (step plan (run plan h) p) =
+        ap (λ o. go_on o (λ q. plain_from plan fuel (step plan (run plan h) q))) low in
+    append_assoc h (p ∷ []) (plain_from plan fuel (run plan (h ++ p ∷ [])))
+    ∙ ap (λ s. h ++ p ∷ plain_from plan fuel s) (run_push plan start h p)
+    ∙ ap (λ rest. h ++ rest) (sym next)
+    ∙ ap (λ n. h ++ plain_from plan n (run plan h)) (sym more)
+    ∙ is
+
+-- and ends where nobody is
+pub ahead_end : (plan : Plan) (s : State) (fuel : ℕ) → lowest plan s (process_count plan) ≡ None → plain_from plan fuel s ≡ []
+ahead_end plan s zero none = refl
+ahead_end plan s (suc fuel) none = ap (λ o. go_on o (λ q. plain_from plan fuel (step plan s q))) none
+

@@ -1,0 +1,20 @@
+use Rattle.std.proofs.Common.{◌≡◌, Some, suc, ap, sym, refl, arith, true, ◌∙◌}
+use Rattle.wire_types.specs.Plan.{process_count}
+use Rattle.wire_rehearsal.specs.Planned.{plan_of}
+use Rattle.wire_plan.specs.Machine.{is_enabled}
+use Rattle.wire_plan.specs.Plain.{lowest}
+use Rattle.wire_plan.proofs.PlainRun.{lowest_stays}
+use Rattle.wire_core.specs.Course.{state_of}
+use Rattle.wire_core.proofs.running.Core.lowest_ready.Goals as goal
+
+pub returns-then-ready : goal.returns-then-ready
+returns-then-ready c =
+    let number = ap (λ p. p.number) c.new-proc.ensures in
+    let plan = plan_of c.args.self.now.scripts in
+    let s = state_of c.args.self.now in
+    let on : is_enabled plan s c.loop-number.number ≡ true = rw number at (sym c.if-ready.ensures) in
+    let here : lowest plan s (suc c.loop-number.number) ≡ Some c.loop-number.number = rw (c.loop-number.invariant, on) refl in
+    let scripts = ap (λ course. course.scripts) c.self.view_is in
+    let count = rw scripts at c.process_count-number-end.ensures in
+    let below = c.loop-number-test.true in
+    rw number (sym (lowest_stays plan s (suc c.loop-number.number) (process_count plan) c.loop-number.number (omega (arith, count, below)) here))

@@ -1,0 +1,57 @@
+use Rattle.std.proofs.Common.{◌≡◌, ◌∙◌, ◌<◌, ◌≤◌, ◌+◌, ◌-◌, ap, sym, refl, subst, arith, ℕ, suc, ◌∷◌, [], ◌++◌, length, true, Some, None}
+use Rattle.wire_types.specs.Plan.{process_count}
+use Rattle.wire_rehearsal.specs.Planned.{plan_of}
+use Rattle.wire_plan.specs.State.{start}
+use Rattle.wire_plan.specs.Machine.{is_enabled, run, IsInterleaving}
+use Rattle.wire_plan.specs.Plain.{lowest, plain_from}
+use Rattle.wire_plan.specs.Laws.{all_events}
+use Rattle.wire_plan.proofs.PlainRun.{lowest_enabled}
+use Rattle.wire_core.specs.Course.{state_of}
+use Rattle.wire_core.proofs.Looks.{nobody}
+use Rattle.wire_core.proofs.Steps.{step_history, legal_push, length_push, ahead_step, ahead_end}
+use Rattle.wire_core.proofs.running.Core.run_lowest.Goals as goal
+
+pub steps-init : goal.steps-init
+steps-init c =
+    let now = c.args.self.now in
+    let plan = plan_of now.scripts in
+    let none : all_events plan - (length now.history - length now.history) ≡ all_events plan = omega arith in
+    record {
+      scripts = refl;
+      legal = c.history.ensures.legal;
+      longer = omega arith;
+      ahead = ap (λ n. now.history ++ plain_from plan n (state_of now)) none;
+    }
+
+pub step-requires : goal.step-requires
+step-requires c = lowest_enabled (plan_of c.steps.self.scripts) (state_of c.steps.self) (process_count (plan_of c.steps.self.scripts)) c.in-Some.proc.number (sym c.in-Some.ensures)
+
+pub steps-smaller : goal.steps-smaller
+steps-smaller c =
+    let plan = plan_of c.steps.self.scripts in
+    let on = lowest_enabled plan (state_of c.steps.self) (process_count plan) c.in-Some.proc.number (sym c.in-Some.ensures) in
+    let room = step_history plan c.steps.self.history c.in-Some.proc.number c.steps.invariant.legal on in
+    let longer = length_push c.steps.self.history c.in-Some.proc.number in
+    rw c.step.ensures (omega (arith, room, longer))
+
+pub steps-preserved : goal.steps-preserved
+steps-preserved c =
+    let plan = plan_of c.steps.self.scripts in
+    let h = c.steps.self.history in
+    let p = c.in-Some.proc.number in
+    let initial = c.args.self.now in
+    let on = lowest_enabled plan (state_of c.steps.self) (process_count plan) p (sym c.in-Some.ensures) in
+    let room = step_history plan h p c.steps.invariant.legal on in
+    let push = length_push h p in
+    let longer = c.steps.invariant.longer in
+    let more : all_events plan - (length h - length initial.history) ≡ suc (all_events plan - (length (h ++ p ∷ []) - length initial.history)) = omega (arith, room, push, longer) in
+    rw c.step.ensures
+    record {
+      scripts = c.steps.invariant.scripts;
+      legal = legal_push plan start h p c.steps.invariant.legal on;
+      longer = omega (arith, push, longer);
+      ahead = ahead_step plan h p (all_events plan - (length (h ++ p ∷ []) - length initial.history)) _ _ (sym c.in-Some.ensures) more c.steps.invariant.ahead;
+    }
+
+pub returns-clause-ended : goal.returns-clause-ended
+returns-clause-ended c = nobody (plan_of c.steps.self.scripts) (state_of c.steps.self) (sym c.in_default.ensures)

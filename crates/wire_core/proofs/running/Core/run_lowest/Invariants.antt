@@ -1,0 +1,20 @@
+use Rattle.std.proofs.Common.{◌≡◌, ◌≤◌, ◌-◌, ◌++◌, length}
+use Rattle.wire_rehearsal.specs.Planned.{plan_of}
+use Rattle.wire_plan.specs.State.{start}
+use Rattle.wire_plan.specs.Machine.{IsInterleaving}
+use Rattle.wire_plan.specs.Plain.{plain_from}
+use Rattle.wire_plan.specs.Laws.{all_events}
+use Rattle.wire_core.specs.Course.{state_of}
+use Rattle.wire_core.proofs.running.Core.run_lowest.Given as goal
+
+abbrev pub invariant-steps : goal.invariant-steps
+invariant-steps l = record {
+  scripts : l.self.scripts ≡ l.initial.self.scripts;
+  legal : IsInterleaving (plan_of l.self.scripts) start l.self.history;
+  longer : length l.initial.self.history ≤ length l.self.history;
+  ahead : l.self.history ++ plain_from (plan_of l.self.scripts) (all_events (plan_of l.self.scripts) - (length l.self.history - length l.initial.self.history)) (state_of l.self)
+      ≡ l.initial.self.history ++ plain_from (plan_of l.initial.self.scripts) (all_events (plan_of l.initial.self.scripts)) (state_of l.initial.self);
+}
+
+abbrev pub decreases-steps : goal.decreases-steps
+decreases-steps l = all_events (plan_of l.self.scripts) - length l.self.history

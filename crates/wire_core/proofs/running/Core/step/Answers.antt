@@ -1,0 +1,125 @@
+use Rattle.std.proofs.Common.{◌≡◌, ◌∙◌, ◌<◌, ◌+◌, ap, sym, refl, subst, arith, ℕ, suc, List, ◌∷◌, [], ◌++◌, map, length, Some}
+use Rattle.std.specs.Prelude.{slice_get}
+use Rattle.std.proofs.lemmas.List.{length-map, map-append}
+use Rattle.std.proofs.lemmas.Option.{slice_get_read}
+use Rattle.wire_types.specs.Plan.{event_at}
+use Rattle.wire_rehearsal.specs.Planned.{plan_of}
+use Rattle.wire_store.specs.Kept.{kept_with}
+use Rattle.wire_plan.specs.Kinds.{event_of}
+use Rattle.wire_plan.specs.State.{next_place}
+use Rattle.wire_plan.specs.Machine.{run, reply}
+use Rattle.wire_plan.specs.Ends.{call_at, given}
+use Rattle.wire_plan.proofs.Basics.{event_within, process_within}
+use Rattle.wire_core.specs.Course.{state_of}
+use Rattle.wire_core.specs.Ranks.{calls_at}
+use Rattle.wire_core.proofs.Steps.{IsAdvanced, step_room, step_space, step_history, rank_step, course_step}
+use Rattle.wire_core.proofs.running.Core.step.Goals as goal
+
+pub call_of-call-requires : goal.call_of-call-requires
+call_of-call-requires c =
+    let plan = plan_of c.self.inside.plan.now in
+    let s = run plan (map (λ p. p.number) c.self.inside.history.items) in
+    let is = sym (rw (← c.self.view_is) at c.in-Some.ensures.kind) in
+    let place = rw (← c.self.view_is) at c.next_place.ensures in
+    let proc = ap (λ x. x.proc) place in
+    let at = ap (λ x. x.at) place in
+    rw (proc, at) (event_within plan c.args.proc.number (s.done c.args.proc.number) (event_of c.in-Some.kind) is)
+
+pub index_mut-rank-requires : goal.index_mut-rank-requires
+index_mut-rank-requires c =
+    let plan = plan_of c.self.inside.plan.now in
+    let s = run plan (map (λ p. p.number) c.self.inside.history.items) in
+    let is = sym (rw (← c.self.view_is) at c.in-Some.ensures.kind) in
+    let within = process_within plan c.args.proc.number (s.done c.args.proc.number) (event_of c.in-Some.kind) is in
+    let count = c.self.invariant.0.told.count in
+    let len = c.self.inside.ranks.ok.0 in
+    let index = c.index.ensures in
+    omega (arith, within, count, len, index)
+
+pub advance-requires-clause-number : goal.advance-requires-clause-number
+advance-requires-clause-number c =
+    let plan = plan_of c.self.inside.plan.now in
+    let s = run plan (map (λ p. p.number) c.self.inside.history.items) in
+    let is = sym (rw (← c.self.view_is) at c.in-Some.ensures.kind) in
+    let ranks = c.self.inside.ranks.items in
+    let old = c.index_mut-rank.result.now in
+    let within = process_within plan c.args.proc.number (s.done c.args.proc.number) (event_of c.in-Some.kind) is in
+    let count = c.self.invariant.0.told.count in
+    let there : c.args.proc.number < length ranks = omega (arith, within, count) in
+    let read = rw c.index.ensures at c.index_mut-rank.ensures.value in
+    let told = c.self.invariant.0.told.each c.args.proc.number old (slice_get_read ranks (length ranks) c.args.proc.number old refl there read) in
+    let fits = rw (← c.self.view_is) at c.in-Some.ensures.fits in
+    rw told.done fits
+
+pub advance-requires-clause-room : goal.advance-requires-clause-room
+advance-requires-clause-room c =
+    let plan = plan_of c.self.inside.plan.now in
+    let s = run plan (map (λ p. p.number) c.self.inside.history.items) in
+    let is = sym (rw (← c.self.view_is) at c.in-Some.ensures.kind) in
+    let ranks = c.self.inside.ranks.items in
+    let old = c.index_mut-rank.result.now in
+    let within = process_within plan c.args.proc.number (s.done c.args.proc.number) (event_of c.in-Some.kind) is in
+    let count = c.self.invariant.0.told.count in
+    let there : c.args.proc.number < length ranks = omega (arith, within, count) in
+    let read = rw c.index.ensures at c.index_mut-rank.ensures.value in
+    let told = c.self.invariant.0.told.each c.args.proc.number old (slice_get_read ranks (length ranks) c.args.proc.number old refl there read) in
+    step_room plan s c.args.proc.number old (event_of c.in-Some.kind) told is
+
+pub advance-requires-clause-space : goal.advance-requires-clause-space
+advance-requires-clause-space c =
+    let plan = plan_of c.self.inside.plan.now in
+    let s = run plan (map (λ p. p.number) c.self.inside.history.items) in
+    let is = sym (rw (← c.self.view_is) at c.in-Some.ensures.kind) in
+    let ranks = c.self.inside.ranks.items in
+    let old = c.index_mut-rank.result.now in
+    let within = process_within plan c.args.proc.number (s.done c.args.proc.number) (event_of c.in-Some.kind) is in
+    let count = c.self.invariant.0.told.count in
+    let there : c.args.proc.number < length ranks = omega (arith, within, count) in
+    let read = rw c.index.ensures at c.index_mut-rank.ensures.value in
+    let told = c.self.invariant.0.told.each c.args.proc.number old (slice_get_read ranks (length ranks) c.args.proc.number old refl there read) in
+    let space = step_space plan s c.args.proc.number old (event_of c.in-Some.kind) told is in
+    let len = old.replies.ok.0 in
+    omega (arith, space, len)
+
+pub push_reserved-requires : goal.push_reserved-requires
+push_reserved-requires c =
+    let plan = plan_of c.self.inside.plan.now in
+    let w = map (λ p. p.number) c.self.inside.history.items in
+    let on = rw (← c.self.view_is) at c.requires in
+    let room = step_history plan w c.args.proc.number c.self.invariant.0.legal on in
+    let steps : length w ≡ length c.self.inside.history.items = length-map c.self.inside.history.items (λ p. p.number) in
+    let len = c.self.inside.history.ok.0 in
+    let space = c.self.invariant.1 in
+    omega (arith, room, steps, len, space)
+
+pub invariant_of-self : goal.invariant_of-self
+invariant_of-self c =
+    let plan = plan_of c.self.inside.plan.now in
+    let s = run plan (map (λ p. p.number) c.self.inside.history.items) in
+    let is = sym (rw (← c.self.view_is) at c.in-Some.ensures.kind) in
+    let ranks = c.self.inside.ranks.items in
+    let old = c.index_mut-rank.result.now in
+    let within = process_within plan c.args.proc.number (s.done c.args.proc.number) (event_of c.in-Some.kind) is in
+    let count = c.self.invariant.0.told.count in
+    let there : c.args.proc.number < length ranks = omega (arith, within, count) in
+    let read = rw c.index.ensures at c.index_mut-rank.ensures.value in
+    let told = c.self.invariant.0.told.each c.args.proc.number old (slice_get_read ranks (length ranks) c.args.proc.number old refl there read) in
+    let w = map (λ p. p.number) c.self.inside.history.items in
+    let on = rw (← c.self.view_is) at c.requires in
+    let place = rw (← c.self.view_is) at c.next_place.ensures in
+    let call : c.call_of-call.result ≡ calls_at plan c.args.proc.number (s.done c.args.proc.number) = c.call_of-call.ensures ∙ ap (call_at plan) place in
+    let answered : given plan (reply plan s (next_place s c.args.proc.number) (Some (event_of c.in-Some.kind))) ≡ c.reply-reply.result ∷ [] =
+        subst (λ course. given (plan_of course.scripts) (reply (plan_of course.scripts) (state_of course) (next_place (state_of course) c.args.proc.number) (Some (event_of c.in-Some.kind))) ≡ c.reply-reply.result ∷ []) (sym c.self.view_is) c.reply-reply.ensures in
+    let after : IsAdvanced old c.advance.new.self (calls_at plan c.args.proc.number (s.done c.args.proc.number)) (event_of c.in-Some.kind) c.reply-reply.result =
+        record {
+          done = c.advance.ensures.done;
+          puts = c.advance.ensures.puts ∙ ap (λ a. kept_with old.done a old.store.puts (Some (event_of c.in-Some.kind))) call;
+          room = c.advance.ensures.room;
+          replies = c.advance.ensures.replies;
+          space = c.advance.ensures.space;
+        } in
+    let now = rank_step plan s c.args.proc.number old c.advance.new.self (event_of c.in-Some.kind) c.reply-reply.result told is answered after in
+    let course = course_step c.self.inside.plan.now w ranks c.args.proc.number c.advance.new.self c.self.invariant.0 on now in
+    let pushed : map (λ p. p.number) c.push_reserved.new.self.items ≡ w ++ c.args.proc.number ∷ [] =
+        ap (map (λ p. p.number)) c.push_reserved.ensures.items ∙ map-append (λ p. p.number) c.self.inside.history.items (c.args.proc ∷ []) in
+    (rw (pushed, c.index.ensures) course, rw c.push_reserved.ensures.capacity c.self.invariant.1)

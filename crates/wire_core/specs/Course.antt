@@ -1,0 +1,14 @@
+-- What a core is seen as: the scripts that it runs, and the history of its steps.
+use Rattle.std.specs.Prelude.{ℕ, List}
+use Rattle.wire_rehearsal.specs.Scripts.{Scripts}
+use Rattle.wire_rehearsal.specs.Planned.{plan_of}
+use Rattle.wire_plan.specs.State.{State}
+use Rattle.wire_plan.specs.Machine.{run}
+
+pub record Course : Type 0 where
+  pub scripts : Scripts
+  pub history : List ℕ
+
+-- the state to which the history leads
+abbrev pub state_of : Course → State
+state_of course = run (plan_of course.scripts) course.history

@@ -1,0 +1,38 @@
+-- What a core keeps of each process, against the state that its history leads to.
+use Rattle.std.specs.Prelude.{◌≡◌, ℕ, ◌+◌, ◌-◌, ◌≤◌, List, Some, length, drop, slice_get, vec_capacity}
+use Rattle.wire_types.specs.Plan.{Plan, events, event_at, event_count, process_count}
+use Rattle.wire_types.specs.declared.CallAt.{CallAt}
+use Rattle.wire_rehearsal.specs.Scripts.{Scripts}
+use Rattle.wire_rehearsal.specs.Planned.{plan_of}
+use Rattle.wire_store.specs.Kept.{kept_after}
+use Rattle.wire_plan.specs.State.{State, start}
+use Rattle.wire_plan.specs.Machine.{IsInterleaving, run}
+use Rattle.wire_plan.specs.Ends.{call_at, replies_of}
+use Rattle.wire_core.specs.Puts.{puts_in}
+use Rattle.wire_core.specs.declared.rank.Rank.{Rank}
+
+-- how many puts p has from its event number n on
+abbrev pub puts_left : Plan → ℕ → ℕ → ℕ
+puts_left plan p n = puts_in (drop n (events plan p))
+
+-- the call of each of p's events
+abbrev pub calls_at : Plan → ℕ → ℕ → CallAt
+calls_at plan p n = call_at plan (record { proc = p; at = n })
+
+-- the rank tells what p has done in this state
+pub record IsRankOf (plan : Plan) (s : State) (p : ℕ) (rank : Rank) : Type 0 where
+  pub done : rank.done ≡ s.done p
+  pub puts : rank.store.puts ≡ kept_after (event_at plan p) (calls_at plan p) (s.done p)
+  pub room : rank.store.room ≡ puts_left plan p (s.done p)
+  pub replies : rank.replies.items ≡ replies_of plan (s.replies p)
+  pub space : length rank.replies.items + (event_count plan p - s.done p) ≤ vec_capacity rank.replies
+
+-- a rank for each process
+pub record AreRanksOf (plan : Plan) (s : State) (ranks : List Rank) : Type 0 where
+  pub count : length ranks ≡ process_count plan
+  pub each : (p : ℕ) (rank : Rank) → slice_get ranks p ≡ Some rank → IsRankOf plan s p rank
+
+-- the history is an interleaving, and the ranks are those of the state that it leads to
+pub record IsCourse (scripts : Scripts) (history : List ℕ) (ranks : List Rank) : Type 0 where
+  pub legal : IsInterleaving (plan_of scripts) start history
+  pub told : AreRanksOf (plan_of scripts) (run (plan_of scripts) history) ranks

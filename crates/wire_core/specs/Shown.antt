@@ -1,0 +1,27 @@
+-- What a get sees, and the reply to it, in the words of the code.
+use Rattle.std.specs.Prelude.{ℕ, Bool, true, false}
+use Rattle.wire_types.specs.Plan.{Plan}
+use Rattle.wire_types.specs.declared.Reply.{Reply}
+use Rattle.wire_types.specs.declared.Status.TheVariants as status
+use Rattle.wire_types.specs.declared.Value.TheVariants as value
+use Rattle.wire_store.specs.declared.Seen.{Seen}
+use Rattle.wire_store.specs.declared.Seen.TheVariants as seen
+use Rattle.wire_plan.specs.Sight.{Sight, Nothing, Outside, Shown}
+use Rattle.wire_plan.specs.Ends.{bare, call_at}
+
+-- a sight of a key of this owner
+abbrev pub seen_as : Plan → ℕ → Sight → Seen
+seen_as plan owner Nothing = seen.Nothing
+seen_as plan owner Outside = seen.Outside
+seen_as plan owner (Shown put) = seen.Value (call_at plan (record { proc = owner; at = put }))
+
+-- the reply to a get that sees this
+abbrev pub reply_to : Seen → Reply
+reply_to seen.Nothing = bare status.NotFound
+reply_to seen.Outside = bare status.ExistsOutsideScope
+reply_to (seen.Value call) = record { status = status.Success; value = value.Put call }
+
+abbrev pub is_something : Seen → Bool
+is_something seen.Nothing = false
+is_something seen.Outside = true
+is_something (seen.Value call) = true

@@ -1,0 +1,222 @@
+//! A plan with the history of its steps.
+
+ghost use Rattle.std.specs.Prelude.{◌≡◌, ◌+◌, ◌<◌, ◌^◌, ◌∷◌, ◌++◌, [], true, Some, None, ℕ, List, length, map, option_map, slice_get, IsTrue, ◌↔◌, IfOk, IfErr, OnSome};
+ghost use Rattle.wire_types.specs.Plan.{place_of, process_count, same_node};
+ghost use Rattle.wire_types.specs.Puts.{own, stored};
+ghost use Rattle.wire_types.specs.Outcome.{ends_of};
+ghost use Rattle.wire_rehearsal.specs.Planned.{plan_of};
+ghost use Rattle.wire_plan.specs.Kinds.{event_of};
+ghost use Rattle.wire_plan.specs.State.{start, next_place, next_event};
+ghost use Rattle.wire_plan.specs.Sight.{held, served, get_sees};
+ghost use Rattle.wire_plan.specs.Machine.{is_enabled, IsInterleaving, IsEnd, reply as answer};
+ghost use Rattle.wire_plan.specs.Plain.{lowest, plain_from};
+ghost use Rattle.wire_plan.specs.Laws.{all_events};
+ghost use Rattle.wire_plan.specs.Ends.{given, outcome, row, standing};
+ghost use Rattle.wire_core.specs.Course.{state_of};
+ghost use Rattle.wire_core.specs.Shown.{seen_as};
+ghost use Rattle.wire_core.specs.Ranks.{AreRanksOf};
+
+use crate::rank::Rank;
+use crate::replies::{bare_reply, is_shown, reply_to_get};
+use std::alloc::Global;
+use std::marker::Model;
+use wire_plan::{Kind, Plan};
+use wire_store::Seen;
+use wire_types::{CallEnd, Event, Fault, Outcome, Proc, Reply, Status};
+
+/// A run of a plan: the history of its steps, each of one event of a process that was ready when it came.
+#[derive(Drop)]
+pub struct Core<'a> {
+    plan: &'a Plan,
+    ranks: Vec<Rank>,
+    history: Vec<Proc>,
+}
+
+impl<'a> Model for Core<'a> {
+    ghost use Rattle.std.specs.Prelude.{◌≤◌, map, vec_capacity};
+    ghost use Rattle.wire_rehearsal.specs.Planned.{plan_of};
+    ghost use Rattle.wire_plan.specs.Laws.{all_events};
+    ghost use Rattle.wire_core.specs.Course.{Course};
+    ghost use Rattle.wire_core.specs.Ranks.{IsCourse};
+
+    ghost Value = { Course };
+
+    ghost view = { λ c. record { scripts = c.plan.now; history = map (λ p. p.number) c.history.items } };
+
+    ghost invariant = { λ c. IsCourse c.plan.now (map (λ p. p.number) c.history.items) c.ranks.items × (all_events (plan_of c.plan.now) ≤ vec_capacity c.history) };
+}
+
+/// The ranks of processes that haven't begun.
+fn new_ranks(alloc: Global, plan: &Plan) -> Result<Vec<Rank>, Fault>
+    ensures ok { IfOk result (λ ranks. AreRanksOf (plan_of plan.now) start ranks.items) }
+    ensures err { IfErr result (λ e. e ≡ Fault.Memory) }
+{
+    let mut ranks = Vec::with_capacity(alloc, plan.process_count() as usize)?;
+    for number in 0..plan.process_count() {
+        let rank = Rank::new(alloc, plan.events(Proc::new(number)))?;
+        ranks.push_reserved(rank);
+    }
+    Ok(ranks)
+}
+
+impl<'a> Core<'a> {
+    /// The run of a plan that hasn't begun, with memory for the whole history. The one fault is
+    /// `Fault::Memory`.
+    pub fn new(alloc: Global, plan: &'a Plan) -> Result<Core<'a>, Fault>
+        ensures ok { IfOk result (λ core. core ≡ record { scripts = plan.now; history = [] }) }
+        ensures err { IfErr result (λ e. e ≡ Fault.Memory) }
+    {
+        let ranks = new_ranks(alloc, plan)?;
+        let history = Vec::with_capacity(alloc, plan.event_total())?;
+        Ok(Core {
+            plan,
+            ranks,
+            history,
+        })
+    }
+
+    /// How many events of a process are done.
+    fn done(&self, proc: Proc) -> u32
+        ensures { result ≡ (state_of self.now).done proc.number }
+    {
+        match self.ranks.get(proc.index()) {
+            Some(rank) => rank.done,
+            None => 0,
+        }
+    }
+
+    /// The place of the next event of a process.
+    fn next_place(&self, proc: Proc) -> Event
+        ensures { place_of result ≡ next_place (state_of self.now) proc.number }
+    {
+        let at = self.done(proc);
+        Event { proc, at }
+    }
+
+    /// What the next event of a process is, where it has one.
+    fn next_kind(&self, proc: Proc) -> Option<Kind>
+        ensures kind { option_map event_of result ≡ next_event (plan_of self.now.scripts) (state_of self.now) proc.number }
+        ensures fits { OnSome result ((state_of self.now).done proc.number + 1 < 2 ^ 32) }
+    {
+        let event = self.next_place(proc);
+        if event.at < self.plan.event_count(proc) {
+            Some(self.plan.kind(event))
+        } else {
+            None
+        }
+    }
+
+    /// What a process sees of its own key.
+    fn own_seen(&self, proc: Proc, key: u32) -> Seen
+        ensures { result ≡ seen_as (plan_of self.now.scripts) proc.number (held (own (plan_of self.now.scripts) proc.number key ((state_of self.now).done proc.number))) }
+    {
+        match self.ranks.get(proc.index()) {
+            None => Seen::Nothing,
+            Some(rank) => match rank.store.own(key) {
+                Some(call) => Seen::Value(call),
+                None => Seen::Nothing,
+            },
+        }
+    }
+
+    /// What a process sees of another's key.
+    fn other_seen(&self, reader: Proc, owner: Proc, key: u32) -> Seen
+        requires { reader.number < process_count (plan_of self.now.scripts) }
+        ensures { result ≡ seen_as (plan_of self.now.scripts) owner.number (served (plan_of self.now.scripts) owner.number (same_node (plan_of self.now.scripts) owner.number reader.number) (stored (plan_of self.now.scripts) owner.number key ((state_of self.now).done owner.number))) }
+    {
+        match self.ranks.get(owner.index()) {
+            None => Seen::Nothing,
+            Some(rank) => {
+                let same_node = self.plan.node_of(owner) == self.plan.node_of(reader);
+                rank.store.seen_from(key, same_node)
+            }
+        }
+    }
+
+    /// What the next event of a process sees of a key, as a get that waits.
+    fn seen_by(&self, reader: Proc, owner: Proc, key: u32) -> Seen
+        requires { reader.number < process_count (plan_of self.now.scripts) }
+        ensures { result ≡ seen_as (plan_of self.now.scripts) owner.number (get_sees (plan_of self.now.scripts) (state_of self.now).done reader.number ((state_of self.now).done reader.number) owner.number key) }
+    {
+        if reader == owner {
+            return self.own_seen(owner, key);
+        }
+        self.other_seen(reader, owner, key)
+    }
+
+    /// Whether a process has a next event that may happen now. A process that isn't of the plan has none.
+    pub fn ready(&self, proc: Proc) -> bool
+        ensures { result ≡ is_enabled (plan_of self.now.scripts) (state_of self.now) proc.number }
+    {
+        match self.next_kind(proc) {
+            None => false,
+            Some(Kind::Put { .. } | Kind::Commit) => true,
+            Some(Kind::Get { owner, key }) => is_shown(self.seen_by(proc, owner, key)),
+        }
+    }
+
+    /// The reply of the next event of a process, which is of this kind.
+    fn reply(&self, proc: Proc, kind: Kind) -> Reply
+        requires { next_event (plan_of self.now.scripts) (state_of self.now) proc.number ≡ Some (event_of kind) }
+        ensures { given (plan_of self.now.scripts) (answer (plan_of self.now.scripts) (state_of self.now) (next_place (state_of self.now) proc.number) (Some (event_of kind))) ≡ result ∷ [] }
+    {
+        match kind {
+            Kind::Put { .. } | Kind::Commit => bare_reply(Status::Success),
+            Kind::Get { owner, key } => reply_to_get(self.seen_by(proc, owner, key)),
+        }
+    }
+
+    /// Takes one event of a process that is ready. It takes no memory and can't fail.
+    pub fn step(&mut self, proc: Proc)
+        requires { is_enabled (plan_of self.old.scripts) (state_of self.old) proc.number ≡ true }
+        ensures { self.new ≡ record { scripts = self.old.scripts; history = self.old.history ++ proc.number ∷ [] } }
+    {
+        let Some(kind) = self.next_kind(proc) else {
+            unreachable!();
+        };
+        let reply = self.reply(proc, kind);
+        let call = self.plan.call_of(self.next_place(proc));
+        let rank = &mut self.ranks[proc.index()];
+        rank.advance(kind, call, reply);
+        self.history.push_reserved(proc);
+    }
+
+    /// The lowest process that is ready.
+    pub fn lowest_ready(&self) -> Option<Proc>
+        ensures { option_map (λ p. p.number) result ≡ lowest (plan_of self.now.scripts) (state_of self.now) (process_count (plan_of self.now.scripts)) }
+    {
+        for number in 0..self.plan.process_count() {
+            let proc = Proc::new(number);
+            if self.ready(proc) {
+                return Some(proc);
+            }
+        }
+        None
+    }
+
+    /// Whether no process is ready.
+    pub fn ended(&self) -> bool
+        ensures { IsTrue result ↔ IsEnd (plan_of self.now.scripts) (state_of self.now) }
+    {
+        self.lowest_ready().is_none()
+    }
+
+    /// Steps the lowest process that is ready, until none is.
+    pub fn run_lowest(&mut self)
+        ensures run { self.new ≡ record { scripts = self.old.scripts; history = self.old.history ++ plain_from (plan_of self.old.scripts) (all_events (plan_of self.old.scripts)) (state_of self.old) } }
+        ensures ended { IsEnd (plan_of self.new.scripts) (state_of self.new) }
+    {
+        let _ = self.history();
+        'steps: while let Some(proc) = self.lowest_ready() {
+            self.step(proc);
+        }
+    }
+
+    /// The steps so far.
+    pub fn history(&self) -> &[Proc]
+        ensures steps { map (λ p. p.number) result.now ≡ self.now.history }
+        ensures legal { IsInterleaving (plan_of self.now.scripts) start self.now.history }
+    {
+        self.history.as_slice()
+    }
+}

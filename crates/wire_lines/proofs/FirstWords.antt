@@ -1,0 +1,21 @@
+-- Each line that can be said begins with the word of a kind.
+use Rattle.std.proofs.Common.{◌≡◌, refl, ℕ, List, [], ◌∷◌, map, get_or}
+use Rattle.std.specs.Borrow.{Bor}
+use Rattle.wire_lines.specs.Said.{Said, Header, Node, Job, Rank, Calls, Put, Commit, Get, first_word}
+use Rattle.wire_lines.specs.Kind.{text_of}
+use Rattle.wire_lines.specs.declared.line.Kind.{Kind}
+use Rattle.wire_lines.specs.declared.line.Kind.TheVariants as kind
+
+pub some_kind : (said : Said) → (k : Kind) × (first_word said ≡ text_of k)
+some_kind Header = (kind.Header, refl)
+some_kind (Node name) = (kind.Node, refl)
+some_kind (Job name) = (kind.Job, refl)
+some_kind (Rank node) = (kind.Rank, refl)
+some_kind (Calls (Put scope key value)) = (kind.Put, refl)
+some_kind (Calls Commit) = (kind.Commit, refl)
+some_kind (Calls (Get job rank key)) = (kind.Get, refl)
+
+-- the first of some words
+pub head_word : (ws : List (Bor (List ℕ))) (w : List ℕ) (rest : List (List ℕ)) (d : Bor (List ℕ)) → map (λ x. x.now) ws ≡ w ∷ rest → (get_or ws 0 d).now ≡ w
+head_word [] w rest d e = cc
+head_word (x ∷ xs) w rest d e = cc

@@ -1,0 +1,13 @@
+-- The first word of each kind of line.
+use Rattle.std.specs.Prelude.{ℕ, List, codes}
+use Rattle.wire_lines.specs.declared.line.Kind.{Kind}
+use Rattle.wire_lines.specs.declared.line.Kind.TheVariants.{Header, Node, Job, Rank, Put, Commit, Get}
+
+abbrev pub text_of : Kind → List ℕ
+text_of Header = codes "rehearsal"
+text_of Node = codes "node"
+text_of Job = codes "job"
+text_of Rank = codes "rank"
+text_of Put = codes "put"
+text_of Commit = codes "commit"
+text_of Get = codes "get"

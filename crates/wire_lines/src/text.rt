@@ -1,0 +1,50 @@
+//! Lines and words.
+
+ghost use Rattle.std.specs.Prelude.{◌≡◌, ◌+◌, ◌<◌, ◌==◌, ◌∷◌, length, map, position, IfOk};
+ghost use Rattle.std.specs.Str.Lines.{strip_carriage_return};
+ghost use Rattle.wire_lines.specs.Text.{pieces_of, words_of, is_blank};
+
+use std::alloc::{AllocError, Global};
+
+/// The first piece of a text, without its line feed, and what comes after it.
+pub fn cut_piece(bytes: &[u8]) -> (&[u8], &[u8])
+    requires { 0 < length bytes.now }
+    ensures pieces { pieces_of bytes.now ≡ result.0.now ∷ pieces_of result.1.now }
+    ensures shorter { length result.1.now < length bytes.now }
+{
+    match line_feed(bytes) {
+        Some(at) => (&bytes[..at], &bytes[at + 1..]),
+        None => bytes.split_at(bytes.len()),
+    }
+}
+
+/// The place of the first line feed.
+fn line_feed(bytes: &[u8]) -> Option<usize>
+    ensures { result ≡ position (λ b. b == 10) bytes.now }
+{
+    bytes.iter().position(|b| *b == b'\n')
+}
+
+/// A line without one carriage return at its end.
+pub fn trim_return(line: &[u8]) -> &[u8]
+    ensures { result.now ≡ strip_carriage_return line.now }
+{
+    if line.last() == Some(&b'\r') {
+        &line[..line.len() - 1]
+    } else {
+        line
+    }
+}
+
+/// The words of a line.
+pub fn words(alloc: Global, line: &[u8]) -> Result<Vec<&[u8]>, AllocError>
+    ensures { IfOk result (λ v. map (λ w. w.now) v.items ≡ words_of line.now) }
+{
+    line.split(
+        |b| -> bool
+            ensures { result ≡ is_blank b.now }
+        { *b == b' ' || *b == b'\t' },
+    )
+    .filter(|w| !w.is_empty())
+    .collect(alloc)
+}

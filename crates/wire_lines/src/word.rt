@@ -1,0 +1,147 @@
+//! Words, and what they may be: names, keys, scopes, ranks and processes.
+
+ghost use Rattle.std.specs.List.{list_all};
+ghost use Rattle.std.specs.Prelude.{not, true, position, ◌==◌, ◌≡◌, ◌≢◌, ℕ, ◌+◌, ◌^◌, ◌<◌, ◌↔◌, List, ◌∷◌, ◌++◌, IsTrue, decimal, codes, IfSome, IfNone};
+ghost use Rattle.wire_types.specs.declared.Scope.{Scope};
+ghost use Rattle.wire_lines.specs.Said as test;
+ghost use Rattle.wire_lines.specs.Said.{spelled_proc, spelled_scope, IsKnownScope};
+
+use itoa::Buffer;
+use std::str;
+use wire_types::Scope;
+
+/// A process as a word names it: the name of its job, and its rank there.
+#[derive(Clone, Copy)]
+pub struct ProcName<'a> {
+    pub job: &'a [u8],
+    pub rank: u32,
+}
+
+fn is_word_byte(byte: u8) -> bool
+    ensures { result ≡ test.is_word_byte byte }
+{
+    33 <= byte && byte <= 126
+}
+
+fn is_name_byte(byte: u8) -> bool
+    ensures { result ≡ test.is_name_byte byte }
+{
+    is_word_byte(byte) && !(byte == b':' || byte == b',' || byte == b'#' || byte == b'*')
+}
+
+fn has_word_bytes(word: &[u8]) -> bool
+    ensures { result ≡ list_all test.is_word_byte word.now }
+{
+    word.iter().all(|b| is_word_byte(*b))
+}
+
+fn has_name_bytes(word: &[u8]) -> bool
+    ensures { result ≡ list_all test.is_name_byte word.now }
+{
+    word.iter().all(|b| is_name_byte(*b))
+}
+
+pub fn is_word(word: &[u8]) -> bool
+    ensures { result ≡ test.is_word word.now }
+{
+    !word.is_empty() && has_word_bytes(word)
+}
+
+pub fn is_name(word: &[u8]) -> bool
+    ensures { result ≡ test.is_name word.now }
+{
+    !word.is_empty() && has_name_bytes(word)
+}
+
+fn is_key(word: &[u8]) -> bool
+    ensures { result ≡ test.is_key word.now }
+{
+    is_word(word) && word != b"*".as_slice()
+}
+
+/// Whether the standard keeps the key for itself.
+#[tactic(auto, unfolding(crate::specs::Said::is_reserved))]
+fn is_reserved(word: &[u8]) -> bool
+    ensures { result ≡ test.is_reserved word.now }
+{
+    word.starts_with(b"pmix".as_slice()) || word.starts_with(b"PMIX_".as_slice())
+}
+
+pub fn is_plain_key(word: &[u8]) -> bool
+    ensures { result ≡ test.is_plain_key word.now }
+{
+    is_key(word) && !is_reserved(word)
+}
+
+fn is_global(word: &[u8]) -> bool
+    ensures { IsTrue result ↔ (word.now ≡ codes "global") }
+{
+    word == b"global".as_slice()
+}
+
+/// The scope that the word names.
+pub fn scope_of(word: &[u8]) -> Option<Scope>
+    ensures found { IfSome result (λ s. (word.now ≡ spelled_scope s) × IsKnownScope s) }
+    ensures none { IfNone result ((s : Scope) → IsKnownScope s → word.now ≢ spelled_scope s) }
+{
+    if is_global(word) {
+        Some(Scope::Global)
+    } else {
+        None
+    }
+}
+
+/// The number that the word is the decimal digits of, one to nine of them.
+fn rank_of(word: &[u8]) -> Option<u32>
+    ensures found { IfSome result (λ n. (word.now ≡ decimal n) × (n < 10 ^ 9)) }
+    ensures none { IfNone result ((n : ℕ) → n < 10 ^ 9 → word.now ≢ decimal n) }
+{
+    let Ok(text) = str::from_utf8(word) else {
+        return None;
+    };
+    let Ok(number) = text.parse::<u32>() else {
+        return None;
+    };
+    if number >= 1_000_000_000 {
+        return None;
+    }
+    let mut buffer = Buffer::new();
+    let digits = buffer.format(number);
+    if digits == text { Some(number) } else { None }
+}
+
+/// The process that the word names.
+pub fn proc_of(word: &[u8]) -> Option<ProcName<'_>>
+    ensures found { IfSome result (λ p. (word.now ≡ spelled_proc p.job.now p.rank) × IsTrue (test.is_name p.job.now) × (p.rank < 10 ^ 9)) }
+    ensures none { IfNone result ((job : List ℕ) (rank : ℕ) → IsTrue (test.is_name job) → rank < 10 ^ 9 → word.now ≢ spelled_proc job rank) }
+{
+    let Some((job, rank)) = cut_at_colon(word) else {
+        return None;
+    };
+    if !is_name(job) {
+        return None;
+    }
+    match rank_of(rank) {
+        Some(rank) => Some(ProcName { job, rank }),
+        None => None,
+    }
+}
+
+/// What stands before the first colon and after it.
+fn cut_at_colon(word: &[u8]) -> Option<(&[u8], &[u8])>
+    ensures found { IfSome result (λ p. word.now ≡ p.0.now ++ 58 ∷ p.1.now) }
+    ensures first { IfSome result (λ p. list_all (λ b. not (b == 58)) p.0.now ≡ true) }
+    ensures none { IfNone result ((a b : List ℕ) → word.now ≢ a ++ 58 ∷ b) }
+{
+    match colon(word) {
+        Some(at) => Some((&word[..at], &word[at + 1..])),
+        None => None,
+    }
+}
+
+/// The place of the first colon.
+fn colon(word: &[u8]) -> Option<usize>
+    ensures { result ≡ position (λ b. b == 58) word.now }
+{
+    word.iter().position(|b| *b == b':')
+}

@@ -1,0 +1,13 @@
+-- From one line to all.
+use Rattle.std.proofs.Common.{◌≡◌, refl, List, ◌∷◌, Result, Err, ◌⊎◌, inl, inr}
+use Rattle.wire_types.specs.declared.Fault.{Fault}
+use Rattle.wire_types.specs.declared.Fault.TheVariants.{Memory}
+use Rattle.wire_script.specs.Statements.{Statement}
+use Rattle.wire_script.specs.FirstPass.{Declared, nothing, Judges, JudgesAll}
+
+-- a line that is refused ends all
+pub refused : (d : Declared) (line : Statement) (lines now all : List Statement) (f : Fault) → now ≡ line ∷ lines
+    → ((r : Result Declared Fault) → JudgesAll d now r → JudgesAll nothing all r)
+    → (f ≡ Memory) ⊎ Judges d line (Err f) → (f ≡ Memory) ⊎ JudgesAll nothing all (Err f)
+refused d line lines now all f is so_far (inl m) = inl m
+refused d line lines now all f is so_far (inr j) = inr (so_far (Err f) (rw is (Err f, j, refl)))

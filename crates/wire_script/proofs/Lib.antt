@@ -1,0 +1,4 @@
+pub mod Adding
+pub mod Judging
+pub mod Once
+pub mod Within

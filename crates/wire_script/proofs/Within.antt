@@ -1,0 +1,105 @@
+-- What a file declares is within the limits.
+use Rattle.std.proofs.Common.{◌≡◌, ◌∙◌, sym, subst, refl, ℕ, ◌+◌, ◌-◌, ◌<◌, List, [], ◌∷◌, ◌++◌, Bool, true, false, map, length, Result, Ok, Err, MatchResult, inl, inr, arith, length-append, if◌then◌else◌}
+use Rattle.std.specs.Prelude.{not, sum_by}
+use borrow.Author.Tests.{ltb-true}
+use Rattle.std.proofs.lemmas.List.{length-map}
+use Rattle.std.proofs.lemmas.List.Sums.{sum_by-cons}
+use Rattle.wire_types.specs.declared.Fault.{Fault}
+use Rattle.wire_types.specs.declared.Fault.TheVariants.{TooLong, BadLine, UnknownName, Twice, TooMany}
+use Rattle.wire_lines.specs.Said.{Said, Header, Node, Job, Rank, Calls, Call}
+use Rattle.wire_rehearsal.specs.Scripts.{IsCounted}
+use Rattle.wire_script.specs.Statements.{Statement}
+use Rattle.wire_script.specs.FirstPass.{Started, Declared, place_of, nothing, after, is_in_place, is_short, is_known, is_again, has_room, with_call, Judges, JudgesAll, FirstPass}
+use Rattle.wire_script.specs.Reads.{Seen, numbered, process_of}
+use Rattle.wire_script.specs.Within.{call_count, IsWithinLimits}
+
+one_process : (ps : List Started) (p : Started) → call_count (ps ++ p ∷ []) ≡ call_count ps + length p.calls
+one_process [] p = omega arith
+one_process (q ∷ qs) p = let h = one_process qs p in omega arith
+
+one_call : (ps : List Started) (c : ℕ × Call) → 0 < length ps → call_count (with_call ps c) ≡ call_count ps + 1
+one_call [] c h = absurd (omega arith)
+one_call (p ∷ []) c h = omega (arith, length-append p.calls (c ∷ []))
+one_call (p ∷ q ∷ ps) c h = let more = one_call (q ∷ ps) c (omega arith) in omega arith
+
+same_length : (ps : List Started) (c : ℕ × Call) → length (with_call ps c) ≡ length ps
+same_length [] c = refl
+same_length (p ∷ []) c = refl
+same_length (p ∷ q ∷ ps) c = let more = same_length (q ∷ ps) c in omega arith
+
+-- a line that is taken is in its place, and has room
+taken : (a b c f g : Bool) (d e : Declared) (n : ℕ)
+    → Ok e ≡ (if not a then Err (BadLine n) else if not b then Err (TooLong n) else if not c then Err (UnknownName n) else if f then Err (Twice n) else if not g then Err (TooMany n) else Ok d)
+    → (a ≡ true) × (g ≡ true) × (e ≡ d)
+taken false b c f g d e n h = absurd (cc)
+taken true false c f g d e n h = absurd (cc)
+taken true true false f g d e n h = absurd (cc)
+taken true true true true g d e n h = absurd (cc)
+taken true true true false false d e n h = absurd (cc)
+taken true true true false true d e n h = (refl, refl, cc)
+
+kept : (d : Declared) (n : ℕ) (said : Said) → is_in_place d said ≡ true → has_room d said ≡ true → IsWithinLimits d → IsWithinLimits (after d n said)
+kept d n Header p r w = w
+kept d n (Node name) p r w = record { few_ranks = w.few_ranks; few_processes = w.few_processes; few_calls = w.few_calls; counted = w.counted }
+kept d n (Job name) p r w = record { few_ranks = omega arith; few_processes = w.few_processes; few_calls = w.few_calls; counted = w.counted }
+kept d n (Rank node) p r w =
+    let room = ltb-true _ _ r in
+    let started : Started = record { job = length d.jobs - 1; rank = d.ranks; node = place_of d.nodes node; calls = [] } in
+    let more = length-append d.processes (started ∷ []) in
+    let ranks = w.few_ranks in
+    record {
+      few_ranks = omega arith;
+      few_processes = omega arith;
+      few_calls = w.few_calls;
+      counted = one_process d.processes started ∙ (let h = w.counted in omega arith);
+    }
+kept d n (Calls call) p r w =
+    let room = ltb-true _ _ r in
+    let placed = ltb-true _ _ p in
+    let same = same_length d.processes (n, call) in
+    let ranks = w.few_ranks in
+    let processes = w.few_processes in
+    record {
+      few_ranks = omega arith;
+      few_processes = omega arith;
+      few_calls = omega arith;
+      counted = one_call d.processes (n, call) (omega arith) ∙ (let h = w.counted in omega arith);
+    }
+
+judges_within : (d e : Declared) (line : Statement) → Judges d line (Ok e) → IsWithinLimits d → IsWithinLimits e
+judges_within d e line (inl j) w = absurd (let h = j.1 in cc)
+judges_within d e line (inr j) w =
+    let t = taken (is_in_place d j.0) (is_short j.0) (is_known d j.0) (is_again d j.0) (has_room d j.0) (after d line.0 j.0) e line.0 j.2 in
+    subst IsWithinLimits (sym t.2) (kept d line.0 j.0 t.0 t.1 w)
+
+step_within : (lines : List Statement) (e : Declared) (step : (d : Declared) → JudgesAll d lines (Ok e) → IsWithinLimits d → IsWithinLimits e)
+    (d : Declared) (line : Statement) (q : Result Declared Fault) → Judges d line q → MatchResult q (λ x. JudgesAll x lines (Ok e)) (λ f. Ok e ≡ Err f) → IsWithinLimits d → IsWithinLimits e
+step_within lines e step d line (Ok x) j m w = step x m (judges_within d x line j w)
+step_within lines e step d line (Err f) j m w = absurd (cc)
+
+all_within : (lines : List Statement) (e d : Declared) → JudgesAll d lines (Ok e) → IsWithinLimits d → IsWithinLimits e
+all_within [] e d j w = let same : e ≡ d = cc in subst IsWithinLimits (sym same) w
+all_within (line ∷ lines) e d j w = step_within lines e (all_within lines e) d line j.0 j.1 j.2 w
+
+nothing_within : IsWithinLimits nothing
+nothing_within = record { few_ranks = omega arith; few_processes = omega arith; few_calls = omega arith; counted = refl }
+
+-- what the first pass declares is within the limits
+pub first_within : (lines : List Statement) (n : ℕ) (d : Declared) → FirstPass lines n (Ok d) → IsWithinLimits d
+first_within [] n d f = absurd (cc)
+first_within (line ∷ lines) n d (inl f) = all_within lines d nothing f.1 nothing_within
+first_within (line ∷ lines) n d (inr f) = absurd (let h = f.1 in cc)
+
+numbered_calls : (d : Declared) (s : Seen) (ps : List Started) → sum_by (λ p. length p.calls) (map (process_of d s) ps) ≡ call_count ps
+numbered_calls d s [] = refl
+numbered_calls d s (p ∷ ps) = let h = numbered_calls d s ps in omega (arith, sum_by-cons (λ q. length q.calls) (process_of d s p) (map (process_of d s) ps), length-map p.calls (λ c. numbered d s c.1))
+
+-- few enough processes and calls to number them
+pub counted_processes : (d : Declared) (s : Seen) → IsWithinLimits d → IsCounted (map (process_of d s) d.processes)
+counted_processes d s w =
+    let processes = w.few_processes in
+    let calls = w.few_calls in
+    let counted = w.counted in
+    let all = numbered_calls d s d.processes in
+    let many = length-map d.processes (process_of d s) in
+    record { few_processes = omega arith; few_calls = omega arith }

@@ -1,0 +1,13 @@
+use Rattle.std.proofs.Common.{◌≡◌, ◌≤◌, ◌+◌, length}
+use Rattle.wire_script.specs.Left.{left, end_of}
+use Rattle.wire_script.proofs.lines.Cursor.next_line.Given as goal
+
+abbrev pub invariant-lines : goal.invariant-lines
+invariant-lines l = record {
+  left : left l.initial.self ≡ left l.self;
+  end : end_of l.self ≡ end_of l.initial.self;
+  room : l.self.line + length l.self.rest.now ≤ l.initial.self.line + length l.initial.self.rest.now;
+}
+
+abbrev pub decreases-lines : goal.decreases-lines
+decreases-lines l = length l.self.rest.now

@@ -1,0 +1,17 @@
+-- What a draft declares.
+use Rattle.std.specs.Prelude.{ℕ, map}
+use Rattle.wire_lines.specs.Said.{Call}
+use Rattle.wire_lines.specs.Shown.{call_by}
+use Rattle.wire_script.specs.FirstPass.{Declared, Started}
+use Rattle.wire_script.specs.declared.draft.Draft.{Draft}
+use Rattle.wire_script.specs.declared.draft.Started.{Started as Building}
+use Rattle.wire_script.specs.declared.draft.Placed.{Placed}
+
+abbrev pub placed_of : Placed → ℕ × Call
+placed_of p = (p.line, call_by p.call)
+
+abbrev pub started_of : Building → Started
+started_of p = record { job = p.job; rank = p.rank; node = p.node; calls = map placed_of p.calls.items }
+
+abbrev pub declared_of : Draft → Declared
+declared_of d = record { nodes = d.nodes; jobs = d.jobs; processes = map started_of d.processes.items; ranks = d.ranks; calls = d.calls }

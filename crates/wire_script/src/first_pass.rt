@@ -1,0 +1,234 @@
+//! The first pass: each line by itself and by those before it.
+
+ghost use Rattle.std.specs.Prelude.{◌≡◌, ◌+◌, ◌<◌, ◌≤◌, ◌⊎◌, true, false, Ok, Err, map, length, ◌^◌, ◌↔◌, IsTrue, OnOk, IfOk, IfErr, MatchResult};
+ghost use Rattle.wire_lines.specs.Said.{Says, Header};
+ghost use Rattle.wire_lines.specs.Text.{lines_of};
+ghost use Rattle.wire_lines.specs.Shown.{said_by, call_by};
+ghost use Rattle.wire_script.specs.Limits as limit;
+ghost use Rattle.wire_script.specs.Statements.{statements};
+ghost use Rattle.wire_script.specs.Left.{left};
+ghost use Rattle.wire_script.specs.FirstPass as test;
+ghost use Rattle.wire_script.specs.FirstPass.{judged, after, nothing, Judges, JudgesAll, FirstPass};
+ghost use Rattle.wire_script.specs.Drafted.{declared_of};
+
+use crate::draft::{Draft, Placed, Started};
+use crate::limits::{CALLS, JOBS, NAME_BYTES, NODES, PROCESSES, VALUE_BYTES};
+use crate::lines::Cursor;
+use std::alloc::{AllocError, Global};
+use wire_lines::{CallLine, Line, read_line};
+use wire_rehearsal::Texts;
+use wire_types::Fault;
+
+fn is_short_name(name: &[u8]) -> bool
+    ensures { result ≡ test.is_short_name name.now }
+{
+    name.len() <= NAME_BYTES
+}
+
+fn is_short_call(call: CallLine) -> bool
+    ensures { result ≡ test.is_short_call (call_by call.entry) }
+{
+    match call {
+        CallLine::Put { key, value, .. } => is_short_name(key) && value.len() <= VALUE_BYTES,
+        CallLine::Commit => true,
+        CallLine::Get { owner, key } => is_short_name(owner.job) && is_short_name(key),
+    }
+}
+
+fn is_short(said: Line) -> bool
+    ensures { result ≡ test.is_short (said_by said.entry) }
+{
+    match said {
+        Line::Header => true,
+        Line::Node(name) | Line::Job(name) | Line::Rank(name) => is_short_name(name),
+        Line::Calls(call) => is_short_call(call),
+    }
+}
+
+/// A draft in which nothing is declared.
+fn new_draft<'a>(alloc: Global) -> Draft<'a>
+    ensures { declared_of result ≡ nothing }
+{
+    Draft {
+        nodes: Texts::new(alloc),
+        jobs: Texts::new(alloc),
+        processes: Vec::new(alloc),
+        ranks: 0,
+        calls: 0,
+    }
+}
+
+fn is_in_place(draft: &Draft, said: Line) -> bool
+    ensures { result ≡ test.is_in_place (declared_of draft.now) (said_by said.entry) }
+{
+    match said {
+        Line::Header => false,
+        Line::Node(_) => draft.jobs.is_empty(),
+        Line::Job(_) => true,
+        Line::Rank(_) => 0 < draft.jobs.len(),
+        Line::Calls(_) => 0 < draft.ranks,
+    }
+}
+
+fn is_known(draft: &Draft, said: Line) -> bool
+    ensures { result ≡ test.is_known (declared_of draft.now) (said_by said.entry) }
+{
+    match said {
+        Line::Rank(node) => draft.nodes.contains(node),
+        _ => true,
+    }
+}
+
+fn is_again(draft: &Draft, said: Line) -> bool
+    ensures { result ≡ test.is_again (declared_of draft.now) (said_by said.entry) }
+{
+    match said {
+        Line::Node(name) => draft.nodes.contains(name),
+        Line::Job(name) => draft.jobs.contains(name),
+        _ => false,
+    }
+}
+
+fn has_room(draft: &Draft, said: Line) -> bool
+    ensures { result ≡ test.has_room (declared_of draft.now) (said_by said.entry) }
+{
+    match said {
+        Line::Header => true,
+        Line::Node(_) => draft.nodes.len() < NODES,
+        Line::Job(_) => draft.jobs.len() < JOBS,
+        Line::Rank(_) => draft.processes.len() < PROCESSES,
+        Line::Calls(_) => draft.calls < CALLS,
+    }
+}
+
+/// The fault of a line that says this.
+fn judge(draft: &Draft, line: u64, said: Line) -> Result<(), Fault>
+    ensures judged { MatchResult result (λ _. judged (declared_of draft.now) line (said_by said.entry) ≡ Ok (after (declared_of draft.now) line (said_by said.entry))) (λ e. judged (declared_of draft.now) line (said_by said.entry) ≡ Err e) }
+    ensures place { OnOk result (test.is_in_place (declared_of draft.now) (said_by said.entry) ≡ true) }
+    ensures new { OnOk result (test.is_again (declared_of draft.now) (said_by said.entry) ≡ false) }
+    ensures room { OnOk result (test.has_room (declared_of draft.now) (said_by said.entry) ≡ true) }
+{
+    if !is_in_place(draft, said) {
+        Err(Fault::BadLine(line))
+    } else if !is_short(said) {
+        Err(Fault::TooLong(line))
+    } else if !is_known(draft, said) {
+        Err(Fault::UnknownName(line))
+    } else if is_again(draft, said) {
+        Err(Fault::Twice(line))
+    } else if !has_room(draft, said) {
+        Err(Fault::TooMany(line))
+    } else {
+        Ok(())
+    }
+}
+
+/// Declares what a line says.
+fn add<'a>(
+    draft: &mut Draft<'a>,
+    alloc: Global,
+    line: u64,
+    said: Line<'a>,
+) -> Result<(), AllocError>
+    requires place { test.is_in_place (declared_of draft.old) (said_by said) ≡ true }
+    requires new { test.is_again (declared_of draft.old) (said_by said) ≡ false }
+    requires room { test.has_room (declared_of draft.old) (said_by said) ≡ true }
+    ensures { OnOk result (declared_of draft.new ≡ after (declared_of draft.old) line (said_by said.entry)) }
+{
+    match said {
+        Line::Header => Ok(()),
+        Line::Node(name) => draft.nodes.add(alloc, name),
+        Line::Job(name) => {
+            draft.jobs.add(alloc, name)?;
+            draft.ranks = 0;
+            Ok(())
+        }
+        Line::Rank(name) => {
+            let job = draft.jobs.len() - 1;
+            let rank = draft.ranks;
+            let node = draft.nodes.place_of(name);
+            let calls = Vec::new(alloc);
+            draft.processes.push(Started {
+                job,
+                rank,
+                node,
+                calls,
+            })?;
+            draft.ranks += 1;
+            Ok(())
+        }
+        Line::Calls(call) => {
+            if let Some(process) = draft.processes.last_mut() {
+                process.calls.push(Placed { line, call })?;
+                draft.calls += 1;
+            }
+            Ok(())
+        }
+    }
+}
+
+/// Judges a line, and declares what it says.
+fn take<'a>(
+    draft: &mut Draft<'a>,
+    alloc: Global,
+    line: u64,
+    words: &[&'a [u8]],
+) -> Result<(), Fault>
+    ensures ok { OnOk result (Judges (declared_of draft.old) (line, map (λ w. w.now) words.now) (Ok (declared_of draft.new))) }
+    ensures err { IfErr result (λ e. (e ≡ Fault.Memory) ⊎ Judges (declared_of draft.old) (line, map (λ w. w.now) words.now) (Err e)) }
+{
+    let Some(said) = read_line(words) else {
+        return Err(Fault::BadLine(line));
+    };
+    if let Err(fault) = judge(draft, line, said) {
+        return Err(fault);
+    }
+    add(draft, alloc, line, said)?;
+    Ok(())
+}
+
+fn is_header(words: &[&[u8]]) -> bool
+    ensures { IsTrue result ↔ Says (map (λ w. w.now) words.now) Header }
+{
+    let Some(said) = read_line(words) else {
+        return false;
+    };
+    is_header_said(said)
+}
+
+fn is_header_said(said: Line) -> bool
+    ensures { IsTrue result ↔ (said_by said.entry ≡ Header) }
+{
+    matches!(said, Line::Header)
+}
+
+/// The lines after the header.
+fn declare_all<'a>(alloc: Global, cursor: &mut Cursor<'a>) -> Result<Draft<'a>, Fault>
+    requires { cursor.old.line + length cursor.old.rest.now < 2 ^ 64 }
+    ensures ok { IfOk result (λ d. JudgesAll nothing (left cursor.old) (Ok (declared_of d))) }
+    ensures err { IfErr result (λ e. (e ≡ Fault.Memory) ⊎ JudgesAll nothing (left cursor.old) (Err e)) }
+{
+    let mut draft = new_draft(alloc);
+    'statements: while let Some(statement) = cursor.next_line(alloc)? {
+        if let Err(fault) = take(&mut draft, alloc, statement.number, &statement.words) {
+            return Err(fault);
+        }
+    }
+    Ok(draft)
+}
+
+/// What a file declares.
+pub fn first_pass<'a>(alloc: Global, bytes: &'a [u8]) -> Result<Draft<'a>, Fault>
+    requires { length bytes.now ≤ limit.limits.file_bytes }
+    ensures ok { IfOk result (λ d. FirstPass (statements bytes.now) (length (lines_of bytes.now)) (Ok (declared_of d))) }
+    ensures err { IfErr result (λ e. (e ≡ Fault.Memory) ⊎ FirstPass (statements bytes.now) (length (lines_of bytes.now)) (Err e)) }
+{
+    let mut cursor = Cursor::new(bytes);
+    let Some(first) = cursor.next_line(alloc)? else {
+        return Err(Fault::BadHeader(cursor.line));
+    };
+    if !is_header(&first.words) {
+        return Err(Fault::BadHeader(first.number));
+    }
+    declare_all(alloc, &mut cursor)
+}

@@ -1,0 +1,65 @@
+//! The lines of a file that say something.
+
+ghost use Rattle.std.specs.Prelude.{◌≡◌, ◌+◌, ◌<◌, ◌≤◌, ◌^◌, ◌∷◌, [], length, map, MatchOption, OnOk, IfOk};
+ghost use Rattle.wire_script.specs.Statements.{is_skipped, statements};
+ghost use Rattle.wire_script.specs.Left.{left, end_of, stated};
+
+use std::alloc::{AllocError, Global};
+use wire_lines::{cut_piece, trim_return, words};
+
+/// A line that isn't skipped: its number and its words.
+#[derive(Drop)]
+pub struct Statement<'a> {
+    pub number: u64,
+    pub words: Vec<&'a [u8]>,
+}
+
+/// What is left of a file, and the number of its next line.
+#[derive(Drop)]
+pub struct Cursor<'a> {
+    pub rest: &'a [u8],
+    pub line: u64,
+}
+
+fn is_skipped_line(words: &[&[u8]]) -> bool
+    ensures { result ≡ is_skipped (map (λ w. w.now) words.now) }
+{
+    match words.first() {
+        None => true,
+        Some(first) => first.first() == Some(&b'#'),
+    }
+}
+
+impl<'a> Cursor<'a> {
+    pub fn new(bytes: &'a [u8]) -> Cursor<'a>
+        ensures left { left result ≡ statements bytes.now }
+        ensures start { result.line ≡ 1 }
+        ensures rest { result.rest.now ≡ bytes.now }
+    {
+        Cursor {
+            rest: bytes,
+            line: 1,
+        }
+    }
+
+    /// The next line that isn't skipped.
+    pub fn next_line(&mut self, alloc: Global) -> Result<Option<Statement<'a>>, AllocError>
+        requires { self.old.line + length self.old.rest.now < 2 ^ 64 }
+        ensures left { IfOk result (λ next. MatchOption next (left self.old ≡ []) (λ l. left self.old ≡ stated l ∷ left self.new)) }
+        ensures end { OnOk result (end_of self.new ≡ end_of self.old) }
+        ensures last { IfOk result (λ next. MatchOption next (self.new.line ≡ end_of self.new) (λ l. l.number < self.new.line)) }
+        ensures room { self.new.line + length self.new.rest.now ≤ self.old.line + length self.old.rest.now }
+    {
+        'lines: while !self.rest.is_empty() {
+            let (piece, rest) = cut_piece(self.rest);
+            let words = words(alloc, trim_return(piece))?;
+            let number = self.line;
+            self.rest = rest;
+            self.line += 1;
+            if !is_skipped_line(&words) {
+                return Ok(Some(Statement { number, words }));
+            }
+        }
+        Ok(None)
+    }
+}

@@ -1,0 +1,50 @@
+//! From bytes to scripts.
+
+ghost use Rattle.std.specs.Prelude.{◌≡◌, ◌≤◌, ◌==◌, ◌⊎◌, ◌+◌, count_by, take, length, Ok, Err, IfOk, IfErr};
+ghost use Rattle.wire_script.specs.Limits as limit;
+ghost use Rattle.wire_script.specs.Reads.{Reads, ReadsShort, ReadsOnce};
+
+use crate::first_pass::first_pass;
+use crate::limits::FILE_BYTES;
+use crate::second_pass::{first_unmet, scripts_of};
+use std::alloc::Global;
+use wire_rehearsal::Scripts;
+use wire_types::Fault;
+
+/// What a file says: its nodes and jobs, and the scripts of its processes. Of the faults of a file the
+/// first is given, with its line: `TooLong`, `BadHeader`, `BadLine`, `UnknownName`, `Twice` or `TooMany`.
+pub fn read(alloc: Global, bytes: &[u8]) -> Result<Scripts, Fault>
+    ensures ok { IfOk result (λ s. Reads bytes.now (Ok s)) }
+    ensures err { IfErr result (λ e. (e ≡ Fault.Memory) ⊎ Reads bytes.now (Err e)) }
+{
+    if bytes.len() > FILE_BYTES {
+        return Err(Fault::TooLong(line_past(bytes, FILE_BYTES)));
+    }
+    read_short(alloc, bytes)
+}
+
+fn read_short(alloc: Global, bytes: &[u8]) -> Result<Scripts, Fault>
+    requires { length bytes.now ≤ limit.limits.file_bytes }
+    ensures ok { IfOk result (λ s. ReadsShort bytes.now (Ok s)) }
+    ensures err { IfErr result (λ e. (e ≡ Fault.Memory) ⊎ ReadsShort bytes.now (Err e)) }
+{
+    let draft = first_pass(alloc, bytes)?;
+    if let Some(fault) = first_unmet(&draft) {
+        return Err(fault);
+    }
+    let scripts = scripts_of(alloc, draft)?;
+    Ok(scripts)
+}
+
+/// The number of the line in which the limit falls.
+fn line_past(bytes: &[u8], limit: usize) -> u64
+    requires { limit ≤ length bytes.now }
+    ensures { result ≡ count_by (λ b. b == 10) (take limit bytes.now) + 1 }
+{
+    bytes[..limit].iter().filter(|b| **b == b'\n').count() as u64 + 1
+}
+
+/// A law: a text reads as one value.
+pub fn reads_once()
+    ensures { ReadsOnce }
+{}
