@@ -1,6 +1,6 @@
 -- Steps of a core: its ranks stay those of the state that its history leads to.
 use Rattle.std.proofs.Common.{◌≡◌, ◌∙◌, ap, sym, refl, subst, ℕ, zero, suc, ◌+◌, ◌-◌, ◌<◌, ◌≤◌, List, [], ◌∷◌, ◌++◌, length, map, drop, Bool, true, false, cond, Option, Some, None, arith, ◌⊎◌, inl, inr, append_assoc}
-use Rattle.std.specs.Prelude.{slice_get, slice_set, vec_capacity}
+use Rattle.std.specs.Prelude.{slice_get, slice_set, vec_capacity, replicate}
 use Rattle.std.specs.List.{flat_map}
 use Rattle.std.proofs.lemmas.Bool.{cases_eq}
 use Rattle.std.proofs.lemmas.Option.{slice_get_within, slice_get_past, get_or_from_slice_get, same_Some}
@@ -58,8 +58,8 @@ new_rank plan p kinds rank shown done store replies space = record {
   room = ap (λ s. s.room) store ∙ ap puts_in shown;
   replies = replies;
   space = let same : length kinds ≡ length (events plan p) = sym (length-map kinds event_of) ∙ ap length shown in
-    let none : length rank.replies.items ≡ 0 = ap length replies in
-    omega (arith, same, none, space);
+      let none : length rank.replies.items ≡ 0 = ap length replies in
+      omega (arith, same, none, space);
 }
 
 -- a process that another's step leaves alone
@@ -115,13 +115,13 @@ rank_step plan s p old new e r told is answered after =
     record {
       done = omega (arith, next, was, same);
       puts = after.puts ∙ ap (λ n. kept_with n (calls_at plan p (s.done p)) old.store.puts (Some e)) told.done ∙ ap (λ puts. kept_with (s.done p) (calls_at plan p (s.done p)) puts (Some e)) told.puts
-        ∙ ap (kept_with (s.done p) (calls_at plan p (s.done p)) (kept_after (event_at plan p) (calls_at plan p) (s.done p))) (sym is) ∙ ap (kept_after (event_at plan p) (calls_at plan p)) (sym same);
+          ∙ ap (kept_with (s.done p) (calls_at plan p (s.done p)) (kept_after (event_at plan p) (calls_at plan p) (s.done p))) (sym is) ∙ ap (kept_after (event_at plan p) (calls_at plan p)) (sym same);
       room = room ∙ ap (puts_left plan p) (sym same);
       replies = after.replies ∙ ap (λ rs. rs ++ r ∷ []) told.replies ∙ ap (λ rs. replies_of plan (s.replies p) ++ rs) (sym answered)
-        ∙ ap (λ rs. replies_of plan (s.replies p) ++ rs) (no_more (given plan (reply plan s (next_place s p) (Some e))))
-        ∙ sym (flat_map-append (given plan) (s.replies p) (reply plan s (next_place s p) (Some e) ∷ []))
-        ∙ ap (λ o. replies_of plan (s.replies p ++ reply plan s (next_place s p) o ∷ [])) (sym is)
-        ∙ ap (replies_of plan) (sym (replies_same plan s p));
+          ∙ ap (λ rs. replies_of plan (s.replies p) ++ rs) (no_more (given plan (reply plan s (next_place s p) (Some e))))
+          ∙ sym (flat_map-append (given plan) (s.replies p) (reply plan s (next_place s p) (Some e) ∷ []))
+          ∙ ap (λ o. replies_of plan (s.replies p ++ reply plan s (next_place s p) o ∷ [])) (sym is)
+          ∙ ap (replies_of plan) (sym (replies_same plan s p));
       space = subst (λ n. length new.replies.items + (event_count plan p - n) ≤ vec_capacity new.replies) (sym same) space;
     }
   where
@@ -188,7 +188,7 @@ step_history plan w p legal on =
 pub ahead_step : (plan : Plan) (h : List ℕ) (p fuel left : ℕ) (all : List ℕ) → lowest plan (run plan h) (process_count plan) ≡ Some p → left ≡ suc fuel → h ++ plain_from plan left (run plan h) ≡ all → (h ++ p ∷ []) ++ plain_from plan fuel (run plan (h ++ p ∷ [])) ≡ all
 ahead_step plan h p fuel left all low more is =
     let next : plain_from plan (suc fuel) (run plan h) ≡ p ∷ plain_from plan fuel (step plan (run plan h) p) =
-        ap (λ o. go_on o (λ q. plain_from plan fuel (step plan (run plan h) q))) low in
+    ap (λ o. go_on o (λ q. plain_from plan fuel (step plan (run plan h) q))) low in
     append_assoc h (p ∷ []) (plain_from plan fuel (run plan (h ++ p ∷ [])))
     ∙ ap (λ s. h ++ p ∷ plain_from plan fuel s) (run_push plan start h p)
     ∙ ap (λ rest. h ++ rest) (sym next)
@@ -200,3 +200,11 @@ pub ahead_end : (plan : Plan) (s : State) (fuel : ℕ) → lowest plan s (proces
 ahead_end plan s zero none = refl
 ahead_end plan s (suc fuel) none = ap (λ o. go_on o (λ q. plain_from plan fuel (step plan s q))) none
 
+-- one more of the same, and one less to come
+pub one_more : {A : Type 0} (xs new all : List A) (x : A) (n i : ℕ) → i < n → new ≡ xs ++ x ∷ [] → xs ++ replicate (n - i) x ≡ all → new ++ replicate (n - (i + 1)) x ≡ all
+one_more xs new all x n i lt is before =
+    let more : n - i ≡ suc (n - (i + 1)) = omega (arith, lt) in
+    ap (λ ys. ys ++ replicate (n - (i + 1)) x) is
+    ∙ append_assoc xs (x ∷ []) (replicate (n - (i + 1)) x)
+    ∙ ap (λ k. xs ++ replicate k x) (sym more)
+    ∙ before

@@ -11,11 +11,12 @@ ghost use Rattle.wire_plan.specs.Sight.{held, served, get_sees};
 ghost use Rattle.wire_plan.specs.Machine.{is_enabled, IsInterleaving, IsEnd, reply as answer};
 ghost use Rattle.wire_plan.specs.Plain.{lowest, plain_from};
 ghost use Rattle.wire_plan.specs.Laws.{all_events};
-ghost use Rattle.wire_plan.specs.Ends.{given, outcome, row, standing};
+ghost use Rattle.wire_plan.specs.Ends.{given, is_waiting, outcome, row};
 ghost use Rattle.wire_core.specs.Course.{state_of};
 ghost use Rattle.wire_core.specs.Shown.{seen_as};
 ghost use Rattle.wire_core.specs.Ranks.{AreRanksOf};
 
+use crate::ends::{add_unanswered, replied};
 use crate::rank::Rank;
 use crate::replies::{bare_reply, is_shown, reply_to_get};
 use std::alloc::Global;
@@ -218,5 +219,47 @@ impl<'a> Core<'a> {
         ensures legal { IsInterleaving (plan_of self.now.scripts) start self.now.history }
     {
         self.history.as_slice()
+    }
+
+    /// Whether a process stands at a call and isn't ready.
+    fn is_waiting(&self, proc: Proc) -> bool
+        ensures { result ≡ is_waiting (plan_of self.now.scripts) (state_of self.now) proc.number }
+    {
+        self.next_kind(proc).is_some() && !self.ready(proc)
+    }
+
+    /// What became of each call of a process of the plan.
+    fn row(&self, alloc: Global, proc: Proc) -> Result<Vec<CallEnd>, Fault>
+        requires { proc.number < process_count (plan_of self.now.scripts) }
+        ensures ok { IfOk result (λ ends. ends.items ≡ row (plan_of self.now.scripts) (state_of self.now) proc.number) }
+        ensures err { IfErr result (λ e. e ≡ Fault.Memory) }
+    {
+        let calls = self.plan.scripts().processes()[proc.index()].calls().len();
+        let replies = self.ranks[proc.index()].replies.as_slice();
+        let mut ends = replied(alloc, replies, calls)?;
+        add_unanswered(
+            &mut ends,
+            self.ready(proc),
+            calls.saturating_sub(replies.len()),
+        )?;
+        Ok(ends)
+    }
+
+    /// What became of every call, and how many processes wait.
+    pub fn outcome(&self, alloc: Global) -> Result<Outcome, Fault>
+        ensures ok { IfOk result (λ o. ends_of o ≡ outcome (plan_of self.now.scripts) (state_of self.now)) }
+        ensures err { IfErr result (λ e. e ≡ Fault.Memory) }
+    {
+        let mut rows = Vec::with_capacity(alloc, self.plan.process_count() as usize)?;
+        let mut waiting = 0;
+        for number in 0..self.plan.process_count() {
+            let proc = Proc::new(number);
+            let row = self.row(alloc, proc)?;
+            rows.push_reserved(row);
+            if self.is_waiting(proc) {
+                waiting += 1;
+            }
+        }
+        Ok(Outcome { rows, waiting })
     }
 }

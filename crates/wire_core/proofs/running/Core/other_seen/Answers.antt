@@ -16,7 +16,7 @@ returns-in-None c =
     let past : process_count (plan_of c.self.inside.plan.now) ≤ c.args.owner.number = omega (arith, lookup.3, count) in
     rw (← c.self.view_is)
     (sym (ap (λ n. seen_as (plan_of c.self.inside.plan.now) c.args.owner.number (served (plan_of c.self.inside.plan.now) c.args.owner.number (same_node (plan_of c.self.inside.plan.now) c.args.owner.number c.args.reader.number) (stored (plan_of c.self.inside.plan.now) c.args.owner.number c.args.key n)))
-      (done_past (plan_of c.self.inside.plan.now) (map (λ p. p.number) c.self.inside.history.items) c.args.owner.number c.self.invariant.0.legal past)))
+    (done_past (plan_of c.self.inside.plan.now) (map (λ p. p.number) c.self.inside.history.items) c.args.owner.number c.self.invariant.0.legal past)))
 
 pub returns-in-Some : goal.returns-in-Some
 returns-in-Some c =

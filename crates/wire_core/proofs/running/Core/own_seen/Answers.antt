@@ -16,7 +16,7 @@ returns-in-None c =
     let past : process_count (plan_of c.self.inside.plan.now) ≤ c.args.proc.number = omega (arith, lookup.3, count) in
     rw (← c.self.view_is)
     (sym (ap (λ n. seen_as (plan_of c.self.inside.plan.now) c.args.proc.number (held (own (plan_of c.self.inside.plan.now) c.args.proc.number c.args.key n)))
-      (done_past (plan_of c.self.inside.plan.now) (map (λ p. p.number) c.self.inside.history.items) c.args.proc.number c.self.invariant.0.legal past)))
+    (done_past (plan_of c.self.inside.plan.now) (map (λ p. p.number) c.self.inside.history.items) c.args.proc.number c.self.invariant.0.legal past)))
 
 pub returns-in-Some-own : goal.returns-in-Some-own
 returns-in-Some-own c =

@@ -109,17 +109,17 @@ invariant_of-self c =
     let place = rw (← c.self.view_is) at c.next_place.ensures in
     let call : c.call_of-call.result ≡ calls_at plan c.args.proc.number (s.done c.args.proc.number) = c.call_of-call.ensures ∙ ap (call_at plan) place in
     let answered : given plan (reply plan s (next_place s c.args.proc.number) (Some (event_of c.in-Some.kind))) ≡ c.reply-reply.result ∷ [] =
-        subst (λ course. given (plan_of course.scripts) (reply (plan_of course.scripts) (state_of course) (next_place (state_of course) c.args.proc.number) (Some (event_of c.in-Some.kind))) ≡ c.reply-reply.result ∷ []) (sym c.self.view_is) c.reply-reply.ensures in
+    subst (λ course. given (plan_of course.scripts) (reply (plan_of course.scripts) (state_of course) (next_place (state_of course) c.args.proc.number) (Some (event_of c.in-Some.kind))) ≡ c.reply-reply.result ∷ []) (sym c.self.view_is) c.reply-reply.ensures in
     let after : IsAdvanced old c.advance.new.self (calls_at plan c.args.proc.number (s.done c.args.proc.number)) (event_of c.in-Some.kind) c.reply-reply.result =
-        record {
-          done = c.advance.ensures.done;
-          puts = c.advance.ensures.puts ∙ ap (λ a. kept_with old.done a old.store.puts (Some (event_of c.in-Some.kind))) call;
-          room = c.advance.ensures.room;
-          replies = c.advance.ensures.replies;
-          space = c.advance.ensures.space;
-        } in
+    record {
+      done = c.advance.ensures.done;
+      puts = c.advance.ensures.puts ∙ ap (λ a. kept_with old.done a old.store.puts (Some (event_of c.in-Some.kind))) call;
+      room = c.advance.ensures.room;
+      replies = c.advance.ensures.replies;
+      space = c.advance.ensures.space;
+    } in
     let now = rank_step plan s c.args.proc.number old c.advance.new.self (event_of c.in-Some.kind) c.reply-reply.result told is answered after in
     let course = course_step c.self.inside.plan.now w ranks c.args.proc.number c.advance.new.self c.self.invariant.0 on now in
     let pushed : map (λ p. p.number) c.push_reserved.new.self.items ≡ w ++ c.args.proc.number ∷ [] =
-        ap (map (λ p. p.number)) c.push_reserved.ensures.items ∙ map-append (λ p. p.number) c.self.inside.history.items (c.args.proc ∷ []) in
+    ap (map (λ p. p.number)) c.push_reserved.ensures.items ∙ map-append (λ p. p.number) c.self.inside.history.items (c.args.proc ∷ []) in
     (rw (pushed, c.index.ensures) course, rw c.push_reserved.ensures.capacity c.self.invariant.1)

@@ -1,0 +1,60 @@
+//! What became of the calls of a process.
+
+ghost use Rattle.std.specs.Prelude.{◌≡◌, ◌++◌, map, replicate, OnOk, IfOk};
+ghost use Rattle.wire_types.specs.declared.CallEnd.TheVariants.{Replied, Unreached};
+ghost use Rattle.wire_plan.specs.Ends.{standing, unanswered};
+
+use std::alloc::{AllocError, Global};
+use wire_types::{CallEnd, Reply};
+
+/// The calls that have these replies, with room for so many calls.
+pub(crate) fn replied(
+    alloc: Global,
+    replies: &[Reply],
+    calls: usize,
+) -> Result<Vec<CallEnd>, AllocError>
+    ensures { IfOk result (λ ends. ends.items ≡ map Replied replies.now) }
+{
+    let mut ends = Vec::with_capacity(alloc, calls)?;
+    for reply in replies {
+        ends.push(CallEnd::Replied(*reply))?;
+    }
+    Ok(ends)
+}
+
+/// The call at which a process stands.
+fn standing_end(ready: bool) -> CallEnd
+    ensures { result ≡ standing ready }
+{
+    if ready {
+        CallEnd::Ready
+    } else {
+        CallEnd::Waiting
+    }
+}
+
+/// Adds so many calls that a process hasn't come to.
+fn add_unreached(ends: &mut Vec<CallEnd>, count: usize) -> Result<(), AllocError>
+    ensures { OnOk result (ends.new.items ≡ ends.old.items ++ replicate count Unreached) }
+{
+    for _ in 0..count {
+        ends.push(CallEnd::Unreached)?;
+    }
+    Ok(())
+}
+
+/// Adds so many calls without a reply: the process stands at the first, and hasn't come to the others.
+pub(crate) fn add_unanswered(
+    ends: &mut Vec<CallEnd>,
+    ready: bool,
+    count: usize,
+) -> Result<(), AllocError>
+    ensures { OnOk result (ends.new.items ≡ ends.old.items ++ unanswered ready count) }
+{
+    if count == 0 {
+        return Ok(());
+    }
+    ends.push(standing_end(ready))?;
+    add_unreached(ends, count - 1)?;
+    Ok(())
+}
