@@ -18,7 +18,7 @@ use Rattle.wire_plan.specs.Kinds.{event_of}
 use Rattle.wire_plan.specs.State.{State, start, next_place}
 use Rattle.wire_plan.specs.Machine.{is_enabled, step, reply, IsInterleaving, run, run_from}
 use Rattle.wire_plan.specs.Ends.{given, replies_of}
-use Rattle.wire_plan.specs.Laws.{all_events}
+use Rattle.wire_plan.specs.Laws.{event_total}
 use Rattle.wire_plan.specs.Plain.{lowest, go_on, plain_from}
 use Rattle.wire_plan.proofs.Basics.{event_within}
 use Rattle.wire_plan.proofs.Length.{runs_end}
@@ -178,7 +178,7 @@ length_push [] p = refl
 length_push (q ∷ w) p = ap suc (length_push w p)
 
 -- and so has the history
-pub step_history : (plan : Plan) (w : List ℕ) (p : ℕ) → IsInterleaving plan start w → is_enabled plan (run plan w) p ≡ true → length w < all_events plan
+pub step_history : (plan : Plan) (w : List ℕ) (p : ℕ) → IsInterleaving plan start w → is_enabled plan (run plan w) p ≡ true → length w < event_total plan
 step_history plan w p legal on =
     let longer = runs_end plan (w ++ p ∷ []) (legal_push plan start w p legal on) in
     let one = length_push w p in

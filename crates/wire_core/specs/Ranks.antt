@@ -7,7 +7,7 @@ use Rattle.wire_rehearsal.specs.Planned.{plan_of}
 use Rattle.wire_store.specs.Kept.{kept_after}
 use Rattle.wire_plan.specs.State.{State, start}
 use Rattle.wire_plan.specs.Machine.{IsInterleaving, run}
-use Rattle.wire_plan.specs.Ends.{call_at, replies_of}
+use Rattle.wire_plan.specs.Ends.{call_of, replies_of}
 use Rattle.wire_core.specs.Puts.{puts_in}
 use Rattle.wire_core.specs.declared.rank.Rank.{Rank}
 
@@ -17,7 +17,7 @@ puts_left plan p n = puts_in (drop n (events plan p))
 
 -- the call of each of p's events
 abbrev pub calls_at : Plan → ℕ → ℕ → CallAt
-calls_at plan p n = call_at plan (record { proc = p; at = n })
+calls_at plan p n = call_of plan (record { proc = p; at = n })
 
 -- the rank tells what p has done in this state
 pub record IsRankOf (plan : Plan) (s : State) (p : ℕ) (rank : Rank) : Type 0 where

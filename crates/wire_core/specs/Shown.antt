@@ -7,13 +7,13 @@ use Rattle.wire_types.specs.declared.Value.TheVariants as value
 use Rattle.wire_store.specs.declared.Seen.{Seen}
 use Rattle.wire_store.specs.declared.Seen.TheVariants as seen
 use Rattle.wire_plan.specs.Sight.{Sight, Nothing, Outside, Shown}
-use Rattle.wire_plan.specs.Ends.{bare, call_at}
+use Rattle.wire_plan.specs.Ends.{bare, call_of}
 
 -- a sight of a key of this owner
 abbrev pub seen_as : Plan → ℕ → Sight → Seen
 seen_as plan owner Nothing = seen.Nothing
 seen_as plan owner Outside = seen.Outside
-seen_as plan owner (Shown put) = seen.Value (call_at plan (record { proc = owner; at = put }))
+seen_as plan owner (Shown put) = seen.Value (call_of plan (record { proc = owner; at = put }))
 
 -- the reply to a get that sees this
 abbrev pub reply_to : Seen → Reply

@@ -10,7 +10,7 @@ ghost use Rattle.wire_plan.specs.State.{start, next_place, next_event};
 ghost use Rattle.wire_plan.specs.Sight.{held, served, get_sees};
 ghost use Rattle.wire_plan.specs.Machine.{is_enabled, IsInterleaving, IsEnd, reply as answer};
 ghost use Rattle.wire_plan.specs.Plain.{lowest, plain_from};
-ghost use Rattle.wire_plan.specs.Laws.{all_events};
+ghost use Rattle.wire_plan.specs.Laws.{event_total};
 ghost use Rattle.wire_plan.specs.Ends.{given, is_waiting, outcome, row};
 ghost use Rattle.wire_core.specs.Course.{state_of};
 ghost use Rattle.wire_core.specs.Shown.{seen_as};
@@ -36,7 +36,7 @@ pub struct Core<'a> {
 impl<'a> Model for Core<'a> {
     ghost use Rattle.std.specs.Prelude.{◌≤◌, map, vec_capacity};
     ghost use Rattle.wire_rehearsal.specs.Planned.{plan_of};
-    ghost use Rattle.wire_plan.specs.Laws.{all_events};
+    ghost use Rattle.wire_plan.specs.Laws.{event_total};
     ghost use Rattle.wire_core.specs.Course.{Course};
     ghost use Rattle.wire_core.specs.Ranks.{IsCourse};
 
@@ -44,7 +44,7 @@ impl<'a> Model for Core<'a> {
 
     ghost view = { λ c. record { scripts = c.plan.now; history = map (λ p. p.number) c.history.items } };
 
-    ghost invariant = { λ c. IsCourse c.plan.now (map (λ p. p.number) c.history.items) c.ranks.items × (all_events (plan_of c.plan.now) ≤ vec_capacity c.history) };
+    ghost invariant = { λ c. IsCourse c.plan.now (map (λ p. p.number) c.history.items) c.ranks.items × (event_total (plan_of c.plan.now) ≤ vec_capacity c.history) };
 }
 
 /// The ranks of processes that haven't begun.
@@ -204,7 +204,7 @@ impl<'a> Core<'a> {
 
     /// Steps the lowest process that is ready, until none is.
     pub fn run_lowest(&mut self)
-        ensures run { self.new ≡ record { scripts = self.old.scripts; history = self.old.history ++ plain_from (plan_of self.old.scripts) (all_events (plan_of self.old.scripts)) (state_of self.old) } }
+        ensures run { self.new ≡ record { scripts = self.old.scripts; history = self.old.history ++ plain_from (plan_of self.old.scripts) (event_total (plan_of self.old.scripts)) (state_of self.old) } }
         ensures ended { IsEnd (plan_of self.new.scripts) (state_of self.new) }
     {
         let _ = self.history();

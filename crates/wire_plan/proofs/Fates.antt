@@ -1,5 +1,5 @@
 -- In a settled plan each answer is told by what is before the call.
-use Rattle.std.proofs.Common.{◌≡◌, ℕ, ◌<◌, ◌≤◌, List, [], ◌∷◌, ◌++◌, true, cond, Option, Some, None, is_some, inl, inr, refl, sym, ap, ◌∙◌, subst, arith, eq-eqb}
+use Rattle.std.proofs.Common.{◌≢◌, ◌≡◌, ℕ, ◌<◌, ◌≤◌, List, [], ◌∷◌, ◌++◌, true, cond, Option, Some, None, is_some, inl, inr, refl, sym, ap, ◌∙◌, subst, arith, eq-eqb}
 use Rattle.std.specs.Prelude.{slice_get}
 use Rattle.std.proofs.lemmas.Option.{slice_get-get_or}
 use Rattle.std.proofs.lemmas.Bool.{cond-true, cond-false, cases_eq, cases_lt, cases_Bool, true≢false}
@@ -155,6 +155,11 @@ reachable_kept plan settled s r = subst (λ t. Kept plan t) r.2 (kept_run plan s
 pub says_not_waits : (a : Answer) → Says a ≡ Waits → ⊥
 says_not_waits a e = cc
 
+-- what doesn't wait for ever is live
+may_live : {plan : Plan} {y : Place} {fate : Fate} → HasFate plan y fate → fate ≢ Waits → Live plan y
+may_live (dead not_live waits) ne = absurd (ne waits)
+may_live (told l fate_of before past is_past is) ne = l
+
 pub fates_tell : FatesTell
 fates_tell plan s settled r =
     let k = reachable_kept plan settled s r in
@@ -162,10 +167,10 @@ fates_tell plan s settled r =
       answers = k.answers;
       enabled = λ p fate f. (
         (λ h. let d = due plan s p k.known.sound h in
-            (d.is_live, d.sources_done, λ w. says_not_waits _ (sym (told_in plan settled s k.known k.written (next_place s p) (omega arith) fate d.is_live d.earlier_done f ∙ cond-true _ _ _ h) ∙ w))),
+            (d.sources_done, λ w. says_not_waits _ (sym (told_in plan settled s k.known k.written (next_place s p) (omega arith) fate d.is_live d.earlier_done f ∙ cond-true _ _ _ h) ∙ w))),
         (λ c. elim (cases_Bool (is_enabled plan s p)) [
           | inl t ↦ t
-          | inr no_ ↦ absurd (c.2 (told_in plan settled s k.known k.written (next_place s p) (omega arith) fate c.0 (λ z b. chain_to_next plan s k.known.sound c.1 b) f ∙ cond-false _ _ _ no_))
+          | inr no_ ↦ absurd (c.1 (told_in plan settled s k.known k.written (next_place s p) (omega arith) fate (may_live f c.1) (λ z b. chain_to_next plan s k.known.sound c.0 b) f ∙ cond-false _ _ _ no_))
         ]),
       );
     }

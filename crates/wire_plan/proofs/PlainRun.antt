@@ -1,7 +1,9 @@
 -- The plain run is a run that can't go on.
-use Rattle.std.proofs.Common.{◌≡◌, ℕ, zero, suc, ◌<◌, ◌≤◌, true, false, cond, Option, Some, None, inl, inr, refl, sym, ◌∙◌, subst, arith}
+use Rattle.std.proofs.Common.{◌≡◌, ℕ, zero, suc, ◌<◌, ◌≤◌, [], take, true, false, cond, Option, Some, None, inl, inr, refl, sym, ◌∙◌, subst, arith}
 use Rattle.std.proofs.lemmas.Bool.{cond-true, cond-false, cases_eq, cases_Bool, true≢false, false_from_ne_true}
-use Rattle.std.proofs.lemmas.Option.{same_Some}
+use Rattle.std.proofs.lemmas.Option.{same_Some, slice_get_within}
+use Rattle.std.specs.Prelude.{slice_get}
+use Rattle.wire_plan.specs.Laws.{event_total}
 use Rattle.wire_types.specs.Plan.{Plan, process_count}
 use Rattle.wire_plan.specs.State.{State, start, next_event}
 use Rattle.wire_plan.specs.Machine.{is_enabled, step, IsInterleaving, run_from, IsEnd}
@@ -64,8 +66,35 @@ plain_ends plan (suc fuel) s le = go (lowest plan s (process_count plan)) refl (
     go None e rest = λ p. false_from_ne_true _ (λ h. true≢false (sym h ∙ none_enabled plan s (process_count plan) p e (enabled_within plan s p h)))
     go (Some p) e rest = rest p (let f = left_falls plan s p (lowest_enabled plan s (process_count plan) p e) in omega (arith, f, le))
 
+-- of the first n the lowest that is enabled has none below it
+none_below : (plan : Plan) (s : State) (n p q : ℕ) → lowest plan s n ≡ Some p → q < p → is_enabled plan s q ≡ false
+none_below plan s zero p q h lt = cc
+none_below plan s (suc n) p q h lt = go (lowest plan s n) refl h (none_below plan s n p q)
+  where
+    go : (o : Option ℕ) → lowest plan s n ≡ o → or_else o (cond (is_enabled plan s n) (Some n) None) ≡ Some p → (lowest plan s n ≡ Some p → q < p → is_enabled plan s q ≡ false) → is_enabled plan s q ≡ false
+    go (Some r) e h ih = ih (e ∙ h) lt
+    go None e h ih = elim (cases_Bool (is_enabled plan s n)) [
+      | inl t ↦ (let r : n ≡ p = same_Some _ _ (sym (cond-true _ _ _ t) ∙ h) in none_enabled plan s n q e (omega (arith, r, lt)))
+      | inr f ↦ (let r : None ≡ Some p = sym (cond-false _ _ _ f) ∙ h in cc)
+    ]
+
+-- at each step of the plain run nobody below may go on
+plain_is_lowest : (plan : Plan) (fuel : ℕ) (s : State) (n p q : ℕ) → slice_get (plain_from plan fuel s) n ≡ Some p → q < p → is_enabled plan (run_from plan s (take n (plain_from plan fuel s))) q ≡ false
+plain_is_lowest plan zero s n p q h lt = absurd (nothing n h)
+  where
+    nothing : (n : ℕ) → slice_get [] n ≡ Some p → ⊥
+    nothing n h = let within = slice_get_within [] n p h in omega (arith, within)
+plain_is_lowest plan (suc fuel) s n p q h lt = go (lowest plan s (process_count plan)) refl n h (λ r m. plain_is_lowest plan fuel (step plan s r) m p q)
+  where
+    go : (o : Option ℕ) → lowest plan s (process_count plan) ≡ o → (n : ℕ) → slice_get (go_on o (λ r. plain_from plan fuel (step plan s r))) n ≡ Some p
+        → ((r m : ℕ) → slice_get (plain_from plan fuel (step plan s r)) m ≡ Some p → q < p → is_enabled plan (run_from plan (step plan s r) (take m (plain_from plan fuel (step plan s r)))) q ≡ false)
+        → is_enabled plan (run_from plan s (take n (go_on o (λ r. plain_from plan fuel (step plan s r))))) q ≡ false
+    go None e n h ih = absurd (let within = slice_get_within [] n p h in omega (arith, within))
+    go (Some r) e zero h ih = none_below plan s (process_count plan) p q (e ∙ h) lt
+    go (Some r) e (suc n) h ih = ih r n h lt
+
 pub plain_runs : (plan : Plan) → PlainRuns plan
 plain_runs plan =
     let ends : IsEnd plan (run_from plan start (plain_run plan)) = plain_ends plan _ start (left_at_start plan.processes 0) in
     let is_run : IsInterleaving plan start (plain_run plan) = plain_is_run plan _ start in
-    record { is_run = is_run; ends = ends; is_the_end = λ w settled h e. settled_one_end plan w (plain_run plan) settled h is_run e ends }
+    record { is_run = is_run; ends = ends; is_lowest = plain_is_lowest plan (event_total plan) start; is_the_end = λ w settled h e. settled_one_end plan w (plain_run plan) settled h is_run e ends }

@@ -11,7 +11,7 @@ use Rattle.wire_types.specs.declared.Call.TheVariants as written
 use Rattle.wire_rehearsal.specs.Scripts.{Process, Scripts, call_count}
 use Rattle.wire_rehearsal.specs.Planned.{planned_call, planned_process, plan_of}
 use Rattle.wire_plan.specs.Kinds.{events_planned}
-use Rattle.wire_plan.specs.Laws.{all_events}
+use Rattle.wire_plan.specs.Laws.{event_total}
 use Rattle.wire_plan.specs.Ends.{call_number, calls_of, process_calls}
 
 -- a first call's events, and then those of the others
@@ -122,14 +122,14 @@ unfolding node_of
 node_planned s p q is = ap process_node (slice_get-map planned_process s.processes p ∙ ap (option_map planned_process) is)
 
 -- the events of all rows that show them are those of the plan
-pub total_shown : {V : Type 0} (view : V → List Event) (s : Scripts) (rows : List V) → map view rows ≡ events_planned s.processes → sum_by (λ row. length (view row)) rows ≡ all_events (plan_of s)
+pub total_shown : {V : Type 0} (view : V → List Event) (s : Scripts) (rows : List V) → map view rows ≡ events_planned s.processes → sum_by (λ row. length (view row)) rows ≡ event_total (plan_of s)
 total_shown view s rows shown = sym (sum_by-map length view rows) ∙ ap (sum_by length) shown ∙ sum_by-map length (λ p. events_of (map planned_call p.calls)) s.processes ∙ sym (sum_by-map (λ process. length (events_of process.calls)) planned_process s.processes)
   where
     sum_by-map : {A B : Type 0} (f : B → ℕ) (g : A → B) (xs : List A) → sum_by f (map g xs) ≡ sum_by (λ x. f (g x)) xs
     sum_by-map f g [] = refl
     sum_by-map f g (x ∷ xs) = sum_by-cons f (g x) (map g xs) ∙ ap (λ n. f (g x) + n) (sum_by-map f g xs) ∙ sym (sum_by-cons (λ y. f (g y)) x xs)
 
-pub total_fits : (s : Scripts) → call_count s.processes < 2 ^ 31 → all_events (plan_of s) < 2 ^ 32
+pub total_fits : (s : Scripts) → call_count s.processes < 2 ^ 31 → event_total (plan_of s) < 2 ^ 32
 total_fits s few = let le = go s.processes in omega (arith, le, few)
   where
     go : (ps : List Process) → sum_by (λ process. length (events_of process.calls)) (map planned_process ps) ≤ 2 * call_count ps

@@ -31,8 +31,8 @@ abbrev pub calls_of : Plan → ℕ → List Call
 calls_of plan p = process_calls (slice_get plan.processes p)
 
 -- the call to which an event belongs
-abbrev pub call_at : Plan → Place → CallAt
-call_at plan x = record { proc = record { number = x.proc }; call = call_number (calls_of plan x.proc) x.at }
+abbrev pub call_of : Plan → Place → CallAt
+call_of plan x = record { proc = record { number = x.proc }; call = call_number (calls_of plan x.proc) x.at }
 
 -- a reply that brings nothing but its status
 abbrev pub bare : Status → Reply
@@ -46,8 +46,8 @@ given plan NotFound = bare status.NotFound ∷ []
 given plan ExistsOutside = bare status.ExistsOutsideScope ∷ []
 given plan Duplicate = bare status.DuplicateKey ∷ []
 given plan BadParam = bare status.BadParam ∷ []
-given plan (Value put) = record { status = status.Success; value = value.Put (call_at plan put) } ∷ []
-given plan (Published publish) = record { status = status.Success; value = value.Published (call_at plan publish) } ∷ []
+given plan (Value put) = record { status = status.Success; value = value.Put (call_of plan put) } ∷ []
+given plan (Published publish) = record { status = status.Success; value = value.Published (call_of plan publish) } ∷ []
 given plan (Reserved reply) = reply ∷ []
 
 -- the replies that a process's calls have got so far

@@ -9,12 +9,12 @@ use Rattle.wire_plan.specs.Order.{Edge, Live, Before}
 use Rattle.wire_plan.specs.Races.{IsSettled}
 use Rattle.wire_plan.specs.Findings.{Finding, IsFindings}
 
-abbrev pub all_events : Plan → ℕ
-all_events plan = sum_by (λ process. length (events_of process.calls)) plan.processes
+abbrev pub event_total : Plan → ℕ
+event_total plan = sum_by (λ process. length (events_of process.calls)) plan.processes
 
 -- no run is longer than the number of events
 abbrev pub RunsEnd : Type 0
-RunsEnd = (plan : Plan) (w : List ℕ) → IsInterleaving plan start w → length w ≤ all_events plan
+RunsEnd = (plan : Plan) (w : List ℕ) → IsInterleaving plan start w → length w ≤ event_total plan
 
 -- where a process may go on, its next event is live and all its sources are done
 pub record IsDue (plan : Plan) (s : State) (y : Place) : Type 0 where
@@ -42,7 +42,7 @@ OneEnd = (plan : Plan) (v w : List ℕ) → IsSettled plan → IsInterleaving pl
 -- replies are fates, and who may go on is told by fates
 pub record FatesHold (plan : Plan) (s : State) : Type 0 where
   pub answers : (z : Place) (a : Answer) (fate : Fate) → slice_get (s.replies z.proc) z.at ≡ Some a → HasFate plan z fate → fate ≡ Says a
-  pub enabled : (p : ℕ) (fate : Fate) → HasFate plan (next_place s p) fate → (is_enabled plan s p ≡ true) ↔ (Live plan (next_place s p) × ((x : Place) → Edge plan x (next_place s p) → IsDone s x) × (fate ≢ Waits))
+  pub enabled : (p : ℕ) (fate : Fate) → HasFate plan (next_place s p) fate → (is_enabled plan s p ≡ true) ↔ (((x : Place) → Edge plan x (next_place s p) → IsDone s x) × (fate ≢ Waits))
 
 abbrev pub FatesTell : Type 0
 FatesTell = (plan : Plan) (s : State) → IsSettled plan → IsReachable plan s → FatesHold plan s

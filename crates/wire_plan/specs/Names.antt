@@ -3,7 +3,7 @@ use Rattle.std.specs.Prelude.{ℕ, Bool, false, Option, Some, ◌==◌}
 use Rattle.wire_types.specs.Plan.{Plan, Event, Publish, Lookup, LookupWait, Unpublish}
 use Rattle.wire_types.specs.Plan.{Place}
 
--- whether it may take the name away.
+-- whether it may take the name away (which calls do may depend on the plan and the place in later versions of the file)
 abbrev pub takes_name : Plan → ℕ → Place → Option Event → Bool
 takes_name plan name x (Some (Unpublish n)) = n == name
 takes_name plan name x _ = false

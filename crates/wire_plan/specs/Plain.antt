@@ -1,9 +1,9 @@
 -- The plain run: the lowest process that may go on, at each step.
-use Rattle.std.specs.Prelude.{◌≡◌, ℕ, zero, suc, List, [], ◌∷◌, Option, Some, None, if◌then◌else◌}
+use Rattle.std.specs.Prelude.{◌≡◌, ◌<◌, ℕ, zero, suc, List, [], ◌∷◌, Bool, false, Option, Some, None, slice_get, take, if◌then◌else◌}
 use Rattle.wire_types.specs.Plan.{Plan, process_count}
 use Rattle.wire_plan.specs.State.{State, start}
 use Rattle.wire_plan.specs.Machine.{is_enabled, step, IsInterleaving, run, IsEnd}
-use Rattle.wire_plan.specs.Laws.{all_events}
+use Rattle.wire_plan.specs.Laws.{event_total}
 use Rattle.wire_plan.specs.Races.{IsSettled}
 
 abbrev pub or_else : Option ℕ → Option ℕ → Option ℕ
@@ -25,9 +25,10 @@ plain_from plan zero s = []
 plain_from plan (suc fuel) s = go_on (lowest plan s (process_count plan)) (λ p. plain_from plan fuel (step plan s p))
 
 abbrev pub plain_run : Plan → List ℕ
-plain_run plan = plain_from plan (all_events plan) start
+plain_run plan = plain_from plan (event_total plan) start
 
 pub record PlainRuns (plan : Plan) : Type 0 where
   pub is_run : IsInterleaving plan start (plain_run plan)
   pub ends : IsEnd plan (run plan (plain_run plan))
+  pub is_lowest : (n p q : ℕ) → slice_get (plain_run plan) n ≡ Some p → q < p → is_enabled plan (run plan (take n (plain_run plan))) q ≡ false
   pub is_the_end : (w : List ℕ) → IsSettled plan → IsInterleaving plan start w → IsEnd plan (run plan w) → run plan w ≡ run plan (plain_run plan)

@@ -4,8 +4,8 @@ ghost use Rattle.std.specs.Prelude.{◌≡◌, ◌<◌, ◌^◌, Some, length, m
 ghost use Rattle.wire_types.specs.Plan.{place_of, process_count, events, event_at, event_count, node_of, events_of};
 ghost use Rattle.wire_rehearsal.specs.Planned.{planned_call, plan_of};
 ghost use Rattle.wire_plan.specs.Kinds.{event_of, events_planned};
-ghost use Rattle.wire_plan.specs.Ends.{call_at};
-ghost use Rattle.wire_plan.specs.Laws.{all_events};
+ghost use Rattle.wire_plan.specs.Ends.{call_of};
+ghost use Rattle.wire_plan.specs.Laws.{event_total};
 
 use crate::kind::{Kind, kind_of};
 use std::alloc::{AllocError, Global};
@@ -106,7 +106,7 @@ impl Plan {
 
     /// How many events all processes have.
     pub fn event_total(&self) -> usize
-        ensures total { result ≡ all_events (plan_of self.now) }
+        ensures total { result ≡ event_total (plan_of self.now) }
         ensures fits { result < 2 ^ 32 }
     {
         total_of(&self.events)
@@ -123,7 +123,7 @@ impl Plan {
     /// The call that an event of the plan belongs to.
     pub fn call_of(&self, event: Event) -> CallAt
         requires { event.at < event_count (plan_of self.now) event.proc.number }
-        ensures { result ≡ call_at (plan_of self.now) (place_of event) }
+        ensures { result ≡ call_of (plan_of self.now) (place_of event) }
     {
         CallAt {
             proc: event.proc,

@@ -87,6 +87,7 @@ process_node (Some process) = process.node
 unfoldable pub events : Plan → ℕ → List Event
 events plan p = process_events (slice_get plan.processes p)
 
+-- the node of a process, 0 where there is no such process
 unfoldable pub node_of : Plan → ℕ → ℕ
 node_of plan p = process_node (slice_get plan.processes p)
 

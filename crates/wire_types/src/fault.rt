@@ -86,7 +86,8 @@ impl Fault {
         }
     }
 
-    /// The exit status of a program that ends by this fault.
+    /// The exit status of a program that ends by this fault: 3 for memory, 4 for reading and writing, 2 for
+    /// all that is refused.
     pub fn status(self) -> u8
         ensures { result ≡ status_of self }
     {
@@ -118,9 +119,11 @@ impl Fault {
         }
     }
 
-    /// Writes the line of this fault. It takes no memory.
+    /// Writes the line of this fault. It takes no memory, and fails by `Fault::Write` alone, with the
+    /// number of bytes that went out.
     pub fn write_line<S: Sink>(self, sink: &mut S) -> Result<(), Fault>
         ensures ok { OnOk result (Appends (S.written sink.old) (S.written sink.new) (line_of self)) }
+        ensures quiet { OnOk result (S.failures sink.new ≡ S.failures sink.old) }
         ensures err { IfErr result (λ e. WritesFront (S.written sink.old) (S.written sink.new) (line_of self) e) }
         ensures failed { OnErr result (S.failures sink.new ≡ one_more (S.failures sink.old)) }
     {

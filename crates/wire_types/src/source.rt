@@ -14,7 +14,8 @@ pub trait Source {
     /// How many calls failed.
     ghost failures: { Self → ℕ };
 
-    /// Reads into a front of the buffer, and says how long it is: nothing at the end alone.
+    /// Reads into a front of the buffer, and says how long it is: 0 at the end, and only there where what
+    /// is to come is known.
     fn read(&mut self, buffer: &mut [u8]) -> Result<usize, Failed>
         requires { 0 < length buffer.old }
         ensures bound { IfOk result (λ n. n ≤ length buffer.new) }

@@ -4,7 +4,7 @@ use Rattle.wire_rehearsal.specs.Planned.{plan_of}
 use Rattle.wire_plan.specs.State.{start}
 use Rattle.wire_plan.specs.Machine.{is_enabled, run, IsInterleaving}
 use Rattle.wire_plan.specs.Plain.{lowest, plain_from}
-use Rattle.wire_plan.specs.Laws.{all_events}
+use Rattle.wire_plan.specs.Laws.{event_total}
 use Rattle.wire_plan.proofs.PlainRun.{lowest_enabled}
 use Rattle.wire_core.specs.Course.{state_of}
 use Rattle.wire_core.proofs.Looks.{nobody}
@@ -15,7 +15,7 @@ pub steps-init : goal.steps-init
 steps-init c =
     let now = c.args.self.now in
     let plan = plan_of now.scripts in
-    let none : all_events plan - (length now.history - length now.history) ≡ all_events plan = omega arith in
+    let none : event_total plan - (length now.history - length now.history) ≡ event_total plan = omega arith in
     record {
       scripts = refl;
       legal = c.history.ensures.legal;
@@ -44,13 +44,13 @@ steps-preserved c =
     let room = step_history plan h p c.steps.invariant.legal on in
     let push = length_push h p in
     let longer = c.steps.invariant.longer in
-    let more : all_events plan - (length h - length initial.history) ≡ suc (all_events plan - (length (h ++ p ∷ []) - length initial.history)) = omega (arith, room, push, longer) in
+    let more : event_total plan - (length h - length initial.history) ≡ suc (event_total plan - (length (h ++ p ∷ []) - length initial.history)) = omega (arith, room, push, longer) in
     rw c.step.ensures
     record {
       scripts = c.steps.invariant.scripts;
       legal = legal_push plan start h p c.steps.invariant.legal on;
       longer = omega (arith, push, longer);
-      ahead = ahead_step plan h p (all_events plan - (length (h ++ p ∷ []) - length initial.history)) _ _ (sym c.in-Some.ensures) more c.steps.invariant.ahead;
+      ahead = ahead_step plan h p (event_total plan - (length (h ++ p ∷ []) - length initial.history)) _ _ (sym c.in-Some.ensures) more c.steps.invariant.ahead;
     }
 
 pub returns-clause-ended : goal.returns-clause-ended

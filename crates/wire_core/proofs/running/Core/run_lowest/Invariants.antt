@@ -3,7 +3,7 @@ use Rattle.wire_rehearsal.specs.Planned.{plan_of}
 use Rattle.wire_plan.specs.State.{start}
 use Rattle.wire_plan.specs.Machine.{IsInterleaving}
 use Rattle.wire_plan.specs.Plain.{plain_from}
-use Rattle.wire_plan.specs.Laws.{all_events}
+use Rattle.wire_plan.specs.Laws.{event_total}
 use Rattle.wire_core.specs.Course.{state_of}
 use Rattle.wire_core.proofs.running.Core.run_lowest.Given as goal
 
@@ -12,9 +12,9 @@ invariant-steps l = record {
   scripts : l.self.scripts ≡ l.initial.self.scripts;
   legal : IsInterleaving (plan_of l.self.scripts) start l.self.history;
   longer : length l.initial.self.history ≤ length l.self.history;
-  ahead : l.self.history ++ plain_from (plan_of l.self.scripts) (all_events (plan_of l.self.scripts) - (length l.self.history - length l.initial.self.history)) (state_of l.self)
-      ≡ l.initial.self.history ++ plain_from (plan_of l.initial.self.scripts) (all_events (plan_of l.initial.self.scripts)) (state_of l.initial.self);
+  ahead : l.self.history ++ plain_from (plan_of l.self.scripts) (event_total (plan_of l.self.scripts) - (length l.self.history - length l.initial.self.history)) (state_of l.self)
+      ≡ l.initial.self.history ++ plain_from (plan_of l.initial.self.scripts) (event_total (plan_of l.initial.self.scripts)) (state_of l.initial.self);
 }
 
 abbrev pub decreases-steps : goal.decreases-steps
-decreases-steps l = all_events (plan_of l.self.scripts) - length l.self.history
+decreases-steps l = event_total (plan_of l.self.scripts) - length l.self.history

@@ -8,7 +8,7 @@ use Rattle.wire_store.specs.Kept.{kept_with}
 use Rattle.wire_plan.specs.Kinds.{event_of}
 use Rattle.wire_plan.specs.State.{next_place}
 use Rattle.wire_plan.specs.Machine.{run, reply}
-use Rattle.wire_plan.specs.Ends.{call_at, given}
+use Rattle.wire_plan.specs.Ends.{call_of, given}
 use Rattle.wire_plan.proofs.Basics.{event_within, process_within}
 use Rattle.wire_core.specs.Course.{state_of}
 use Rattle.wire_core.specs.Ranks.{calls_at}
@@ -107,7 +107,7 @@ invariant_of-self c =
     let w = map (λ p. p.number) c.self.inside.history.items in
     let on = rw (← c.self.view_is) at c.requires in
     let place = rw (← c.self.view_is) at c.next_place.ensures in
-    let call : c.call_of-call.result ≡ calls_at plan c.args.proc.number (s.done c.args.proc.number) = c.call_of-call.ensures ∙ ap (call_at plan) place in
+    let call : c.call_of-call.result ≡ calls_at plan c.args.proc.number (s.done c.args.proc.number) = c.call_of-call.ensures ∙ ap (call_of plan) place in
     let answered : given plan (reply plan s (next_place s c.args.proc.number) (Some (event_of c.in-Some.kind))) ≡ c.reply-reply.result ∷ [] =
     subst (λ course. given (plan_of course.scripts) (reply (plan_of course.scripts) (state_of course) (next_place (state_of course) c.args.proc.number) (Some (event_of c.in-Some.kind))) ≡ c.reply-reply.result ∷ []) (sym c.self.view_is) c.reply-reply.ensures in
     let after : IsAdvanced old c.advance.new.self (calls_at plan c.args.proc.number (s.done c.args.proc.number)) (event_of c.in-Some.kind) c.reply-reply.result =

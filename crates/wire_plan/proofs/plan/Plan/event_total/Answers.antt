@@ -3,17 +3,17 @@ use Rattle.std.specs.Prelude.{sum_by, vec_len}
 use Rattle.std.proofs.lemmas.List.{length-map}
 use Rattle.wire_rehearsal.specs.Planned.{plan_of}
 use Rattle.wire_plan.specs.Kinds.{event_of}
-use Rattle.wire_plan.specs.Laws.{all_events}
+use Rattle.wire_plan.specs.Laws.{event_total}
 use Rattle.wire_plan.proofs.Planning.{sum_same, total_shown, total_fits}
 use Rattle.wire_plan.proofs.plan.Plan.event_total.Goals as goal
 
 pub total_of-requires : goal.total_of-requires
 total_of-requires c =
     let rows = c.self.inside.events.items in
-    let total : sum_by (λ kinds. vec_len kinds) rows ≡ all_events (plan_of c.self.inside.scripts) =
+    let total : sum_by (λ kinds. vec_len kinds) rows ≡ event_total (plan_of c.self.inside.scripts) =
     sum_same _ _ rows (λ row. row.ok.0 ∙ sym (length-map row.items event_of))
     ∙ total_shown (λ kinds. map event_of kinds.items) c.self.inside.scripts rows c.self.invariant.events in
-    let fits : all_events (plan_of c.self.inside.scripts) < 2 ^ 32 = total_fits c.self.inside.scripts c.self.invariant.counted.few_calls in
+    let fits : event_total (plan_of c.self.inside.scripts) < 2 ^ 32 = total_fits c.self.inside.scripts c.self.invariant.counted.few_calls in
     rw c.deref.ensures.value (omega (arith, total, fits))
 
 pub returns-clause-total : goal.returns-clause-total
@@ -26,9 +26,9 @@ returns-clause-total c =
 pub returns-clause-fits : goal.returns-clause-fits
 returns-clause-fits c =
     let rows = c.self.inside.events.items in
-    let total : sum_by (λ kinds. vec_len kinds) rows ≡ all_events (plan_of c.self.inside.scripts) =
+    let total : sum_by (λ kinds. vec_len kinds) rows ≡ event_total (plan_of c.self.inside.scripts) =
     sum_same _ _ rows (λ row. row.ok.0 ∙ sym (length-map row.items event_of))
     ∙ total_shown (λ kinds. map event_of kinds.items) c.self.inside.scripts rows c.self.invariant.events in
-    let fits : all_events (plan_of c.self.inside.scripts) < 2 ^ 32 = total_fits c.self.inside.scripts c.self.invariant.counted.few_calls in
+    let fits : event_total (plan_of c.self.inside.scripts) < 2 ^ 32 = total_fits c.self.inside.scripts c.self.invariant.counted.few_calls in
     let told = rw c.deref.ensures.value at c.total_of.ensures in
     omega (arith, told, total, fits)

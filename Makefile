@@ -1,0 +1,13 @@
+# What a user and a developer of wire_up call. Both need the kit's `rt` on the path, and nothing else.
+
+.PHONY: run test
+
+# Proves what the program needs, builds it as ./wire_up, and replays an example.
+run:
+	@cd crates/program && rt run -- --help > /dev/null
+	@cp crates/program/out/program wire_up
+	@./wire_up replay examples/business-card.plan
+
+# The gate: every proof from nothing, every test, and the program as a user calls it.
+test:
+	@python3 tests/gate.py

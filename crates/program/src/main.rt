@@ -1,0 +1,132 @@
+//! The program `wire_up`: hands its words, its file and the standard streams to the library, and ends
+//! with a status: 0 done, 2 refused, 3 memory, 4 reading or writing, 5 usage.
+#![tactic(auto)]
+
+use clap::error::ErrorKind;
+use clap::{Arg, ArgMatches, Command, Error};
+use std::alloc::{AllocError, Global};
+use std::fs::File;
+use std::process::ExitCode;
+use std::rt::{Env, Files};
+use std::{env, io};
+use wire_types::{Fault, FromRead, ToWrite, write_out};
+use wire_up::plain;
+
+/// The exit status of a command line that says nothing that the program does.
+const USAGE: u8 = 5;
+
+/// Why the program didn't do what it was asked for.
+#[derive(Clone, Copy)]
+enum Failure {
+    /// A fault of the library, not yet told.
+    Fault(Fault),
+    /// A command line that can't be read, of which the user was told.
+    Usage,
+}
+
+impl From<Fault> for Failure {
+    fn from(fault: Fault) -> Failure {
+        Failure::Fault(fault)
+    }
+}
+
+impl From<AllocError> for Failure {
+    fn from(_error: AllocError) -> Failure {
+        Failure::Fault(Fault::Memory)
+    }
+}
+
+/// The command line of the program.
+fn command_line<'a>(alloc: Global) -> Result<Command<'a>, AllocError> {
+    let file = Arg::new(alloc, "FILE").help("The file of scripts, standard input if not given");
+    let replay = Command::new(alloc, "replay")
+        .about("Replays the scripts, and writes what became of every call")
+        .arg(file)?;
+    Command::new(alloc, "wire_up")
+        .about("Rehearses the wire-up of a PMIx job")
+        .subcommand_required(true)
+        .subcommand(replay)
+}
+
+/// The arguments of the program, its own name among them.
+fn arguments(rt: &(impl Env + Eprint + AllocGlobal)) -> Result<Vec<String>, Failure> {
+    match env::args(rt) {
+        Ok(arguments) => Ok(arguments.collect(rt.alloc())?),
+        Err(error) if error.kind() == io::ErrorKind::OutOfMemory => Err(Fault::Memory.into()),
+        Err(_) => {
+            let _ = rt.eprintln("error: an argument is not UTF-8");
+            Err(Failure::Usage)
+        }
+    }
+}
+
+/// The words of the command line: the command's name, whatever the program's file is called, and then
+/// all arguments but the first.
+fn words<'a>(alloc: Global, arguments: &'a [String]) -> Result<Vec<&'a str>, AllocError> {
+    let mut words = Vec::new(alloc);
+    words.push("wire_up")?;
+    for argument in arguments.iter().skip(1) {
+        words.push(argument.as_str())?;
+    }
+    Ok(words)
+}
+
+/// Does what the words ask for.
+fn obey<'a>(
+    rt: &(impl Files + Input + Print + Eprint + AllocGlobal),
+    words: &'a [&'a str],
+) -> Result<(), Failure> {
+    match command_line(rt.alloc())?.try_get_matches_from(words) {
+        Ok(matches) => match matches.subcommand_matches("replay") {
+            Some(replay) => Ok(replay_file(rt, replay.get_str("FILE"))?),
+            None => Err(Failure::Usage),
+        },
+        Err(error) => tell(rt, &error),
+    }
+}
+
+/// Tells why there is nothing to do: help was asked for, or the words can't be read.
+fn tell(rt: &(impl Print + Eprint + AllocGlobal), error: &Error) -> Result<(), Failure> {
+    if error.kind() == ErrorKind::OutOfMemory {
+        return Err(Fault::Memory.into());
+    }
+    if error.use_stderr() {
+        let _ = rt.eprint(error);
+        return Err(Failure::Usage);
+    }
+    let help = error.to_string(rt.alloc())?;
+    write_out(&mut ToWrite::new(io::writer(rt)), help.as_bytes()).map_err(Fault::Write)?;
+    Ok(())
+}
+
+/// Replays a file, or standard input where none is named.
+fn replay_file(
+    rt: &(impl Files + Input + Print + AllocGlobal),
+    file: Option<&str>,
+) -> Result<(), Fault> {
+    let mut writer = ToWrite::new(io::writer(rt));
+    match file {
+        Some(path) => {
+            let file = File::open(rt, path).map_err(|_| Fault::Read)?;
+            plain(rt.alloc(), &mut FromRead::new(file), &mut writer)
+        }
+        None => plain(rt.alloc(), &mut FromRead::new(rt.reader()), &mut writer),
+    }
+}
+
+fn run(rt: &(impl Env + Files + Input + Print + Eprint + AllocGlobal)) -> Result<(), Failure> {
+    let arguments = arguments(rt)?;
+    let words = words(rt.alloc(), arguments.as_slice())?;
+    obey(rt, words.as_slice())
+}
+
+fn main(rt: HostRuntime) -> ExitCode {
+    match run(&rt) {
+        Ok(()) => ExitCode::SUCCESS,
+        Err(Failure::Usage) => ExitCode::from(USAGE),
+        Err(Failure::Fault(fault)) => {
+            let _ = fault.write_line(&mut ToWrite::new(rt.stderr()));
+            ExitCode::from(fault.status())
+        }
+    }
+}

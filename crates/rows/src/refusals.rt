@@ -1,0 +1,310 @@
+//! Plans that are refused.
+
+use wire_types::Fault;
+
+/// A plan that is refused, and its fault.
+pub struct Refusal {
+    pub name: &'static str,
+    pub plan: &'static [u8],
+    pub fault: Fault,
+}
+
+pub static REFUSALS: [Refusal; 28] = [
+    Refusal {
+        name: "an empty file",
+        plan: b"",
+        fault: Fault::BadHeader(1),
+    },
+    Refusal {
+        name: "a comment alone",
+        plan: b"\
+# only
+",
+        fault: Fault::BadHeader(2),
+    },
+    Refusal {
+        name: "a file cut in the header",
+        plan: b"\
+rehearsal",
+        fault: Fault::BadHeader(1),
+    },
+    Refusal {
+        name: "an unknown version",
+        plan: b"\
+rehearsal 3
+",
+        fault: Fault::BadHeader(1),
+    },
+    Refusal {
+        name: "a rank before a job",
+        plan: b"\
+rehearsal 1
+rank n0
+",
+        fault: Fault::BadLine(2),
+    },
+    Refusal {
+        name: "a node after a job",
+        plan: b"\
+rehearsal 1
+job a
+node n0
+",
+        fault: Fault::BadLine(3),
+    },
+    Refusal {
+        name: "a file cut in a scope",
+        plan: b"\
+rehearsal 1
+node n0
+job app
+rank n0
+put glo",
+        fault: Fault::BadLine(5),
+    },
+    Refusal {
+        name: "a file cut in a verb",
+        plan: b"\
+rehearsal 1
+node n0
+node n1
+job app
+rank n0
+put global k v
+commi",
+        fault: Fault::BadLine(7),
+    },
+    Refusal {
+        name: "a file cut in a get",
+        plan: b"\
+rehearsal 1
+node n0
+node n1
+job app
+rank n0
+put global k v
+commit
+rank n1
+get app:0",
+        fault: Fault::BadLine(9),
+    },
+    Refusal {
+        name: "two carriage returns",
+        plan: b"\
+rehearsal 1
+node n0
+node n1
+job app
+rank n0
+put global k v
+commit\r\r
+rank n1
+get app:0 k
+",
+        fault: Fault::BadLine(7),
+    },
+    Refusal {
+        name: "a foreign byte in a value",
+        plan: b"\
+rehearsal 1
+node n0
+node n1
+job app
+rank n0
+put global k \xC8
+commit
+rank n1
+get app:0 k
+",
+        fault: Fault::BadLine(6),
+    },
+    Refusal {
+        name: "a rank with a leading zero",
+        plan: b"\
+rehearsal 1
+node n0
+job a
+rank n0
+get a:00 k
+",
+        fault: Fault::BadLine(5),
+    },
+    Refusal {
+        name: "a rank of ten digits",
+        plan: b"\
+rehearsal 1
+node n0
+node n1
+job app
+rank n0
+put global k v
+commit
+rank n1
+get app:9999999999 k
+",
+        fault: Fault::BadLine(9),
+    },
+    Refusal {
+        name: "a verb of another version",
+        plan: b"\
+rehearsal 1
+node n0
+job a
+rank n0
+unpublish *
+",
+        fault: Fault::BadLine(5),
+    },
+    Refusal {
+        name: "a line of another version",
+        plan: b"\
+rehearsal 1
+keep
+",
+        fault: Fault::BadLine(2),
+    },
+    Refusal {
+        name: "a rank on an unknown node",
+        plan: b"\
+rehearsal 1
+job a
+rank n0
+",
+        fault: Fault::UnknownName(3),
+    },
+    Refusal {
+        name: "a file cut in the name of a node",
+        plan: b"\
+rehearsal 1
+node n0
+node n1
+job app
+rank n0
+put global k v
+commit
+rank n",
+        fault: Fault::UnknownName(8),
+    },
+    Refusal {
+        name: "a get of an unknown rank",
+        plan: b"\
+rehearsal 1
+node n0
+node n1
+job app
+rank n0
+get app:5 k
+",
+        fault: Fault::UnknownName(6),
+    },
+    Refusal {
+        name: "a get of a rank of nine digits",
+        plan: b"\
+rehearsal 1
+node n0
+node n1
+job app
+rank n0
+put global k v
+commit
+rank n1
+get app:999999999 k
+",
+        fault: Fault::UnknownName(9),
+    },
+    Refusal {
+        name: "a node declared twice",
+        plan: b"\
+rehearsal 1
+node n0
+node n0
+",
+        fault: Fault::Twice(3),
+    },
+    Refusal {
+        name: "an odd line below a get of an unknown job",
+        plan: b"\
+rehearsal 1
+node n0
+job a
+rank n0
+get b:0 k
+foo
+",
+        fault: Fault::BadLine(6),
+    },
+    Refusal {
+        name: "a scope that is not read yet",
+        plan: b"\
+rehearsal 1
+node n0
+job app
+rank n0
+put local k v
+",
+        fault: Fault::BadLine(5),
+    },
+    Refusal {
+        name: "a put of a reserved key",
+        plan: b"\
+rehearsal 1
+node n0
+job app
+rank n0
+put global pmix.x v
+",
+        fault: Fault::BadLine(5),
+    },
+    Refusal {
+        name: "a get of a reserved key",
+        plan: b"\
+rehearsal 1
+node n0
+job app
+rank n0
+get app:0 PMIX_RANK
+",
+        fault: Fault::BadLine(5),
+    },
+    Refusal {
+        name: "a get of a rank without a job",
+        plan: b"\
+rehearsal 1
+node n0
+job app
+rank n0
+get :0 k
+",
+        fault: Fault::BadLine(5),
+    },
+    Refusal {
+        name: "a second header",
+        plan: b"\
+rehearsal 1
+node n0
+rehearsal 1
+",
+        fault: Fault::BadLine(3),
+    },
+    Refusal {
+        name: "a call before the first rank of its job",
+        plan: b"\
+rehearsal 1
+node n0
+job a
+rank n0
+job b
+commit
+",
+        fault: Fault::BadLine(6),
+    },
+    Refusal {
+        name: "a job declared twice",
+        plan: b"\
+rehearsal 1
+job a
+job a
+",
+        fault: Fault::Twice(3),
+    },
+];

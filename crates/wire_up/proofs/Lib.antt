@@ -1,0 +1,4 @@
+pub mod Came
+pub mod FileFaults
+pub mod Limited
+pub mod Told

@@ -1,0 +1,144 @@
+#!/usr/bin/env python3
+"""Runs the built program as a user would: words, files, standard streams, exit statuses, fault lines.
+
+Usage: tests/program.py PROGRAM
+Prints a line for each run that went otherwise than it should, and last 'N passed, M failed'.
+"""
+import collections
+import os
+import resource
+import signal
+import subprocess
+import sys
+import tempfile
+
+TOP = os.path.dirname(os.path.dirname(os.path.abspath(__file__)))
+EXAMPLE, ITS_REPORT = "examples/business-card.plan", "examples/business-card.report"
+SECONDS = 60
+
+# What is run, and what must come of it: the status, and what standard output and standard error hold, each all of it
+# or, in a tuple, a part.
+Run = collections.namedtuple("Run", "name words given status wrote said set_up", defaults=(None, b"", 0, b"", b"", None))
+
+
+def text_of(path):
+    with open(os.path.join(TOP, path), "rb") as it:
+        return it.read()
+
+
+def closed(stream):
+    return lambda: os.close(stream)
+
+
+def onto(path, stream):
+    """Opens a file as a standard stream."""
+
+    def set_up():
+        os.dup2(os.open(path, os.O_WRONLY if stream else os.O_RDONLY), stream)
+
+    return set_up
+
+
+def with_little_memory():
+    resource.setrlimit(resource.RLIMIT_DATA, (2 << 20, 2 << 20))
+
+
+def runs(room):
+    """The runs, in a folder that they may write to."""
+    plan, report = text_of(EXAMPLE), text_of(ITS_REPORT)
+    example, odd, large = os.path.join(TOP, EXAMPLE), os.path.join(room, "odd.plan"), os.path.join(room, "large.plan")
+    with open(odd, "wb") as it:
+        it.write(plan + b"getaway app:0 k\n")
+    with open(large, "wb") as it:
+        it.write(b"rehearsal 1\n#".ljust(4 << 20, b"x"))
+    usage = (b"Usage: wire_up",)
+    for plan_file in sorted(it for it in os.listdir(os.path.join(TOP, "examples")) if it.endswith(".plan")):
+        its_report = text_of(f"examples/{plan_file[: -len('.plan')]}.report")
+        yield Run(plan_file, ["replay", f"examples/{plan_file}"], wrote=its_report)
+    yield Run("standard input", ["replay"], given=plan, wrote=report)
+    yield Run("a file, whatever stands on standard input", ["replay", example], given=b"?", wrote=report)
+    yield Run("the largest file", ["replay", large], wrote=b"waiting 0\n")
+    yield Run("little memory, and enough", ["replay", example], wrote=report, set_up=with_little_memory)
+    yield Run("help", ["--help"], wrote=usage)
+    yield Run("help in short", ["-h"], wrote=usage)
+    yield Run("help as a command", ["help"], wrote=usage)
+    yield Run("help on a command", ["replay", "--help"], wrote=usage)
+    yield Run("a file that is refused", ["replay", odd], status=2, said=b"wire_up: fault 4 BadLine 10\n")
+    yield Run("standard input that is refused", ["replay"], given=b"# only\n", status=2, said=b"wire_up: fault 3 BadHeader 2\n")
+    yield Run("a file that never ends", ["replay", "/dev/zero"], status=2, said=b"wire_up: fault 2 TooLong 1\n")
+    yield Run("too little memory", ["replay", large], status=3, said=b"wire_up: fault 1 Memory\n", set_up=with_little_memory)
+    yield Run("no such file", ["replay", os.path.join(room, "none")], status=4, said=b"wire_up: fault 10 Read\n")
+    yield Run("a folder", ["replay", room], status=4, said=b"wire_up: fault 10 Read\n")
+    yield Run("standard input closed", ["replay"], status=4, said=b"wire_up: fault 10 Read\n", set_up=closed(0))
+    yield Run("standard output closed", ["replay", example], status=4, said=b"wire_up: fault 11 Write 0\n", set_up=closed(1))
+    yield Run("a full device", ["replay", example], status=4, said=b"wire_up: fault 11 Write 0\n", set_up=onto("/dev/full", 1))
+    yield Run("help on a full device", ["--help"], status=4, said=b"wire_up: fault 11 Write 0\n", set_up=onto("/dev/full", 1))
+    yield Run("no command", [], status=5, said=usage)
+    yield Run("an unknown command", ["rehearse"], status=5, said=usage)
+    yield Run("an unknown option", ["replay", "--loud"], status=5, said=usage)
+    yield Run("two files", ["replay", example, example], status=5, said=usage)
+    yield Run("a word that is no text", ["replay", b"\xc8"], status=5, said=b"error: an argument is not UTF-8\n")
+
+
+def start(program, run, **streams):
+    how = {"cwd": TOP, "preexec_fn": run.set_up, "stderr": subprocess.PIPE, "timeout": SECONDS}
+    return subprocess.run([program, *run.words], input=run.given, **how, **streams)
+
+
+def fits(wanted, got):
+    return wanted[0] in got if isinstance(wanted, tuple) else wanted == got
+
+
+def went_well(program, run):
+    """Whether a run ended, wrote and said what it should; if not, tells."""
+    try:
+        ran = start(program, run, stdout=subprocess.PIPE)
+    except subprocess.TimeoutExpired:
+        return tell(run.name, f"had not ended after {SECONDS} seconds")
+    if ran.returncode != run.status:
+        return tell(run.name, f"ended with {ran.returncode} and not {run.status}, and said {ran.stderr[:300]}")
+    if not fits(run.wrote, ran.stdout):
+        return tell(run.name, f"wrote {ran.stdout[:300]}")
+    if not fits(run.said, ran.stderr):
+        return tell(run.name, f"said {ran.stderr[:300]}")
+    return True
+
+
+def breaks_off(program, room, size):
+    """Whether a file that takes so many bytes and no more gets these, and the fault counts them."""
+
+    def set_up():
+        signal.signal(signal.SIGXFSZ, signal.SIG_IGN)
+        resource.setrlimit(resource.RLIMIT_FSIZE, (size, size))
+
+    name, path, report = f"a file that takes {size} bytes", os.path.join(room, "report"), text_of(ITS_REPORT)
+    with open(path, "wb") as to:
+        ran = start(program, Run(name, ["replay", EXAMPLE], set_up=set_up), stdout=to)
+    with open(path, "rb") as it:
+        wrote = it.read()
+    if (ran.returncode, ran.stderr) != (4, b"wire_up: fault 11 Write %d\n" % size):
+        return tell(name, f"ended with {ran.returncode}, and said {ran.stderr[:300]}")
+    return wrote == report[:size] or tell(name, f"wrote {wrote[:300]}")
+
+
+def tell(name, what):
+    print(f"{name}: the program {what}")
+    return False
+
+
+def all_runs(program):
+    """Runs all, and answers how many went well and how many didn't."""
+    with tempfile.TemporaryDirectory(prefix="wire-up-") as room:
+        well = [went_well(program, run) for run in runs(room)]
+        well += [breaks_off(program, room, size) for size in (1, 20, len(text_of(ITS_REPORT)) - 1)]
+    for kept, shown in ((EXAMPLE, "crates/program/data/business-card.plan"), (ITS_REPORT, "crates/program/stdout")):
+        well.append(text_of(kept) == text_of(shown) or tell(shown, f"is run on another text than {kept}"))
+    return well.count(True), well.count(False)
+
+
+if __name__ == "__main__":
+    if len(sys.argv) != 2:
+        sys.exit(__doc__)
+    passed, failed = all_runs(os.path.abspath(sys.argv[1]))
+    print(f"{passed} passed, {failed} failed")
+    sys.exit(1 if failed else 0)
