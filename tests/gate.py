@@ -8,6 +8,7 @@ import re
 import subprocess
 import sys
 
+sys.dont_write_bytecode = True
 import program
 
 BUILT = os.path.join(program.TOP, "crates", "program", "out", "program")
@@ -15,11 +16,14 @@ BUILT = os.path.join(program.TOP, "crates", "program", "out", "program")
 
 def prove():
     """Runs `rt ci`, and answers its counts; where it ends without them, one failure."""
-    counts, line = None, ""
-    with subprocess.Popen(["rt", "ci"], cwd=program.TOP, stdout=subprocess.PIPE, text=True, errors="replace") as it:
-        for line in it.stdout:
-            counts = re.fullmatch(r"(\d+) passed, (\d+) failed\n?", line)
-            print(f"rt ci: {line}" if counts else line, end="", flush=True)
+    counts = None
+    try:
+        with subprocess.Popen(["rt", "ci"], cwd=program.TOP, stdout=subprocess.PIPE, text=True, errors="replace") as it:
+            for line in it.stdout:
+                counts = re.fullmatch(r"(\d+) passed, (\d+) failed\n?", line)
+                print(f"rt ci: {line}" if counts else line, end="", flush=True)
+    except OSError as why:
+        print(f"rt ci: {why}")
     if not counts:
         print("rt ci: it ended without its last line")
         return 0, 1

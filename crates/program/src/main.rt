@@ -3,7 +3,7 @@
 #![tactic(auto)]
 
 use clap::error::ErrorKind;
-use clap::{Arg, ArgMatches, Command, Error};
+use clap::{Arg, Command, Error};
 use std::alloc::{AllocError, Global};
 use std::fs::File;
 use std::process::ExitCode;

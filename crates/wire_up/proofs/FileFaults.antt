@@ -1,5 +1,5 @@
 -- The faults of a file are those of its lines: no text reads as a fault of memory, of reading or of writing.
-use Rattle.std.proofs.Common.{◌≡◌, ◌≢◌, ◌∙◌, ◌⊎◌, sym, subst, refl, ℕ, List, [], ◌∷◌, length, Bool, true, false, not, Option, Some, None, Result, Ok, Err, MatchResult, IfErr, inl, inr, if◌then◌else◌}
+use Rattle.std.proofs.Common.{◌≡◌, ◌≢◌, ◌∙◌, ◌⊎◌, sym, subst, refl, ℕ, List, [], ◌∷◌, length, Bool, true, false, not, Option, Some, None, Result, Ok, Err, IfErr, inl, inr, if◌then◌else◌}
 use Rattle.wire_types.specs.declared.Fault.{Fault}
 use Rattle.wire_types.specs.declared.Fault.TheVariants.{Memory, Read, Write, TooLong, BadHeader, BadLine, UnknownName, Twice, TooMany}
 use Rattle.wire_lines.specs.Said as said
@@ -76,6 +76,7 @@ short_of_file : (bytes : List ℕ) (r : Result Scripts Fault) → ReadsShort byt
 short_of_file bytes r (Ok d, first, is) = subst IsOfFile (sym is) (second_of_file d (unmet d d.processes) (unmet_of_file d d.processes))
 short_of_file bytes r (Err f, first, is) = subst IsOfFile (sym is) (first_of_file (statements bytes) (length (lines_of bytes)) (Err f) first)
 
+-- the fault of a text is one of a file
 pub reads_of_file : (bytes : List ℕ) (r : Result Scripts Fault) → Reads bytes r → IsOfFile r
 reads_of_file bytes r (inl (past, is)) = subst IsOfFile (sym is) refl
 reads_of_file bytes r (inr (within, reads)) = short_of_file bytes r reads

@@ -3,7 +3,6 @@ use Rattle.std.proofs.Common.{◌≡◌, ◌≢◌, ◌∙◌, ap, subst, sym, �
 use Rattle.std.specs.Io.KnownBytes.{Appends}
 use Rattle.wire_types.specs.declared.Fault.{Fault}
 use Rattle.wire_types.specs.declared.Fault.TheVariants.{Memory, Read, Write}
-use Rattle.wire_types.specs.Fault.{carried_by}
 use Rattle.wire_types.specs.Front.{WritesFront}
 use Rattle.wire_rehearsal.specs.Scripts.{Scripts}
 use Rattle.wire_up.specs.Replay.{plain_report, ReadAs, Refuses, WritesReport, BreaksOff}
@@ -14,6 +13,7 @@ pub handed_on : {A : Type 0} (r : Result A Fault) (e : Fault) (P : Fault → Typ
 handed_on (Ok x) e P is p = tt
 handed_on (Err f) e P is p = subst P (sym is) p
 
+-- it is the error that was handed on
 pub same_error : {A : Type 0} (r : Result A Fault) (e f : Fault) → IsErrAnd r (λ d. d ≡ e) → r ≡ Err f → e ≡ f
 same_error (Ok x) e f is at = absurd is
 same_error (Err d) e f is at = let same : d ≡ f = cc in sym is ∙ same
@@ -24,6 +24,7 @@ before_writing coming e n (inl memory) is = let bad : Memory ≡ Write n = sym m
 before_writing coming e n (inr (inl read)) is = let bad : Read ≡ Write n = sym read ∙ is in cc
 before_writing coming e n (inr (inr refuses)) is = not_write refuses.bytes e n refuses.reads is
 
+-- the writing of the report of what was read
 pub writes_report : (coming old new : Option (List ℕ)) (s : Scripts) (r : Result (Unit {0}) Fault) → ReadAs coming s → OnOk r (Appends old new (plain_report s)) → OnOk r (WritesReport coming old new)
 writes_report coming old new s (Ok x) read wrote = record { scripts = s; read = read; wrote = wrote }
 writes_report coming old new s (Err e) read wrote = tt
@@ -32,6 +33,7 @@ writes_report coming old new s (Err e) read wrote = tt
 abbrev WritesOrNot : Option (List ℕ) → Option (List ℕ) → Scripts → Fault → Type 0
 WritesOrNot old new s e = (e ≡ Memory) ⊎ WritesFront old new (plain_report s) e
 
+-- a fault of the writing counts what went out
 pub breaks_off : (coming old new : Option (List ℕ)) (s : Scripts) (r : Result (Unit {0}) Fault) (n : ℕ) → ReadAs coming s → IfErr r (WritesOrNot old new s) → r ≡ Err (Write n) → BreaksOff coming old new n
 breaks_off coming old new s (Ok x) n read err is = let bad : Ok x ≡ Err (Write n) = is in cc
 breaks_off coming old new s (Err e) n read (inl memory) is = let bad : Memory ≡ Write n = cc in cc
@@ -45,11 +47,13 @@ not_refused coming old new s (Ok x) err = tt
 not_refused coming old new s (Err e) (inl memory) = λ not_memory read write. absurd (not_memory memory)
 not_refused coming old new s (Err e) (inr (m, carries, short, front)) = λ memory read not_write. absurd (not_write m carries)
 
+-- where memory ran out the writer is as it was
 pub untouched : {W : Type 0} (old new : W) (written later : Option (List ℕ)) (s : Scripts) (r : Result (Unit {0}) Fault) → IfErr r (WritesOrNot written later s) → (r ≡ Err Memory → new ≡ old) → OnErr r (((n : ℕ) → r ≢ Err (Write n)) → new ≡ old)
 untouched old new written later s (Ok x) err kept = tt
 untouched old new written later s (Err e) (inl memory) kept = λ none. kept (ap Err memory)
 untouched old new written later s (Err e) (inr (m, carries, short, front)) kept = λ none. absurd (none m (ap Err carries))
 
+-- neither the reader nor the writer failed
 pub both_quiet : (P Q : Type 0) (r : Result (Unit {0}) Fault) → P → OnOk r Q → OnOk r (P × Q)
 both_quiet P Q (Ok x) p q = (p, q)
 both_quiet P Q (Err e) p q = tt

@@ -1,4 +1,3 @@
-use Rattle.std.proofs.Common.{◌≡◌, Err}
 use Rattle.wire_up.proofs.Told.{same_error, before_writing, writes_report, breaks_off, not_refused, untouched, both_quiet}
 use Rattle.wire_up.proofs.replay.plain.Goals as goal
 
