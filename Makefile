@@ -1,4 +1,4 @@
-# What a user and a developer of wire_up call. Both need the kit's `rt` on the path, and nothing else.
+# What a user and a developer of wire_up call. Both need the kit's `rt` on the path; `test` needs python3 besides.
 
 .PHONY: run test
 
