@@ -1,4 +1,3 @@
-#!/usr/bin/env python3
 """The gate: `rt ci`, and then the program that it proved and built, run as a user would.
 
 The last line is 'N passed, M failed' for all of it, and the status is 1 where anything failed.

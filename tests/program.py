@@ -1,7 +1,6 @@
-#!/usr/bin/env python3
 """Runs the built program as a user would: words, files, standard streams, exit statuses, fault lines.
 
-Usage: tests/program.py PROGRAM
+Usage: python3 tests/program.py PROGRAM
 Prints a line for each run that went otherwise than it should, and last 'N passed, M failed'.
 """
 import collections

@@ -48,22 +48,23 @@ pub fn runs_are_sound()
     ensures { RunsAreSound }
 {}
 
-/// The checker finds nothing exactly where its list is empty.
+/// The list of findings is empty exactly where the plan is settled.
 pub fn no_findings()
     ensures { NoFindings }
 {}
 
-/// The list of the findings is one.
+/// For each order of the names the list of findings is one.
 pub fn one_list()
     ensures { OneList }
 {}
 
-/// Each event of a settled plan has a fate.
+/// Each event of a settled plan has a fate, given marks that tell which events are live, and which are
+/// before which.
 pub fn have_fates()
     ensures { HaveFates }
 {}
 
-/// A sound cut of a settled plan is what some run has come to.
+/// A sound cut of a settled plan is what some run has come to, given such marks.
 pub fn sound_is_reached()
     ensures { SoundIsReached }
 {}

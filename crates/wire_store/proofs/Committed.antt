@@ -47,7 +47,6 @@ record ComesFrom (slots : List Slot) (at i : ℕ) (now : Slot) : Type 0 where
   pub there : slice_get slots i ≡ Some was
   pub put : put_in now ≡ store_by at (put_in was)
   pub key : now.key ≡ was.key
-  pub previous : now.previous ≡ was.previous
   pub stored : is_some now.stored_by ≡ true
 
 comes_from : (slots : List Slot) (committed at i : ℕ) (now : Slot) → IsStoredTo slots committed → slice_get (stored_from committed at slots) i ≡ Some now → ComesFrom slots at i now
@@ -60,7 +59,6 @@ comes_from slots committed at i now stored is = elim (cases_lt i committed) [
         there = there;
         put = ap (λ o. record (put_in now) { stored_by = o }) (sym (first_commit_kept now.stored_by at has));
         key = refl;
-        previous = refl;
         stored = has;
       }
   | inr high ↦ go (slice_get slots i) refl high (sym (stored_from_high slots committed at i high) ∙ is)
@@ -76,7 +74,6 @@ comes_from slots committed at i now stored is = elim (cases_lt i committed) [
           there = e;
           put = ap put_in (sym made) ∙ ap (λ o. record (put_in was) { stored_by = o }) (sym new);
           key = ap (λ s. s.key) (sym made);
-          previous = ap (λ s. s.previous) (sym made);
           stored = ap (λ s. is_some s.stored_by) (sym made);
         }
 
@@ -102,9 +99,7 @@ indexed_commit slots committed at number_of index =
           let low = slice_get_within new i now is in
           (comes_from slots committed at i now index.stored is).stored ∙ sym (lt-ltb i (length slots) (omega (arith, low, len)));
       newest = λ key. index.newest key ∙ sym (same key (length slots)) ∙ ap (last_slot new key) (sym len);
-      linked = λ i now is.
-          let from = comes_from slots committed at i now index.stored is in
-          from.previous ∙ index.linked i from.was from.there ∙ sym (same from.was.key i) ∙ ap (λ k. last_slot new k i) (sym from.key);
+      linked = λ i now is high. let low = slice_get_within new i now is in absurd (omega (arith, low, len, high));
     }
 
 pub puts_commit : (slots : List Slot) (committed at : ℕ) → IsStoredTo slots committed → map put_in (stored_from committed at slots) ≡ map (store_by at) (map put_in slots)

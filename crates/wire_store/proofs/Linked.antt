@@ -1,4 +1,4 @@
--- The last slot of a key, and the way back to it.
+-- The last slot of a key, and the last that is stored.
 use Rattle.std.proofs.Common.{◌≡◌, ◌∙◌, ℕ, zero, suc, ◌<◌, ◌≤◌, List, length, cond, ◌==◌, Option, Some, None, option_map, slice_get, get_or, ◌⊎◌, inl, inr, refl, sym, ap, arith, eqb-true}
 use Rattle.std.proofs.lemmas.Bool.{cases_Bool, cases_eq}
 use Rattle.std.proofs.lemmas.Option.{none-some, same_Some, slice_get-get_or}
@@ -72,39 +72,18 @@ last_slot_same xs ys key (suc n) same =
     ap (λ before. last_slot_with key n before (slice_get xs n)) (last_slot_same xs ys key n (λ i low. same i (omega (arith, low))))
     ∙ last_slot_with_same key n (last_slot ys key n) (slice_get xs n) (slice_get ys n) (same n (omega arith))
 
--- the way back from the newest slot of a key: where it stands, that is the last slot of the key below some bound
-pub record IsBackTo (slots : List Slot) (key limit : ℕ) (last : Option ℕ) : Type 0 where
-  pub bound : ℕ
-  pub above : limit ≤ bound
-  pub is : last ≡ last_slot slots key bound
-
-abbrev pub steps_left : Option ℕ → ℕ
-steps_left None = 0
-steps_left (Some i) = suc i
-
-pub previous_below : (slots : List Slot) (i : ℕ) (d : Slot) → IsLinked slots → i < length slots → (j : ℕ) → (get_or slots i d).previous ≡ Some j → j < i
-previous_below slots i d linked within j is =
-    let slot = get_or slots i d in
-    last_slot_below slots slot.key i j (sym (linked i slot (slice_get-get_or slots i d within)) ∙ is)
-
-pub steps_fall : (slots : List Slot) (i : ℕ) (d : Slot) (last : Option ℕ) → IsLinked slots → i < length slots → last ≡ Some i → steps_left (get_or slots i d).previous < steps_left last
-steps_fall slots i d last linked within at = rw at (go (get_or slots i d).previous refl)
-  where
-    go : (o : Option ℕ) → (get_or slots i d).previous ≡ o → steps_left o < suc i
-    go None e = omega arith
-    go (Some j) e = let below = previous_below slots i d linked within j e in omega (arith, below)
-
-pub back_step : (slots : List Slot) (key limit i : ℕ) (d : Slot) → IsLinked slots → i < length slots → limit ≤ i → IsBackTo slots key limit (Some i) → IsBackTo slots key limit (get_or slots i d).previous
-back_step slots key limit i d linked within le back =
+-- the newest slot of a key, where it isn't stored, names the last that is
+pub named_last : (slots : List Slot) (key committed i : ℕ) (d : Slot) → IsLinked slots committed → committed ≤ i → i < length slots → Some i ≡ last_slot slots key (length slots) → (get_or slots i d).stored_before ≡ last_slot slots key committed
+named_last slots key committed i d linked high within is =
     let slot = get_or slots i d in
     let there = slice_get-get_or slots i d within in
-    let found = last_slot_there slots key back.bound i (sym back.is) in
+    let found = last_slot_there slots key (length slots) i (sym is) in
     let same : found.0 ≡ slot = same_Some found.0 slot (sym found.1 ∙ there) in
     let of_key : slot.key ≡ key = ap (λ s. s.key) (sym same) ∙ found.2 in
-    record { bound = i; above = le; is = linked i slot there ∙ ap (λ k. last_slot slots k i) of_key }
+    linked i slot there high ∙ ap (λ k. last_slot slots k committed) of_key
 
-pub back_found : (slots : List Slot) (key limit i : ℕ) → i < limit → IsBackTo slots key limit (Some i) → Some i ≡ last_slot slots key limit
-back_found slots key limit i low back = sym (last_slot_among slots key back.bound limit i (sym back.is) low back.above)
+pub newest_stored : (slots : List Slot) (key committed i : ℕ) → i < committed → committed ≤ length slots → Some i ≡ last_slot slots key (length slots) → Some i ≡ last_slot slots key committed
+newest_stored slots key committed i low within is = sym (last_slot_among slots key (length slots) committed i (sym is) low within)
 
-pub back_nothing : (slots : List Slot) (key limit : ℕ) → IsBackTo slots key limit None → None ≡ last_slot slots key limit
-back_nothing slots key limit back = sym (last_slot_nothing slots key back.bound limit (sym back.is) back.above)
+pub never_put : (slots : List Slot) (key committed : ℕ) → committed ≤ length slots → None ≡ last_slot slots key (length slots) → None ≡ last_slot slots key committed
+never_put slots key committed within is = sym (last_slot_nothing slots key (length slots) committed (sym is) within)

@@ -20,17 +20,17 @@ abbrev pub last_slot : List Slot → ℕ → ℕ → Option ℕ
 last_slot slots key zero = None
 last_slot slots key (suc n) = last_slot_with key n (last_slot slots key n) (slice_get slots n)
 
--- each slot names the slot of its key before it
-abbrev pub IsLinked : List Slot → Type 0
-IsLinked slots = (i : ℕ) (slot : Slot) → slice_get slots i ≡ Some slot → slot.previous ≡ last_slot slots slot.key i
+-- each slot that isn't stored names the last stored slot of its key
+abbrev pub IsLinked : List Slot → ℕ → Type 0
+IsLinked slots committed = (i : ℕ) (slot : Slot) → slice_get slots i ≡ Some slot → committed ≤ i → slot.stored_before ≡ last_slot slots slot.key committed
 
 -- the first slots, as many as this, are stored
 abbrev pub IsStoredTo : List Slot → ℕ → Type 0
 IsStoredTo slots committed = (i : ℕ) (slot : Slot) → slice_get slots i ≡ Some slot → is_some slot.stored_by ≡ nat_lt i committed
 
--- the slots are linked, stored up to here, and under each key the last slot is known
+-- the slots are stored up to here; the last slot of each key is known, and from it the last that is stored
 pub record IsIndexed (slots : List Slot) (committed : ℕ) (number_of : ℕ → Option ℕ) : Type 0 where
   pub within : committed ≤ length slots
   pub stored : IsStoredTo slots committed
   pub newest : (key : ℕ) → number_of key ≡ last_slot slots key (length slots)
-  pub linked : IsLinked slots
+  pub linked : IsLinked slots committed

@@ -1,4 +1,4 @@
-//! The slots of a store: each put in order, with the number of the slot before it of the same key.
+//! The slots of a store: each put in order, with the number of the slot of its key that was stored last when it came.
 
 ghost use Rattle.std.specs.Prelude.{◌≡◌, ◌<◌, ◌≤◌, ℕ, length, map};
 ghost use Rattle.std.specs.Option.{ForSome};
@@ -14,24 +14,20 @@ pub(crate) struct Slot {
     pub scope: Scope,
     pub call: CallAt,
     pub stored_by: Option<u32>,
-    pub previous: Option<usize>,
+    pub stored_before: Option<usize>,
 }
 
-// From a slot back along the slots of its key, to the first below the limit.
-pub(crate) fn last_below(slots: &[Slot], newest: Option<usize>, limit: usize) -> Option<usize>
-    requires linked { IsLinked slots.now }
+// The last stored slot of a key, told from the newest slot of the key.
+pub(crate) fn last_stored(slots: &[Slot], newest: Option<usize>, committed: usize) -> Option<usize>
+    requires linked { IsLinked slots.now committed }
     requires there { ForSome newest (λ i. i < length slots.now) }
-    requires limit { limit ≤ length slots.now }
-    ensures { (key : ℕ) → newest ≡ last_slot slots.now key (length slots.now) → result ≡ last_slot slots.now key limit }
+    requires within { committed ≤ length slots.now }
+    ensures { (key : ℕ) → newest ≡ last_slot slots.now key (length slots.now) → result ≡ last_slot slots.now key committed }
 {
-    let mut last = newest;
-    while let Some(i) = last {
-        if i < limit {
-            return last;
-        }
-        last = slots[i].previous;
+    match newest {
+        Some(i) if i >= committed => slots[i].stored_before,
+        _ => newest,
     }
-    None
 }
 
 // Marks each slot as stored by the commit of this number.

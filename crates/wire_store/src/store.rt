@@ -3,7 +3,7 @@
 ghost use Rattle.std.specs.Prelude.{◌≡◌, ◌+◌, ◌<◌, [], ◌∷◌, ◌++◌, map, option_map, IfOk, IsOkUnless};
 ghost use Rattle.wire_store.specs.Kept.{store_by, last_put, last_stored, seen};
 
-use crate::chain::{Slot, last_below, store_all};
+use crate::chain::{Slot, last_stored, store_all};
 use crate::seen::{Seen, admits};
 use std::alloc::Global;
 use std::collections::HashMap;
@@ -53,7 +53,8 @@ impl RankStore {
         ensures puts { self.new.puts ≡ self.old.puts ++ record { at = at; key = key; scope = scope; call = call; stored_by = None } ∷ [] }
         ensures room { self.new.room + 1 ≡ self.old.room }
     {
-        let previous = self.newest.get(&key).copied();
+        let newest = self.newest.get(&key).copied();
+        let stored_before = last_stored(&self.slots, newest, self.committed);
         let number = self.slots.len();
         let slot = Slot {
             at,
@@ -61,7 +62,7 @@ impl RankStore {
             scope,
             call,
             stored_by: None,
-            previous,
+            stored_before,
         };
         let pushed: Result<_, _> = self.slots.push(slot);
         pushed.unwrap();
@@ -96,7 +97,7 @@ impl RankStore {
         ensures { result ≡ seen same_node (last_stored key self.now.puts) }
     {
         let newest = self.newest.get(&key).copied();
-        let Some(i) = last_below(&self.slots, newest, self.committed) else {
+        let Some(i) = last_stored(&self.slots, newest, self.committed) else {
             return Seen::Nothing;
         };
         let slot = self.slots[i];

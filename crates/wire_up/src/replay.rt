@@ -25,6 +25,7 @@ fn read_plan<R: Source>(alloc: Global, reader: &mut R) -> Result<Plan, Fault>
     ensures quiet { OnOk result (R.failures reader.new ≡ R.failures reader.old) }
     ensures err { IfErr result (λ e. (e ≡ Memory) ⊎ (e ≡ Read) ⊎ Refuses (R.coming reader.old) e) }
     ensures read { result ≡ Err Read → R.failures reader.new ≡ one_more (R.failures reader.old) }
+    ensures unfailed { IfErr result (λ e. e ≢ Memory → e ≢ Read → R.failures reader.new ≡ R.failures reader.old) }
 {
     let bytes = read_up_to(alloc, reader, FILE_BYTES_AND_ONE)?;
     let scripts = read(alloc, bytes.as_slice())?;
@@ -57,7 +58,8 @@ fn write_plain<W: Sink>(alloc: Global, plan: &Plan, writer: &mut W) -> Result<()
 /// may go on does so, until none may, and then writes what became of every call.
 ///
 /// After the fault `Write` the front of the report that it counts is written, after any other fault
-/// nothing. `Memory` may come in place of any other answer.
+/// nothing. `Memory` may come in place of any other answer. What is said of bytes is said where the
+/// reader and the writer tell theirs.
 pub fn plain<R: Source, W: Sink>(alloc: Global, reader: &mut R, writer: &mut W) -> Result<(), Fault>
     ensures ok { OnOk result (WritesReport (R.coming reader.old) (W.written writer.old) (W.written writer.new)) }
     ensures quiet { OnOk result ((R.failures reader.new ≡ R.failures reader.old) × (W.failures writer.new ≡ W.failures writer.old)) }
@@ -65,6 +67,7 @@ pub fn plain<R: Source, W: Sink>(alloc: Global, reader: &mut R, writer: &mut W) 
     // The fault of a file is the first that it has.
     ensures refused { IfErr result (λ e. e ≢ Memory → e ≢ Read → ((n : ℕ) → e ≢ Write n) → Refuses (R.coming reader.old) e) }
     ensures read_failed { result ≡ Err Read → R.failures reader.new ≡ one_more (R.failures reader.old) }
+    ensures unfailed { IfErr result (λ e. e ≢ Memory → e ≢ Read → R.failures reader.new ≡ R.failures reader.old) }
     ensures front { (n : ℕ) → result ≡ Err (Write n) → BreaksOff (R.coming reader.old) (W.written writer.old) (W.written writer.new) n }
     ensures write_failed { (n : ℕ) → result ≡ Err (Write n) → W.failures writer.new ≡ one_more (W.failures writer.old) }
     ensures untouched { OnErr result (((n : ℕ) → result ≢ Err (Write n)) → writer.new ≡ writer.old) }
