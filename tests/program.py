@@ -42,18 +42,31 @@ def with_little_memory():
     resource.setrlimit(resource.RLIMIT_DATA, (2 << 20, 2 << 20))
 
 
+def examples(ending):
+    """The names of the examples that have a file of this ending, without it."""
+    files = os.listdir(os.path.join(TOP, "examples"))
+    return sorted(it.removesuffix(ending) for it in files if it.endswith(ending))
+
+
+def written(room, name, text):
+    """The path of a file of this text."""
+    path = os.path.join(room, name)
+    with open(path, "wb") as it:
+        it.write(text)
+    return path
+
+
 def runs(room):
-    """The runs, in a folder that they may write to."""
+    """The runs of examples and of `replay`, and of what every command shares, in a folder that they may write to."""
     plan, report = text_of(EXAMPLE), text_of(ITS_REPORT)
-    example, odd, large = os.path.join(TOP, EXAMPLE), os.path.join(room, "odd.plan"), os.path.join(room, "large.plan")
-    with open(odd, "wb") as it:
-        it.write(plan + b"getaway app:0 k\n")
-    with open(large, "wb") as it:
-        it.write(b"rehearsal 1\n#".ljust(4 << 20, b"x"))
+    example, odd = os.path.join(TOP, EXAMPLE), written(room, "odd.plan", plan + b"getaway app:0 k\n")
+    large = written(room, "large.plan", b"rehearsal 1\n#".ljust(4 << 20, b"x"))
     usage = (b"Usage: wire_up",)
-    for plan_file in sorted(it for it in os.listdir(os.path.join(TOP, "examples")) if it.endswith(".plan")):
-        its_report = text_of(f"examples/{plan_file[: -len('.plan')]}.report")
-        yield Run(plan_file, ["replay", f"examples/{plan_file}"], wrote=its_report)
+    for it in examples(".plan"):
+        yield Run(f"{it}.plan", ["replay", f"examples/{it}.plan"], wrote=text_of(f"examples/{it}.report"))
+    for it in examples(".order"):
+        words = ["follow", f"examples/{it}.order", f"examples/{it}.plan"]
+        yield Run(f"{it}.order", words, wrote=text_of(f"examples/{it}.followed"))
     yield Run("standard input", ["replay"], given=plan, wrote=report)
     yield Run("a file, whatever stands on standard input", ["replay", example], given=b"?", wrote=report)
     yield Run("the largest file", ["replay", large], wrote=b"waiting 0\n")
@@ -77,6 +90,38 @@ def runs(room):
     yield Run("an unknown option", ["replay", "--loud"], status=5, said=usage)
     yield Run("two files", ["replay", example, example], status=5, said=usage)
     yield Run("a word that is no text", ["replay", b"\xc8"], status=5, said=b"error: an argument is not UTF-8\n")
+
+
+def follows(room):
+    """The runs of `follow`."""
+    plan, report, usage = text_of(EXAMPLE), text_of(ITS_REPORT), (b"Usage: wire_up",)
+    example, odd = os.path.join(TOP, EXAMPLE), written(room, "odd.plan", plan + b"getaway app:0 k\n")
+    order = written(room, "whole.order", b"# rank 0 first\napp:0\napp:0\n\napp:1\n")
+    part, early = written(room, "part.order", b"app:0\n"), written(room, "early.order", b"# too early\n\napp:1\n")
+    unknown = written(room, "unknown.order", b"app:1\napp:9\n")
+    large, none = written(room, "large.order", b"#" * (8 << 20)), os.path.join(room, "none")
+    first = b"app:0 1 put ready\napp:0 2 commit unreached\napp:1 1 get waiting\nwaiting 1\n"
+    ready = b"app:0 1 put PMIX_SUCCESS\napp:0 2 commit ready\napp:1 1 get waiting\nwaiting 1\n"
+    read, full, memory = b"wire_up: fault 10 Read\n", b"wire_up: fault 11 Write 0\n", b"wire_up: fault 1 Memory\n"
+    late, second, line = b"wire_up: fault 12 NotReady 1\n", b"wire_up: fault 13 BadOrder 2\n", b"wire_up: fault 4 BadLine 10\n"
+    yield Run("an order to the end", ["follow", order, example], wrote=report)
+    yield Run("an order of part of the way", ["follow", part, example], wrote=ready)
+    yield Run("an order, the file on standard input", ["follow", order], given=plan, wrote=report)
+    yield Run("the largest order", ["follow", large, example], wrote=first)
+    yield Run("help on follow", ["follow", "--help"], wrote=usage)
+    yield Run("a step that isn't ready", ["follow", early, example], status=2, said=late)
+    yield Run("an order with an unknown rank", ["follow", unknown, example], status=2, said=second)
+    yield Run("an order that never ends", ["follow", "/dev/zero", example], status=2, said=b"wire_up: fault 13 BadOrder 1\n")
+    yield Run("a file that is refused, with an odd order", ["follow", unknown, odd], status=2, said=line)
+    yield Run("too little memory for an order", ["follow", large, example], status=3, said=memory, set_up=with_little_memory)
+    yield Run("no such order", ["follow", none, example], status=4, said=read)
+    yield Run("no such order, with a file that is refused", ["follow", none, odd], status=4, said=read)
+    yield Run("no such file to follow an order on", ["follow", unknown, none], status=4, said=read)
+    yield Run("a folder as order", ["follow", room, example], status=4, said=read)
+    yield Run("an order, and a full device", ["follow", order, example], status=4, said=full, set_up=onto("/dev/full", 1))
+    yield Run("follow without an order", ["follow"], given=plan, status=5, said=usage)
+    yield Run("follow with two files", ["follow", order, example, example], status=5, said=usage)
+    yield Run("follow with an unknown option", ["follow", "--loud", order, example], status=5, said=usage)
 
 
 def start(program, run, **streams):
@@ -128,7 +173,7 @@ def tell(name, what):
 def all_runs(program):
     """Runs all, and answers how many went well and how many didn't."""
     with tempfile.TemporaryDirectory(prefix="wire-up-") as room:
-        well = [went_well(program, run) for run in runs(room)]
+        well = [went_well(program, run) for run in (*runs(room), *follows(room))]
         well += [breaks_off(program, room, size) for size in (1, 20, len(text_of(ITS_REPORT)) - 1)]
     for kept, shown in ((EXAMPLE, "crates/program/data/business-card.plan"), (ITS_REPORT, "crates/program/stdout")):
         well.append(text_of(kept) == text_of(shown) or tell(shown, f"is run on another text than {kept}"))

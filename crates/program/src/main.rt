@@ -10,7 +10,7 @@ use std::process::ExitCode;
 use std::rt::{Env, Files};
 use std::{env, io};
 use wire_types::{Fault, FromRead, ToWrite, write_out};
-use wire_up::plain;
+use wire_up::{follow, plain};
 
 /// The exit status of a command line that says nothing that the program does.
 const USAGE: u8 = 5;
@@ -36,16 +36,34 @@ impl From<AllocError> for Failure {
     }
 }
 
+/// The file of scripts, which may be left out.
+fn file_argument<'a>(alloc: Global) -> Arg<'a> {
+    Arg::new(alloc, "FILE").help("The file of scripts, standard input if not given")
+}
+
+fn replay_command<'a>(alloc: Global) -> Result<Command<'a>, AllocError> {
+    Command::new(alloc, "replay")
+        .about("Replays the scripts, and writes what became of every call")
+        .arg(file_argument(alloc))
+}
+
+fn follow_command<'a>(alloc: Global) -> Result<Command<'a>, AllocError> {
+    let order = Arg::new(alloc, "ORDER")
+        .help("The file of the order: on each line the process that takes the next step")
+        .required(true);
+    Command::new(alloc, "follow")
+        .about("Takes the steps of an order, and writes what became of every call")
+        .arg(order)?
+        .arg(file_argument(alloc))
+}
+
 /// The command line of the program.
 fn command_line<'a>(alloc: Global) -> Result<Command<'a>, AllocError> {
-    let file = Arg::new(alloc, "FILE").help("The file of scripts, standard input if not given");
-    let replay = Command::new(alloc, "replay")
-        .about("Replays the scripts, and writes what became of every call")
-        .arg(file)?;
     Command::new(alloc, "wire_up")
         .about("Rehearses the wire-up of a PMIx job")
         .subcommand_required(true)
-        .subcommand(replay)
+        .subcommand(replay_command(alloc)?)?
+        .subcommand(follow_command(alloc)?)
 }
 
 /// The arguments of the program, its own name among them.
@@ -77,10 +95,18 @@ fn obey<'a>(
     words: &'a [&'a str],
 ) -> Result<(), Failure> {
     match command_line(rt.alloc())?.try_get_matches_from(words) {
-        Ok(matches) => match matches.subcommand_matches("replay") {
-            Some(replay) => Ok(replay_file(rt, replay.get_str("FILE"))?),
-            None => Err(Failure::Usage),
-        },
+        Ok(matches) => {
+            if let Some(replay) = matches.subcommand_matches("replay") {
+                return Ok(replay_file(rt, replay.get_str("FILE"))?);
+            }
+            let Some(following) = matches.subcommand_matches("follow") else {
+                return Err(Failure::Usage);
+            };
+            let Some(order) = following.get_str("ORDER") else {
+                return Err(Failure::Usage);
+            };
+            Ok(follow_file(rt, order, following.get_str("FILE"))?)
+        }
         Err(error) => tell(rt, &error),
     }
 }
@@ -111,6 +137,37 @@ fn replay_file(
             plain(rt.alloc(), &mut FromRead::new(file), &mut writer)
         }
         None => plain(rt.alloc(), &mut FromRead::new(rt.reader()), &mut writer),
+    }
+}
+
+/// Follows the order of a file on the scripts of a file, or on those of standard input where none is
+/// named. The file of the scripts is opened first.
+fn follow_file(
+    rt: &(impl Files + Input + Print + AllocGlobal),
+    order: &str,
+    file: Option<&str>,
+) -> Result<(), Fault> {
+    let mut writer = ToWrite::new(io::writer(rt));
+    match file {
+        Some(path) => {
+            let file = File::open(rt, path).map_err(|_| Fault::Read)?;
+            let order = File::open(rt, order).map_err(|_| Fault::Read)?;
+            follow(
+                rt.alloc(),
+                &mut FromRead::new(file),
+                &mut FromRead::new(order),
+                &mut writer,
+            )
+        }
+        None => {
+            let order = File::open(rt, order).map_err(|_| Fault::Read)?;
+            follow(
+                rt.alloc(),
+                &mut FromRead::new(rt.reader()),
+                &mut FromRead::new(order),
+                &mut writer,
+            )
+        }
     }
 }
 

@@ -1,11 +1,19 @@
-//! Rows: plans as bytes, and what the library answers and writes for each.
+//! Rows: plans and orders as bytes, and what the library answers and writes for each.
 #![tactic(auto)]
 
 #[cfg(test)]
+mod fences;
+#[cfg(test)]
+mod follows;
+#[cfg(test)]
 mod limits;
+#[cfg(test)]
+mod names;
 #[cfg(test)]
 mod refusals;
 #[cfg(test)]
 mod reports;
 #[cfg(test)]
 mod tests;
+#[cfg(test)]
+mod texts;

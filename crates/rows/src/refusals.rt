@@ -9,7 +9,7 @@ pub struct Refusal {
     pub fault: Fault,
 }
 
-pub static REFUSALS: [Refusal; 28] = [
+pub static REFUSALS: [Refusal; 46] = [
     Refusal {
         name: "an empty file",
         plan: b"",
@@ -145,7 +145,7 @@ get app:9999999999 k
         fault: Fault::BadLine(9),
     },
     Refusal {
-        name: "a verb of another version",
+        name: "an unpublish of all names, which is of another version",
         plan: b"\
 rehearsal 1
 node n0
@@ -234,39 +234,6 @@ foo
         fault: Fault::BadLine(6),
     },
     Refusal {
-        name: "a scope that is not read yet",
-        plan: b"\
-rehearsal 1
-node n0
-job app
-rank n0
-put local k v
-",
-        fault: Fault::BadLine(5),
-    },
-    Refusal {
-        name: "a put of a reserved key",
-        plan: b"\
-rehearsal 1
-node n0
-job app
-rank n0
-put global pmix.x v
-",
-        fault: Fault::BadLine(5),
-    },
-    Refusal {
-        name: "a get of a reserved key",
-        plan: b"\
-rehearsal 1
-node n0
-job app
-rank n0
-get app:0 PMIX_RANK
-",
-        fault: Fault::BadLine(5),
-    },
-    Refusal {
         name: "a get of a rank without a job",
         plan: b"\
 rehearsal 1
@@ -306,5 +273,241 @@ job a
 job a
 ",
         fault: Fault::Twice(3),
+    },
+    Refusal {
+        name: "the next version",
+        plan: b"\
+rehearsal 2
+",
+        fault: Fault::BadHeader(1),
+    },
+    Refusal {
+        name: "an unknown scope",
+        plan: b"\
+rehearsal 1
+node n0
+job app
+rank n0
+put all k v
+",
+        fault: Fault::BadLine(5),
+    },
+    Refusal {
+        name: "a put of the key *",
+        plan: b"\
+rehearsal 1
+node n0
+job app
+rank n0
+put local * v
+",
+        fault: Fault::BadLine(5),
+    },
+    Refusal {
+        name: "a get-now without a key",
+        plan: b"\
+rehearsal 1
+node n0
+job app
+rank n0
+get-now app:0
+",
+        fault: Fault::BadLine(5),
+    },
+    Refusal {
+        name: "a fence without a set",
+        plan: b"\
+rehearsal 1
+node n0
+job app
+rank n0
+fence
+",
+        fault: Fault::BadLine(5),
+    },
+    Refusal {
+        name: "a fence with an odd third word",
+        plan: b"\
+rehearsal 1
+node n0
+job app
+rank n0
+fence all collected
+",
+        fault: Fault::BadLine(5),
+    },
+    Refusal {
+        name: "a set with empty items",
+        plan: b"\
+rehearsal 1
+node n0
+job a
+rank n0
+fence a:0,,
+",
+        fault: Fault::BadLine(5),
+    },
+    Refusal {
+        name: "a set of all and one more",
+        plan: b"\
+rehearsal 1
+node n0
+job app
+rank n0
+fence all,app:0
+",
+        fault: Fault::BadLine(5),
+    },
+    Refusal {
+        name: "a set of a job without a rank",
+        plan: b"\
+rehearsal 1
+node n0
+job app
+rank n0
+fence app
+",
+        fault: Fault::BadLine(5),
+    },
+    Refusal {
+        name: "a set of a rank without a job",
+        plan: b"\
+rehearsal 1
+node n0
+job app
+rank n0
+fence :*
+",
+        fault: Fault::BadLine(5),
+    },
+    Refusal {
+        name: "a set of a rank with a leading zero",
+        plan: b"\
+rehearsal 1
+node n0
+job app
+rank n0
+fence app:00
+",
+        fault: Fault::BadLine(5),
+    },
+    Refusal {
+        name: "a fence over an unknown job",
+        plan: b"\
+rehearsal 1
+node n0
+job app
+rank n0
+fence app:0,b:*
+",
+        fault: Fault::UnknownName(5),
+    },
+    Refusal {
+        name: "a fence over an unknown rank",
+        plan: b"\
+rehearsal 1
+node n0
+node n1
+job app
+rank n0
+fence app:0,app:1
+",
+        fault: Fault::UnknownName(6),
+    },
+    Refusal {
+        name: "a fence without its caller",
+        plan: b"\
+rehearsal 1
+node n0
+node n1
+job app
+rank n0
+rank n1
+fence app:0
+",
+        fault: Fault::NotMember(7),
+    },
+    Refusal {
+        name: "a fence over a job without processes",
+        plan: b"\
+rehearsal 1
+node n0
+job none
+job app
+rank n0
+fence none:*
+",
+        fault: Fault::NotMember(6),
+    },
+    Refusal {
+        name: "a fence without its caller, over an unknown rank",
+        plan: b"\
+rehearsal 1
+node n0
+node n1
+job app
+rank n0
+rank n1
+fence app:0,app:5
+",
+        fault: Fault::UnknownName(7),
+    },
+    Refusal {
+        name: "a fence without its caller above a get of an unknown rank",
+        plan: b"\
+rehearsal 1
+node n0
+node n1
+job app
+rank n0
+rank n1
+fence app:0
+get app:5 k
+",
+        fault: Fault::NotMember(7),
+    },
+    Refusal {
+        name: "a publish without a value",
+        plan: b"\
+rehearsal 1
+node n0
+job app
+rank n0
+publish x
+",
+        fault: Fault::BadLine(5),
+    },
+    Refusal {
+        name: "a publish of the key *",
+        plan: b"\
+rehearsal 1
+node n0
+job app
+rank n0
+publish * 1
+",
+        fault: Fault::BadLine(5),
+    },
+    Refusal {
+        name: "a lookup with a value",
+        plan: b"\
+rehearsal 1
+node n0
+job app
+rank n0
+lookup x 7
+",
+        fault: Fault::BadLine(5),
+    },
+    Refusal {
+        name: "a lookup-wait without a key",
+        plan: b"\
+rehearsal 1
+node n0
+job app
+rank n0
+lookup-wait
+",
+        fault: Fault::BadLine(5),
     },
 ];

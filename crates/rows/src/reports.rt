@@ -1,4 +1,4 @@
-//! Plans, and the report of each.
+//! Plans of puts, commits and gets, and the report of each.
 
 /// A plan that is read, and the report of its plain run.
 pub struct Reported {
@@ -7,7 +7,7 @@ pub struct Reported {
     pub report: &'static str,
 }
 
-pub static REPORTS: [Reported; 12] = [
+pub static REPORTS: [Reported; 23] = [
     Reported {
         name: "a get waits for a commit on another node",
         plan: b"\
@@ -236,6 +236,281 @@ commit
 a:0 1 get PMIX_SUCCESS v
 b:0 1 put PMIX_SUCCESS
 b:0 2 commit PMIX_SUCCESS
+waiting 0
+",
+    },
+    Reported {
+        name: "a get of a local key from another node",
+        plan: b"\
+rehearsal 1
+node n0
+node n1
+job app
+rank n0
+put local k v
+commit
+rank n1
+get app:0 k
+",
+        report: "\
+app:0 1 put PMIX_SUCCESS
+app:0 2 commit PMIX_SUCCESS
+app:1 1 get PMIX_ERR_EXISTS_OUTSIDE_SCOPE
+waiting 0
+",
+    },
+    Reported {
+        name: "each scope, asked for on its node and on another",
+        plan: b"\
+rehearsal 1
+node n0
+node n1
+job app
+rank n0
+put local l 1
+put remote r 2
+put global g 3
+commit
+rank n0
+get app:0 l
+get app:0 r
+get app:0 g
+rank n1
+get app:0 l
+get app:0 r
+get app:0 g
+",
+        report: "\
+app:0 1 put PMIX_SUCCESS
+app:0 2 put PMIX_SUCCESS
+app:0 3 put PMIX_SUCCESS
+app:0 4 commit PMIX_SUCCESS
+app:1 1 get PMIX_SUCCESS 1
+app:1 2 get PMIX_ERR_EXISTS_OUTSIDE_SCOPE
+app:1 3 get PMIX_SUCCESS 3
+app:2 1 get PMIX_ERR_EXISTS_OUTSIDE_SCOPE
+app:2 2 get PMIX_SUCCESS 2
+app:2 3 get PMIX_SUCCESS 3
+waiting 0
+",
+    },
+    Reported {
+        name: "a get-now of a remote key on the owner's node",
+        plan: b"\
+rehearsal 1
+node n0
+job app
+rank n0
+put remote k v
+put global m w
+commit
+rank n0
+get app:0 m
+get-now app:0 k
+",
+        report: "\
+app:0 1 put PMIX_SUCCESS
+app:0 2 put PMIX_SUCCESS
+app:0 3 commit PMIX_SUCCESS
+app:1 1 get PMIX_SUCCESS w
+app:1 2 get-now PMIX_ERR_EXISTS_OUTSIDE_SCOPE
+waiting 0
+",
+    },
+    Reported {
+        name: "a get-now after a get of what the same commit stored",
+        plan: b"\
+rehearsal 1
+node n0
+job app
+rank n0
+put global k v
+put global m w
+commit
+rank n0
+get app:0 m
+get-now app:0 k
+",
+        report: "\
+app:0 1 put PMIX_SUCCESS
+app:0 2 put PMIX_SUCCESS
+app:0 3 commit PMIX_SUCCESS
+app:1 1 get PMIX_SUCCESS w
+app:1 2 get-now PMIX_SUCCESS v
+waiting 0
+",
+    },
+    Reported {
+        name: "a get-now that a commit races, in the plain run",
+        plan: b"\
+rehearsal 1
+node n0
+job app
+rank n0
+put global k v
+commit
+rank n0
+get-now app:0 k
+",
+        report: "\
+app:0 1 put PMIX_SUCCESS
+app:0 2 commit PMIX_SUCCESS
+app:1 1 get-now PMIX_SUCCESS v
+waiting 0
+",
+    },
+    Reported {
+        name: "a get-now of a local key, and of one that isn't committed",
+        plan: b"\
+rehearsal 1
+node n0
+job app
+rank n0
+put local k v
+commit
+put global m w
+rank n0
+get app:0 k
+get-now app:0 k
+get-now app:0 m
+",
+        report: "\
+app:0 1 put PMIX_SUCCESS
+app:0 2 commit PMIX_SUCCESS
+app:0 3 put PMIX_SUCCESS
+app:1 1 get PMIX_SUCCESS v
+app:1 2 get-now PMIX_SUCCESS v
+app:1 3 get-now PMIX_ERR_NOT_FOUND
+waiting 0
+",
+    },
+    Reported {
+        name: "a get-now of a process on another node, without a fence",
+        plan: b"\
+rehearsal 1
+node n0
+node n1
+job app
+rank n0
+put global k v
+commit
+rank n1
+get app:0 k
+get-now app:0 k
+",
+        report: "\
+app:0 1 put PMIX_SUCCESS
+app:0 2 commit PMIX_SUCCESS
+app:1 1 get PMIX_SUCCESS v
+app:1 2 get-now PMIX_ERR_NOT_FOUND
+waiting 0
+",
+    },
+    Reported {
+        name: "a put of its own, read whatever its scope",
+        plan: b"\
+rehearsal 1
+node n0
+job app
+rank n0
+put remote k v
+get app:0 k
+get-now app:0 z
+",
+        report: "\
+app:0 1 put PMIX_SUCCESS
+app:0 2 get PMIX_SUCCESS v
+app:0 3 get-now PMIX_ERR_NOT_FOUND
+waiting 0
+",
+    },
+    Reported {
+        name: "a key put again with another scope",
+        plan: b"\
+rehearsal 1
+node n0
+node n1
+job app
+rank n0
+put global k a
+commit
+put local k b
+commit
+put global m w
+commit
+rank n1
+get app:0 m
+get app:0 k
+",
+        report: "\
+app:0 1 put PMIX_SUCCESS
+app:0 2 commit PMIX_SUCCESS
+app:0 3 put PMIX_SUCCESS
+app:0 4 commit PMIX_SUCCESS
+app:0 5 put PMIX_SUCCESS
+app:0 6 commit PMIX_SUCCESS
+app:1 1 get PMIX_SUCCESS w
+app:1 2 get PMIX_ERR_EXISTS_OUTSIDE_SCOPE
+waiting 0
+",
+    },
+    Reported {
+        name: "reserved keys, and the map of processes",
+        plan: b"\
+rehearsal 1
+node n0
+node n1
+job a
+rank n0
+rank n1
+job b
+rank n0
+get a:1 PMIX_RANK
+get b:0 PMIX_LOCAL_RANK
+get b:0 PMIX_NODE_RANK
+get-now a:0 PMIX_JOB_SIZE
+get a:1 PMIX_HOSTNAME
+get a:0 pmix.x
+put global PMIX_X 1
+lookup-wait pmixq
+",
+        report: "\
+b:0 1 get PMIX_SUCCESS 1
+b:0 2 get PMIX_SUCCESS 0
+b:0 3 get PMIX_SUCCESS 1
+b:0 4 get-now PMIX_SUCCESS 2
+b:0 5 get PMIX_SUCCESS n1
+b:0 6 get PMIX_ERR_NOT_FOUND
+b:0 7 put PMIX_ERR_BAD_PARAM
+b:0 8 lookup-wait PMIX_ERR_BAD_PARAM
+waiting 0
+",
+    },
+    Reported {
+        name: "reserved keys of one's own, and keys that only look so",
+        plan: b"\
+rehearsal 1
+node n0
+job app
+rank n0
+get app:0 PMIX_RANK
+get-now app:0 PMIX_LOCAL_RANK
+get app:0 PMIX_UNIV_SIZE
+put global pmix 1
+put global PMIX 2
+put global Pmix.a 3
+get app:0 PMIX
+get app:0 Pmix.a
+",
+        report: "\
+app:0 1 get PMIX_SUCCESS 0
+app:0 2 get-now PMIX_SUCCESS 0
+app:0 3 get PMIX_ERR_NOT_FOUND
+app:0 4 put PMIX_ERR_BAD_PARAM
+app:0 5 put PMIX_SUCCESS
+app:0 6 put PMIX_SUCCESS
+app:0 7 get PMIX_SUCCESS 2
+app:0 8 get PMIX_SUCCESS 3
 waiting 0
 ",
     },

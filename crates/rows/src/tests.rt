@@ -1,12 +1,18 @@
 //! The rows, and readers and writers that give or take little, or fail.
 
+use crate::fences::FENCES;
+use crate::follows::FOLLOWS;
 use crate::limits::LIMITS;
+use crate::names::NAMES;
 use crate::refusals::REFUSALS;
-use crate::reports::REPORTS;
+use crate::reports::{REPORTS, Reported};
+use crate::texts::TEXTS;
 use std::alloc::Global;
+use std::process::Abort;
 use std::test::Fail;
+use wire_script::read;
 use wire_types::{EndlessSource, Fault, MemorySink, MemorySource};
-use wire_up::plain;
+use wire_up::{follow, plain};
 
 /// A reader of these bytes, which gives at most so many a call.
 fn reader(bytes: &[u8], per_call: usize) -> MemorySource<'_> {
@@ -24,16 +30,73 @@ fn writer(alloc: Global, per_call: usize) -> MemorySink {
     }
 }
 
+/// A writer that fails, or takes nothing, after so many bytes.
+fn brief_writer(alloc: Global, room: usize, takes_nothing: bool) -> MemorySink {
+    MemorySink {
+        room,
+        takes_nothing,
+        ..writer(alloc, 7)
+    }
+}
+
+/// The canonical text of a plan that is read.
+fn text_of(alloc: Global, plan: &[u8]) -> Result<Vec<u8>, Fault> {
+    read(alloc, plan)?.to_text(alloc)
+}
+
+/// Follows an order over a plan, with so many bytes a call.
+fn lead(
+    alloc: Global,
+    plan: &[u8],
+    order: &[u8],
+    per_call: usize,
+    to: &mut MemorySink,
+) -> Result<(), Fault> {
+    follow(
+        alloc,
+        &mut reader(plan, per_call),
+        &mut reader(order, per_call),
+        to,
+    )
+}
+
+/// Asserts that a plan has the report of a row.
+fn check_report(rt: &impl Abort, alloc: Global, row: &Reported, plan: &[u8], per_call: usize) {
+    let mut to = writer(alloc, per_call);
+    let answer = plain(alloc, &mut reader(plan, per_call), &mut to);
+    assert_eq!(rt; answer, Ok(()), "{}", row.name);
+    assert_eq!(rt; to.bytes.as_slice(), row.report.as_bytes(), "{}", row.name);
+}
+
+/// Asserts that each plan has its report, and its canonical text too, which is its own canonical text.
+fn check_reports(rt: &impl Abort, alloc: Global, rows: &[Reported]) -> Result<(), Fail> {
+    for row in rows {
+        let text = text_of(alloc, row.plan)?;
+        let again = text_of(alloc, text.as_slice())?;
+        assert_eq!(rt; again.as_slice(), text.as_slice(), "{}", row.name);
+        check_report(rt, alloc, row, row.plan, 1);
+        check_report(rt, alloc, row, row.plan, usize::MAX);
+        check_report(rt, alloc, row, text.as_slice(), 5);
+    }
+    Ok(())
+}
+
 #[test]
 fn reports(rt: HostRuntime) -> Result<(), Fail> {
     let alloc = rt.alloc();
-    for row in &REPORTS {
-        for per_call in [1, usize::MAX] {
-            let mut to = writer(alloc, per_call);
-            let answer = plain(alloc, &mut reader(row.plan, per_call), &mut to);
-            assert_eq!(rt; answer, Ok(()), "{}", row.name);
-            assert_eq!(rt; to.bytes.as_slice(), row.report.as_bytes(), "{}", row.name);
-        }
+    check_reports(&rt, alloc, &REPORTS)?;
+    check_reports(&rt, alloc, &FENCES)?;
+    check_reports(&rt, alloc, &NAMES)
+}
+
+#[test]
+fn texts(rt: HostRuntime) -> Result<(), Fail> {
+    let alloc = rt.alloc();
+    for row in &TEXTS {
+        let text = text_of(alloc, row.plan)?;
+        assert_eq!(rt; text.as_slice(), row.text.as_bytes(), "{}", row.name);
+        let again = text_of(alloc, text.as_slice())?;
+        assert_eq!(rt; again.as_slice(), row.text.as_bytes(), "{}", row.name);
     }
     Ok(())
 }
@@ -97,23 +160,98 @@ fn readers(rt: HostRuntime) -> Result<(), Fail> {
     Ok(())
 }
 
-/// A writer that fails, or takes nothing, after so many bytes.
+/// Of a report that can't be written whole the front is written, and the fault counts it. The order
+/// leads to the end of the plain run, so its report is the same.
 #[test]
 fn writers(rt: HostRuntime) -> Result<(), Fail> {
     let alloc = rt.alloc();
     let row = &REPORTS[0];
+    let order = FOLLOWS[0].order;
     let report = row.report.as_bytes();
     for room in 0..report.len() {
         for takes_nothing in [false, true] {
-            let mut to = MemorySink {
-                room,
-                takes_nothing,
-                ..writer(alloc, 7)
-            };
+            let mut to = brief_writer(alloc, room, takes_nothing);
             let answer = plain(alloc, &mut reader(row.plan, usize::MAX), &mut to);
+            assert_eq!(rt; answer, Err(Fault::Write(room as u64)));
+            assert_eq!(rt; to.bytes.as_slice(), &report[..room]);
+            let mut to = brief_writer(alloc, room, takes_nothing);
+            let answer = lead(alloc, row.plan, order, 7, &mut to);
             assert_eq!(rt; answer, Err(Fault::Write(room as u64)));
             assert_eq!(rt; to.bytes.as_slice(), &report[..room]);
         }
     }
+    Ok(())
+}
+
+#[test]
+fn follows(rt: HostRuntime) -> Result<(), Fail> {
+    let alloc = rt.alloc();
+    for row in &FOLLOWS {
+        for per_call in [1, usize::MAX] {
+            let mut to = writer(alloc, per_call);
+            let answer = lead(alloc, row.plan, row.order, per_call, &mut to);
+            match row.answer {
+                Ok(report) => {
+                    assert_eq!(rt; answer, Ok(()), "{}", row.name);
+                    assert_eq!(rt; to.bytes.as_slice(), report.as_bytes(), "{}", row.name);
+                }
+                Err(fault) => {
+                    assert_eq!(rt; answer, Err(fault), "{}", row.name);
+                    assert!(rt; to.bytes.is_empty(), "{}", row.name);
+                }
+            }
+        }
+    }
+    Ok(())
+}
+
+/// An order that fails, at whatever call or behind a file that is refused, and one that never ends.
+#[test]
+fn orders(rt: HostRuntime) -> Result<(), Fail> {
+    let alloc = rt.alloc();
+    let row = &FOLLOWS[0];
+    for call in 1..=row.order.len() as u64 + 1 {
+        let mut order = MemorySource {
+            fails_at: call,
+            ..reader(row.order, 1)
+        };
+        let mut to = writer(alloc, usize::MAX);
+        let answer = follow(alloc, &mut reader(row.plan, 7), &mut order, &mut to);
+        assert_eq!(rt; answer, Err(Fault::Read), "at call {call}");
+        assert!(rt; to.bytes.is_empty(), "at call {call}");
+    }
+    let mut order = MemorySource {
+        fails_at: 1,
+        ..reader(row.order, 1)
+    };
+    let mut to = writer(alloc, usize::MAX);
+    let answer = follow(alloc, &mut reader(b"".as_slice(), 1), &mut order, &mut to);
+    assert_eq!(rt; answer, Err(Fault::BadHeader(1)));
+    for (byte, line) in [(b'x', 1), (b'\n', 8_388_609)] {
+        let mut from = reader(row.plan, usize::MAX);
+        let answer = follow(alloc, &mut from, &mut EndlessSource { byte }, &mut to);
+        assert_eq!(rt; answer, Err(Fault::BadOrder(line)));
+    }
+    assert!(rt; to.bytes.is_empty());
+    Ok(())
+}
+
+/// An order of 8,388,609 bytes, and one of a byte less.
+#[test]
+fn order_limit(rt: HostRuntime) -> Result<(), Fail> {
+    let alloc = rt.alloc();
+    let row = &FOLLOWS[0];
+    let mut order = vec![in alloc; b'\n'; 8_388_609]?;
+    let mut to = writer(alloc, usize::MAX);
+    let answer = lead(alloc, row.plan, order.as_slice(), usize::MAX, &mut to);
+    assert_eq!(rt; answer, Err(Fault::BadOrder(8_388_609)));
+    assert!(rt; to.bytes.is_empty());
+    order.pop();
+    let answer = lead(alloc, row.plan, order.as_slice(), usize::MAX, &mut to);
+    assert_eq!(rt; answer, Ok(()));
+    assert!(rt;
+        to.bytes
+            .ends_with(b"app:1 1 get waiting\nwaiting 1\n".as_slice())
+    );
     Ok(())
 }

@@ -1,10 +1,11 @@
 -- Steps of a core: its ranks stay those of the state that its history leads to.
-use Rattle.std.proofs.Common.{◌≡◌, ◌∙◌, ap, sym, refl, subst, ℕ, zero, suc, ◌+◌, ◌-◌, ◌<◌, ◌≤◌, List, [], ◌∷◌, ◌++◌, length, map, drop, Bool, true, false, cond, Option, Some, None, arith, ◌⊎◌, inl, inr, append_assoc}
-use Rattle.std.specs.Prelude.{slice_get, slice_set, vec_capacity, replicate}
+use Rattle.std.proofs.Common.{◌≡◌, ◌∙◌, ap, sym, refl, subst, ℕ, zero, suc, ◌+◌, ◌-◌, ◌<◌, ◌≤◌, List, [], ◌∷◌, ◌++◌, length, map, drop, Bool, true, false, cond, Option, Some, None, arith, ◌⊎◌, inl, inr, append_assoc, count_by}
+use Rattle.std.specs.Prelude.{slice_get, slice_set, vec_capacity, replicate, option_map, is_some, ◌==◌}
 use Rattle.std.specs.List.{flat_map}
 use Rattle.std.proofs.lemmas.Bool.{cases_eq}
 use Rattle.std.proofs.lemmas.Option.{slice_get_within, slice_get_past, get_or_from_slice_get, same_Some}
-use Rattle.std.proofs.lemmas.List.{length-map, length-set}
+use Rattle.std.proofs.lemmas.List.{length-map, length-set, length-append}
+use Rattle.std.proofs.lemmas.List.Sums.{sum_by-cons}
 use Rattle.std.proofs.lemmas.List.Concat.{flat_map-append}
 use Rattle.std.proofs.Math.Seq.{drop-cons}
 use Rattle.wire_types.specs.Plan.{Plan, process_count, Event, events, event_at, event_count, event}
@@ -14,6 +15,8 @@ use Rattle.wire_rehearsal.specs.Scripts.{Scripts}
 use Rattle.wire_rehearsal.specs.Planned.{plan_of}
 use Rattle.wire_store.specs.Kept.{kept_with, kept_after}
 use Rattle.wire_plan.specs.declared.Kind.{Kind}
+use Rattle.wire_plan.specs.declared.Kind.TheVariants as kind
+use Rattle.wire_names.specs.Law.{HasName}
 use Rattle.wire_plan.specs.Kinds.{event_of}
 use Rattle.wire_plan.specs.State.{State, start, next_place}
 use Rattle.wire_plan.specs.Machine.{is_enabled, step, reply, IsInterleaving, run, run_from}
@@ -24,8 +27,9 @@ use Rattle.wire_plan.proofs.Basics.{event_within}
 use Rattle.wire_plan.proofs.Length.{runs_end}
 use Rattle.wire_plan.proofs.Due.{done_same, done_other}
 use Rattle.wire_plan.proofs.Known.{replies_same, replies_other}
-use Rattle.wire_core.specs.Puts.{is_put, puts_in}
+use Rattle.wire_core.specs.Puts.{is_put}
 use Rattle.wire_core.specs.Ranks.{puts_left, calls_at, IsRankOf, AreRanksOf, IsCourse}
+use Rattle.wire_core.specs.Shown.{replies_in}
 use Rattle.wire_core.specs.declared.rank.Rank.{Rank}
 
 -- elements of a list that grew at its end
@@ -49,15 +53,19 @@ get_set (z ∷ xs) (suc p) y (suc i) x h = elim (get_set xs p y i x h) [
   | inr r ↦ inr ((λ e. r.0 (omega (arith, e))), r.1)
 ]
 
+pub count_map : {A B : Type 0} (f : B → Bool) (g : A → B) (xs : List A) → count_by f (map g xs) ≡ count_by (λ x. f (g x)) xs
+count_map f g [] = refl
+count_map f g (x ∷ xs) = sum_by-cons (λ y. cond (f y) 1 0) (g x) (map g xs) ∙ ap (λ n. cond (f (g x)) 1 0 + n) (count_map f g xs) ∙ sym (sum_by-cons (λ y. cond (f (g y)) 1 0) x xs)
+
 -- a process that hasn't begun
-pub new_rank : (plan : Plan) (p : ℕ) (kinds : List Kind) (rank : Rank) → map event_of kinds ≡ events plan p → rank.done ≡ 0 → rank.store ≡ record { puts = []; room = puts_in (map event_of kinds) } → rank.replies.items ≡ [] → vec_capacity rank.replies ≡ length kinds → IsRankOf plan start p rank
+pub new_rank : (plan : Plan) (p : ℕ) (sets : List (List ℕ)) (kinds : List Kind) (rank : Rank) → map (event_of sets) kinds ≡ events plan p → rank.done ≡ 0 → rank.store.puts ≡ [] → rank.store.room ≡ count_by is_put (map (event_of sets) kinds) → rank.replies.items ≡ [] → vec_capacity rank.replies ≡ length kinds → IsRankOf plan start p rank
 unfolding event_count
-new_rank plan p kinds rank shown done store replies space = record {
+new_rank plan p sets kinds rank shown done puts room replies space = record {
   done = done;
-  puts = ap (λ s. s.puts) store;
-  room = ap (λ s. s.room) store ∙ ap puts_in shown;
+  puts = puts;
+  room = room ∙ ap (count_by is_put) shown;
   replies = replies;
-  space = let same : length kinds ≡ length (events plan p) = sym (length-map kinds event_of) ∙ ap length shown in
+  space = let same : length kinds ≡ length (events plan p) = sym (length-map kinds (event_of sets)) ∙ ap length shown in
       let none : length rank.replies.items ≡ 0 = ap length replies in
       omega (arith, same, none, space);
 }
@@ -75,30 +83,33 @@ rank_other plan s p q rank ne told =
     }
 
 -- what a rank is after one event
-pub record IsAdvanced (old new : Rank) (call : CallAt) (e : Event) (r : Reply) : Type 0 where
+pub record IsAdvanced (old new : Rank) (call : CallAt) (e : Event) (r : Option Reply) : Type 0 where
   pub done : new.done ≡ old.done + 1
   pub puts : new.store.puts ≡ kept_with old.done call old.store.puts (Some e)
   pub room : new.store.room + cond (is_put e) 1 0 ≡ old.store.room
-  pub replies : new.replies.items ≡ old.replies.items ++ r ∷ []
+  pub replies : new.replies.items ≡ old.replies.items ++ replies_in r
   pub space : vec_capacity new.replies ≡ vec_capacity old.replies
 
-puts_first : (e : Event) (es : List Event) → puts_in (e ∷ es) ≡ puts_in es + cond (is_put e) 1 0
-puts_first e es = go (is_put e)
+puts_first : (e : Event) (es : List Event) → count_by is_put (e ∷ es) ≡ count_by is_put es + cond (is_put e) 1 0
+puts_first e es = let first = sum_by-cons (λ x. cond (is_put x) 1 0) e es in omega (arith, first)
+
+few : (r : Option Reply) (old : List Reply) → length (old ++ replies_in r) ≤ suc (length old)
+few r old = let both = length-append old (replies_in r) in let one = go r in omega (arith, both, one)
   where
-    go : (b : Bool) → cond b (1 + puts_in es) (puts_in es) ≡ puts_in es + cond b 1 0
-    go true = omega arith
-    go false = omega arith
+    go : (r : Option Reply) → length (replies_in r) ≤ 1
+    go None = omega arith
+    go (Some reply) = omega arith
 
 pub left_first : (plan : Plan) (p n : ℕ) (e : Event) → event_at plan p n ≡ Some e → puts_left plan p n ≡ puts_left plan p (suc n) + cond (is_put e) 1 0
 unfolding event_at
 left_first plan p n e is =
     let within = slice_get_within (events plan p) n e is in
     let here = get_or_from_slice_get (events plan p) n e e is in
-    ap puts_in (drop-cons (events plan p) n e within ∙ ap (λ x. x ∷ drop (suc n) (events plan p)) here)
+    ap (count_by is_put) (drop-cons (events plan p) n e within ∙ ap (λ x. x ∷ drop (suc n) (events plan p)) here)
     ∙ puts_first e (drop (suc n) (events plan p))
 
 -- the process that steps
-pub rank_step : (plan : Plan) (s : State) (p : ℕ) (old new : Rank) (e : Event) (r : Reply) → IsRankOf plan s p old → event_at plan p (s.done p) ≡ Some e → given plan (reply plan s (next_place s p) (Some e)) ≡ r ∷ [] → IsAdvanced old new (calls_at plan p (s.done p)) e r → IsRankOf plan (step plan s p) p new
+pub rank_step : (plan : Plan) (s : State) (p : ℕ) (old new : Rank) (e : Event) (r : Option Reply) → IsRankOf plan s p old → event_at plan p (s.done p) ≡ Some e → given plan (reply plan s (next_place s p) (Some e)) ≡ replies_in r → IsAdvanced old new (calls_at plan p (s.done p)) e r → IsRankOf plan (step plan s p) p new
 rank_step plan s p old new e r told is answered after =
     let same = done_same plan s p in
     let was = told.done in
@@ -107,7 +118,7 @@ rank_step plan s p old new e r told is answered after =
     let left = left_first plan p (s.done p) e is in
     let taken = after.room in
     let before = told.room in
-    let longer : length new.replies.items ≡ suc (length old.replies.items) = ap length after.replies ∙ length-push old.replies.items r in
+    let longer : length new.replies.items ≤ suc (length old.replies.items) = subst (λ rs. length rs ≤ suc (length old.replies.items)) (sym after.replies) (few r old.replies.items) in
     let filled = told.space in
     let kept = after.space in
     let room : new.store.room ≡ puts_left plan p (suc (s.done p)) = omega (arith, left, taken, before) in
@@ -117,7 +128,7 @@ rank_step plan s p old new e r told is answered after =
       puts = after.puts ∙ ap (λ n. kept_with n (calls_at plan p (s.done p)) old.store.puts (Some e)) told.done ∙ ap (λ puts. kept_with (s.done p) (calls_at plan p (s.done p)) puts (Some e)) told.puts
           ∙ ap (kept_with (s.done p) (calls_at plan p (s.done p)) (kept_after (event_at plan p) (calls_at plan p) (s.done p))) (sym is) ∙ ap (kept_after (event_at plan p) (calls_at plan p)) (sym same);
       room = room ∙ ap (puts_left plan p) (sym same);
-      replies = after.replies ∙ ap (λ rs. rs ++ r ∷ []) told.replies ∙ ap (λ rs. replies_of plan (s.replies p) ++ rs) (sym answered)
+      replies = after.replies ∙ ap (λ rs. rs ++ replies_in r) told.replies ∙ ap (λ rs. replies_of plan (s.replies p) ++ rs) (sym answered)
           ∙ ap (λ rs. replies_of plan (s.replies p) ++ rs) (no_more (given plan (reply plan s (next_place s p) (Some e))))
           ∙ sym (flat_map-append (given plan) (s.replies p) (reply plan s (next_place s p) (Some e) ∷ []))
           ∙ ap (λ o. replies_of plan (s.replies p ++ reply plan s (next_place s p) o ∷ [])) (sym is)
@@ -125,10 +136,6 @@ rank_step plan s p old new e r told is answered after =
       space = subst (λ n. length new.replies.items + (event_count plan p - n) ≤ vec_capacity new.replies) (sym same) space;
     }
   where
-    length-push : {A : Type 0} (xs : List A) (x : A) → length (xs ++ x ∷ []) ≡ suc (length xs)
-    length-push [] x = refl
-    length-push (y ∷ xs) x = ap suc (length-push xs x)
-
     no_more : (xs : List Reply) → xs ≡ xs ++ []
     no_more [] = refl
     no_more (x ∷ xs) = ap (λ ys. x ∷ ys) (no_more xs)
@@ -151,12 +158,44 @@ pub legal_push : (plan : Plan) (s : State) (w : List ℕ) (p : ℕ) → IsInterl
 legal_push plan s [] p legal on = (on, tt)
 legal_push plan s (q ∷ w) p legal on = (legal.0, legal_push plan (step plan s q) w p legal.1 on)
 
+pub run_append : (plan : Plan) (s : State) (v w : List ℕ) → run_from plan s (v ++ w) ≡ run_from plan (run_from plan s v) w
+run_append plan s [] w = refl
+run_append plan s (p ∷ v) w = run_append plan (step plan s p) v w
+
 -- the course after one step of a process that is enabled
 pub course_step : (scripts : Scripts) (history : List ℕ) (ranks : List Rank) (p : ℕ) (new : Rank) → IsCourse scripts history ranks → is_enabled (plan_of scripts) (run (plan_of scripts) history) p ≡ true → IsRankOf (plan_of scripts) (step (plan_of scripts) (run (plan_of scripts) history) p) p new → IsCourse scripts (history ++ p ∷ []) (slice_set ranks p new)
 course_step scripts history ranks p new course on now = record {
   legal = legal_push (plan_of scripts) start history p course.legal on;
   told = subst (λ s. AreRanksOf (plan_of scripts) s (slice_set ranks p new)) (sym (run_push (plan_of scripts) start history p)) (ranks_step (plan_of scripts) (run (plan_of scripts) history) p ranks new course.told now);
 }
+
+-- whether a kind is a put isn't told by the sets
+pub put_anyway : (a b : List (List ℕ)) (kind : Kind) → is_put (event_of a kind) ≡ is_put (event_of b kind)
+put_anyway a b (kind.Put scope key) = refl
+put_anyway a b kind.Commit = refl
+put_anyway a b (kind.Arrive set collect) = refl
+put_anyway a b (kind.Leave set) = refl
+put_anyway a b (kind.Get owner key) = refl
+put_anyway a b (kind.GetNow owner key) = refl
+put_anyway a b (kind.Publish name) = refl
+put_anyway a b (kind.Lookup name) = refl
+put_anyway a b (kind.LookupWait name) = refl
+put_anyway a b (kind.Unpublish name) = refl
+put_anyway a b (kind.Fixed reply) = refl
+
+-- nor is the name that it changes
+pub name_anyway : (a b : List (List ℕ)) (kind : Kind) (names : List (Option CallAt)) → HasName (Some (event_of a kind)) names → HasName (Some (event_of b kind)) names
+name_anyway a b (kind.Put scope key) names h = tt
+name_anyway a b kind.Commit names h = tt
+name_anyway a b (kind.Arrive set collect) names h = tt
+name_anyway a b (kind.Leave set) names h = tt
+name_anyway a b (kind.Get owner key) names h = tt
+name_anyway a b (kind.GetNow owner key) names h = tt
+name_anyway a b (kind.Publish name) names h = h
+name_anyway a b (kind.Lookup name) names h = tt
+name_anyway a b (kind.LookupWait name) names h = tt
+name_anyway a b (kind.Unpublish name) names h = h
+name_anyway a b (kind.Fixed reply) names h = tt
 
 -- a put that comes has room in its store
 pub step_room : (plan : Plan) (s : State) (p : ℕ) (old : Rank) (e : Event) → IsRankOf plan s p old → event_at plan p (s.done p) ≡ Some e → is_put e ≡ true → 0 < old.store.room

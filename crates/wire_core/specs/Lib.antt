@@ -1,4 +1,6 @@
 pub mod Puts
 pub mod Course
 pub mod Shown
+pub mod Met
 pub mod Ranks
+pub mod Stops

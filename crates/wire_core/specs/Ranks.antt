@@ -1,19 +1,22 @@
--- What a core keeps of each process, against the state that its history leads to.
-use Rattle.std.specs.Prelude.{◌≡◌, ℕ, ◌+◌, ◌-◌, ◌≤◌, List, Some, length, drop, slice_get, vec_capacity}
+-- What a core keeps, against the state that its history leads to.
+use Rattle.std.specs.Prelude.{◌≡◌, ℕ, ◌+◌, ◌-◌, ◌≤◌, List, Option, Some, count_by, length, drop, option_map, slice_get, vec_capacity}
 use Rattle.wire_types.specs.Plan.{Plan, events, event_at, event_count, process_count}
 use Rattle.wire_types.specs.declared.CallAt.{CallAt}
-use Rattle.wire_rehearsal.specs.Scripts.{Scripts}
+use Rattle.wire_rehearsal.specs.Scripts.{Scripts, IsSound}
 use Rattle.wire_rehearsal.specs.Planned.{plan_of}
 use Rattle.wire_store.specs.Kept.{kept_after}
+use Rattle.wire_fence.specs.Fences.{FenceTable, AreFencesOf}
+use Rattle.wire_fence.specs.Arrivals.{TellsMissing}
+use Rattle.wire_names.specs.Names.{published}
 use Rattle.wire_plan.specs.State.{State, start}
 use Rattle.wire_plan.specs.Machine.{IsInterleaving, run}
 use Rattle.wire_plan.specs.Ends.{call_of, replies_of}
-use Rattle.wire_core.specs.Puts.{puts_in}
+use Rattle.wire_core.specs.Puts.{is_put}
 use Rattle.wire_core.specs.declared.rank.Rank.{Rank}
 
 -- how many puts p has from its event number n on
 abbrev pub puts_left : Plan → ℕ → ℕ → ℕ
-puts_left plan p n = puts_in (drop n (events plan p))
+puts_left plan p n = count_by is_put (drop n (events plan p))
 
 -- the call of each of p's events
 abbrev pub calls_at : Plan → ℕ → ℕ → CallAt
@@ -31,6 +34,18 @@ pub record IsRankOf (plan : Plan) (s : State) (p : ℕ) (rank : Rank) : Type 0 w
 pub record AreRanksOf (plan : Plan) (s : State) (ranks : List Rank) : Type 0 where
   pub count : length ranks ≡ process_count plan
   pub each : (p : ℕ) (rank : Rank) → slice_get ranks p ≡ Some rank → IsRankOf plan s p rank
+
+-- the table has the calls of the publishes that stand under the names
+pub record AreNamesOf (scripts : Scripts) (s : State) (names : List (Option CallAt)) : Type 0 where
+  pub count : length names ≡ length scripts.names
+  pub each : (name : ℕ) → published names name ≡ option_map (call_of (plan_of scripts)) (s.names name)
+
+-- what is kept of all processes together: who is missing at fences, and what stands under names
+pub record IsShared (scripts : Scripts) (s : State) (table : FenceTable) (missing : List ℕ) (names : List (Option CallAt)) : Type 0 where
+  pub sound : IsSound scripts
+  pub fences : AreFencesOf scripts table
+  pub arrived : TellsMissing scripts s.done table missing
+  pub named : AreNamesOf scripts s names
 
 -- the history is an interleaving, and the ranks are those of the state that it leads to
 pub record IsCourse (scripts : Scripts) (history : List ℕ) (ranks : List Rank) : Type 0 where

@@ -2,8 +2,11 @@
 #![tactic(auto)]
 
 mod ends;
+mod met;
+mod names;
 mod rank;
 mod replies;
 mod running;
+mod sight;
 
 pub use running::Core;

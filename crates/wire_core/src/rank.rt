@@ -1,9 +1,10 @@
 //! What one process has done.
 
-ghost use Rattle.std.specs.Prelude.{◌≡◌, ◌+◌, ◌<◌, ◌^◌, ◌∷◌, ◌++◌, [], Some, true, length, map, vec_len, vec_capacity, IfOk, IfErr, if◌then◌else◌};
+ghost use Rattle.std.specs.Prelude.{◌≡◌, ◌+◌, ◌<◌, ◌^◌, ◌++◌, [], ℕ, List, Some, true, length, map, count_by, vec_len, vec_capacity, IfOk, IfErr, if◌then◌else◌};
 ghost use Rattle.wire_store.specs.Kept.{kept_with};
 ghost use Rattle.wire_plan.specs.Kinds.{event_of};
-ghost use Rattle.wire_core.specs.Puts.{is_put as is_put_event, puts_in};
+ghost use Rattle.wire_core.specs.Puts.{is_put as is_put_event};
+ghost use Rattle.wire_core.specs.Shown.{replies_in};
 
 use std::alloc::Global;
 use wire_plan::Kind;
@@ -19,13 +20,13 @@ pub(crate) struct Rank {
 }
 
 fn is_put(kind: Kind) -> bool
-    ensures { result ≡ is_put_event (event_of kind) }
+    ensures { (sets : List (List ℕ)) → result ≡ is_put_event (event_of sets kind) }
 {
     matches!(kind, Kind::Put { .. })
 }
 
 fn put_total(kinds: &[Kind]) -> usize
-    ensures { result ≡ puts_in (map event_of kinds.now) }
+    ensures { (sets : List (List ℕ)) → result ≡ count_by is_put_event (map (event_of sets) kinds.now) }
 {
     kinds.iter().filter(|kind| is_put(**kind)).count()
 }
@@ -34,7 +35,8 @@ impl Rank {
     /// A process that hasn't begun, with room for all its puts and replies.
     pub fn new(alloc: Global, kinds: &[Kind]) -> Result<Rank, Fault>
         ensures done { IfOk result (λ rank. rank.done ≡ 0) }
-        ensures store { IfOk result (λ rank. rank.store ≡ record { puts = []; room = puts_in (map event_of kinds.now) }) }
+        ensures puts { IfOk result (λ rank. rank.store.puts ≡ []) }
+        ensures room { (sets : List (List ℕ)) → IfOk result (λ rank. rank.store.room ≡ count_by is_put_event (map (event_of sets) kinds.now)) }
         ensures replies { IfOk result (λ rank. rank.replies.items ≡ []) }
         ensures space { IfOk result (λ rank. vec_capacity rank.replies ≡ length kinds.now) }
         ensures err { IfErr result (λ e. e ≡ Fault.Memory) }
@@ -46,23 +48,25 @@ impl Rank {
         })
     }
 
-    /// Takes one event, of this call, with the reply to it.
-    pub fn advance(&mut self, kind: Kind, call: CallAt, reply: Reply)
+    /// Takes one event, of this call, with the reply to it, if it gives one.
+    pub fn advance(&mut self, kind: Kind, call: CallAt, reply: Option<Reply>)
         requires number { self.old.done + 1 < 2 ^ 32 }
-        requires room { is_put_event (event_of kind) ≡ true → 0 < self.old.store.room }
+        requires room { (sets : List (List ℕ)) → is_put_event (event_of sets kind) ≡ true → 0 < self.old.store.room }
         requires space { vec_len self.old.replies < vec_capacity self.old.replies }
         ensures done { self.new.done ≡ self.old.done + 1 }
-        ensures puts { self.new.store.puts ≡ kept_with self.old.done call self.old.store.puts (Some (event_of kind)) }
-        ensures room { self.new.store.room + (if is_put_event (event_of kind) then 1 else 0) ≡ self.old.store.room }
-        ensures replies { self.new.replies.items ≡ self.old.replies.items ++ reply ∷ [] }
+        ensures puts { (sets : List (List ℕ)) → self.new.store.puts ≡ kept_with self.old.done call self.old.store.puts (Some (event_of sets kind)) }
+        ensures room { (sets : List (List ℕ)) → self.new.store.room + (if is_put_event (event_of sets kind) then 1 else 0) ≡ self.old.store.room }
+        ensures replies { self.new.replies.items ≡ self.old.replies.items ++ replies_in reply }
         ensures space { vec_capacity self.new.replies ≡ vec_capacity self.old.replies }
     {
         match kind {
             Kind::Put { scope, key } => self.store.put(self.done, scope, key, call),
             Kind::Commit => self.store.commit(self.done),
-            Kind::Get { .. } => {}
+            _ => {}
         }
-        self.replies.push_reserved(reply);
+        if let Some(reply) = reply {
+            self.replies.push_reserved(reply);
+        }
         self.done += 1;
     }
 }

@@ -1,35 +1,40 @@
 //! A plan with the history of its steps.
 
-ghost use Rattle.std.specs.Prelude.{◌≡◌, ◌+◌, ◌<◌, ◌^◌, ◌∷◌, ◌++◌, [], true, Some, None, ℕ, List, length, map, option_map, slice_get, IsTrue, ◌↔◌, IfOk, IfErr, OnSome};
-ghost use Rattle.wire_types.specs.Plan.{place_of, process_count, same_node};
-ghost use Rattle.wire_types.specs.Puts.{own, stored};
+ghost use Rattle.std.specs.Prelude.{◌≡◌, ◌+◌, ◌<◌, ◌^◌, ◌∷◌, ◌++◌, [], true, Some, None, ℕ, List, length, map, option_map, slice_get, IsTrue, ◌↔◌, IfOk, IfErr, OnOk, OnSome};
+ghost use Rattle.wire_types.specs.Plan.{place_of, process_count};
 ghost use Rattle.wire_types.specs.Outcome.{ends_of};
 ghost use Rattle.wire_rehearsal.specs.Planned.{plan_of};
 ghost use Rattle.wire_plan.specs.Kinds.{event_of};
 ghost use Rattle.wire_plan.specs.State.{start, next_place, next_event};
-ghost use Rattle.wire_plan.specs.Sight.{held, served, get_sees};
 ghost use Rattle.wire_plan.specs.Machine.{is_enabled, IsInterleaving, IsEnd, reply as answer};
 ghost use Rattle.wire_plan.specs.Plain.{lowest, plain_from};
 ghost use Rattle.wire_plan.specs.Laws.{event_total};
 ghost use Rattle.wire_plan.specs.Ends.{given, is_waiting, outcome, row};
-ghost use Rattle.wire_core.specs.Course.{state_of};
-ghost use Rattle.wire_core.specs.Shown.{seen_as};
+ghost use Rattle.wire_core.specs.Course.{plan_in, state_of};
+ghost use Rattle.wire_core.specs.Shown.{replies_in};
 ghost use Rattle.wire_core.specs.Ranks.{AreRanksOf};
+ghost use Rattle.wire_core.specs.Stops.{Follows, StopsAt};
 
 use crate::ends::{add_unanswered, replied};
+use crate::met::{arrived_at, is_complete, note_arrival};
+use crate::names::note_name;
 use crate::rank::Rank;
-use crate::replies::{bare_reply, is_shown, reply_to_get};
+use crate::replies::{bare_reply, is_shown, reply_to_get, reply_to_lookup, reply_to_publish, reply_to_unpublish};
 use std::alloc::Global;
 use std::marker::Model;
+use wire_fence::{Arrivals, Fences};
+use wire_names::Names;
 use wire_plan::{Kind, Plan};
-use wire_store::Seen;
 use wire_types::{CallEnd, Event, Fault, Outcome, Proc, Reply, Status};
 
 /// A run of a plan: the history of its steps, each of one event of a process that was ready when it came.
 #[derive(Drop)]
 pub struct Core<'a> {
-    plan: &'a Plan,
-    ranks: Vec<Rank>,
+    pub(crate) plan: &'a Plan,
+    pub(crate) fences: &'a Fences,
+    pub(crate) ranks: Vec<Rank>,
+    pub(crate) arrivals: Arrivals,
+    pub(crate) names: Names,
     history: Vec<Proc>,
 }
 
@@ -38,13 +43,14 @@ impl<'a> Model for Core<'a> {
     ghost use Rattle.wire_rehearsal.specs.Planned.{plan_of};
     ghost use Rattle.wire_plan.specs.Laws.{event_total};
     ghost use Rattle.wire_core.specs.Course.{Course};
-    ghost use Rattle.wire_core.specs.Ranks.{IsCourse};
+    ghost use Rattle.wire_plan.specs.Machine.{run};
+    ghost use Rattle.wire_core.specs.Ranks.{IsCourse, IsShared};
 
     ghost Value = { Course };
 
     ghost view = { λ c. record { scripts = c.plan.now; history = map (λ p. p.number) c.history.items } };
 
-    ghost invariant = { λ c. IsCourse c.plan.now (map (λ p. p.number) c.history.items) c.ranks.items × (event_total (plan_of c.plan.now) ≤ vec_capacity c.history) };
+    ghost invariant = { λ c. IsCourse c.plan.now (map (λ p. p.number) c.history.items) c.ranks.items × (event_total (plan_of c.plan.now) ≤ vec_capacity c.history) × IsShared c.plan.now (run (plan_of c.plan.now) (map (λ p. p.number) c.history.items)) c.fences.now c.arrivals c.names };
 }
 
 /// The ranks of processes that haven't begun.
@@ -67,17 +73,23 @@ impl<'a> Core<'a> {
         ensures ok { IfOk result (λ core. core ≡ record { scripts = plan.now; history = [] }) }
         ensures err { IfErr result (λ e. e ≡ Fault.Memory) }
     {
+        let fences = plan.fences();
         let ranks = new_ranks(alloc, plan)?;
+        let arrivals = Arrivals::new(alloc, fences)?;
+        let names = Names::new(alloc, plan.scripts().names().len())?;
         let history = Vec::with_capacity(alloc, plan.event_total())?;
         Ok(Core {
             plan,
+            fences,
             ranks,
+            arrivals,
+            names,
             history,
         })
     }
 
     /// How many events of a process are done.
-    fn done(&self, proc: Proc) -> u32
+    pub(crate) fn done(&self, proc: Proc) -> u32
         ensures { result ≡ (state_of self.now).done proc.number }
     {
         match self.ranks.get(proc.index()) {
@@ -96,7 +108,7 @@ impl<'a> Core<'a> {
 
     /// What the next event of a process is, where it has one.
     fn next_kind(&self, proc: Proc) -> Option<Kind>
-        ensures kind { option_map event_of result ≡ next_event (plan_of self.now.scripts) (state_of self.now) proc.number }
+        ensures kind { option_map (event_of self.now.scripts.sets) result ≡ next_event (plan_of self.now.scripts) (state_of self.now) proc.number }
         ensures fits { OnSome result ((state_of self.now).done proc.number + 1 < 2 ^ 32) }
     {
         let event = self.next_place(proc);
@@ -107,63 +119,42 @@ impl<'a> Core<'a> {
         }
     }
 
-    /// What a process sees of its own key.
-    fn own_seen(&self, proc: Proc, key: u32) -> Seen
-        ensures { result ≡ seen_as (plan_of self.now.scripts) proc.number (held (own (plan_of self.now.scripts) proc.number key ((state_of self.now).done proc.number))) }
-    {
-        match self.ranks.get(proc.index()) {
-            None => Seen::Nothing,
-            Some(rank) => match rank.store.own(key) {
-                Some(call) => Seen::Value(call),
-                None => Seen::Nothing,
-            },
-        }
-    }
-
-    /// What a process sees of another's key.
-    fn other_seen(&self, reader: Proc, owner: Proc, key: u32) -> Seen
-        requires { reader.number < process_count (plan_of self.now.scripts) }
-        ensures { result ≡ seen_as (plan_of self.now.scripts) owner.number (served (plan_of self.now.scripts) owner.number (same_node (plan_of self.now.scripts) owner.number reader.number) (stored (plan_of self.now.scripts) owner.number key ((state_of self.now).done owner.number))) }
-    {
-        match self.ranks.get(owner.index()) {
-            None => Seen::Nothing,
-            Some(rank) => {
-                let same_node = self.plan.node_of(owner) == self.plan.node_of(reader);
-                rank.store.seen_from(key, same_node)
-            }
-        }
-    }
-
-    /// What the next event of a process sees of a key, as a get that waits.
-    fn seen_by(&self, reader: Proc, owner: Proc, key: u32) -> Seen
-        requires { reader.number < process_count (plan_of self.now.scripts) }
-        ensures { result ≡ seen_as (plan_of self.now.scripts) owner.number (get_sees (plan_of self.now.scripts) (state_of self.now).done reader.number ((state_of self.now).done reader.number) owner.number key) }
-    {
-        if reader == owner {
-            return self.own_seen(owner, key);
-        }
-        self.other_seen(reader, owner, key)
-    }
-
     /// Whether a process has a next event that may happen now. A process that isn't of the plan has none.
     pub fn ready(&self, proc: Proc) -> bool
         ensures { result ≡ is_enabled (plan_of self.now.scripts) (state_of self.now) proc.number }
     {
         match self.next_kind(proc) {
             None => false,
-            Some(Kind::Put { .. } | Kind::Commit) => true,
+            Some(
+                Kind::Put { .. } | Kind::Commit | Kind::Arrive { .. } | Kind::GetNow { .. }
+                | Kind::Publish { .. } | Kind::Lookup { .. } | Kind::Unpublish { .. }
+                | Kind::Fixed(_),
+            ) => true,
+            Some(Kind::Leave { .. }) => is_complete(
+                self.plan,
+                self.fences,
+                &self.arrivals,
+                self.next_place(proc),
+            ),
             Some(Kind::Get { owner, key }) => is_shown(self.seen_by(proc, owner, key)),
+            Some(Kind::LookupWait { name }) => self.names.lookup(name).is_some(),
         }
     }
 
-    /// The reply of the next event of a process, which is of this kind.
-    fn reply(&self, proc: Proc, kind: Kind) -> Reply
-        requires { next_event (plan_of self.now.scripts) (state_of self.now) proc.number ≡ Some (event_of kind) }
-        ensures { given (plan_of self.now.scripts) (answer (plan_of self.now.scripts) (state_of self.now) (next_place (state_of self.now) proc.number) (Some (event_of kind))) ≡ result ∷ [] }
+    /// The reply of the next event of a process, which is of this kind. An arrival at a fence has none.
+    fn reply(&self, proc: Proc, kind: Kind) -> Option<Reply>
+        requires { next_event (plan_of self.now.scripts) (state_of self.now) proc.number ≡ Some (event_of self.now.scripts.sets kind) }
+        ensures { given (plan_of self.now.scripts) (answer (plan_of self.now.scripts) (state_of self.now) (next_place (state_of self.now) proc.number) (Some (event_of self.now.scripts.sets kind))) ≡ replies_in result }
     {
         match kind {
-            Kind::Put { .. } | Kind::Commit => bare_reply(Status::Success),
-            Kind::Get { owner, key } => reply_to_get(self.seen_by(proc, owner, key)),
+            Kind::Put { .. } | Kind::Commit | Kind::Leave { .. } => Some(bare_reply(Status::Success)),
+            Kind::Arrive { .. } => None,
+            Kind::Get { owner, key } => Some(reply_to_get(self.seen_by(proc, owner, key))),
+            Kind::GetNow { owner, key } => Some(reply_to_get(self.seen_now(proc, owner, key))),
+            Kind::Publish { name } => Some(reply_to_publish(self.names.lookup(name))),
+            Kind::Lookup { name } | Kind::LookupWait { name } => Some(reply_to_lookup(self.names.lookup(name))),
+            Kind::Unpublish { name } => Some(reply_to_unpublish(self.names.lookup(name), proc)),
+            Kind::Fixed(reply) => Some(reply),
         }
     }
 
@@ -175,8 +166,12 @@ impl<'a> Core<'a> {
         let Some(kind) = self.next_kind(proc) else {
             unreachable!();
         };
+        let event = self.next_place(proc);
         let reply = self.reply(proc, kind);
-        let call = self.plan.call_of(self.next_place(proc));
+        let fence = arrived_at(self.plan, self.fences, event, kind);
+        let call = self.plan.call_of(event);
+        note_arrival(&mut self.arrivals, fence, proc);
+        note_name(&mut self.names, kind, call);
         let rank = &mut self.ranks[proc.index()];
         rank.advance(kind, call, reply);
         self.history.push_reserved(proc);
@@ -207,10 +202,26 @@ impl<'a> Core<'a> {
         ensures run { self.new ≡ record { scripts = self.old.scripts; history = self.old.history ++ plain_from (plan_of self.old.scripts) (event_total (plan_of self.old.scripts)) (state_of self.old) } }
         ensures ended { IsEnd (plan_of self.new.scripts) (state_of self.new) }
     {
+        // The steps so far are an interleaving, which bounds those to come.
         let _ = self.history();
         'steps: while let Some(proc) = self.lowest_ready() {
             self.step(proc);
         }
+    }
+
+    /// Takes these steps, each of one event. Where a process isn't ready when it comes, the fault is
+    /// `NotReady` with the number of the step, from 1, and the steps before it stand.
+    pub fn follow(&mut self, order: &[Proc]) -> Result<(), Fault>
+        ensures ok { OnOk result (Follows self.old (map (λ p. p.number) order.now) self.new) }
+        ensures err { IfErr result (λ e. StopsAt self.old (map (λ p. p.number) order.now) self.new e) }
+    {
+        for (step, proc) in order.iter().enumerate() {
+            if !self.ready(*proc) {
+                return Err(Fault::NotReady(step as u64 + 1));
+            }
+            self.step(*proc);
+        }
+        Ok(())
     }
 
     /// The steps so far.

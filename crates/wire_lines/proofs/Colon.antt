@@ -12,17 +12,19 @@ colon b = b == 58
 abbrev pub plain : ℕ → Bool
 plain b = not (b == 58)
 
--- a word with a colon, cut at the first
-colon_parts : (bs : List ℕ) → prefix_len plain bs < length bs → bs ≡ take (prefix_len plain bs) bs ++ 58 ∷ drop (prefix_len plain bs + 1) bs
-colon_parts [] = λ h. absurd (omega arith)
-colon_parts (b ∷ bs) =
-    elim (b == 58) as (λ t. (b == 58) ≡ t → cond (not t) (1 + prefix_len plain bs) 0 < length (b ∷ bs) → b ∷ bs ≡ take (cond (not t) (1 + prefix_len plain bs) 0) (b ∷ bs) ++ 58 ∷ drop (cond (not t) (1 + prefix_len plain bs) 0 + 1) (b ∷ bs)) [
-      | true ↦ λ e h. ap (λ x. x ∷ bs) (eqb-true _ _ e)
-      | false ↦ λ e h.
-          let one : 1 + prefix_len plain bs ≡ suc (prefix_len plain bs) = omega arith in
-          let two : 1 + prefix_len plain bs + 1 ≡ suc (prefix_len plain bs + 1) = omega arith in
-          rw (two, one) (ap (λ t. b ∷ t) (colon_parts bs (omega arith)))
-    ] refl
+module _ (s : ℕ) where
+  -- a text with the byte s, cut at the first
+  pub cut_parts : (bs : List ℕ) → prefix_len (λ b. not (b == s)) bs < length bs
+      → bs ≡ take (prefix_len (λ b. not (b == s)) bs) bs ++ s ∷ drop (prefix_len (λ b. not (b == s)) bs + 1) bs
+  cut_parts [] = λ h. absurd (omega arith)
+  cut_parts (b ∷ bs) =
+      elim (b == s) as (λ t. (b == s) ≡ t → cond (not t) (1 + prefix_len (λ b. not (b == s)) bs) 0 < length (b ∷ bs) → b ∷ bs ≡ take (cond (not t) (1 + prefix_len (λ b. not (b == s)) bs) 0) (b ∷ bs) ++ s ∷ drop (cond (not t) (1 + prefix_len (λ b. not (b == s)) bs) 0 + 1) (b ∷ bs)) [
+        | true ↦ λ e h. ap (λ x. x ∷ bs) (eqb-true _ _ e)
+        | false ↦ λ e h.
+            let one : 1 + prefix_len (λ b. not (b == s)) bs ≡ suc (prefix_len (λ b. not (b == s)) bs) = omega arith in
+            let two : 1 + prefix_len (λ b. not (b == s)) bs + 1 ≡ suc (prefix_len (λ b. not (b == s)) bs + 1) = omega arith in
+            rw (two, one) (ap (λ t. b ∷ t) (cut_parts bs (omega arith)))
+      ] refl
 
 -- what stands before the first colon has none
 no_colon : (bs : List ℕ) → list_all plain (take (prefix_len plain bs) bs) ≡ true
@@ -56,7 +58,7 @@ pub colon_found : (bs : List ℕ) (i : ℕ) → Some i ≡ position colon bs →
 colon_found bs i e =
     let h = found bs _ i refl e in
     let all : take (length bs - (i + 1)) (drop (i + 1) bs) ≡ drop (i + 1) bs = take_all _ _ (omega (arith, length-drop (i + 1) bs)) in
-    rw (all, h.0) (colon_parts bs h.1, no_colon bs)
+    rw (all, h.0) (cut_parts 58 bs h.1, no_colon bs)
 
 pub colon_none : (bs xs ys : List ℕ) → None ≡ position colon bs → bs ≡ xs ++ 58 ∷ ys → ⊥
 colon_none bs xs ys e is =

@@ -1,11 +1,12 @@
 -- The pieces of a text, one by one.
-use Rattle.std.proofs.Common.{◌≡◌, sym, refl, ℕ, suc, ◌+◌, ◌<◌, List, [], ◌∷◌, Bool, true, false, cond, Some, None, take, drop, length, arith, ◌-◌, ◌≤◌, length-drop, length-take}
+use Rattle.std.proofs.Common.{◌≡◌, sym, refl, ℕ, suc, ◌+◌, ◌<◌, List, [], ◌∷◌, ◌++◌, Bool, true, false, cond, Some, None, take, drop, length, arith, ◌-◌, ◌≤◌, length-drop, length-take}
 use borrow.Author.Tests.{ltb-true, ltb-false}
 use Rattle.std.proofs.lemmas.List.{take_all}
 use Rattle.std.proofs.lemmas.List.Folds.{length-prefix_len}
 use Rattle.std.specs.Prelude.{◌==◌, not, nat_lt, position}
 use Rattle.std.specs.List.{position_or_len, before_first, after_first, onto_first}
 use Rattle.wire_lines.specs.Text.{pieces_of}
+use Rattle.wire_lines.proofs.Colon.{cut_parts}
 
 abbrev pub feed : ℕ → Bool
 feed b = b == 10
@@ -55,6 +56,13 @@ cut_at bs i e =
     let h = found bs _ i refl e in
     let all : take (length bs - (i + 1)) (drop (i + 1) bs) ≡ drop (i + 1) bs = take_all _ _ (omega (arith, length-drop (i + 1) bs)) in
     rw (all, h.0) (pieces_first bs h.1)
+
+-- the bytes that are cut off
+pub bytes_at : (bs : List ℕ) (i : ℕ) → Some i ≡ position feed bs → bs ≡ take i bs ++ 10 ∷ take (length bs - (i + 1)) (drop (i + 1) bs)
+bytes_at bs i e =
+    let h = found bs _ i refl e in
+    let all : take (length bs - (i + 1)) (drop (i + 1) bs) ≡ drop (i + 1) bs = take_all _ _ (omega (arith, length-drop (i + 1) bs)) in
+    rw (all, h.0) (cut_parts 10 bs h.1)
 
 -- a text in which none is found
 pub cut_none : (bs : List ℕ) → 0 < length bs → None ≡ position feed bs → pieces_of bs ≡ bs ∷ []

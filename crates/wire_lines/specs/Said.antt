@@ -1,6 +1,6 @@
 -- What a line of the file can say, and its spelling.
-use Rattle.std.specs.Prelude.{◌≡◌, ℕ, ◌^◌, ◌<◌, ◌==◌, ◌||◌, ◌&&◌, Bool, IsTrue, not, nat_le, List, [], ◌∷◌, ◌++◌, length, take, codes, decimal, ⊤}
-use Rattle.std.specs.List.{list_all}
+use Rattle.std.specs.Prelude.{◌≡◌, ℕ, ◌^◌, ◌<◌, ◌==◌, ◌||◌, ◌&&◌, Bool, true, false, IsTrue, not, nat_le, List, [], ◌∷◌, ◌++◌, length, take, map, codes, decimal, ⊤}
+use Rattle.std.specs.List.{list_all, join_with_byte}
 use Rattle.std.specs.Str.{bytes_eq}
 use Rattle.wire_types.specs.declared.Scope.{Scope}
 use Rattle.wire_types.specs.declared.Scope.TheVariants.{Local, Remote, Global}
@@ -31,28 +31,45 @@ begins_with front word = bytes_eq front (take (length front) word)
 unfoldable pub is_reserved : List ℕ → Bool
 is_reserved word = begins_with (codes "pmix") word || begins_with (codes "PMIX_") word
 
--- a key of the scripts' own
-abbrev pub is_plain_key : List ℕ → Bool
-is_plain_key word = is_key word && not (is_reserved word)
-
 abbrev pub spelled_scope : Scope → List ℕ
 spelled_scope Local = codes "local"
 spelled_scope Remote = codes "remote"
 spelled_scope Global = codes "global"
 
--- the scopes that a file may name so far
-abbrev pub IsKnownScope : Scope → Type 0
-IsKnownScope scope = scope ≡ Global
-
 -- a name, a colon and a rank: the decimal digits of a number of at most nine
 abbrev pub spelled_proc : List ℕ → ℕ → List ℕ
 spelled_proc job rank = job ++ 58 ∷ decimal rank
+
+-- what an item of a fence's set names: a process, or all of a job
+pub data Item : Type 0 where
+  One : (job : List ℕ) → (rank : ℕ) → Item
+  Every : (job : List ℕ) → Item
+
+-- the processes that a fence names: those of the caller's job, or those of the items
+pub data Set : Type 0 where
+  Own : Set
+  Listed : List Item → Set
+
+abbrev pub spelled_item : Item → List ℕ
+spelled_item (One job rank) = spelled_proc job rank
+spelled_item (Every job) = job ++ 58 ∷ codes "*"
+
+-- `all`, or the items with commas between them
+abbrev pub spelled_set : Set → List ℕ
+spelled_set Own = codes "all"
+spelled_set (Listed items) = join_with_byte 44 (map spelled_item items)
 
 -- a call, as its line says it
 pub data Call : Type 0 where
   Put : Scope → (key value : List ℕ) → Call
   Commit : Call
+  Fence : Set → (collect : Bool) → Call
   Get : (job : List ℕ) → (rank : ℕ) → (key : List ℕ) → Call
+  GetNow : (job : List ℕ) → (rank : ℕ) → (key : List ℕ) → Call
+  Publish : (name value : List ℕ) → Call
+  Lookup : (name : List ℕ) → Call
+  LookupWait : (name : List ℕ) → Call
+  Unpublish : (name : List ℕ) → Call
 
 pub data Said : Type 0 where
   Header : Said
@@ -65,7 +82,13 @@ pub data Said : Type 0 where
 abbrev pub first_of_call : Call → List ℕ
 first_of_call (Put scope key value) = codes "put"
 first_of_call Commit = codes "commit"
+first_of_call (Fence set collect) = codes "fence"
 first_of_call (Get job rank key) = codes "get"
+first_of_call (GetNow job rank key) = codes "get-now"
+first_of_call (Publish name value) = codes "publish"
+first_of_call (Lookup name) = codes "lookup"
+first_of_call (LookupWait name) = codes "lookup-wait"
+first_of_call (Unpublish name) = codes "unpublish"
 
 abbrev pub first_word : Said → List ℕ
 first_word Header = codes "rehearsal"
@@ -74,11 +97,22 @@ first_word (Job name) = codes "job"
 first_word (Rank node) = codes "rank"
 first_word (Calls call) = first_of_call call
 
--- the words after it
+-- the word by which a fence collects, or none
+abbrev pub collect_words : Bool → List (List ℕ)
+collect_words true = codes "collect" ∷ []
+collect_words false = []
+
+-- the words after the first
 abbrev pub others_of_call : Call → List (List ℕ)
 others_of_call (Put scope key value) = spelled_scope scope ∷ key ∷ value ∷ []
 others_of_call Commit = []
+others_of_call (Fence set collect) = spelled_set set ∷ collect_words collect
 others_of_call (Get job rank key) = spelled_proc job rank ∷ key ∷ []
+others_of_call (GetNow job rank key) = spelled_proc job rank ∷ key ∷ []
+others_of_call (Publish name value) = name ∷ value ∷ []
+others_of_call (Lookup name) = name ∷ []
+others_of_call (LookupWait name) = name ∷ []
+others_of_call (Unpublish name) = name ∷ []
 
 abbrev pub other_words : Said → List (List ℕ)
 other_words Header = codes "1" ∷ []
@@ -87,11 +121,29 @@ other_words (Job name) = name ∷ []
 other_words (Rank node) = node ∷ []
 other_words (Calls call) = others_of_call call
 
+abbrev pub IsLawfulItem : Item → Type 0
+IsLawfulItem (One job rank) = IsTrue (is_name job) × (rank < 10 ^ 9)
+IsLawfulItem (Every job) = IsTrue (is_name job)
+
+abbrev pub AreLawful : List Item → Type 0
+AreLawful [] = ⊤
+AreLawful (i ∷ is) = IsLawfulItem i × AreLawful is
+
+abbrev pub IsLawfulSet : Set → Type 0
+IsLawfulSet Own = ⊤
+IsLawfulSet (Listed items) = (0 < length items) × AreLawful items
+
 -- what may be said: each part is of its kind
 abbrev pub IsLawfulCall : Call → Type 0
-IsLawfulCall (Put scope key value) = IsKnownScope scope × IsTrue (is_plain_key key) × IsTrue (is_word value)
+IsLawfulCall (Put scope key value) = IsTrue (is_key key) × IsTrue (is_word value)
 IsLawfulCall Commit = ⊤
-IsLawfulCall (Get job rank key) = IsTrue (is_name job) × (rank < 10 ^ 9) × IsTrue (is_plain_key key)
+IsLawfulCall (Fence set collect) = IsLawfulSet set
+IsLawfulCall (Get job rank key) = IsTrue (is_name job) × (rank < 10 ^ 9) × IsTrue (is_key key)
+IsLawfulCall (GetNow job rank key) = IsTrue (is_name job) × (rank < 10 ^ 9) × IsTrue (is_key key)
+IsLawfulCall (Publish name value) = IsTrue (is_key name) × IsTrue (is_word value)
+IsLawfulCall (Lookup name) = IsTrue (is_key name)
+IsLawfulCall (LookupWait name) = IsTrue (is_key name)
+IsLawfulCall (Unpublish name) = IsTrue (is_key name)
 
 abbrev pub IsLawful : Said → Type 0
 IsLawful Header = ⊤

@@ -1,10 +1,14 @@
 //! The lines of a file of scripts: where the file is cut, and what the words of one line say.
 #![tactic(auto)]
 
+mod call;
 mod line;
+mod sets;
 mod text;
 mod word;
 
-pub use line::{CallLine, Line, read_line, says_once};
+pub use call::CallLine;
+pub use line::{Line, is_header, read_line, says_once};
+pub use sets::{Item, Set};
 pub use text::{cut_piece, trim_return, words};
-pub use word::ProcName;
+pub use word::{ProcName, is_reserved};

@@ -1,6 +1,6 @@
 //! Lines and words.
 
-ghost use Rattle.std.specs.Prelude.{◌≡◌, ◌+◌, ◌<◌, ◌==◌, ◌∷◌, length, map, position, IfOk};
+ghost use Rattle.std.specs.Prelude.{◌≡◌, ◌+◌, ◌<◌, ◌==◌, ◌⊎◌, ◌++◌, ◌∷◌, [], length, map, position, IfOk};
 ghost use Rattle.std.specs.Str.Lines.{strip_carriage_return};
 ghost use Rattle.wire_lines.specs.Text.{pieces_of, words_of, is_blank};
 
@@ -10,6 +10,8 @@ use std::alloc::{AllocError, Global};
 pub fn cut_piece(bytes: &[u8]) -> (&[u8], &[u8])
     requires { 0 < length bytes.now }
     ensures pieces { pieces_of bytes.now ≡ result.0.now ∷ pieces_of result.1.now }
+    ensures bytes { (bytes.now ≡ result.0.now ++ 10 ∷ result.1.now)
+        ⊎ ((bytes.now ≡ result.0.now) × (result.1.now ≡ [])) }
     ensures shorter { length result.1.now < length bytes.now }
 {
     match line_feed(bytes) {

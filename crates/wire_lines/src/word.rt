@@ -3,8 +3,8 @@
 ghost use Rattle.std.specs.List.{list_all};
 ghost use Rattle.std.specs.Prelude.{not, true, position, ◌==◌, ◌≡◌, ◌≢◌, ℕ, ◌+◌, ◌^◌, ◌<◌, ◌↔◌, List, ◌∷◌, ◌++◌, IsTrue, decimal, codes, IfSome, IfNone};
 ghost use Rattle.wire_types.specs.declared.Scope.{Scope};
-ghost use Rattle.wire_lines.specs.Said as test;
-ghost use Rattle.wire_lines.specs.Said.{spelled_proc, spelled_scope, IsKnownScope};
+ghost use Rattle.wire_lines.specs.Said as spec;
+ghost use Rattle.wire_lines.specs.Said.{spelled_proc, spelled_scope};
 
 use itoa::Buffer;
 use std::str;
@@ -18,73 +18,65 @@ pub struct ProcName<'a> {
 }
 
 fn is_word_byte(byte: u8) -> bool
-    ensures { result ≡ test.is_word_byte byte }
+    ensures { result ≡ spec.is_word_byte byte }
 {
     33 <= byte && byte <= 126
 }
 
 fn is_name_byte(byte: u8) -> bool
-    ensures { result ≡ test.is_name_byte byte }
+    ensures { result ≡ spec.is_name_byte byte }
 {
     is_word_byte(byte) && !(byte == b':' || byte == b',' || byte == b'#' || byte == b'*')
 }
 
 fn has_word_bytes(word: &[u8]) -> bool
-    ensures { result ≡ list_all test.is_word_byte word.now }
+    ensures { result ≡ list_all spec.is_word_byte word.now }
 {
     word.iter().all(|b| is_word_byte(*b))
 }
 
 fn has_name_bytes(word: &[u8]) -> bool
-    ensures { result ≡ list_all test.is_name_byte word.now }
+    ensures { result ≡ list_all spec.is_name_byte word.now }
 {
     word.iter().all(|b| is_name_byte(*b))
 }
 
 pub fn is_word(word: &[u8]) -> bool
-    ensures { result ≡ test.is_word word.now }
+    ensures { result ≡ spec.is_word word.now }
 {
     !word.is_empty() && has_word_bytes(word)
 }
 
 pub fn is_name(word: &[u8]) -> bool
-    ensures { result ≡ test.is_name word.now }
+    ensures { result ≡ spec.is_name word.now }
 {
     !word.is_empty() && has_name_bytes(word)
 }
 
-fn is_key(word: &[u8]) -> bool
-    ensures { result ≡ test.is_key word.now }
+pub fn is_key(word: &[u8]) -> bool
+    ensures { result ≡ spec.is_key word.now }
 {
     is_word(word) && word != b"*".as_slice()
 }
 
 /// Whether the standard keeps the key for itself.
 #[tactic(auto, unfolding(crate::specs::Said::is_reserved))]
-fn is_reserved(word: &[u8]) -> bool
-    ensures { result ≡ test.is_reserved word.now }
+pub fn is_reserved(key: &[u8]) -> bool
+    ensures { result ≡ spec.is_reserved key.now }
 {
-    word.starts_with(b"pmix".as_slice()) || word.starts_with(b"PMIX_".as_slice())
-}
-
-pub fn is_plain_key(word: &[u8]) -> bool
-    ensures { result ≡ test.is_plain_key word.now }
-{
-    is_key(word) && !is_reserved(word)
-}
-
-fn is_global(word: &[u8]) -> bool
-    ensures { IsTrue result ↔ (word.now ≡ codes "global") }
-{
-    word == b"global".as_slice()
+    key.starts_with(b"pmix".as_slice()) || key.starts_with(b"PMIX_".as_slice())
 }
 
 /// The scope that the word names.
 pub fn scope_of(word: &[u8]) -> Option<Scope>
-    ensures found { IfSome result (λ s. (word.now ≡ spelled_scope s) × IsKnownScope s) }
-    ensures none { IfNone result ((s : Scope) → IsKnownScope s → word.now ≢ spelled_scope s) }
+    ensures found { IfSome result (λ s. word.now ≡ spelled_scope s) }
+    ensures none { IfNone result ((s : Scope) → word.now ≢ spelled_scope s) }
 {
-    if is_global(word) {
+    if word == b"local".as_slice() {
+        Some(Scope::Local)
+    } else if word == b"remote".as_slice() {
+        Some(Scope::Remote)
+    } else if word == b"global".as_slice() {
         Some(Scope::Global)
     } else {
         None
@@ -92,7 +84,7 @@ pub fn scope_of(word: &[u8]) -> Option<Scope>
 }
 
 /// The number that the word is the decimal digits of, one to nine of them.
-fn rank_of(word: &[u8]) -> Option<u32>
+pub fn rank_of(word: &[u8]) -> Option<u32>
     ensures found { IfSome result (λ n. (word.now ≡ decimal n) × (n < 10 ^ 9)) }
     ensures none { IfNone result ((n : ℕ) → n < 10 ^ 9 → word.now ≢ decimal n) }
 {
@@ -112,8 +104,10 @@ fn rank_of(word: &[u8]) -> Option<u32>
 
 /// The process that the word names.
 pub fn proc_of(word: &[u8]) -> Option<ProcName<'_>>
-    ensures found { IfSome result (λ p. (word.now ≡ spelled_proc p.job.now p.rank) × IsTrue (test.is_name p.job.now) × (p.rank < 10 ^ 9)) }
-    ensures none { IfNone result ((job : List ℕ) (rank : ℕ) → IsTrue (test.is_name job) → rank < 10 ^ 9 → word.now ≢ spelled_proc job rank) }
+    ensures found { IfSome result
+        (λ p. (word.now ≡ spelled_proc p.job.now p.rank) × IsTrue (spec.is_name p.job.now) × (p.rank < 10 ^ 9)) }
+    ensures none { IfNone result
+        ((job : List ℕ) (rank : ℕ) → IsTrue (spec.is_name job) → rank < 10 ^ 9 → word.now ≢ spelled_proc job rank) }
 {
     let Some((job, rank)) = cut_at_colon(word) else {
         return None;
@@ -128,7 +122,7 @@ pub fn proc_of(word: &[u8]) -> Option<ProcName<'_>>
 }
 
 /// What stands before the first colon and after it.
-fn cut_at_colon(word: &[u8]) -> Option<(&[u8], &[u8])>
+pub fn cut_at_colon(word: &[u8]) -> Option<(&[u8], &[u8])>
     ensures found { IfSome result (λ p. word.now ≡ p.0.now ++ 58 ∷ p.1.now) }
     ensures first { IfSome result (λ p. list_all (λ b. not (b == 58)) p.0.now ≡ true) }
     ensures none { IfNone result ((a b : List ℕ) → word.now ≢ a ++ 58 ∷ b) }

@@ -1,18 +1,17 @@
 -- The events of calls, one call after another, and those of the processes of a plan.
-use Rattle.std.proofs.Common.{◌≡◌, ◌∙◌, ap, sym, refl, subst, ℕ, zero, suc, ◌+◌, ◌*◌, ◌-◌, ◌^◌, ◌<◌, ◌≤◌, List, [], ◌∷◌, ◌++◌, length, map, Option, Some, None, inl, inr, cond, ltb, arith, append_assoc}
-use Rattle.std.specs.Prelude.{slice_get, option_map, sum_by}
+use Rattle.std.proofs.Common.{◌≡◌, ◌∙◌, ap, sym, refl, subst, ℕ, zero, suc, ◌+◌, ◌*◌, ◌-◌, ◌^◌, ◌<◌, ◌≤◌, List, [], ◌∷◌, ◌++◌, length, map, Option, Some, None, inl, inr, cond, ltb, Bool, true, false, length-append, arith, append_assoc}
+use Rattle.std.specs.Prelude.{slice_get, option_map, sum_by, replicate}
 use Rattle.std.proofs.lemmas.Option.{slice_get-map, slice_get_cases, slice_get_within}
 use Rattle.std.proofs.lemmas.List.{length-map}
 use Rattle.std.proofs.lemmas.List.Sums.{sum_by-cons}
 use Rattle.std.proofs.lemmas.Bool.{cases_lt, cond_below, cond_above}
 use Rattle.wire_types.specs.Plan.{Plan, Call, CallPut, CallCommit, CallFence, CallGet, CallGetNow, CallPublish, CallLookup, CallLookupWait, CallUnpublish, CallFixed, Event, events_of, process_events, process_node, events, event_at, event_count, node_of}
-use Rattle.wire_types.specs.declared.Call.{Call as Written}
-use Rattle.wire_types.specs.declared.Call.TheVariants as written
+use Rattle.wire_types.specs.Plan as plan
 use Rattle.wire_rehearsal.specs.Scripts.{Process, Scripts, call_count}
 use Rattle.wire_rehearsal.specs.Planned.{planned_call, planned_process, plan_of}
-use Rattle.wire_plan.specs.Kinds.{events_planned}
+use Rattle.wire_plan.specs.Kinds.{events_planned, calls_from, calls_planned}
 use Rattle.wire_plan.specs.Laws.{event_total}
-use Rattle.wire_plan.specs.Ends.{call_number, calls_of, process_calls}
+use Rattle.wire_plan.specs.Ends.{call_number, call_size, calls_of, process_calls}
 
 -- a first call's events, and then those of the others
 pub events_first : (call : Call) (calls : List Call) → events_of (call ∷ calls) ≡ events_of (call ∷ []) ++ events_of calls
@@ -45,15 +44,15 @@ abbrev pub row_in : Option (List Event) → List Event
 row_in None = []
 row_in (Some row) = row
 
-events_row : (s : Scripts) (p : ℕ) → events (plan_of s) p ≡ row_in (slice_get (events_planned s.processes) p)
+events_row : (s : Scripts) (p : ℕ) → events (plan_of s) p ≡ row_in (slice_get (events_planned s) p)
 unfolding events
-events_row s p = ap process_events (slice_get-map planned_process s.processes p) ∙ go (slice_get s.processes p) ∙ ap row_in (sym (slice_get-map (λ q. events_of (map planned_call q.calls)) s.processes p))
+events_row s p = ap process_events (slice_get-map (planned_process s) s.processes p) ∙ go (slice_get s.processes p) ∙ ap row_in (sym (slice_get-map (λ q. events_of (map (planned_call s) q.calls)) s.processes p))
   where
-    go : (o : Option Process) → process_events (option_map planned_process o) ≡ row_in (option_map (λ q. events_of (map planned_call q.calls)) o)
+    go : (o : Option Process) → process_events (option_map (planned_process s) o) ≡ row_in (option_map (λ q. events_of (map (planned_call s) q.calls)) o)
     go None = refl
     go (Some q) = refl
 
-module _ {V : Type 0} (view : V → List Event) (s : Scripts) (rows : List V) (shown : map view rows ≡ events_planned s.processes) where
+module _ {V : Type 0} (view : V → List Event) (s : Scripts) (rows : List V) (shown : map view rows ≡ events_planned s) where
   -- a row shows the events of its process
   pub events_shown : (p : ℕ) (row : V) → slice_get rows p ≡ Some row → events (plan_of s) p ≡ view row
   events_shown p row is = events_row s p ∙ ap (λ r. row_in (slice_get r p)) (sym shown) ∙ ap row_in (slice_get-map view rows p ∙ ap (option_map view) is)
@@ -83,47 +82,96 @@ module _ {V : Type 0} (view : V → List Event) (s : Scripts) (rows : List V) (s
 -- no process has more events than numbers of 32 bits count
 pub count_fits : (s : Scripts) (p : ℕ) → call_count s.processes < 2 ^ 31 → event_count (plan_of s) p < 2 ^ 32
 unfolding event_count events
-count_fits s p few = subst (λ o. length (process_events o) < 2 ^ 32) (sym (slice_get-map planned_process s.processes p)) (go s.processes p few)
+count_fits s p few = subst (λ o. length (process_events o) < 2 ^ 32) (sym (slice_get-map (planned_process s) s.processes p)) (go s.processes p few)
   where
-    go : (ps : List Process) (p : ℕ) → call_count ps < 2 ^ 31 → length (process_events (option_map planned_process (slice_get ps p))) < 2 ^ 32
+    go : (ps : List Process) (p : ℕ) → call_count ps < 2 ^ 31 → length (process_events (option_map (planned_process s) (slice_get ps p))) < 2 ^ 32
     go [] p few = omega arith
-    go (q ∷ qs) zero few = omega (arith, events_few (map planned_call q.calls), length-map q.calls planned_call, sum_by-cons (λ r. length r.calls) q qs, few)
+    go (q ∷ qs) zero few = omega (arith, events_few (map (planned_call s) q.calls), length-map q.calls (planned_call s), sum_by-cons (λ r. length r.calls) q qs, few)
     go (q ∷ qs) (suc p) few = go qs p (omega (arith, sum_by-cons (λ r. length r.calls) q qs, few))
 
-one_more : (f : ℕ → ℕ) (n len : ℕ) → n < suc len → ((m : ℕ) → m < len → f m ≡ m) → cond (ltb n 1) 0 (suc (f (n - 1))) ≡ n
-one_more f n len lt same = elim (cases_lt n 1) [
-  | inl low ↦ let zero_is : 0 ≡ n = omega (arith, low) in sym (cond_below n 1 0 (suc (f (n - 1))) low) ∙ zero_is
-  | inr high ↦
-      let there : n - 1 < len = omega (arith, high, lt) in
-      let before : f (n - 1) ≡ n - 1 = same (n - 1) there in
-      let next : n ≡ suc (f (n - 1)) = omega (arith, before, high) in
-      sym (cond_above n 1 0 (suc (f (n - 1))) n high next)
-]
+get_front : (k n : ℕ) (rest : List ℕ) (i : ℕ) → i < k → slice_get (replicate k n ++ rest) i ≡ Some n
+get_front zero n rest i lt = absurd (omega (arith, lt))
+get_front (suc k) n rest zero lt = refl
+get_front (suc k) n rest (suc i) lt = get_front k n rest i (omega (arith, lt))
 
--- where each call is one event, calls and events have the same numbers
-pub number_same : (calls : List Written) (n : ℕ) → n < length (events_of (map planned_call calls)) → call_number (map planned_call calls) n ≡ n
-number_same [] n lt = absurd (omega (arith, lt))
-number_same (written.Put scope key value ∷ calls) n lt = one_more (call_number (map planned_call calls)) n _ lt (number_same calls)
-number_same (written.Commit ∷ calls) n lt = one_more (call_number (map planned_call calls)) n _ lt (number_same calls)
-number_same (written.Get owner key ∷ calls) n lt = one_more (call_number (map planned_call calls)) n _ lt (number_same calls)
+get_rest : (k n : ℕ) (rest : List ℕ) (i : ℕ) → k ≤ i → slice_get (replicate k n ++ rest) i ≡ slice_get rest (i - k)
+get_rest zero n rest i le = let same : i ≡ i - 0 = omega arith in ap (slice_get rest) same
+get_rest (suc k) n rest zero le = absurd (omega (arith, le))
+get_rest (suc k) n rest (suc i) le =
+    let same : i - k ≡ suc i - suc k = omega arith in
+    get_rest k n rest i (omega (arith, le)) ∙ ap (slice_get rest) same
 
--- so for the processes of a plan
-pub call_same : (s : Scripts) (p n : ℕ) → n < event_count (plan_of s) p → call_number (calls_of (plan_of s) p) n ≡ n
-unfolding event_count events
-call_same s p n = subst (λ o. n < length (process_events o) → call_number (process_calls o) n ≡ n) (sym (slice_get-map planned_process s.processes p)) (go (slice_get s.processes p))
+-- each event has the number of its call
+pub call_from : (n : ℕ) (calls : List Call) (i : ℕ) → i < length (events_of calls) → slice_get (calls_from n calls) i ≡ Some (n + call_number calls i)
+call_from n [] i lt = absurd (omega (arith, lt))
+call_from n (c ∷ calls) i lt =
+    let size = call_size c in
+    let first : length (events_of (c ∷ calls)) ≡ size + length (events_of calls) =
+        ap length (events_first c calls) ∙ length-append (events_of (c ∷ [])) (events_of calls) in
+    elim (cases_lt i size) [
+      | inl low ↦
+          let same : n ≡ n + 0 = omega arith in
+          get_front size n (calls_from (suc n) calls) i low
+          ∙ ap Some same
+          ∙ ap (λ k. Some (n + k)) (cond_below i size 0 (suc (call_number calls (i - size))) low)
+      | inr high ↦
+          let there : i - size < length (events_of calls) = omega (arith, high, first, lt) in
+          let same : suc n + call_number calls (i - size) ≡ n + suc (call_number calls (i - size)) = omega arith in
+          get_rest size n (calls_from (suc n) calls) i high
+          ∙ call_from (suc n) calls (i - size) there
+          ∙ ap Some same
+          ∙ ap (λ k. Some (n + k)) (cond_above i size 0 (suc (call_number calls (i - size))) (suc (call_number calls (i - size))) high refl)
+    ]
+
+abbrev pub numbers_in : Option (List ℕ) → List ℕ
+numbers_in None = []
+numbers_in (Some row) = row
+
+calls_row : (s : Scripts) (p : ℕ) → numbers_in (slice_get (calls_planned s) p) ≡ calls_from 0 (calls_of (plan_of s) p)
+calls_row s p =
+    ap numbers_in (slice_get-map (λ q. calls_from 0 (map (planned_call s) q.calls)) s.processes p)
+    ∙ go (slice_get s.processes p)
+    ∙ ap (λ o. calls_from 0 (process_calls o)) (sym (slice_get-map (planned_process s) s.processes p))
   where
-    go : (o : Option Process) → n < length (process_events (option_map planned_process o)) → call_number (process_calls (option_map planned_process o)) n ≡ n
-    go None lt = absurd (omega (arith, lt))
-    go (Some q) lt = number_same q.calls n lt
+    go : (o : Option Process) → numbers_in (option_map (λ q. calls_from 0 (map (planned_call s) q.calls)) o) ≡ calls_from 0 (process_calls (option_map (planned_process s) o))
+    go None = refl
+    go (Some q) = refl
+
+-- one more call, behind the events and the numbers of those before it
+pub add_events : (call : Call) (rest : List Call) (old new : List Event) → new ≡ old ++ events_of (call ∷ []) → old ++ events_of (call ∷ rest) ≡ new ++ events_of rest
+add_events call rest old new is = ap (λ es. old ++ es) (events_first call rest) ∙ sym (append_assoc old (events_of (call ∷ [])) (events_of rest)) ∙ ap (λ es. es ++ events_of rest) (sym is)
+
+pub add_numbers : (n : ℕ) (call : Call) (rest : List Call) (old new : List ℕ) → new ≡ old ++ calls_from n (call ∷ []) → old ++ calls_from n (call ∷ rest) ≡ new ++ calls_from (suc n) rest
+add_numbers n call rest old new is =
+    ap (λ ns. old ++ ns) (ap (λ ns. ns ++ calls_from (suc n) rest) (no_more (replicate (call_size call) n)))
+    ∙ sym (append_assoc old (replicate (call_size call) n ++ []) (calls_from (suc n) rest))
+    ∙ ap (λ ns. ns ++ calls_from (suc n) rest) (sym is)
+  where
+    no_more : (xs : List ℕ) → xs ≡ xs ++ []
+    no_more [] = refl
+    no_more (x ∷ xs) = ap (λ ys. x ∷ ys) (no_more xs)
+
+-- so for the rows of a plan
+pub call_shown : {V : Type 0} (view : V → List ℕ) (s : Scripts) (rows : List V) → map view rows ≡ calls_planned s → (p i : ℕ) (row : V) → slice_get rows p ≡ Some row → i < event_count (plan_of s) p → slice_get (view row) i ≡ Some (call_number (calls_of (plan_of s) p) i)
+unfolding event_count events
+call_shown view s rows shown p i row is lt =
+    let row_is : view row ≡ calls_from 0 (calls_of (plan_of s) p) =
+        ap numbers_in (ap (option_map view) (sym is) ∙ sym (slice_get-map view rows p)) ∙ ap (λ r. numbers_in (slice_get r p)) shown ∙ calls_row s p in
+    let same : 0 + call_number (calls_of (plan_of s) p) i ≡ call_number (calls_of (plan_of s) p) i = omega arith in
+    ap (λ r. slice_get r i) row_is ∙ call_from 0 (calls_of (plan_of s) p) i (go (slice_get (plan_of s).processes p) lt) ∙ ap Some same
+  where
+    go : (o : Option plan.Process) → i < length (process_events o) → i < length (events_of (process_calls o))
+    go None lt = lt
+    go (Some q) lt = lt
 
 -- the node of a process
 pub node_planned : (s : Scripts) (p : ℕ) (q : Process) → slice_get s.processes p ≡ Some q → node_of (plan_of s) p ≡ q.node
 unfolding node_of
-node_planned s p q is = ap process_node (slice_get-map planned_process s.processes p ∙ ap (option_map planned_process) is)
+node_planned s p q is = ap process_node (slice_get-map (planned_process s) s.processes p ∙ ap (option_map (planned_process s)) is)
 
 -- the events of all rows that show them are those of the plan
-pub total_shown : {V : Type 0} (view : V → List Event) (s : Scripts) (rows : List V) → map view rows ≡ events_planned s.processes → sum_by (λ row. length (view row)) rows ≡ event_total (plan_of s)
-total_shown view s rows shown = sym (sum_by-map length view rows) ∙ ap (sum_by length) shown ∙ sum_by-map length (λ p. events_of (map planned_call p.calls)) s.processes ∙ sym (sum_by-map (λ process. length (events_of process.calls)) planned_process s.processes)
+pub total_shown : {V : Type 0} (view : V → List Event) (s : Scripts) (rows : List V) → map view rows ≡ events_planned s → sum_by (λ row. length (view row)) rows ≡ event_total (plan_of s)
+total_shown view s rows shown = sym (sum_by-map length view rows) ∙ ap (sum_by length) shown ∙ sum_by-map length (λ p. events_of (map (planned_call s) p.calls)) s.processes ∙ sym (sum_by-map (λ process. length (events_of process.calls)) (planned_process s) s.processes)
   where
     sum_by-map : {A B : Type 0} (f : B → ℕ) (g : A → B) (xs : List A) → sum_by f (map g xs) ≡ sum_by (λ x. f (g x)) xs
     sum_by-map f g [] = refl
@@ -132,9 +180,9 @@ total_shown view s rows shown = sym (sum_by-map length view rows) ∙ ap (sum_by
 pub total_fits : (s : Scripts) → call_count s.processes < 2 ^ 31 → event_total (plan_of s) < 2 ^ 32
 total_fits s few = let le = go s.processes in omega (arith, le, few)
   where
-    go : (ps : List Process) → sum_by (λ process. length (events_of process.calls)) (map planned_process ps) ≤ 2 * call_count ps
+    go : (ps : List Process) → sum_by (λ process. length (events_of process.calls)) (map (planned_process s) ps) ≤ 2 * call_count ps
     go [] = omega arith
-    go (p ∷ ps) = omega (arith, go ps, events_few (map planned_call p.calls), length-map p.calls planned_call, sum_by-cons (λ q. length q.calls) p ps, sum_by-cons (λ process. length (events_of process.calls)) (planned_process p) (map planned_process ps))
+    go (p ∷ ps) = omega (arith, go ps, events_few (map (planned_call s) p.calls), length-map p.calls (planned_call s), sum_by-cons (λ q. length q.calls) p ps, sum_by-cons (λ process. length (events_of process.calls)) (planned_process s p) (map (planned_process s) ps))
 
 pub sum_same : {X : Type 0} (f g : X → ℕ) (xs : List X) → ((x : X) → f x ≡ g x) → sum_by f xs ≡ sum_by g xs
 sum_same f g [] same = refl

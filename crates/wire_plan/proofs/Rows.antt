@@ -5,7 +5,8 @@ use Rattle.wire_types.specs.declared.Scope.TheVariants.{Local, Remote, Global}
 use Rattle.wire_types.specs.declared.CallEnd.TheVariants.{Replied, Waiting, Ready}
 use Rattle.wire_types.specs.declared.Status.TheVariants as status
 use Rattle.wire_plan.specs.Order.{may_come, PublishesOnce}
-use Rattle.wire_plan.specs.Ends.{bare, outcome}
+use Rattle.wire_types.specs.Replies.{bare}
+use Rattle.wire_plan.specs.Ends.{outcome}
 use Rattle.wire_plan.specs.State.{start, Silent, Duplicate, Success, NotFound, ExistsOutside, Published, Value}
 use Rattle.wire_plan.specs.Machine.{is_enabled, IsInterleaving, run}
 

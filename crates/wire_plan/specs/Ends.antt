@@ -3,12 +3,12 @@ use Rattle.std.specs.Prelude.{ℕ, zero, suc, ◌-◌, List, [], ◌∷◌, ◌+
 use Rattle.std.specs.List.{flat_map}
 use Rattle.wire_types.specs.Plan.{Plan, Process, Call, events_of, process_count}
 use Rattle.wire_types.specs.Outcome.{Ends}
+use Rattle.wire_types.specs.Replies.{bare, success_with}
 use Rattle.wire_types.specs.declared.CallAt.{CallAt}
 use Rattle.wire_types.specs.declared.CallEnd.{CallEnd}
 use Rattle.wire_types.specs.declared.CallEnd.TheVariants.{Replied, Waiting, Ready, Unreached}
 use Rattle.wire_types.specs.Plan.{Place}
 use Rattle.wire_types.specs.declared.Reply.{Reply}
-use Rattle.wire_types.specs.declared.Status.{Status}
 use Rattle.wire_types.specs.declared.Status.TheVariants as status
 use Rattle.wire_types.specs.declared.Value.TheVariants as value
 use Rattle.wire_plan.specs.State.{Answer, Silent, Success, NotFound, ExistsOutside, Duplicate, BadParam, Value, Published, Reserved, State, next_event}
@@ -34,10 +34,6 @@ calls_of plan p = process_calls (slice_get plan.processes p)
 abbrev pub call_of : Plan → Place → CallAt
 call_of plan x = record { proc = record { number = x.proc }; call = call_number (calls_of plan x.proc) x.at }
 
--- a reply that brings nothing but its status
-abbrev pub bare : Status → Reply
-bare s = record { status = s; value = value.Nothing }
-
 -- the reply that an answer gives to a call; the first half of a fence gives none
 abbrev pub given : Plan → Answer → List Reply
 given plan Silent = []
@@ -46,8 +42,8 @@ given plan NotFound = bare status.NotFound ∷ []
 given plan ExistsOutside = bare status.ExistsOutsideScope ∷ []
 given plan Duplicate = bare status.DuplicateKey ∷ []
 given plan BadParam = bare status.BadParam ∷ []
-given plan (Value put) = record { status = status.Success; value = value.Put (call_of plan put) } ∷ []
-given plan (Published publish) = record { status = status.Success; value = value.Published (call_of plan publish) } ∷ []
+given plan (Value put) = success_with (value.Put (call_of plan put)) ∷ []
+given plan (Published publish) = success_with (value.Published (call_of plan publish)) ∷ []
 given plan (Reserved reply) = reply ∷ []
 
 -- the replies that a process's calls have got so far

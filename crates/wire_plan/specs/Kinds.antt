@@ -1,22 +1,49 @@
--- What the kinds of events are, and the events that scripts plan.
-use Rattle.std.specs.Prelude.{◌≡◌, List, map}
-use Rattle.wire_types.specs.Plan.{Event, events_of}
+-- What the kinds of events are, and the events that scripts plan, each with the number of its call.
+use Rattle.std.specs.Prelude.{◌≡◌, ℕ, suc, List, [], ◌∷◌, ◌++◌, map, replicate}
+use Rattle.wire_types.specs.Plan.{Event, Call, events_of, set_of}
 use Rattle.wire_types.specs.Plan as plan
-use Rattle.wire_rehearsal.specs.Scripts.{Process, IsCounted}
+use Rattle.wire_types.specs.declared.Call.{Call as Written}
+use Rattle.wire_types.specs.declared.Call.TheVariants.{Fence}
+use Rattle.wire_rehearsal.specs.Scripts.{Scripts, IsSound, set_at}
 use Rattle.wire_rehearsal.specs.Planned.{planned_call}
+use Rattle.wire_plan.specs.Ends.{call_size}
 use Rattle.wire_plan.specs.declared.kind.Kind.{Kind}
-use Rattle.wire_plan.specs.declared.kind.Kind.TheVariants.{Put, Commit, Get}
+use Rattle.wire_plan.specs.declared.kind.Kind.TheVariants.{Put, Commit, Arrive, Leave, Get, GetNow, Publish, Lookup, LookupWait, Unpublish, Fixed}
 
-abbrev pub event_of : Kind → Event
-event_of (Put scope key) = plan.Put key scope
-event_of Commit = plan.Commit
-event_of (Get owner key) = plan.Get owner.number key
+-- the event of a kind, given the table of sets
+abbrev pub event_of : List (List ℕ) → Kind → Event
+event_of sets (Put scope key) = plan.Put key scope
+event_of sets Commit = plan.Commit
+event_of sets (Arrive set collect) = plan.Arrive (set_of (set_at sets set)) collect
+event_of sets (Leave set) = plan.Leave (set_of (set_at sets set))
+event_of sets (Get owner key) = plan.Get owner.number key
+event_of sets (GetNow owner key) = plan.GetNow owner.number key
+event_of sets (Publish name) = plan.Publish name
+event_of sets (Lookup name) = plan.Lookup name
+event_of sets (LookupWait name) = plan.LookupWait name
+event_of sets (Unpublish name) = plan.Unpublish name
+event_of sets (Fixed reply) = plan.Fixed reply
+
+-- the events of a call after its first
+abbrev pub events_after : List (List ℕ) → Written → List Event
+events_after sets (Fence set collect) = plan.Leave (set_of (set_at sets set)) ∷ []
+events_after sets _ = []
+
+-- for each event of these calls the number of its call, the first of them with this number
+abbrev pub calls_from : ℕ → List Call → List ℕ
+calls_from n [] = []
+calls_from n (call ∷ calls) = replicate (call_size call) n ++ calls_from (suc n) calls
 
 -- the events that the calls of each process are made of
-abbrev pub events_planned : List Process → List (List Event)
-events_planned processes = map (λ p. events_of (map planned_call p.calls)) processes
+abbrev pub events_planned : Scripts → List (List Event)
+events_planned s = map (λ p. events_of (map (planned_call s) p.calls)) s.processes
 
--- the rows are the events of these processes, which are few enough to be numbered
-pub record AreEventsOf (processes : List Process) (rows : List (List Event)) : Type 0 where
-  pub events : rows ≡ events_planned processes
-  pub counted : IsCounted processes
+-- and the number of the call of each
+abbrev pub calls_planned : Scripts → List (List ℕ)
+calls_planned s = map (λ p. calls_from 0 (map (planned_call s) p.calls)) s.processes
+
+-- the rows are the events of these scripts, with their calls
+pub record AreEventsOf (s : Scripts) (rows : List (List Event)) (numbers : List (List ℕ)) : Type 0 where
+  pub events : rows ≡ events_planned s
+  pub calls : numbers ≡ calls_planned s
+  pub sound : IsSound s

@@ -55,7 +55,7 @@ OneFate = (plan : Plan) (y : Place) (a b : Fate) → IsSettled plan → HasFate 
 abbrev pub RunsAreSound : Type 0
 RunsAreSound = (plan : Plan) (s : State) → IsSettled plan → IsReachable plan s → IsSoundCut plan s.done
 
--- the checker finds nothing exactly where its list is empty
+-- the list of findings is empty exactly where the plan is settled
 abbrev pub NoFindings : Type 0
 NoFindings = (plan : Plan) (lower_name : ℕ → ℕ → Bool) → IsFindings plan lower_name [] ↔ IsSettled plan
 
@@ -63,7 +63,7 @@ NoFindings = (plan : Plan) (lower_name : ℕ → ℕ → Bool) → IsFindings pl
 abbrev pub IsOneWay : (ℕ → ℕ → Bool) → Type 0
 IsOneWay lower_name = (a b : ℕ) → lower_name a b ≡ true → lower_name b a ≡ true → ⊥
 
--- the list of the findings is one
+-- for each order of the names the list of findings is one
 abbrev pub OneList : Type 0
 OneList = (plan : Plan) (lower_name : ℕ → ℕ → Bool) (xs ys : List Finding) → IsOneWay lower_name → IsFindings plan lower_name xs → IsFindings plan lower_name ys → xs ≡ ys
 

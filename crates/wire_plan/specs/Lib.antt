@@ -2,6 +2,7 @@ pub use Rattle.wire_types.specs.Plan
 pub use Rattle.wire_types.specs.Puts
 pub use Rattle.wire_types.specs.Fences
 pub use Rattle.wire_types.specs.Outcome
+pub use Rattle.wire_types.specs.Replies
 pub use Rattle.wire_rehearsal.specs.Scripts
 pub use Rattle.wire_rehearsal.specs.Planned
 pub mod State

@@ -4,6 +4,7 @@
 mod kind;
 pub mod laws;
 mod plan;
+mod row;
 
 pub use kind::Kind;
 pub use plan::Plan;

@@ -1,65 +1,67 @@
 //! A plan: scripts with the events of each process.
 
 ghost use Rattle.std.specs.Prelude.{◌≡◌, ◌<◌, ◌^◌, Some, length, map, sum_by, vec_len, IfOk, IfErr};
-ghost use Rattle.wire_types.specs.Plan.{place_of, process_count, events, event_at, event_count, node_of, events_of};
-ghost use Rattle.wire_rehearsal.specs.Planned.{planned_call, plan_of};
-ghost use Rattle.wire_plan.specs.Kinds.{event_of, events_planned};
+ghost use Rattle.wire_types.specs.Plan.{place_of, process_count, events, event_at, event_count, node_of};
+ghost use Rattle.wire_rehearsal.specs.Scripts.{IsSound};
+ghost use Rattle.wire_rehearsal.specs.Planned.{plan_of};
+ghost use Rattle.wire_procmap.specs.Map.{map_of};
+ghost use Rattle.wire_fence.specs.Fences.{AreFencesOf};
+ghost use Rattle.wire_plan.specs.Kinds.{event_of, events_planned, calls_planned};
 ghost use Rattle.wire_plan.specs.Ends.{call_of};
 ghost use Rattle.wire_plan.specs.Laws.{event_total};
 
-use crate::kind::{Kind, kind_of};
+use crate::kind::Kind;
+use crate::row::{Row, row_of};
 use std::alloc::{AllocError, Global};
 use std::marker::Model;
-use wire_rehearsal::{Process, Scripts};
-use wire_types::{Call, CallAt, Event, Fault, Proc};
+use wire_fence::Fences;
+use wire_procmap::ProcMap;
+use wire_rehearsal::Scripts;
+use wire_types::{CallAt, Event, Fault, Proc};
 
-/// Scripts, with the events of each process.
+/// Scripts, with their process map, their fences, and the events of each process.
 #[derive(Drop)]
 pub struct Plan {
     scripts: Scripts,
-    events: Vec<Vec<Kind>>,
+    places: ProcMap,
+    fences: Fences,
+    rows: Vec<Row>,
 }
 
 impl Model for Plan {
-    ghost use Rattle.std.specs.Prelude.{map};
+    ghost use Rattle.std.specs.Prelude.{◌≡◌, map};
     ghost use Rattle.wire_rehearsal.specs.Scripts as spec;
+    ghost use Rattle.wire_procmap.specs.Map.{map_of};
+    ghost use Rattle.wire_fence.specs.Fences.{AreFencesOf};
     ghost use Rattle.wire_plan.specs.Kinds.{event_of, AreEventsOf};
 
     ghost Value = { spec.Scripts };
 
     ghost view = { λ p. p.scripts };
 
-    ghost invariant = { λ p. AreEventsOf p.scripts.processes (map (λ kinds. map event_of kinds.items) p.events.items) };
-}
-
-/// The events of these calls.
-fn kinds_of(alloc: Global, calls: &[Call]) -> Result<Vec<Kind>, AllocError>
-    ensures { IfOk result (λ kinds. map event_of kinds.items ≡ events_of (map planned_call calls.now)) }
-{
-    let mut kinds = Vec::with_capacity(alloc, calls.len())?;
-    for call in calls {
-        kinds.push(kind_of(*call))?;
-    }
-    Ok(kinds)
+    ghost invariant = { λ p. AreEventsOf p.scripts (map (λ row. map (event_of p.scripts.sets) row.kinds.items) p.rows.items) (map (λ row. row.calls.items) p.rows.items) × (p.places ≡ map_of p.scripts) × AreFencesOf p.scripts p.fences };
 }
 
 /// The events of each process.
-fn all_kinds(alloc: Global, processes: &[Process]) -> Result<Vec<Vec<Kind>>, AllocError>
-    ensures { IfOk result (λ all. map (λ kinds. map event_of kinds.items) all.items ≡ events_planned processes.now) }
+fn all_rows(alloc: Global, scripts: &Scripts, places: &ProcMap) -> Result<Vec<Row>, AllocError>
+    requires { places.now ≡ map_of scripts.now }
+    ensures kinds { IfOk result (λ all. map (λ row. map (event_of scripts.now.sets) row.kinds.items) all.items ≡ events_planned scripts.now) }
+    ensures calls { IfOk result (λ all. map (λ row. row.calls.items) all.items ≡ calls_planned scripts.now) }
 {
+    let processes = scripts.processes();
     let mut all = Vec::with_capacity(alloc, processes.len())?;
     for process in processes {
-        all.push(kinds_of(alloc, process.calls())?)?;
+        all.push(row_of(alloc, scripts, places, process.calls())?)?;
     }
     Ok(all)
 }
 
 /// How many events these rows hold.
-fn total_of(rows: &[Vec<Kind>]) -> usize
-    requires { sum_by (λ kinds. vec_len kinds) rows.now < 2 ^ 64 }
-    ensures { result ≡ sum_by (λ kinds. vec_len kinds) rows.now }
+fn total_of(rows: &[Row]) -> usize
+    requires { sum_by (λ row. vec_len row.kinds) rows.now < 2 ^ 64 }
+    ensures { result ≡ sum_by (λ row. vec_len row.kinds) rows.now }
 {
-    rows.iter().map(|kinds| kinds.len()).sum()
+    rows.iter().map(|row| row.kinds.len()).sum()
 }
 
 impl Plan {
@@ -68,15 +70,37 @@ impl Plan {
         ensures ok { IfOk result (λ plan. plan ≡ scripts) }
         ensures err { IfErr result (λ e. e ≡ Fault.Memory) }
     {
-        let events = all_kinds(alloc, scripts.processes())?;
-        Ok(Plan { scripts, events })
+        let places = ProcMap::new(alloc, &scripts)?;
+        let fences = Fences::of(alloc, &scripts, &places)?;
+        let rows = all_rows(alloc, &scripts, &places)?;
+        Ok(Plan {
+            scripts,
+            places,
+            fences,
+            rows,
+        })
     }
 
     /// The scripts that it was made of.
     pub fn scripts(&self) -> &Scripts
-        ensures { result.now ≡ self.now }
+        ensures scripts { result.now ≡ self.now }
+        ensures sound { IsSound self.now }
     {
         &self.scripts
+    }
+
+    /// The process map of its scripts.
+    pub fn map(&self) -> &ProcMap
+        ensures { result.now ≡ map_of self.now }
+    {
+        &self.places
+    }
+
+    /// The fences of its scripts.
+    pub fn fences(&self) -> &Fences
+        ensures { AreFencesOf self.now result.now }
+    {
+        &self.fences
     }
 
     /// How many processes there are.
@@ -88,10 +112,10 @@ impl Plan {
 
     /// What the events of a process are, in their order; none where it isn't of the plan.
     pub fn events(&self, proc: Proc) -> &[Kind]
-        ensures { map event_of result.now ≡ events (plan_of self.now) proc.number }
+        ensures { map (event_of self.now.sets) result.now ≡ events (plan_of self.now) proc.number }
     {
-        match self.events.get(proc.index()) {
-            Some(kinds) => kinds.as_slice(),
+        match self.rows.get(proc.index()) {
+            Some(row) => row.kinds.as_slice(),
             None => &[],
         }
     }
@@ -100,6 +124,7 @@ impl Plan {
     pub fn event_count(&self, proc: Proc) -> u32
         ensures { result ≡ event_count (plan_of self.now) proc.number }
     {
+        // The borrow gives the proof what the scripts promise of their numbers.
         let _scripts = &self.scripts;
         self.events(proc).len() as u32
     }
@@ -109,13 +134,13 @@ impl Plan {
         ensures total { result ≡ event_total (plan_of self.now) }
         ensures fits { result < 2 ^ 32 }
     {
-        total_of(&self.events)
+        total_of(&self.rows)
     }
 
     /// What an event of the plan is.
     pub fn kind(&self, event: Event) -> Kind
         requires { event.at < event_count (plan_of self.now) event.proc.number }
-        ensures { event_at (plan_of self.now) event.proc.number event.at ≡ Some (event_of result) }
+        ensures { event_at (plan_of self.now) event.proc.number event.at ≡ Some (event_of self.now.sets result) }
     {
         self.events(event.proc)[event.at as usize]
     }
@@ -125,9 +150,10 @@ impl Plan {
         requires { event.at < event_count (plan_of self.now) event.proc.number }
         ensures { result ≡ call_of (plan_of self.now) (place_of event) }
     {
+        let row = &self.rows[event.proc.index()];
         CallAt {
             proc: event.proc,
-            call: event.at,
+            call: row.calls[event.at as usize],
         }
     }
 

@@ -1,1 +1,4 @@
 pub mod TextTable
+pub mod SetTable
+pub mod Written
+pub mod Listed

@@ -1,3 +1,9 @@
 pub use Rattle.wire_types.specs.Plan
+pub use Rattle.wire_types.specs.Fences
+pub use Rattle.wire_lines.specs.Said
 pub mod Scripts
+pub mod Tabled
+pub mod Map
+pub mod Reserved
 pub mod Planned
+pub mod Canonical

@@ -1,10 +1,14 @@
 //! What a file of scripts says: its nodes, jobs and processes, and the calls of each process.
 #![tactic(auto)]
 
+mod canonical;
 mod process;
 mod scripts;
+mod set_word;
+mod sets;
 mod texts;
 
 pub use process::Process;
-pub use scripts::Scripts;
+pub use scripts::{Scripts, Tables};
+pub use sets::Sets;
 pub use texts::Texts;

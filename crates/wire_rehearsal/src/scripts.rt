@@ -1,49 +1,54 @@
 //! The scripts of all processes.
 
 ghost use Rattle.std.specs.Prelude.{◌≡◌};
-ghost use Rattle.wire_rehearsal.specs.Scripts.{IsCounted};
+ghost use Rattle.wire_rehearsal.specs.Scripts.{IsSound};
+ghost use Rattle.wire_rehearsal.specs.Tabled.{scripts_with};
 
 use crate::process::Process;
+use crate::sets::Sets;
 use crate::texts::Texts;
 use std::marker::Model;
 
-/// What a file of scripts says: its nodes and jobs as declared, its keys and values as first seen,
-/// and its processes in process order, which is the file's job order, then rank.
+/// What calls name, numbered as first seen: keys of puts and gets, published names, values of puts and
+/// publishes, and the sets of processes of fences.
+#[derive(Drop)]
+pub struct Tables {
+    pub keys: Texts,
+    pub names: Texts,
+    pub values: Texts,
+    pub sets: Sets,
+}
+
+/// What a file of scripts says: its nodes and jobs as declared, what its calls name, and its processes
+/// in process order, which is the file's job order, then rank.
 #[derive(Drop)]
 pub struct Scripts {
     nodes: Texts,
     jobs: Texts,
-    keys: Texts,
-    values: Texts,
+    tables: Tables,
     processes: Vec<Process>,
 }
 
 impl Model for Scripts {
     ghost use Rattle.wire_rehearsal.specs.Scripts as spec;
+    ghost use Rattle.wire_rehearsal.specs.Tabled.{scripts_with};
 
     ghost Value = { spec.Scripts };
 
-    ghost view = { λ s. record { nodes = s.nodes; jobs = s.jobs; keys = s.keys; values = s.values; processes = s.processes.items } };
+    ghost view = { λ s. scripts_with s.nodes s.jobs s.tables s.processes.items };
 
-    ghost invariant = { λ s. spec.IsCounted s.processes.items };
+    ghost invariant = { λ s. spec.IsSound (scripts_with s.nodes s.jobs s.tables s.processes.items) };
 }
 
 impl Scripts {
-    pub fn new(
-        nodes: Texts,
-        jobs: Texts,
-        keys: Texts,
-        values: Texts,
-        processes: Vec<Process>,
-    ) -> Scripts
-        requires { IsCounted processes.items }
-        ensures { result ≡ record { nodes = nodes; jobs = jobs; keys = keys; values = values; processes = processes.items } }
+    pub fn new(nodes: Texts, jobs: Texts, tables: Tables, processes: Vec<Process>) -> Scripts
+        requires { IsSound (scripts_with nodes jobs tables processes.items) }
+        ensures { result ≡ scripts_with nodes jobs tables processes.items }
     {
         Scripts {
             nodes,
             jobs,
-            keys,
-            values,
+            tables,
             processes,
         }
     }
@@ -62,24 +67,39 @@ impl Scripts {
         &self.jobs
     }
 
-    /// The keys, by number.
+    /// The keys of puts and gets, by number.
     pub fn keys(&self) -> &Texts
         ensures { result.now ≡ self.now.keys }
     {
-        &self.keys
+        &self.tables.keys
     }
 
-    /// The values of puts, by number.
+    /// The names that are published, looked up and unpublished, by number.
+    pub fn names(&self) -> &Texts
+        ensures { result.now ≡ self.now.names }
+    {
+        &self.tables.names
+    }
+
+    /// The values of puts and publishes, by number.
     pub fn values(&self) -> &Texts
         ensures { result.now ≡ self.now.values }
     {
-        &self.values
+        &self.tables.values
     }
 
-    /// The processes, in process order: few enough that they, and their calls, can be numbered.
+    /// The sets of processes of fences, by number.
+    pub fn sets(&self) -> &Sets
+        ensures { result.now ≡ self.now.sets }
+    {
+        &self.tables.sets
+    }
+
+    /// The processes, in process order: few enough that they, and their calls, can be numbered, and each
+    /// a member of the fences that it calls.
     pub fn processes(&self) -> &[Process]
         ensures processes { result.now ≡ self.now.processes }
-        ensures counted { IsCounted self.now.processes }
+        ensures sound { IsSound self.now }
     {
         self.processes.as_slice()
     }

@@ -64,7 +64,7 @@ impl Texts {
     }
 
     /// The number of a text, or that of all texts where it isn't there.
-    pub fn place_of(&self, text: &[u8]) -> u32
+    pub fn number_or_count(&self, text: &[u8]) -> u32
         ensures { result ≡ position_or_len (bytes_eq text.now) self.now }
     {
         match self.number_of(text) {

@@ -16,7 +16,9 @@ row = record {
   nodes = codes "n0" ∷ (codes "n1" ∷ []);
   jobs = codes "app" ∷ [];
   keys = codes "k" ∷ [];
+  names = [];
   values = codes "v" ∷ [];
+  sets = [];
   processes =
       record { job = 0; rank = 0; node = 0; calls = Put Global 0 0 ∷ (Commit ∷ []) }
       ∷ (record { job = 0; rank = 1; node = 1; calls = Get (record { number = 0 }) 0 ∷ [] } ∷ []);

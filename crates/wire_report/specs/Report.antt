@@ -1,8 +1,7 @@
 -- The report of a replay, as bytes: what became of every call, a line for each, and how many processes wait.
-use Rattle.std.specs.Prelude.{ℕ, ◌+◌, List, [], ◌∷◌, ◌++◌, Option, Some, slice_get, option_and_then, codes, decimal}
+use Rattle.std.specs.Prelude.{ℕ, ◌+◌, List, [], ◌∷◌, ◌++◌, Option, Some, codes, decimal}
 use Rattle.wire_types.specs.declared.Call.{Call}
-use Rattle.wire_types.specs.declared.Call.TheVariants.{Put, Commit, Get}
-use Rattle.wire_types.specs.declared.CallAt.{CallAt}
+use Rattle.wire_types.specs.declared.Call.TheVariants.{Put, Commit, Fence, Get, GetNow, Publish, Lookup, LookupWait, Unpublish}
 use Rattle.wire_types.specs.declared.Status.{Status}
 use Rattle.wire_types.specs.declared.Status.TheVariants.{Success, NotFound, ExistsOutsideScope, DuplicateKey, BadParam}
 use Rattle.wire_types.specs.declared.Value.{Value}
@@ -11,7 +10,7 @@ use Rattle.wire_types.specs.declared.Reply.{Reply}
 use Rattle.wire_types.specs.declared.CallEnd.{CallEnd}
 use Rattle.wire_types.specs.declared.CallEnd.TheVariants.{Replied, Waiting, Ready, Unreached}
 use Rattle.wire_types.specs.Outcome.{Ends}
-use Rattle.wire_rehearsal.specs.Scripts.{Scripts, Process, text_at}
+use Rattle.wire_rehearsal.specs.Scripts.{Scripts, Process, text_at, call_at}
 
 -- the name of a status in the PMIx Standard 5.0
 abbrev pub status_name : Status → List ℕ
@@ -30,21 +29,24 @@ abbrev pub verb_of : Call → List ℕ
 verb_of (Put scope key value) = codes "put"
 verb_of Commit = codes "commit"
 verb_of (Get owner key) = codes "get"
-
--- the call at a place, where there is one
-abbrev pub call_at : Scripts → CallAt → Option Call
-call_at scripts place = option_and_then (λ process. slice_get process.calls place.call) (slice_get scripts.processes place.proc.number)
+verb_of (GetNow owner key) = codes "get-now"
+verb_of (Fence set collect) = codes "fence"
+verb_of (Publish name value) = codes "publish"
+verb_of (Lookup name) = codes "lookup"
+verb_of (LookupWait name) = codes "lookup-wait"
+verb_of (Unpublish name) = codes "unpublish"
 
 -- the text of the value that a call gives, empty where it gives none
 abbrev pub given_text : Scripts → Option Call → List ℕ
 given_text scripts (Some (Put scope key value)) = text_at scripts.values value
+given_text scripts (Some (Publish name value)) = text_at scripts.values value
 given_text scripts _ = []
 
 -- the text of what a reply brings: a value that a call gave, a number, or the name of a node
 abbrev pub value_text : Scripts → Value → List ℕ
 value_text scripts value.Nothing = []
-value_text scripts (value.Put place) = given_text scripts (call_at scripts place)
-value_text scripts (value.Published place) = given_text scripts (call_at scripts place)
+value_text scripts (value.Put place) = given_text scripts (call_at scripts.processes place.proc.number place.call)
+value_text scripts (value.Published place) = given_text scripts (call_at scripts.processes place.proc.number place.call)
 value_text scripts (value.Number n) = decimal n
 value_text scripts (value.NodeName node) = text_at scripts.nodes node
 

@@ -1,6 +1,7 @@
 //! The words of a report.
 
 ghost use Rattle.std.specs.Prelude.{◌≡◌, ◌++◌, length, decimal, codes, OnOk, option_copied};
+ghost use Rattle.wire_rehearsal.specs.Scripts.{call_at};
 ghost use Rattle.wire_report.specs.Report as spec;
 
 use itoa::Buffer;
@@ -37,6 +38,12 @@ pub fn verb(call: &Call) -> &'static str
         Call::Put { .. } => "put",
         Call::Commit => "commit",
         Call::Get { .. } => "get",
+        Call::GetNow { .. } => "get-now",
+        Call::Fence { .. } => "fence",
+        Call::Publish { .. } => "publish",
+        Call::Lookup { .. } => "lookup",
+        Call::LookupWait { .. } => "lookup-wait",
+        Call::Unpublish { .. } => "unpublish",
     }
 }
 
@@ -94,17 +101,17 @@ fn push_value(out: &mut Vec<u8>, scripts: &Scripts, value: &Value) -> Result<(),
 
 /// The text of the value that the call at a place gives, empty where there is none.
 fn given_text(scripts: &Scripts, place: CallAt) -> &[u8]
-    ensures { result.now ≡ spec.given_text scripts.now (spec.call_at scripts.now place) }
+    ensures { result.now ≡ spec.given_text scripts.now (call_at scripts.now.processes place.proc.number place.call) }
 {
-    match call_at(scripts, place) {
-        Some(Call::Put { value, .. }) => scripts.values().text(*value),
+    match find_call(scripts, place) {
+        Some(Call::Put { value, .. } | Call::Publish { value, .. }) => scripts.values().text(*value),
         _ => b"".as_slice(),
     }
 }
 
 /// The call at a place, where there is one.
-fn call_at(scripts: &Scripts, place: CallAt) -> Option<&Call>
-    ensures { option_copied result ≡ spec.call_at scripts.now place }
+fn find_call(scripts: &Scripts, place: CallAt) -> Option<&Call>
+    ensures { option_copied result ≡ call_at scripts.now.processes place.proc.number place.call }
 {
     match scripts.processes().get(place.proc.index()) {
         Some(process) => process.calls().get(place.call as usize),

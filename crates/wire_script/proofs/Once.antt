@@ -6,7 +6,7 @@ use Rattle.wire_lines.specs.Text.{lines_of}
 use Rattle.wire_script.specs.Statements.{Statement, statements}
 use Rattle.wire_script.specs.FirstPass.{Declared, nothing, judged, Judges, JudgesAll, FirstPass}
 use Rattle.wire_rehearsal.specs.Scripts.{Scripts}
-use Rattle.wire_script.specs.Reads.{second_pass, unmet, ReadsShort, ReadsOnce}
+use Rattle.wire_script.specs.Reads.{second_pass, ReadsShort, ReadsOnce}
 
 judges_once : (d : Declared) (line : Statement) (q r : Result Declared Fault) → Judges d line q → Judges d line r → q ≡ r
 judges_once d line q r (inl a) (inl b) = a.1 ∙ sym b.1
@@ -37,7 +37,7 @@ first_once (line ∷ lines) n r s (inr a) (inr b) = a.1 ∙ sym b.1
 
 short_once : (bytes : List ℕ) (r s : Result Scripts Fault) → ReadsShort bytes r → ReadsShort bytes s → r ≡ s
 short_once bytes r s a b =
-    both_once (λ d x. x ≡ second_pass d (unmet d d.processes)) (λ d x y p q. p ∙ sym q) a.0 b.0 r s
+    both_once (λ d x. x ≡ second_pass d) (λ d x y p q. p ∙ sym q) a.0 b.0 r s
     (first_once (statements bytes) (length (lines_of bytes)) a.0 b.0 a.1 b.1) a.2 b.2
 
 pub reads_once : ReadsOnce

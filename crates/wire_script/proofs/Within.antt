@@ -9,7 +9,7 @@ use Rattle.wire_types.specs.declared.Fault.TheVariants.{TooLong, BadLine, Unknow
 use Rattle.wire_lines.specs.Said.{Said, Header, Node, Job, Rank, Calls, Call}
 use Rattle.wire_rehearsal.specs.Scripts.{IsCounted}
 use Rattle.wire_script.specs.Statements.{Statement}
-use Rattle.wire_script.specs.FirstPass.{Started, Declared, place_of, nothing, after, is_in_place, is_short, is_known, is_again, has_room, with_call, Judges, JudgesAll, FirstPass}
+use Rattle.wire_script.specs.FirstPass.{Started, Declared, number_or_count, nothing, after, is_in_place, is_short, is_known, is_again, has_room, with_call, Judges, JudgesAll, FirstPass}
 use Rattle.wire_script.specs.Reads.{Seen, numbered, process_of}
 use Rattle.wire_script.specs.Within.{call_count, IsWithinLimits}
 
@@ -44,7 +44,7 @@ kept d n (Node name) p r w = record { few_ranks = w.few_ranks; few_processes = w
 kept d n (Job name) p r w = record { few_ranks = omega arith; few_processes = w.few_processes; few_calls = w.few_calls; counted = w.counted }
 kept d n (Rank node) p r w =
     let room = ltb-true _ _ r in
-    let started : Started = record { job = length d.jobs - 1; rank = d.ranks; node = place_of d.nodes node; calls = [] } in
+    let started : Started = record { job = length d.jobs - 1; rank = d.ranks; node = number_or_count d.nodes node; calls = [] } in
     let more = length-append d.processes (started ∷ []) in
     let ranks = w.few_ranks in
     record {
@@ -92,7 +92,7 @@ first_within (line ∷ lines) n d (inr f) = absurd (let h = f.1 in cc)
 
 numbered_calls : (d : Declared) (s : Seen) (ps : List Started) → sum_by (λ p. length p.calls) (map (process_of d s) ps) ≡ call_count ps
 numbered_calls d s [] = refl
-numbered_calls d s (p ∷ ps) = let h = numbered_calls d s ps in omega (arith, sum_by-cons (λ q. length q.calls) (process_of d s p) (map (process_of d s) ps), length-map p.calls (λ c. numbered d s c.1))
+numbered_calls d s (p ∷ ps) = let h = numbered_calls d s ps in omega (arith, sum_by-cons (λ q. length q.calls) (process_of d s p) (map (process_of d s) ps), length-map p.calls (λ c. numbered d s p.job c.1))
 
 -- few enough processes and calls to number them
 pub counted_processes : (d : Declared) (s : Seen) → IsWithinLimits d → IsCounted (map (process_of d s) d.processes)

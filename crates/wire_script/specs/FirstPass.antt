@@ -1,8 +1,9 @@
 -- What the lines of a file declare, line by line, and which fault is the first.
 use Rattle.std.specs.Prelude.{◌≡◌, ℕ, ◌+◌, ◌-◌, ◌==◌, ◌&&◌, Bool, true, false, not, nat_lt, nat_le, List, [], ◌∷◌, ◌++◌, length, Result, Ok, Err, MatchResult, ◌⊎◌, if◌then◌else◌}
-use Rattle.std.specs.List.{list_any, position_or_len}
+use Rattle.std.specs.List.{list_any, list_all, position_or_len}
 use Rattle.std.specs.Str.{bytes_eq}
-use Rattle.wire_lines.specs.Said.{Call, Put, Commit, Get, Said, Header, Node, Job, Rank, Calls, Says}
+use Rattle.wire_lines.specs.Said.{Item, One, Every, Set, Own, Listed, Call, Put, Commit, Fence, Get, GetNow, Publish, Lookup, LookupWait, Unpublish}
+use Rattle.wire_lines.specs.Said.{Said, Header, Node, Job, Rank, Calls, Says}
 use Rattle.wire_script.specs.Limits.{limits}
 use Rattle.wire_script.specs.Statements.{Statement}
 use Rattle.wire_types.specs.declared.Fault.{Fault}
@@ -15,8 +16,8 @@ abbrev pub is_among : List Name → Name → Bool
 is_among names name = list_any (bytes_eq name) names
 
 -- the number of a name, or that of all where it isn't there
-abbrev pub place_of : List Name → Name → ℕ
-place_of names name = position_or_len (bytes_eq name) names
+abbrev pub number_or_count : List Name → Name → ℕ
+number_or_count names name = position_or_len (bytes_eq name) names
 
 -- a process: the number of its job, its rank, the number of its node, and its calls, each with its line
 pub record Started : Type 0 where
@@ -50,10 +51,24 @@ is_short_name name = nat_le (length name) limits.name_bytes
 abbrev pub is_short_value : List ℕ → Bool
 is_short_value value = nat_le (length value) limits.value_bytes
 
+abbrev pub is_short_item : Item → Bool
+is_short_item (One job rank) = is_short_name job
+is_short_item (Every job) = is_short_name job
+
+abbrev pub is_short_set : Set → Bool
+is_short_set Own = true
+is_short_set (Listed items) = list_all is_short_item items
+
 abbrev pub is_short_call : Call → Bool
 is_short_call (Put scope key value) = is_short_name key && is_short_value value
 is_short_call Commit = true
+is_short_call (Fence set collect) = is_short_set set
 is_short_call (Get job rank key) = is_short_name job && is_short_name key
+is_short_call (GetNow job rank key) = is_short_name job && is_short_name key
+is_short_call (Publish name value) = is_short_name name && is_short_value value
+is_short_call (Lookup name) = is_short_name name
+is_short_call (LookupWait name) = is_short_name name
+is_short_call (Unpublish name) = is_short_name name
 
 -- whether the names, keys and values are within their limits
 abbrev pub is_short : Said → Bool
@@ -99,7 +114,7 @@ after d line Header = d
 after d line (Node name) = record d { nodes = d.nodes ++ name ∷ [] }
 after d line (Job name) = record d { jobs = d.jobs ++ name ∷ []; ranks = 0 }
 after d line (Rank node) = record d {
-  processes = d.processes ++ record { job = length d.jobs - 1; rank = d.ranks; node = place_of d.nodes node; calls = [] } ∷ [];
+  processes = d.processes ++ record { job = length d.jobs - 1; rank = d.ranks; node = number_or_count d.nodes node; calls = [] } ∷ [];
   ranks = d.ranks + 1;
 }
 after d line (Calls call) = record d { processes = with_call d.processes (line, call); calls = d.calls + 1 }

@@ -6,3 +6,5 @@ pub mod Within
 pub mod Drafted
 pub mod Reads
 pub mod Tabled
+pub mod Targets
+pub mod Back

@@ -1,92 +1,216 @@
 -- The scripts that a text reads as, or its fault.
-use Rattle.std.specs.Prelude.{◌≡◌, ℕ, ◌+◌, ◌<◌, ◌≤◌, ◌⊎◌, ◌==◌, ◌&&◌, Bool, true, nat_lt, List, [], ◌∷◌, ◌++◌, length, map, take, count_by, Option, Some, None, Result, Ok, Err, MatchResult, if◌then◌else◌}
-use Rattle.std.specs.List.{position_or_len}
+use Rattle.std.specs.Prelude.{◌≡◌, ℕ, ◌+◌, ◌<◌, ◌≤◌, ◌⊎◌, ◌==◌, ◌&&◌, Bool, true, not, nat_lt, List, [], ◌∷◌, length, map, filter, flat_map, take, count_by, Option, Some, None, Result, Ok, Err, MatchResult, if◌then◌else◌}
+use Rattle.std.specs.List.{list_any, list_all, position_or_len}
+use Rattle.std.specs.Str.{bytes_eq}
 use Rattle.wire_types.specs.declared.Fault.{Fault}
-use Rattle.wire_types.specs.declared.Fault.TheVariants.{TooLong, UnknownName}
+use Rattle.wire_types.specs.declared.Fault.TheVariants.{TooLong, UnknownName, NotMember}
 use Rattle.wire_types.specs.declared.Call.{Call}
-use Rattle.wire_types.specs.declared.Call.TheVariants.{Put, Commit, Get}
+use Rattle.wire_types.specs.declared.Call.TheVariants.{Put, Commit, Fence, Get, GetNow, Publish, Lookup, LookupWait, Unpublish}
 use Rattle.wire_lines.specs.Text.{lines_of}
 use Rattle.wire_lines.specs.Said as said
 use Rattle.wire_rehearsal.specs.Scripts.{Process, Scripts}
 use Rattle.wire_script.specs.Limits.{limits}
 use Rattle.wire_script.specs.Statements.{statements}
-use Rattle.wire_script.specs.FirstPass.{Name, is_among, place_of, Started, Declared, FirstPass}
+use Rattle.wire_script.specs.FirstPass.{Name, is_among, number_or_count, Started, Declared, FirstPass}
 
 -- whether a process has this job, by its number, and this rank
 abbrev pub is_proc : ℕ → ℕ → Started → Bool
 is_proc job rank p = (p.job == job) && (p.rank == rank)
 
 -- the number of a process, or that of all where there is none
-abbrev pub proc_place : Declared → Name → ℕ → ℕ
-proc_place d job rank = position_or_len (is_proc (place_of d.jobs job) rank) d.processes
+abbrev pub proc_number : Declared → Name → ℕ → ℕ
+proc_number d job rank = position_or_len (is_proc (number_or_count d.jobs job) rank) d.processes
 
--- whether what a call names is there
-abbrev pub is_met : Declared → said.Call → Bool
-is_met d (said.Put scope key value) = true
-is_met d said.Commit = true
-is_met d (said.Get job rank key) = nat_lt (proc_place d job rank) (length d.processes)
+-- whether there is such a process
+unfoldable pub has_proc : Declared → Name → ℕ → Bool
+has_proc d job rank = nat_lt (proc_number d job rank) (length d.processes)
 
--- the first call that names what isn't there
-abbrev pub unmet_call : Declared → List (ℕ × said.Call) → Option Fault
-unmet_call d [] = None
-unmet_call d (c ∷ cs) = if is_met d c.1 then unmet_call d cs else Some (UnknownName c.0)
+-- whether an item of a set names a process
+abbrev pub names_it : Declared → said.Item → Started → Bool
+names_it d (said.One job rank) p = is_proc (number_or_count d.jobs job) rank p
+names_it d (said.Every job) p = p.job == number_or_count d.jobs job
+
+-- whether a process is in a set that a process of this job names
+abbrev pub is_in : Declared → ℕ → said.Set → Started → Bool
+is_in d own_job said.Own p = p.job == own_job
+is_in d own_job (said.Listed items) p = list_any (λ i. names_it d i p) items
+
+-- the numbers, the first of them n, of the processes that pass a test
+abbrev pub places_from : (Started → Bool) → ℕ → List Started → List ℕ
+places_from test n [] = []
+places_from test n (p ∷ ps) = if test p then n ∷ places_from test (n + 1) ps else places_from test (n + 1) ps
+
+-- the members of a set that a process of this job names
+abbrev pub members_of : Declared → ℕ → said.Set → List ℕ
+members_of d own_job set = places_from (is_in d own_job set) 0 d.processes
+
+-- whether what an item names is declared: a process, or only its job
+abbrev pub is_declared_item : Declared → said.Item → Bool
+is_declared_item d (said.One job rank) = has_proc d job rank
+is_declared_item d (said.Every job) = is_among d.jobs job
+
+abbrev pub is_declared_set : Declared → said.Set → Bool
+is_declared_set d said.Own = true
+is_declared_set d (said.Listed items) = list_all (is_declared_item d) items
+
+-- whether the processes and jobs that a call names are declared
+abbrev pub is_declared_call : Declared → said.Call → Bool
+is_declared_call d (said.Put scope key value) = true
+is_declared_call d said.Commit = true
+is_declared_call d (said.Fence set collect) = is_declared_set d set
+is_declared_call d (said.Get job rank key) = has_proc d job rank
+is_declared_call d (said.GetNow job rank key) = has_proc d job rank
+is_declared_call d (said.Publish name value) = true
+is_declared_call d (said.Lookup name) = true
+is_declared_call d (said.LookupWait name) = true
+is_declared_call d (said.Unpublish name) = true
+
+-- whether the caller is in the set of its fence
+abbrev pub is_with_caller : Declared → Started → said.Call → Bool
+is_with_caller d caller (said.Put scope key value) = true
+is_with_caller d caller said.Commit = true
+is_with_caller d caller (said.Fence set collect) = is_in d caller.job set caller
+is_with_caller d caller (said.Get job rank key) = true
+is_with_caller d caller (said.GetNow job rank key) = true
+is_with_caller d caller (said.Publish name value) = true
+is_with_caller d caller (said.Lookup name) = true
+is_with_caller d caller (said.LookupWait name) = true
+is_with_caller d caller (said.Unpublish name) = true
+
+-- the fault of a call of this process, on this line
+abbrev pub call_fault : Declared → Started → ℕ → said.Call → Option Fault
+call_fault d caller line call =
+    if not (is_declared_call d call) then Some (UnknownName line)
+    else if not (is_with_caller d caller call) then Some (NotMember line)
+    else None
 
 abbrev pub first_of : Option Fault → Option Fault → Option Fault
 first_of None f = f
 first_of (Some e) f = Some e
 
-abbrev pub unmet : Declared → List Started → Option Fault
-unmet d [] = None
-unmet d (p ∷ ps) = first_of (unmet_call d p.calls) (unmet d ps)
+-- the first fault of these calls of a process
+abbrev pub fault_in : Declared → Started → List (ℕ × said.Call) → Option Fault
+fault_in d caller [] = None
+fault_in d caller (c ∷ cs) = first_of (call_fault d caller c.0 c.1) (fault_in d caller cs)
 
--- the keys and the values of calls, each once, in the order in which they are first seen
+-- the first fault of the calls of these processes
+abbrev pub first_fault : Declared → List Started → Option Fault
+first_fault d [] = None
+first_fault d (p ∷ ps) = first_of (fault_in d p p.calls) (first_fault d ps)
+
+-- the keys that a call names: those of a put and a get
+abbrev pub keys_in : said.Call → List Name
+keys_in (said.Put scope key value) = key ∷ []
+keys_in said.Commit = []
+keys_in (said.Fence set collect) = []
+keys_in (said.Get job rank key) = key ∷ []
+keys_in (said.GetNow job rank key) = key ∷ []
+keys_in (said.Publish name value) = []
+keys_in (said.Lookup name) = []
+keys_in (said.LookupWait name) = []
+keys_in (said.Unpublish name) = []
+
+-- the names: those of a publish, a lookup and an unpublish
+abbrev pub names_in : said.Call → List Name
+names_in (said.Put scope key value) = []
+names_in said.Commit = []
+names_in (said.Fence set collect) = []
+names_in (said.Get job rank key) = []
+names_in (said.GetNow job rank key) = []
+names_in (said.Publish name value) = name ∷ []
+names_in (said.Lookup name) = name ∷ []
+names_in (said.LookupWait name) = name ∷ []
+names_in (said.Unpublish name) = name ∷ []
+
+-- the values: those of a put and a publish
+abbrev pub values_in : said.Call → List (List ℕ)
+values_in (said.Put scope key value) = value ∷ []
+values_in said.Commit = []
+values_in (said.Fence set collect) = []
+values_in (said.Get job rank key) = []
+values_in (said.GetNow job rank key) = []
+values_in (said.Publish name value) = value ∷ []
+values_in (said.Lookup name) = []
+values_in (said.LookupWait name) = []
+values_in (said.Unpublish name) = []
+
+-- the sets, by their members: that of a fence, called by a process of this job
+abbrev pub sets_in : Declared → ℕ → said.Call → List (List ℕ)
+sets_in d own_job (said.Put scope key value) = []
+sets_in d own_job said.Commit = []
+sets_in d own_job (said.Fence set collect) = members_of d own_job set ∷ []
+sets_in d own_job (said.Get job rank key) = []
+sets_in d own_job (said.GetNow job rank key) = []
+sets_in d own_job (said.Publish name value) = []
+sets_in d own_job (said.Lookup name) = []
+sets_in d own_job (said.LookupWait name) = []
+sets_in d own_job (said.Unpublish name) = []
+
+-- what all calls of these processes name, call by call, where f says what one call of a process of a job names
+abbrev pub in_calls : (ℕ → said.Call → List (List ℕ)) → List Started → List (List ℕ)
+in_calls f processes = flat_map (λ p. flat_map (λ c. f p.job c.1) p.calls) processes
+
+-- each once, in the order in which they are first seen
+abbrev pub first_seen : List (List ℕ) → List (List ℕ)
+first_seen [] = []
+first_seen (t ∷ ts) = t ∷ filter (λ u. not (bytes_eq t u)) (first_seen ts)
+
+-- what calls name
 pub record Seen : Type 0 where
   pub keys : List Name
+  pub names : List Name
   pub values : List (List ℕ)
+  pub sets : List (List ℕ)
 
-abbrev pub with_text : List (List ℕ) → List ℕ → List (List ℕ)
-with_text texts text = if is_among texts text then texts else texts ++ text ∷ []
+abbrev pub seen_in : Declared → Seen
+seen_in d = record {
+  keys = first_seen (in_calls (λ job. keys_in) d.processes);
+  names = first_seen (in_calls (λ job. names_in) d.processes);
+  values = first_seen (in_calls (λ job. values_in) d.processes);
+  sets = first_seen (in_calls (sets_in d) d.processes);
+}
 
-abbrev pub seen_with : Seen → said.Call → Seen
-seen_with s (said.Put scope key value) = record { keys = with_text s.keys key; values = with_text s.values value }
-seen_with s said.Commit = s
-seen_with s (said.Get job rank key) = record s { keys = with_text s.keys key }
-
-abbrev pub seen_after : Seen → List (ℕ × said.Call) → Seen
-seen_after s [] = s
-seen_after s (c ∷ cs) = seen_after (seen_with s c.1) cs
-
-abbrev pub all_seen : Seen → List Started → Seen
-all_seen s [] = s
-all_seen s (p ∷ ps) = all_seen (seen_after s p.calls) ps
-
-abbrev pub nothing_seen : Seen
-nothing_seen = record { keys = []; values = [] }
-
--- a call with numbers for what it names
-abbrev pub numbered : Declared → Seen → said.Call → Call
-numbered d s (said.Put scope key value) = Put scope (place_of s.keys key) (place_of s.values value)
-numbered d s said.Commit = Commit
-numbered d s (said.Get job rank key) = Get (record { number = proc_place d job rank }) (place_of s.keys key)
+-- a call of a process of this job, with numbers for what it names
+abbrev pub numbered : Declared → Seen → ℕ → said.Call → Call
+numbered d s own_job (said.Put scope key value) = Put scope (number_or_count s.keys key) (number_or_count s.values value)
+numbered d s own_job said.Commit = Commit
+numbered d s own_job (said.Fence set collect) = Fence (number_or_count s.sets (members_of d own_job set)) collect
+numbered d s own_job (said.Get job rank key) = Get (record { number = proc_number d job rank }) (number_or_count s.keys key)
+numbered d s own_job (said.GetNow job rank key) = GetNow (record { number = proc_number d job rank }) (number_or_count s.keys key)
+numbered d s own_job (said.Publish name value) = Publish (number_or_count s.names name) (number_or_count s.values value)
+numbered d s own_job (said.Lookup name) = Lookup (number_or_count s.names name)
+numbered d s own_job (said.LookupWait name) = LookupWait (number_or_count s.names name)
+numbered d s own_job (said.Unpublish name) = Unpublish (number_or_count s.names name)
 
 abbrev pub process_of : Declared → Seen → Started → Process
-process_of d s p = record { job = p.job; rank = p.rank; node = p.node; calls = map (λ c. numbered d s c.1) p.calls }
+process_of d s p = record { job = p.job; rank = p.rank; node = p.node; calls = map (λ c. numbered d s p.job c.1) p.calls }
 
 abbrev pub scripts_with : Declared → Seen → Scripts
-scripts_with d s = record { nodes = d.nodes; jobs = d.jobs; keys = s.keys; values = s.values; processes = map (process_of d s) d.processes }
+scripts_with d s = record {
+  nodes = d.nodes;
+  jobs = d.jobs;
+  keys = s.keys;
+  names = s.names;
+  values = s.values;
+  sets = s.sets;
+  processes = map (process_of d s) d.processes;
+}
 
 abbrev pub scripts_of : Declared → Scripts
-scripts_of d = scripts_with d (all_seen nothing_seen d.processes)
+scripts_of d = scripts_with d (seen_in d)
 
 -- the second pass: each call by all that is declared
-abbrev pub second_pass : Declared → Option Fault → Result Scripts Fault
-second_pass d None = Ok (scripts_of d)
-second_pass d (Some f) = Err f
+abbrev pub unless_fault : Declared → Option Fault → Result Scripts Fault
+unless_fault d None = Ok (scripts_of d)
+unless_fault d (Some f) = Err f
+
+abbrev pub second_pass : Declared → Result Scripts Fault
+second_pass d = unless_fault d (first_fault d d.processes)
 
 -- a text within the limit
 abbrev pub ReadsShort : List ℕ → Result Scripts Fault → Type 0
 ReadsShort bytes r = (q : Result Declared Fault) × FirstPass (statements bytes) (length (lines_of bytes)) q
-    × MatchResult q (λ d. r ≡ second_pass d (unmet d d.processes)) (λ f. r ≡ Err f)
+    × MatchResult q (λ d. r ≡ second_pass d) (λ f. r ≡ Err f)
 
 -- the text reads as these scripts, or its first fault is this one
 abbrev pub Reads : List ℕ → Result Scripts Fault → Type 0

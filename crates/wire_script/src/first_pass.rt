@@ -1,13 +1,13 @@
 //! The first pass: each line by itself and by those before it.
 
-ghost use Rattle.std.specs.Prelude.{◌≡◌, ◌+◌, ◌<◌, ◌≤◌, ◌⊎◌, true, false, Ok, Err, map, length, ◌^◌, ◌↔◌, IsTrue, OnOk, IfOk, IfErr, MatchResult};
-ghost use Rattle.wire_lines.specs.Said.{Says, Header};
+ghost use Rattle.std.specs.Prelude.{◌≡◌, ◌+◌, ◌<◌, ◌≤◌, ◌⊎◌, true, false, Ok, Err, map, length, ◌^◌, OnOk, IfOk, IfErr, MatchResult};
+ghost use Rattle.std.specs.List.{list_all};
 ghost use Rattle.wire_lines.specs.Text.{lines_of};
-ghost use Rattle.wire_lines.specs.Shown.{said_by, call_by};
+ghost use Rattle.wire_lines.specs.Shown.{said_by, call_by, item_by, set_by};
 ghost use Rattle.wire_script.specs.Limits as limit;
 ghost use Rattle.wire_script.specs.Statements.{statements};
 ghost use Rattle.wire_script.specs.Left.{left};
-ghost use Rattle.wire_script.specs.FirstPass as test;
+ghost use Rattle.wire_script.specs.FirstPass as spec;
 ghost use Rattle.wire_script.specs.FirstPass.{judged, after, nothing, Judges, JudgesAll, FirstPass};
 ghost use Rattle.wire_script.specs.Drafted.{declared_of};
 
@@ -15,28 +15,64 @@ use crate::draft::{Draft, Placed, Started};
 use crate::limits::{CALLS, JOBS, NAME_BYTES, NODES, PROCESSES, VALUE_BYTES};
 use crate::lines::Cursor;
 use std::alloc::{AllocError, Global};
-use wire_lines::{CallLine, Line, read_line};
+use wire_lines::{CallLine, Item, Line, Set, is_header, read_line};
 use wire_rehearsal::Texts;
 use wire_types::Fault;
 
 fn is_short_name(name: &[u8]) -> bool
-    ensures { result ≡ test.is_short_name name.now }
+    ensures { result ≡ spec.is_short_name name.now }
 {
     name.len() <= NAME_BYTES
 }
 
-fn is_short_call(call: CallLine) -> bool
-    ensures { result ≡ test.is_short_call (call_by call.entry) }
+fn is_short_value(value: &[u8]) -> bool
+    ensures { result ≡ spec.is_short_value value.now }
 {
-    match call {
-        CallLine::Put { key, value, .. } => is_short_name(key) && value.len() <= VALUE_BYTES,
-        CallLine::Commit => true,
-        CallLine::Get { owner, key } => is_short_name(owner.job) && is_short_name(key),
+    value.len() <= VALUE_BYTES
+}
+
+fn is_short_item(item: &Item) -> bool
+    ensures { result ≡ spec.is_short_item (item_by item.now) }
+{
+    match item {
+        Item::One(owner) => is_short_name(owner.job),
+        Item::Every(job) => is_short_name(job),
     }
 }
 
-fn is_short(said: Line) -> bool
-    ensures { result ≡ test.is_short (said_by said.entry) }
+fn are_short_items(items: &[Item]) -> bool
+    ensures { result ≡ list_all (λ i. spec.is_short_item (item_by i)) items.now }
+{
+    items.iter().all(|item| is_short_item(item))
+}
+
+#[tactic(auto, using(crate::proofs::Lists::all_of))]
+fn is_short_set(set: &Set) -> bool
+    ensures { result ≡ spec.is_short_set (set_by set.now) }
+{
+    match set {
+        Set::Own => true,
+        Set::Listed(items) => are_short_items(items),
+    }
+}
+
+fn is_short_call(call: &CallLine) -> bool
+    ensures { result ≡ spec.is_short_call (call_by call.now) }
+{
+    match call {
+        CallLine::Put { key, value, .. } => is_short_name(key) && is_short_value(value),
+        CallLine::Commit => true,
+        CallLine::Fence { set, .. } => is_short_set(set),
+        CallLine::Get { owner, key } | CallLine::GetNow { owner, key } => is_short_name(owner.job)
+            && is_short_name(key),
+        CallLine::Publish { name, value } => is_short_name(name) && is_short_value(value),
+        CallLine::Lookup { name } | CallLine::LookupWait { name } | CallLine::Unpublish { name } =>
+            { is_short_name(name) }
+    }
+}
+
+fn is_short(said: &Line) -> bool
+    ensures { result ≡ spec.is_short (said_by said.now) }
 {
     match said {
         Line::Header => true,
@@ -58,8 +94,8 @@ fn new_draft<'a>(alloc: Global) -> Draft<'a>
     }
 }
 
-fn is_in_place(draft: &Draft, said: Line) -> bool
-    ensures { result ≡ test.is_in_place (declared_of draft.now) (said_by said.entry) }
+fn is_in_place(draft: &Draft, said: &Line) -> bool
+    ensures { result ≡ spec.is_in_place (declared_of draft.now) (said_by said.now) }
 {
     match said {
         Line::Header => false,
@@ -70,8 +106,8 @@ fn is_in_place(draft: &Draft, said: Line) -> bool
     }
 }
 
-fn is_known(draft: &Draft, said: Line) -> bool
-    ensures { result ≡ test.is_known (declared_of draft.now) (said_by said.entry) }
+fn is_known(draft: &Draft, said: &Line) -> bool
+    ensures { result ≡ spec.is_known (declared_of draft.now) (said_by said.now) }
 {
     match said {
         Line::Rank(node) => draft.nodes.contains(node),
@@ -79,8 +115,8 @@ fn is_known(draft: &Draft, said: Line) -> bool
     }
 }
 
-fn is_again(draft: &Draft, said: Line) -> bool
-    ensures { result ≡ test.is_again (declared_of draft.now) (said_by said.entry) }
+fn is_again(draft: &Draft, said: &Line) -> bool
+    ensures { result ≡ spec.is_again (declared_of draft.now) (said_by said.now) }
 {
     match said {
         Line::Node(name) => draft.nodes.contains(name),
@@ -89,8 +125,8 @@ fn is_again(draft: &Draft, said: Line) -> bool
     }
 }
 
-fn has_room(draft: &Draft, said: Line) -> bool
-    ensures { result ≡ test.has_room (declared_of draft.now) (said_by said.entry) }
+fn has_room(draft: &Draft, said: &Line) -> bool
+    ensures { result ≡ spec.has_room (declared_of draft.now) (said_by said.now) }
 {
     match said {
         Line::Header => true,
@@ -102,11 +138,14 @@ fn has_room(draft: &Draft, said: Line) -> bool
 }
 
 /// The fault of a line that says this.
-fn judge(draft: &Draft, line: u64, said: Line) -> Result<(), Fault>
-    ensures judged { MatchResult result (λ _. judged (declared_of draft.now) line (said_by said.entry) ≡ Ok (after (declared_of draft.now) line (said_by said.entry))) (λ e. judged (declared_of draft.now) line (said_by said.entry) ≡ Err e) }
-    ensures place { OnOk result (test.is_in_place (declared_of draft.now) (said_by said.entry) ≡ true) }
-    ensures new { OnOk result (test.is_again (declared_of draft.now) (said_by said.entry) ≡ false) }
-    ensures room { OnOk result (test.has_room (declared_of draft.now) (said_by said.entry) ≡ true) }
+fn judge(draft: &Draft, line: u64, said: &Line) -> Result<(), Fault>
+    ensures judged { MatchResult result
+        (λ _. judged (declared_of draft.now) line (said_by said.now)
+        ≡ Ok (after (declared_of draft.now) line (said_by said.now)))
+        (λ e. judged (declared_of draft.now) line (said_by said.now) ≡ Err e) }
+    ensures place { OnOk result (spec.is_in_place (declared_of draft.now) (said_by said.now) ≡ true) }
+    ensures new { OnOk result (spec.is_again (declared_of draft.now) (said_by said.now) ≡ false) }
+    ensures room { OnOk result (spec.has_room (declared_of draft.now) (said_by said.now) ≡ true) }
 {
     if !is_in_place(draft, said) {
         Err(Fault::BadLine(line))
@@ -130,9 +169,9 @@ fn add<'a>(
     line: u64,
     said: Line<'a>,
 ) -> Result<(), AllocError>
-    requires place { test.is_in_place (declared_of draft.old) (said_by said) ≡ true }
-    requires new { test.is_again (declared_of draft.old) (said_by said) ≡ false }
-    requires room { test.has_room (declared_of draft.old) (said_by said) ≡ true }
+    requires place { spec.is_in_place (declared_of draft.old) (said_by said) ≡ true }
+    requires new { spec.is_again (declared_of draft.old) (said_by said) ≡ false }
+    requires room { spec.has_room (declared_of draft.old) (said_by said) ≡ true }
     ensures { OnOk result (declared_of draft.new ≡ after (declared_of draft.old) line (said_by said.entry)) }
 {
     match said {
@@ -146,7 +185,7 @@ fn add<'a>(
         Line::Rank(name) => {
             let job = draft.jobs.len() - 1;
             let rank = draft.ranks;
-            let node = draft.nodes.place_of(name);
+            let node = draft.nodes.number_or_count(name);
             let calls = Vec::new(alloc);
             draft.processes.push(Started {
                 job,
@@ -174,32 +213,19 @@ fn take<'a>(
     line: u64,
     words: &[&'a [u8]],
 ) -> Result<(), Fault>
-    ensures ok { OnOk result (Judges (declared_of draft.old) (line, map (λ w. w.now) words.now) (Ok (declared_of draft.new))) }
-    ensures err { IfErr result (λ e. (e ≡ Fault.Memory) ⊎ Judges (declared_of draft.old) (line, map (λ w. w.now) words.now) (Err e)) }
+    ensures ok { OnOk result
+        (Judges (declared_of draft.old) (line, map (λ w. w.now) words.now) (Ok (declared_of draft.new))) }
+    ensures err { IfErr result
+        (λ e. (e ≡ Fault.Memory) ⊎ Judges (declared_of draft.old) (line, map (λ w. w.now) words.now) (Err e)) }
 {
-    let Some(said) = read_line(words) else {
+    let Some(said) = read_line(alloc, words)? else {
         return Err(Fault::BadLine(line));
     };
-    if let Err(fault) = judge(draft, line, said) {
+    if let Err(fault) = judge(draft, line, &said) {
         return Err(fault);
     }
     add(draft, alloc, line, said)?;
     Ok(())
-}
-
-fn is_header(words: &[&[u8]]) -> bool
-    ensures { IsTrue result ↔ Says (map (λ w. w.now) words.now) Header }
-{
-    let Some(said) = read_line(words) else {
-        return false;
-    };
-    is_header_said(said)
-}
-
-fn is_header_said(said: Line) -> bool
-    ensures { IsTrue result ↔ (said_by said.entry ≡ Header) }
-{
-    matches!(said, Line::Header)
 }
 
 /// The lines after the header.
@@ -220,8 +246,10 @@ fn declare_all<'a>(alloc: Global, cursor: &mut Cursor<'a>) -> Result<Draft<'a>, 
 /// What a file declares.
 pub fn first_pass<'a>(alloc: Global, bytes: &'a [u8]) -> Result<Draft<'a>, Fault>
     requires { length bytes.now ≤ limit.limits.file_bytes }
-    ensures ok { IfOk result (λ d. FirstPass (statements bytes.now) (length (lines_of bytes.now)) (Ok (declared_of d))) }
-    ensures err { IfErr result (λ e. (e ≡ Fault.Memory) ⊎ FirstPass (statements bytes.now) (length (lines_of bytes.now)) (Err e)) }
+    ensures ok { IfOk result
+        (λ d. FirstPass (statements bytes.now) (length (lines_of bytes.now)) (Ok (declared_of d))) }
+    ensures err { IfErr result
+        (λ e. (e ≡ Fault.Memory) ⊎ FirstPass (statements bytes.now) (length (lines_of bytes.now)) (Err e)) }
 {
     let mut cursor = Cursor::new(bytes);
     let Some(first) = cursor.next_line(alloc)? else {

@@ -5,8 +5,11 @@ mod draft;
 mod first_pass;
 mod limits;
 mod lines;
+mod members;
+mod numbers;
 mod reader;
 mod second_pass;
 
-pub use reader::{read, reads_once};
-pub use wire_rehearsal::{Process, Scripts, Texts};
+pub use lines::{Cursor, Statement};
+pub use reader::{read, reads_back, reads_once};
+pub use wire_rehearsal::{Process, Scripts, Sets, Texts};

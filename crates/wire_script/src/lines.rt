@@ -45,9 +45,11 @@ impl<'a> Cursor<'a> {
     /// The next line that isn't skipped.
     pub fn next_line(&mut self, alloc: Global) -> Result<Option<Statement<'a>>, AllocError>
         requires { self.old.line + length self.old.rest.now < 2 ^ 64 }
-        ensures left { IfOk result (λ next. MatchOption next (left self.old ≡ []) (λ l. left self.old ≡ stated l ∷ left self.new)) }
+        ensures left { IfOk result (λ next. MatchOption next (left self.old ≡ []) (λ l. left self.old
+            ≡ stated l ∷ left self.new)) }
         ensures end { OnOk result (end_of self.new ≡ end_of self.old) }
-        ensures last { IfOk result (λ next. MatchOption next (self.new.line ≡ end_of self.new) (λ l. l.number < self.new.line)) }
+        ensures last { IfOk result (λ next. MatchOption next (self.new.line
+            ≡ end_of self.new) (λ l. l.number < self.new.line)) }
         ensures room { self.new.line + length self.new.rest.now ≤ self.old.line + length self.old.rest.now }
     {
         'lines: while !self.rest.is_empty() {

@@ -2,17 +2,19 @@
 
 ghost use Rattle.std.specs.Prelude.{◌≡◌, ◌≤◌, ◌==◌, ◌⊎◌, ◌+◌, count_by, take, length, Ok, Err, IfOk, IfErr};
 ghost use Rattle.wire_script.specs.Limits as limit;
+ghost use Rattle.wire_script.specs.Back.{ReadsBack};
 ghost use Rattle.wire_script.specs.Reads.{Reads, ReadsShort, ReadsOnce};
 
 use crate::first_pass::first_pass;
 use crate::limits::FILE_BYTES;
-use crate::second_pass::{first_unmet, scripts_of};
+use crate::second_pass::scripts_of;
 use std::alloc::Global;
 use wire_rehearsal::Scripts;
 use wire_types::Fault;
 
 /// What a file says: its nodes and jobs, and the scripts of its processes. Of the faults of a file the
-/// first is given, with its line: `TooLong`, `BadHeader`, `BadLine`, `UnknownName`, `Twice` or `TooMany`.
+/// first is given, with its line: `TooLong`, `BadHeader`, `BadLine`, `UnknownName`, `Twice` or `TooMany`
+/// of the first pass over all lines, else `UnknownName` or `NotMember` of the second over the calls.
 pub fn read(alloc: Global, bytes: &[u8]) -> Result<Scripts, Fault>
     ensures ok { IfOk result (λ s. Reads bytes.now (Ok s)) }
     ensures err { IfErr result (λ e. (e ≡ Fault.Memory) ⊎ Reads bytes.now (Err e)) }
@@ -29,11 +31,7 @@ fn read_short(alloc: Global, bytes: &[u8]) -> Result<Scripts, Fault>
     ensures err { IfErr result (λ e. (e ≡ Fault.Memory) ⊎ ReadsShort bytes.now (Err e)) }
 {
     let draft = first_pass(alloc, bytes)?;
-    if let Some(fault) = first_unmet(&draft) {
-        return Err(fault);
-    }
-    let scripts = scripts_of(alloc, draft)?;
-    Ok(scripts)
+    scripts_of(alloc, draft)
 }
 
 /// The number of the line in which the limit falls.
@@ -47,4 +45,10 @@ fn line_past(bytes: &[u8], limit: usize) -> u64
 /// A law: a text reads as one value.
 pub fn reads_once()
     ensures { ReadsOnce }
+{}
+
+/// A law: the canonical text of scripts that were read reads as these scripts, where it is within the
+/// limit of a file.
+pub fn reads_back()
+    ensures { ReadsBack }
 {}

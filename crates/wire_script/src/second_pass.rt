@@ -1,208 +1,241 @@
-//! The second pass: each call by all that is declared.
+//! The second pass: each call by all that is declared, with numbers for what it names.
 
-ghost use Rattle.std.specs.Prelude.{◌≡◌, ◌+◌, ◌*◌, ◌≤◌, ◌<◌, ◌^◌, map, length, OnOk, IfOk};
-ghost use Rattle.wire_lines.specs.Shown.{call_by};
-ghost use Rattle.wire_script.specs.Reads as test;
-ghost use Rattle.wire_script.specs.Reads.{with_text, seen_with, seen_after, all_seen, nothing_seen, numbered, process_of, unmet_call, unmet};
+ghost use Rattle.std.specs.Prelude.{◌≡◌, ◌⊎◌, ◌+◌, ◌*◌, ◌≤◌, ◌<◌, ◌^◌, List, ℕ, Some, None, Ok, Err, true, false, map, length, OnOk, IfOk, IfErr};
+ghost use Rattle.wire_lines.specs.Shown.{call_by, set_by};
+ghost use Rattle.wire_script.specs.FirstPass.{number_or_count};
+ghost use Rattle.wire_script.specs.Reads as spec;
+ghost use Rattle.wire_script.specs.Reads.{Seen, is_declared_set, is_in, members_of, has_proc, proc_number, numbered, process_of, call_fault, fault_in, first_fault, second_pass};
 ghost use Rattle.wire_script.specs.Within.{IsWithinLimits};
 ghost use Rattle.wire_script.specs.Drafted.{declared_of, started_of, placed_of};
-ghost use Rattle.wire_script.specs.Tabled.{seen_of, text_count};
+ghost use Rattle.wire_script.specs.Tabled.{seen_of, seen_with, seen_after, all_seen, nothing_seen, entry_count, with_text, GoesOn, GoOn};
 
 use crate::draft::{Draft, Placed, Started};
-use std::alloc::{AllocError, Global};
-use wire_lines::{CallLine, ProcName};
-use wire_rehearsal::{Process, Scripts, Texts};
+use crate::members::{is_named, members_of, proc_of, targets_of};
+use crate::numbers::{number_set, number_text};
+use std::alloc::Global;
+use wire_lines::{CallLine, ProcName, Set};
+use wire_rehearsal::{Process, Scripts, Sets, Tables, Texts};
 use wire_types::{Call, Fault, Proc};
 
-/// The keys and the values of calls, each once, as first seen.
-#[derive(Drop)]
-struct Tables {
-    keys: Texts,
-    values: Texts,
-}
-
-fn is_proc(job: u32, rank: u32, process: &Started) -> bool
-    ensures { result ≡ test.is_proc job rank (started_of process.now) }
+/// The owner and the number of the key of a get, of either kind.
+fn number_get(
+    alloc: Global,
+    draft: &Draft,
+    keys: &mut Texts,
+    line: u64,
+    owner: ProcName,
+    key: &[u8],
+) -> Result<(Proc, u32), Fault>
+    requires within { IsWithinLimits (declared_of draft.now) }
+    requires room { length keys.old + 1 < 2 ^ 32 }
+    ensures declared { OnOk result
+        (has_proc (declared_of draft.now) owner.entry.job.now owner.entry.rank ≡ true) }
+    ensures owner { IfOk result
+        (λ g. g.0.number ≡ proc_number (declared_of draft.now) owner.entry.job.now owner.entry.rank) }
+    ensures key { IfOk result
+        (λ g. (later : List (List ℕ)) → GoesOn keys.new later → g.1 ≡ number_or_count later key.now) }
+    ensures keys { OnOk result (keys.new ≡ with_text keys.old key.now) }
+    ensures grown { OnOk result (length keys.new ≤ length keys.old + 1) }
+    ensures err { IfErr result (λ e. (e ≡ Fault.Memory)
+        ⊎ ((has_proc (declared_of draft.now) owner.entry.job.now owner.entry.rank ≡ false) × (e ≡ Fault.UnknownName line))) }
 {
-    process.job == job && process.rank == rank
-}
-
-/// The number of a process, or that of all where there is none.
-fn proc_place(draft: &Draft, owner: ProcName) -> usize
-    ensures place { result ≡ test.proc_place (declared_of draft.now) owner.entry.job.now owner.entry.rank }
-    ensures within { result ≤ length draft.now.processes.items }
-{
-    let job = draft.jobs.place_of(owner.job);
-    let mut place = 0;
-    for process in &draft.processes {
-        if is_proc(job, owner.rank, process) {
-            return place;
-        }
-        place += 1;
-    }
-    place
-}
-
-fn is_met(draft: &Draft, call: CallLine) -> bool
-    ensures { result ≡ test.is_met (declared_of draft.now) (call_by call.entry) }
-{
-    match call {
-        CallLine::Put { .. } | CallLine::Commit => true,
-        CallLine::Get { owner, .. } => proc_place(draft, owner) < draft.processes.len(),
-    }
-}
-
-/// The fault of the first call that names what isn't there.
-fn unmet_of(draft: &Draft, calls: &[Placed]) -> Option<Fault>
-    ensures { result ≡ unmet_call (declared_of draft.now) (map placed_of calls.now) }
-{
-    for placed in calls {
-        if !is_met(draft, placed.call) {
-            return Some(Fault::UnknownName(placed.line));
-        }
-    }
-    None
-}
-
-/// The fault of the first call of all that names what isn't there.
-pub fn first_unmet(draft: &Draft) -> Option<Fault>
-    ensures { result ≡ unmet (declared_of draft.now) (map started_of draft.now.processes.items) }
-{
-    for process in &draft.processes {
-        let fault = unmet_of(draft, &process.calls);
-        if fault.is_some() {
-            return fault;
-        }
-    }
-    None
-}
-
-/// Adds a text where it isn't there.
-fn add_new(texts: &mut Texts, alloc: Global, text: &[u8]) -> Result<(), AllocError>
-    requires { length texts.old + 1 < 2 ^ 32 }
-    ensures ok { OnOk result (texts.new ≡ with_text texts.old text.now) }
-    ensures grown { OnOk result (length texts.new ≤ length texts.old + 1) }
-{
-    if texts.contains(text) {
-        Ok(())
-    } else {
-        texts.add(alloc, text)
-    }
-}
-
-fn add_call(tables: &mut Tables, alloc: Global, call: CallLine) -> Result<(), AllocError>
-    requires { text_count tables.old + 2 < 2 ^ 32 }
-    ensures ok { OnOk result (seen_of tables.new ≡ seen_with (seen_of tables.old) (call_by call.entry)) }
-    ensures grown { OnOk result (text_count tables.new ≤ text_count tables.old + 2) }
-{
-    match call {
-        CallLine::Put { key, value, .. } => {
-            add_new(&mut tables.keys, alloc, key)?;
-            add_new(&mut tables.values, alloc, value)
-        }
-        CallLine::Commit => Ok(()),
-        CallLine::Get { key, .. } => add_new(&mut tables.keys, alloc, key),
-    }
-}
-
-fn add_calls(tables: &mut Tables, alloc: Global, calls: &[Placed]) -> Result<(), AllocError>
-    requires { text_count tables.old + 2 * length calls.now < 2 ^ 32 }
-    ensures ok { OnOk result (seen_of tables.new ≡ seen_after (seen_of tables.old) (map placed_of calls.now)) }
-    ensures grown { OnOk result (text_count tables.new ≤ text_count tables.old + 2 * length calls.now) }
-{
-    for placed in calls {
-        add_call(tables, alloc, placed.call)?;
-    }
-    Ok(())
-}
-
-/// The keys and the values of all calls.
-fn tables_of(alloc: Global, draft: &Draft) -> Result<Tables, AllocError>
-    requires { IsWithinLimits (declared_of draft.now) }
-    ensures { IfOk result (λ t. seen_of t ≡ all_seen nothing_seen (map started_of draft.now.processes.items)) }
-{
-    let mut tables = Tables {
-        keys: Texts::new(alloc),
-        values: Texts::new(alloc),
+    let Some(owner) = proc_of(draft, owner) else {
+        return Err(Fault::UnknownName(line));
     };
-    for process in &draft.processes {
-        add_calls(&mut tables, alloc, &process.calls)?;
-    }
-    Ok(tables)
+    let key = number_text(alloc, keys, key)?;
+    Ok((owner, key))
 }
 
-fn number_call(draft: &Draft, tables: &Tables, call: CallLine) -> Call
-    requires { IsWithinLimits (declared_of draft.now) }
-    ensures { result ≡ numbered (declared_of draft.now) (seen_of tables.now) (call_by call.entry) }
+/// The number of the set of a fence.
+fn number_fence(
+    alloc: Global,
+    draft: &Draft,
+    sets: &mut Sets,
+    caller: &Started,
+    line: u64,
+    set: &Set,
+) -> Result<u32, Fault>
+    requires within { IsWithinLimits (declared_of draft.now) }
+    requires room { length sets.old + 1 < 2 ^ 32 }
+    ensures declared { OnOk result (is_declared_set (declared_of draft.now) (set_by set.now) ≡ true) }
+    ensures caller { OnOk result
+        (is_in (declared_of draft.now) caller.now.job (set_by set.now) (started_of caller.now) ≡ true) }
+    ensures number { IfOk result (λ n. (later : List (List ℕ)) → GoesOn sets.new later
+        → n ≡ number_or_count later (spec.members_of (declared_of draft.now) caller.now.job (set_by set.now))) }
+    ensures sets { OnOk result
+        (sets.new ≡ with_text sets.old (spec.members_of (declared_of draft.now) caller.now.job (set_by set.now))) }
+    ensures grown { OnOk result (length sets.new ≤ length sets.old + 1) }
+    ensures err { IfErr result (λ e. (e ≡ Fault.Memory)
+        ⊎ ((is_declared_set (declared_of draft.now) (set_by set.now) ≡ false) × (e ≡ Fault.UnknownName line))
+        ⊎ ((is_declared_set (declared_of draft.now) (set_by set.now) ≡ true)
+        × (is_in (declared_of draft.now) caller.now.job (set_by set.now) (started_of caller.now) ≡ false)
+        × (e ≡ Fault.NotMember line))) }
 {
-    match call {
-        CallLine::Put { scope, key, value } => Call::Put {
-            scope,
-            key: tables.keys.place_of(key),
-            value: tables.values.place_of(value),
-        },
-        CallLine::Commit => Call::Commit,
-        CallLine::Get { owner, key } => Call::Get {
-            owner: Proc::new(proc_place(draft, owner) as u32),
-            key: tables.keys.place_of(key),
-        },
+    let Some(targets) = targets_of(alloc, draft, caller.job, set)? else {
+        return Err(Fault::UnknownName(line));
+    };
+    if !is_named(&targets, caller) {
+        return Err(Fault::NotMember(line));
+    }
+    let members = members_of(alloc, draft, &targets)?;
+    let number = number_set(sets, members)?;
+    Ok(number)
+}
+
+/// A call with numbers for what it names, or its fault.
+fn number_call(
+    alloc: Global,
+    draft: &Draft,
+    tables: &mut Tables,
+    caller: &Started,
+    placed: &Placed,
+) -> Result<Call, Fault>
+    requires within { IsWithinLimits (declared_of draft.now) }
+    requires room { entry_count (seen_of tables.old) + 2 < 2 ^ 32 }
+    ensures tables { OnOk result (seen_of tables.new
+        ≡ seen_with (declared_of draft.now) (seen_of tables.old) caller.now.job (call_by placed.now.call)) }
+    ensures call { IfOk result (λ c. (later : Seen) → GoOn (seen_of tables.new) later
+        → c ≡ numbered (declared_of draft.now) later caller.now.job (call_by placed.now.call)) }
+    ensures grown { OnOk result (entry_count (seen_of tables.new) ≤ entry_count (seen_of tables.old) + 2) }
+    ensures ok { OnOk result
+        (call_fault (declared_of draft.now) (started_of caller.now) placed.now.line (call_by placed.now.call) ≡ None) }
+    ensures err { IfErr result (λ e. (e ≡ Fault.Memory)
+        ⊎ (call_fault (declared_of draft.now) (started_of caller.now) placed.now.line (call_by placed.now.call) ≡ Some e)) }
+{
+    let line = placed.line;
+    match &placed.call {
+        CallLine::Put { scope, key, value } => Ok(Call::Put {
+            scope: *scope,
+            key: number_text(alloc, &mut tables.keys, key)?,
+            value: number_text(alloc, &mut tables.values, value)?,
+        }),
+        CallLine::Commit => Ok(Call::Commit),
+        CallLine::Fence { set, collect } => Ok(Call::Fence {
+            set: number_fence(alloc, draft, &mut tables.sets, caller, line, set)?,
+            collect: *collect,
+        }),
+        CallLine::Get { owner, key } => {
+            let (owner, key) = number_get(alloc, draft, &mut tables.keys, line, *owner, key)?;
+            Ok(Call::Get { owner, key })
+        }
+        CallLine::GetNow { owner, key } => {
+            let (owner, key) = number_get(alloc, draft, &mut tables.keys, line, *owner, key)?;
+            Ok(Call::GetNow { owner, key })
+        }
+        CallLine::Publish { name, value } => {
+            let name = number_text(alloc, &mut tables.names, name)?;
+            let value = number_text(alloc, &mut tables.values, value)?;
+            Ok(Call::Publish { name, value })
+        }
+        CallLine::Lookup { name } => Ok(Call::Lookup {
+            name: number_text(alloc, &mut tables.names, name)?,
+        }),
+        CallLine::LookupWait { name } => Ok(Call::LookupWait {
+            name: number_text(alloc, &mut tables.names, name)?,
+        }),
+        CallLine::Unpublish { name } => Ok(Call::Unpublish {
+            name: number_text(alloc, &mut tables.names, name)?,
+        }),
     }
 }
 
+/// The calls of a process with numbers for what they name, or the first fault.
 fn number_calls(
     alloc: Global,
     draft: &Draft,
-    tables: &Tables,
-    calls: &[Placed],
-) -> Result<Vec<Call>, AllocError>
-    requires { IsWithinLimits (declared_of draft.now) }
-    ensures { IfOk result (λ v. v.items ≡ map (λ c. numbered (declared_of draft.now) (seen_of tables.now) c.1) (map placed_of calls.now)) }
+    tables: &mut Tables,
+    caller: &Started,
+) -> Result<Vec<Call>, Fault>
+    requires within { IsWithinLimits (declared_of draft.now) }
+    requires room { entry_count (seen_of tables.old) + 2 * length caller.now.calls.items < 2 ^ 32 }
+    ensures tables { OnOk result (seen_of tables.new
+        ≡ seen_after (declared_of draft.now) (seen_of tables.old) caller.now.job (map placed_of caller.now.calls.items)) }
+    ensures calls { IfOk result (λ v. (later : Seen) → GoOn (seen_of tables.new) later
+        → v.items ≡ map (λ c. numbered (declared_of draft.now) later caller.now.job c.1) (map placed_of caller.now.calls.items)) }
+    ensures grown { OnOk result
+        (entry_count (seen_of tables.new) ≤ entry_count (seen_of tables.old) + 2 * length caller.now.calls.items) }
+    ensures ok { OnOk result
+        (fault_in (declared_of draft.now) (started_of caller.now) (map placed_of caller.now.calls.items) ≡ None) }
+    ensures err { IfErr result (λ e. (e ≡ Fault.Memory)
+        ⊎ (fault_in (declared_of draft.now) (started_of caller.now) (map placed_of caller.now.calls.items)
+        ≡ Some e)) }
 {
-    let mut out = Vec::new(alloc);
-    for placed in calls {
-        out.push(number_call(draft, tables, placed.call))?;
+    let mut calls = Vec::with_capacity(alloc, caller.calls.len())?;
+    for placed in &caller.calls {
+        let call = number_call(alloc, draft, tables, caller, placed)?;
+        if calls.push(call).is_err() {
+            return Err(Fault::Memory);
+        }
     }
-    Ok(out)
+    Ok(calls)
 }
 
 fn number_process(
     alloc: Global,
     draft: &Draft,
-    tables: &Tables,
+    tables: &mut Tables,
     process: &Started,
-) -> Result<Process, AllocError>
-    requires { IsWithinLimits (declared_of draft.now) }
-    ensures { IfOk result (λ p. p ≡ process_of (declared_of draft.now) (seen_of tables.now) (started_of process.now)) }
+) -> Result<Process, Fault>
+    requires within { IsWithinLimits (declared_of draft.now) }
+    requires room { entry_count (seen_of tables.old) + 2 * length process.now.calls.items < 2 ^ 32 }
+    ensures tables { OnOk result (seen_of tables.new
+        ≡ seen_after (declared_of draft.now) (seen_of tables.old) process.now.job (map placed_of process.now.calls.items)) }
+    ensures process { IfOk result (λ p. (later : Seen) → GoOn (seen_of tables.new) later
+        → p ≡ process_of (declared_of draft.now) later (started_of process.now)) }
+    ensures grown { OnOk result
+        (entry_count (seen_of tables.new) ≤ entry_count (seen_of tables.old) + 2 * length process.now.calls.items) }
+    ensures ok { OnOk result
+        (fault_in (declared_of draft.now) (started_of process.now) (map placed_of process.now.calls.items) ≡ None) }
+    ensures err { IfErr result (λ e. (e ≡ Fault.Memory)
+        ⊎ (fault_in (declared_of draft.now) (started_of process.now) (map placed_of process.now.calls.items) ≡ Some e)) }
 {
-    let calls = number_calls(alloc, draft, tables, &process.calls)?;
+    let calls = number_calls(alloc, draft, tables, process)?;
     Ok(Process::new(process.job, process.rank, process.node, calls))
 }
 
-/// The processes with their calls by number.
+/// The processes with numbers for what their calls name, or the first fault.
 fn number_processes(
     alloc: Global,
     draft: &Draft,
-    tables: &Tables,
-) -> Result<Vec<Process>, AllocError>
-    requires { IsWithinLimits (declared_of draft.now) }
-    ensures { IfOk result (λ v. v.items ≡ map (process_of (declared_of draft.now) (seen_of tables.now)) (map started_of draft.now.processes.items)) }
+    tables: &mut Tables,
+) -> Result<Vec<Process>, Fault>
+    requires within { IsWithinLimits (declared_of draft.now) }
+    requires empty { seen_of tables.old ≡ nothing_seen }
+    ensures tables { OnOk result (seen_of tables.new
+        ≡ all_seen (declared_of draft.now) nothing_seen (map started_of draft.now.processes.items)) }
+    ensures processes { IfOk result (λ v. v.items
+        ≡ map (process_of (declared_of draft.now) (seen_of tables.new)) (map started_of draft.now.processes.items)) }
+    ensures ok { OnOk result
+        (first_fault (declared_of draft.now) (map started_of draft.now.processes.items) ≡ None) }
+    ensures err { IfErr result (λ e. (e ≡ Fault.Memory)
+        ⊎ (first_fault (declared_of draft.now) (map started_of draft.now.processes.items) ≡ Some e)) }
 {
-    let mut out = Vec::new(alloc);
+    let mut processes = Vec::with_capacity(alloc, draft.processes.len())?;
     for process in &draft.processes {
         let numbered = number_process(alloc, draft, tables, process)?;
-        out.push(numbered)?;
+        if processes.push(numbered).is_err() {
+            return Err(Fault::Memory);
+        }
     }
-    Ok(out)
+    Ok(processes)
 }
 
-/// The scripts that a draft declares.
-pub fn scripts_of(alloc: Global, draft: Draft) -> Result<Scripts, AllocError>
+/// The scripts that a draft declares, or the first fault of its calls.
+pub fn scripts_of(alloc: Global, draft: Draft) -> Result<Scripts, Fault>
     requires { IsWithinLimits (declared_of draft) }
-    ensures { IfOk result (λ s. s ≡ test.scripts_of (declared_of draft.entry)) }
+    ensures ok { IfOk result (λ s. second_pass (declared_of draft.entry) ≡ Ok s) }
+    ensures err { IfErr result (λ e. (e ≡ Fault.Memory) ⊎ (second_pass (declared_of draft.entry) ≡ Err e)) }
 {
-    let tables = tables_of(alloc, &draft)?;
-    let processes = number_processes(alloc, &draft, &tables)?;
+    let mut tables = Tables {
+        keys: Texts::new(alloc),
+        names: Texts::new(alloc),
+        values: Texts::new(alloc),
+        sets: Sets::new(alloc),
+    };
+    let processes = match number_processes(alloc, &draft, &mut tables) {
+        Ok(processes) => processes,
+        Err(fault) => return Err(fault),
+    };
     let Draft { nodes, jobs, .. } = draft;
-    let Tables { keys, values } = tables;
-    Ok(Scripts::new(nodes, jobs, keys, values, processes))
+    Ok(Scripts::new(nodes, jobs, tables, processes))
 }

@@ -1,11 +1,11 @@
 -- A commit stores all puts and keeps the index.
-use Rattle.std.proofs.Common.{◌≡◌, ◌∙◌, ℕ, zero, suc, ◌<◌, ◌≤◌, true, false, List, [], ◌∷◌, ◌++◌, map, take, drop, length, is_some, Option, Some, None, option_map, slice_get, inl, inr, refl, sym, ap, subst, arith, length-drop, ◌-◌}
+use Rattle.std.proofs.Common.{◌≡◌, ◌∙◌, ℕ, zero, suc, ◌<◌, ◌≤◌, true, false, List, [], ◌∷◌, ◌++◌, map, take, drop, length, is_some, nat_lt, Option, Some, None, option_map, slice_get, inl, inr, refl, sym, ap, subst, arith, length-drop, ◌-◌}
 use Rattle.std.proofs.lemmas.Bool.{cases_lt, true≢false, le-ltb, lt-ltb}
 use Rattle.std.proofs.lemmas.Option.{none-some, same_Some, slice_get-map, slice_get_within}
 use Rattle.std.proofs.lemmas.List.{length-map, take_all, drop_all, append-nil, take-append-le}
 use Rattle.wire_store.specs.declared.chain.Slot.{Slot}
 use Rattle.wire_store.specs.Kept.{first_commit, store_by}
-use Rattle.wire_store.specs.Slots.{put_in, store_slot, last_slot, IsStoredTo, IsIndexed}
+use Rattle.wire_store.specs.Slots.{put_in, store_slot, last_slot, IsStoredTo, IsNamed, IsIndexed}
 use Rattle.wire_store.proofs.Elements.{slice_get_same}
 use Rattle.wire_store.proofs.Linked.{last_slot_same}
 
@@ -88,6 +88,48 @@ same_keys slots committed at i = elim (cases_lt i committed) [
     go None = refl
     go (Some slot) = refl
 
+-- what a slot was before
+was_before : (slots : List Slot) (committed at i : ℕ) (now : Slot) → slice_get (stored_from committed at slots) i ≡ Some now → (was : Slot) × (slice_get slots i ≡ Some was) × (now.key ≡ was.key) × (now.stored_before ≡ was.stored_before) × (i < committed → now.stored_by ≡ was.stored_by) × (committed ≤ i → now.stored_by ≡ Some at)
+was_before slots committed at i now is = elim (cases_lt i committed) [
+  | inl low ↦ (now, sym (stored_from_low slots committed at i low) ∙ is, refl, refl, λ _. refl, λ high. absurd (omega (arith, low, high)))
+  | inr high ↦ go (slice_get slots i) refl high (sym (stored_from_high slots committed at i high) ∙ is)
+]
+  where
+    go : (o : Option Slot) → slice_get slots i ≡ o → committed ≤ i → option_map (store_slot at) o ≡ Some now → (was : Slot) × (slice_get slots i ≡ Some was) × (now.key ≡ was.key) × (now.stored_before ≡ was.stored_before) × (i < committed → now.stored_by ≡ was.stored_by) × (committed ≤ i → now.stored_by ≡ Some at)
+    go None e high h = absurd (none-some now h)
+    go (Some was) e high h =
+        let made : store_slot at was ≡ now = same_Some (store_slot at was) now h in (
+          was,
+          e,
+          ap (λ s. s.key) (sym made),
+          ap (λ s. s.stored_before) (sym made),
+          λ low. absurd (omega (arith, low, high)),
+          λ _. ap (λ s. s.stored_by) (sym made),
+        )
+
+is_low : (o : Option ℕ) (i j committed : ℕ) → is_some o ≡ nat_lt i committed → is_some o ≡ nat_lt j committed → committed ≤ i → committed ≤ j
+is_low o i j committed at_i at_j high = elim (cases_lt j committed) [
+  | inl low ↦ absurd (true≢false (sym (at_j ∙ lt-ltb j committed low) ∙ at_i ∙ le-ltb i committed high))
+  | inr le ↦ le
+]
+
+chained_commit : (slots : List Slot) (committed at i : ℕ) (now : Slot) {number_of : ℕ → Option ℕ} → IsIndexed slots committed number_of → ((key n : ℕ) → last_slot (stored_from committed at slots) key n ≡ last_slot slots key n) → slice_get (stored_from committed at slots) i ≡ Some now → IsNamed (stored_from committed at slots) i now
+chained_commit slots committed at i now index same is =
+    let was = was_before slots committed at i now is in
+    let named = index.chained i was.0 was.1 in
+    record {
+      among = named.among;
+      below = named.below;
+      names = was.3 ∙ named.names ∙ ap (λ k. last_slot slots k named.among) (sym was.2) ∙ sym (same now.key named.among);
+      together = λ j other there high low.
+          let old = was_before slots committed at j other there in
+          let alike : old.0.stored_by ≡ was.0.stored_by = named.together j old.0 old.1 high low in
+          elim (cases_lt i committed) [
+            | inl below ↦ old.4 (omega (arith, below, low)) ∙ alike ∙ sym (was.4 below)
+            | inr above ↦ old.5 (is_low was.0.stored_by i j committed (index.stored i was.0 was.1) (ap is_some (sym alike) ∙ index.stored j old.0 old.1) above) ∙ sym (was.5 above)
+          ];
+    }
+
 pub indexed_commit : (slots : List Slot) (committed at : ℕ) (number_of : ℕ → Option ℕ) → IsIndexed slots committed number_of → IsIndexed (stored_from committed at slots) (length slots) number_of
 indexed_commit slots committed at number_of index =
     let new = stored_from committed at slots in
@@ -100,6 +142,7 @@ indexed_commit slots committed at number_of index =
           (comes_from slots committed at i now index.stored is).stored ∙ sym (lt-ltb i (length slots) (omega (arith, low, len)));
       newest = λ key. index.newest key ∙ sym (same key (length slots)) ∙ ap (last_slot new key) (sym len);
       linked = λ i now is high. let low = slice_get_within new i now is in absurd (omega (arith, low, len, high));
+      chained = λ i now is. chained_commit slots committed at i now index same is;
     }
 
 pub puts_commit : (slots : List Slot) (committed at : ℕ) → IsStoredTo slots committed → map put_in (stored_from committed at slots) ≡ map (store_by at) (map put_in slots)

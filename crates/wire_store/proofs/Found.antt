@@ -7,14 +7,9 @@ use Rattle.wire_types.specs.Plan.{admits}
 use Rattle.wire_store.specs.declared.chain.Slot.{Slot}
 use Rattle.wire_store.specs.declared.seen.Seen.TheVariants.{Value, Outside}
 use Rattle.wire_store.specs.Kept.{KeptPut, last_put, last_stored, seen}
-use Rattle.wire_store.specs.Slots.{put_in, last_slot_with, last_slot, IsStoredTo, IsIndexed}
+use Rattle.wire_store.specs.Slots.{put_in, put_at, last_slot_with, last_slot, IsStoredTo, IsIndexed}
 use Rattle.wire_store.proofs.Elements.{take_get, missing_within}
 use Rattle.wire_store.proofs.Linked.{last_slot_below}
-
--- what the slot of this number holds
-abbrev pub put_at : List Slot → Option ℕ → Option KeptPut
-put_at slots None = None
-put_at slots (Some i) = option_map put_in (slice_get slots i)
 
 and_true : (b : Bool) → (b && true) ≡ b
 and_true true = refl
@@ -40,11 +35,12 @@ find_back test slots key (suc n) same le =
           | inr f ↦ rw f ih
         ]
 
-find_front : (test : KeptPut → Bool) (slots : List Slot) (m n : ℕ) → ((i : ℕ) (slot : Slot) → m ≤ i → slice_get slots i ≡ Some slot → test (put_in slot) ≡ false) → m ≤ n → n ≤ length slots → find test (reverse (take n (map put_in slots))) ≡ find test (reverse (take m (map put_in slots)))
+-- slots that fail the test don't matter
+pub find_front : (test : KeptPut → Bool) (slots : List Slot) (m n : ℕ) → ((i : ℕ) (slot : Slot) → m ≤ i → i < n → slice_get slots i ≡ Some slot → test (put_in slot) ≡ false) → m ≤ n → n ≤ length slots → find test (reverse (take n (map put_in slots))) ≡ find test (reverse (take m (map put_in slots)))
 find_front test slots m zero fails below le = let e : m ≡ 0 = omega (arith, below) in ap (λ k. find test (reverse (take k (map put_in slots)))) (sym e)
 find_front test slots m (suc n) fails below le = elim (cases_eq m (suc n)) [
   | inl e ↦ ap (λ k. find test (reverse (take k (map put_in slots)))) (sym e)
-  | inr ne ↦ go (slice_get slots n) refl (omega (arith, below, ne)) (find_front test slots m n fails (omega (arith, below, ne)) (omega (arith, le)))
+  | inr ne ↦ go (slice_get slots n) refl (omega (arith, below, ne)) (find_front test slots m n (λ i slot high low. fails i slot high (omega (arith, low))) (omega (arith, below, ne)) (omega (arith, le)))
 ]
   where
     go : (o : Option Slot) → slice_get slots n ≡ o → m ≤ n → find test (reverse (take n (map put_in slots))) ≡ find test (reverse (take m (map put_in slots))) → find test (reverse (take (suc n) (map put_in slots))) ≡ find test (reverse (take m (map put_in slots)))
@@ -52,7 +48,7 @@ find_front test slots m (suc n) fails below le = elim (cases_eq m (suc n)) [
     go (Some slot) e high ih =
         ap (λ xs. find test (reverse xs)) (take_get (map put_in slots) n (put_in slot) (slice_get-map put_in slots n ∙ ap (option_map put_in) e))
         ∙ ap (find test) (reverse-append (take n (map put_in slots)) (put_in slot ∷ []))
-        ∙ ap (λ b. cond b (Some (put_in slot)) (find test (reverse (take n (map put_in slots))))) (fails n slot high e)
+        ∙ ap (λ b. cond b (Some (put_in slot)) (find test (reverse (take n (map put_in slots))))) (fails n slot high (omega arith) e)
         ∙ ih
 
 -- the last put of a key is in the last slot of the key
@@ -67,7 +63,7 @@ last_stored_in slots key committed stored within =
     let test : KeptPut → Bool = λ p. p.key == key && is_some p.stored_by in
     ap (λ xs. find test (reverse xs)) (sym (take_all (length slots) (map put_in slots) (let len = length-map slots put_in in omega (arith, len))))
     ∙ find_front test slots committed (length slots)
-    (λ i slot high is. ap (λ b. slot.key == key && b) (stored i slot is ∙ le-ltb i committed high) ∙ and_false (slot.key == key))
+    (λ i slot high low is. ap (λ b. slot.key == key && b) (stored i slot is ∙ le-ltb i committed high) ∙ and_false (slot.key == key))
     within (omega arith)
     ∙ find_back test slots key committed
     (λ i slot low is. ap (λ b. slot.key == key && b) (stored i slot is ∙ lt-ltb i committed low) ∙ and_true (slot.key == key))

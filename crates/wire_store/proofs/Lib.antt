@@ -1,3 +1,4 @@
+pub mod Chained
 pub mod Committed
 pub mod Elements
 pub mod Found

@@ -1,11 +1,43 @@
 -- A put keeps the index.
-use Rattle.std.proofs.Common.{◌≡◌, ◌∙◌, ℕ, suc, ◌≤◌, List, [], ◌∷◌, ◌++◌, length, cond, is_some, nat_eq, Option, Some, None, option_map, inl, inr, sym, ap, subst, arith, length-append}
-use Rattle.std.proofs.lemmas.Bool.{le-ltb}
+use Rattle.std.proofs.Common.{◌≡◌, ◌∙◌, ℕ, suc, ◌<◌, ◌≤◌, false, List, [], ◌∷◌, ◌++◌, length, cond, is_some, nat_eq, Option, Some, None, option_map, inl, inr, refl, sym, ap, subst, arith, length-append}
+use Rattle.std.proofs.lemmas.Bool.{le-ltb, true≢false}
 use Rattle.std.proofs.lemmas.Option.{slice_get_within}
 use Rattle.wire_store.specs.declared.chain.Slot.{Slot}
-use Rattle.wire_store.specs.Slots.{last_slot_with, last_slot, IsIndexed}
+use Rattle.wire_store.specs.Slots.{last_slot_with, last_slot, IsNamed, IsIndexed}
 use Rattle.wire_store.proofs.Elements.{slice_get-append_left, slice_get-append_seam, slice_get_push}
 use Rattle.wire_store.proofs.Linked.{last_slot_same}
+
+-- an old slot of the chain
+chained_old : (slots : List Slot) (slot : Slot) (i : ℕ) (x : Slot) → IsNamed slots i x → i < length slots → ((key n : ℕ) → n ≤ length slots → last_slot (slots ++ slot ∷ []) key n ≡ last_slot slots key n) → IsNamed (slots ++ slot ∷ []) i x
+chained_old slots slot i x named within same =
+    let below = named.below in
+    record {
+      among = named.among;
+      below = named.below;
+      names = named.names ∙ sym (same x.key named.among (omega (arith, below, within)));
+      together = λ j other is high low. elim (slice_get_push slots slot j other is) [
+        | inl old ↦ named.together j other old high low
+        | inr here ↦ let last = here.0 in absurd (omega (arith, last, low, within))
+      ];
+    }
+
+not_stored : (o : Option ℕ) → is_some o ≡ false → o ≡ None
+not_stored None h = refl
+not_stored (Some commit) h = absurd (true≢false h)
+
+-- and the new one
+chained_new : (slots : List Slot) (slot : Slot) (committed i : ℕ) (x : Slot) {before : ℕ → Option ℕ} → IsIndexed slots committed before → slot.stored_by ≡ None → slot.stored_before ≡ last_slot slots slot.key committed → i ≡ length slots → slot ≡ x → last_slot (slots ++ slot ∷ []) slot.key committed ≡ last_slot slots slot.key committed → IsNamed (slots ++ slot ∷ []) i x
+chained_new slots slot committed i x index none previous last same same_last =
+    let within = index.within in
+    record {
+      among = committed;
+      below = omega (arith, within, last);
+      names = ap (λ s. s.stored_before) (sym same) ∙ previous ∙ sym same_last ∙ ap (λ k. last_slot (slots ++ slot ∷ []) k committed) (ap (λ s. s.key) same);
+      together = λ j other is high low. elim (slice_get_push slots slot j other is) [
+        | inl old ↦ not_stored other.stored_by (index.stored j other old ∙ le-ltb j committed high) ∙ sym none ∙ ap (λ s. s.stored_by) same
+        | inr here ↦ ap (λ s. s.stored_by) (sym here.1) ∙ ap (λ s. s.stored_by) same
+      ];
+    }
 
 -- a slot more
 pub indexed_push : (slots : List Slot) (committed : ℕ) (before after : ℕ → Option ℕ) (slot : Slot) → IsIndexed slots committed before → slot.stored_by ≡ None → slot.stored_before ≡ last_slot slots slot.key committed → ((key : ℕ) → after key ≡ cond (nat_eq slot.key key) (Some (length slots)) (before key)) → IsIndexed (slots ++ slot ∷ []) committed after
@@ -34,6 +66,10 @@ indexed_push slots committed before after slot index none previous puts =
             ap (λ s. s.stored_before) (sym here.1) ∙ previous
             ∙ sym (low_same slot.key committed index.within)
             ∙ ap (λ k. last_slot (slots ++ slot ∷ []) k committed) (ap (λ s. s.key) here.1)
+      ];
+      chained = λ i x is. elim (slice_get_push slots slot i x is) [
+        | inl old ↦ chained_old slots slot i x (index.chained i x old) (slice_get_within slots i x old) (λ key n le. low_same key n le)
+        | inr here ↦ chained_new slots slot committed i x index none previous here.0 here.1 (low_same slot.key committed index.within)
       ];
     }
 

@@ -1,6 +1,7 @@
 -- What a store tells of puts.
-use Rattle.std.proofs.Common.{◌≡◌, ◌∙◌, ℕ, zero, suc, Bool, true, false, List, [], ◌∷◌, ◌++◌, map, reverse, find, cond, ◌&&◌, ◌==◌, is_some, Option, Some, None, option_map, inl, inr, refl, sym, ap}
-use Rattle.std.proofs.lemmas.Bool.{cases_Bool}
+use Rattle.std.proofs.Common.{◌≡◌, ◌∙◌, ℕ, zero, suc, ◌≤◌, Bool, true, false, List, [], ◌∷◌, ◌++◌, map, reverse, find, cond, ◌&&◌, ◌==◌, is_some, Option, Some, None, option_map, inl, inr, refl, sym, ap, subst, arith}
+use Rattle.std.specs.Prelude.{⊤}
+use Rattle.std.proofs.lemmas.Bool.{cases_Bool, cases_eq, ltb-true, lt-ltb, le-ltb}
 use Rattle.std.proofs.lemmas.List.{reverse-append, map-append}
 use Rattle.wire_types.specs.Plan.{Event, Put, Commit, admits}
 use Rattle.wire_types.specs.Puts.{own_with, own_put, stored_with, stored_put, scope_in}
@@ -8,7 +9,7 @@ use Rattle.wire_types.specs.declared.Scope.{Scope}
 use Rattle.wire_types.specs.declared.CallAt.{CallAt}
 use Rattle.wire_store.specs.declared.seen.Seen.{Seen}
 use Rattle.wire_store.specs.declared.seen.Seen.TheVariants.{Value, Outside, Nothing}
-use Rattle.wire_store.specs.Kept.{KeptPut, first_commit, store_by, last_put, last_stored, seen, kept_with, kept_after}
+use Rattle.wire_store.specs.Kept.{KeptPut, first_commit, store_by, last_put, last_stored, is_stored_before, last_stored_before, seen, kept_with, kept_after}
 use Rattle.wire_store.specs.Told.{seen_put, StoreTells}
 
 -- a put that came last is the last of its key
@@ -58,6 +59,61 @@ last_stored-store key at puts =
     ∙ find_map_same (λ p. p.key == key && is_some p.stored_by) (λ p. p.key == key) (store_by at)
     (λ p. ap (λ b. p.key == key && b) (stored_then p.stored_by at) ∙ and_true (p.key == key)) (reverse puts)
 
+-- what an event adds to what was stored before an earlier one
+pub last_before-push : (key event : ℕ) (puts : List KeptPut) (put : KeptPut) → put.stored_by ≡ None → last_stored_before key event (puts ++ put ∷ []) ≡ last_stored_before key event puts
+last_before-push key event puts put none =
+    ap (find (λ p. p.key == key && is_stored_before event p.stored_by)) (reverse-append puts (put ∷ []))
+    ∙ elim (cases_Bool (put.key == key)) [
+      | inl t ↦ rw (t, none) refl
+      | inr f ↦ rw f refl
+    ]
+
+stored_later : (o : Option ℕ) (event at : ℕ) → event ≤ at → is_stored_before event (first_commit o at) ≡ is_stored_before event o
+stored_later None event at le = le-ltb at event le
+stored_later (Some earlier) event at le = refl
+
+pub last_before-store : (key event at : ℕ) (puts : List KeptPut) → event ≤ at → last_stored_before key event (map (store_by at) puts) ≡ option_map (store_by at) (last_stored_before key event puts)
+last_before-store key event at puts le =
+    ap (find (λ p. p.key == key && is_stored_before event p.stored_by)) (reverse-map (store_by at) puts)
+    ∙ find_map_same (λ p. p.key == key && is_stored_before event p.stored_by) (λ p. p.key == key && is_stored_before event p.stored_by) (store_by at)
+    (λ p. ap (λ b. p.key == key && b) (stored_later p.stored_by event at le)) (reverse puts)
+
+-- the puts that are stored were stored before the event
+abbrev AreBefore : ℕ → List KeptPut → Type 0
+AreBefore event [] = ⊤
+AreBefore event (put ∷ puts) = (is_stored_before event put.stored_by ≡ is_some put.stored_by) × AreBefore event puts
+
+AreBefore-append : (event : ℕ) (xs ys : List KeptPut) → AreBefore event xs → AreBefore event ys → AreBefore event (xs ++ ys)
+AreBefore-append event [] ys left right = right
+AreBefore-append event (x ∷ xs) ys left right = (left.0, AreBefore-append event xs ys left.1 right)
+
+AreBefore-reverse : (event : ℕ) (xs : List KeptPut) → AreBefore event xs → AreBefore event (reverse xs)
+AreBefore-reverse event [] all = tt
+AreBefore-reverse event (x ∷ xs) all =
+    subst (AreBefore event) (sym (reverse-append (x ∷ []) xs)) (AreBefore-append event (reverse xs) (x ∷ []) (AreBefore-reverse event xs all.1) (all.0, tt))
+
+found_alike : (key event : ℕ) (xs : List KeptPut) → AreBefore event xs → find (λ p. p.key == key && is_stored_before event p.stored_by) xs ≡ find (λ p. p.key == key && is_some p.stored_by) xs
+found_alike key event [] all = refl
+found_alike key event (x ∷ xs) all =
+    ap (λ b. cond (x.key == key && b) (Some x) (find (λ p. p.key == key && is_stored_before event p.stored_by) xs)) all.0
+    ∙ ap (cond (x.key == key && is_some x.stored_by) (Some x)) (found_alike key event xs all.1)
+
+later_too : (o : Option ℕ) (event : ℕ) → is_stored_before event o ≡ is_some o → is_stored_before (suc event) o ≡ is_some o
+later_too None event before = refl
+later_too (Some commit) event before = let low = ltb-true commit event before in lt-ltb commit (suc event) (omega (arith, low))
+
+AreBefore-later : (event : ℕ) (xs : List KeptPut) → AreBefore event xs → AreBefore (suc event) xs
+AreBefore-later event [] all = tt
+AreBefore-later event (x ∷ xs) all = (later_too x.stored_by event all.0, AreBefore-later event xs all.1)
+
+stored_now : (o : Option ℕ) (event : ℕ) → is_stored_before event o ≡ is_some o → is_stored_before (suc event) (first_commit o event) ≡ is_some (first_commit o event)
+stored_now None event before = lt-ltb event (suc event) (omega arith)
+stored_now (Some commit) event before = later_too (Some commit) event before
+
+AreBefore-store : (event : ℕ) (xs : List KeptPut) → AreBefore event xs → AreBefore (suc event) (map (store_by event) xs)
+AreBefore-store event [] all = tt
+AreBefore-store event (x ∷ xs) all = (stored_now x.stored_by event all.0, AreBefore-store event xs all.1)
+
 -- what a put shows
 abbrev shown : KeptPut → CallAt × Scope
 shown put = (put.call, put.scope)
@@ -97,6 +153,35 @@ module _ (event_of : ℕ → Option Event) (call_of : ℕ → CallAt) where
   stored_shown key (suc n) =
       stored_step key n (kept_after event_of call_of n) (stored_put event_of key n) (own_put event_of key n) (event_of n) (own_shown key n) (stored_shown key n)
 
+  kept_before : (n : ℕ) → AreBefore n (kept_after event_of call_of n)
+  kept_before zero = tt
+  kept_before (suc n) = go (event_of n) (kept_before n)
+    where
+      go : (o : Option Event) → AreBefore n (kept_after event_of call_of n) → AreBefore (suc n) (kept_with n (call_of n) (kept_after event_of call_of n) o)
+      go (Some (Put k scope)) all = AreBefore-append (suc n) (kept_after event_of call_of n) _ (AreBefore-later n (kept_after event_of call_of n) all) (refl, tt)
+      go (Some Commit) all = AreBefore-store n (kept_after event_of call_of n) all
+      go _ all = AreBefore-later n (kept_after event_of call_of n) all
+
+  before_at : (key n : ℕ) → option_map shown (last_stored_before key n (kept_after event_of call_of n)) ≡ option_map shown_at (stored_put event_of key n)
+  before_at key n =
+      ap (option_map shown) (found_alike key n (reverse (kept_after event_of call_of n)) (AreBefore-reverse n (kept_after event_of call_of n) (kept_before n)))
+      ∙ stored_shown key n
+
+  before_step : (key a n : ℕ) (puts : List KeptPut) (o : Option Event) → a ≤ n → option_map shown (last_stored_before key a (kept_with n (call_of n) puts o)) ≡ option_map shown (last_stored_before key a puts)
+  before_step key a n puts (Some (Put k scope)) le =
+      ap (option_map shown) (last_before-push key a puts (record { at = n; key = k; scope = scope; call = call_of n; stored_by = None }) refl)
+  before_step key a n puts (Some Commit) le = ap (option_map shown) (last_before-store key a n puts le) ∙ shown-store n (last_stored_before key a puts)
+  before_step key a n puts _ le = refl
+
+  before_shown : (key a n : ℕ) → a ≤ n → option_map shown (last_stored_before key a (kept_after event_of call_of n)) ≡ option_map shown_at (stored_put event_of key a)
+  before_shown key a zero le = let e : a ≡ 0 = omega arith in ap (λ m. option_map shown (last_stored_before key a (kept_after event_of call_of m))) (sym e) ∙ before_at key a
+  before_shown key a (suc n) le = elim (cases_eq a (suc n)) [
+    | inl e ↦ ap (λ m. option_map shown (last_stored_before key a (kept_after event_of call_of m))) (sym e) ∙ before_at key a
+    | inr ne ↦
+        before_step key a n (kept_after event_of call_of n) (event_of n) (omega (arith, ne, le))
+        ∙ before_shown key a n (omega (arith, ne, le))
+  ]
+
   abbrev seen_shown : Bool → Option (CallAt × Scope) → Seen
   seen_shown same None = Nothing
   seen_shown same (Some p) = cond (admits p.1 same) (Value p.0) Outside
@@ -128,5 +213,15 @@ module _ (event_of : ℕ → Option Event) (call_of : ℕ → CallAt) where
       ∙ ap (seen_shown same) (stored_shown key n)
       ∙ shown_is_seen same (stored_put event_of key n)
 
+pub tells_before : (event_of : ℕ → Option Event) (call_of : ℕ → CallAt) (key n a : ℕ) → a ≤ n → seen false (last_stored_before key a (kept_after event_of call_of n)) ≡ seen_put event_of call_of false (stored_put event_of key a)
+tells_before event_of call_of key n a le =
+    seen_is_shown event_of call_of false (last_stored_before key a (kept_after event_of call_of n))
+    ∙ ap (seen_shown event_of call_of false) (before_shown event_of call_of key a n le)
+    ∙ shown_is_seen event_of call_of false (stored_put event_of key a)
+
 pub store_tells : StoreTells
-store_tells event_of call_of key n = record { own = tells_own event_of call_of key n; others = tells_seen event_of call_of key n }
+store_tells event_of call_of key n = record {
+  own = tells_own event_of call_of key n;
+  others = tells_seen event_of call_of key n;
+  before = tells_before event_of call_of key n;
+}

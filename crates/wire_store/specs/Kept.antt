@@ -1,6 +1,6 @@
 -- What a store keeps of one process's puts and commits (PMIx Standard 5.0, Posting Key-Value Pairs).
 -- A put is held until its process's next commit, which stores all puts that no commit has stored before.
-use Rattle.std.specs.Prelude.{ℕ, zero, suc, List, [], ◌∷◌, ◌++◌, map, reverse, find, Bool, ◌&&◌, ◌==◌, is_some, Option, Some, None, if◌then◌else◌}
+use Rattle.std.specs.Prelude.{ℕ, zero, suc, List, [], ◌∷◌, ◌++◌, map, reverse, find, Bool, false, ◌&&◌, ◌==◌, nat_lt, is_some, Option, Some, None, if◌then◌else◌}
 use Rattle.wire_types.specs.Plan.{Event, Put, Commit, admits}
 use Rattle.wire_types.specs.declared.Scope.{Scope}
 use Rattle.wire_types.specs.declared.CallAt.{CallAt}
@@ -36,6 +36,15 @@ last_put key puts = find (λ put. put.key == key) (reverse puts)
 -- the last put of the key that some commit stored
 abbrev pub last_stored : ℕ → List KeptPut → Option KeptPut
 last_stored key puts = find (λ put. put.key == key && is_some put.stored_by) (reverse puts)
+
+-- whether a commit stored it before this event of the owner
+abbrev pub is_stored_before : ℕ → Option ℕ → Bool
+is_stored_before event None = false
+is_stored_before event (Some commit) = nat_lt commit event
+
+-- the last put of the key that some commit before this event stored
+abbrev pub last_stored_before : ℕ → ℕ → List KeptPut → Option KeptPut
+last_stored_before key event puts = find (λ put. put.key == key && is_stored_before event put.stored_by) (reverse puts)
 
 -- what a put shows to a process that is, or isn't, on the owner's node
 abbrev pub seen : Bool → Option KeptPut → Seen

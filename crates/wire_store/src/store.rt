@@ -1,10 +1,10 @@
 //! The store of one process.
 
-ghost use Rattle.std.specs.Prelude.{◌≡◌, ◌+◌, ◌<◌, [], ◌∷◌, ◌++◌, map, option_map, IfOk, IsOkUnless};
-ghost use Rattle.wire_store.specs.Kept.{store_by, last_put, last_stored, seen};
+ghost use Rattle.std.specs.Prelude.{◌≡◌, ◌+◌, ◌<◌, [], ◌∷◌, ◌++◌, false, map, option_map, IfOk, IsOkUnless};
+ghost use Rattle.wire_store.specs.Kept.{store_by, last_put, last_stored, last_stored_before, seen};
 
-use crate::chain::{Slot, last_stored, store_all};
-use crate::seen::{Seen, admits};
+use crate::chain::{Slot, last_before, last_stored, shown, store_all};
+use crate::seen::Seen;
 use std::alloc::Global;
 use std::collections::HashMap;
 use std::marker::Model;
@@ -97,14 +97,18 @@ impl RankStore {
         ensures { result ≡ seen same_node (last_stored key self.now.puts) }
     {
         let newest = self.newest.get(&key).copied();
-        let Some(i) = last_stored(&self.slots, newest, self.committed) else {
-            return Seen::Nothing;
-        };
-        let slot = self.slots[i];
-        if admits(slot.scope, same_node) {
-            Seen::Value(slot.call)
-        } else {
-            Seen::Outside
-        }
+        let last = last_stored(&self.slots, newest, self.committed);
+        shown(&self.slots, last, same_node)
+    }
+
+    /// What a process of another node saw under a key before this event of the owner: the last put of it
+    /// that a commit before the event has stored.
+    pub fn as_of(&self, key: u32, event: u32) -> Seen
+        ensures { result ≡ seen false (last_stored_before key event self.now.puts) }
+    {
+        let newest = self.newest.get(&key).copied();
+        let stored = last_stored(&self.slots, newest, self.committed);
+        let last = last_before(&self.slots, stored, event);
+        shown(&self.slots, last, false)
     }
 }

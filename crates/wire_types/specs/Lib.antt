@@ -2,6 +2,7 @@ pub mod Counting
 pub mod Fault
 pub mod Front
 pub mod Outcome
+pub mod Replies
 pub mod Plan
 pub mod Puts
 pub mod Fences

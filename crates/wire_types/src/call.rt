@@ -11,13 +11,25 @@ pub enum Scope {
     Global,
 }
 
-/// A call of a script. Keys and values are numbers in the tables of the scripts.
+/// A call of a script. Keys, names, values and sets of processes are numbers in the tables of the scripts.
 #[derive(Clone, Copy, Debug, PartialEq, Eq)]
 pub enum Call {
     /// `PMIx_Put`.
     Put { scope: Scope, key: u32, value: u32 },
     /// `PMIx_Commit`.
     Commit,
+    /// `PMIx_Fence` over a set of processes, with `PMIX_COLLECT_DATA` or without.
+    Fence { set: u32, collect: bool },
     /// `PMIx_Get` without directives, which waits for the value.
     Get { owner: Proc, key: u32 },
+    /// `PMIx_Get` with `PMIX_IMMEDIATE`, which is answered at once.
+    GetNow { owner: Proc, key: u32 },
+    /// `PMIx_Publish`.
+    Publish { name: u32, value: u32 },
+    /// `PMIx_Lookup`, which is answered at once.
+    Lookup { name: u32 },
+    /// `PMIx_Lookup` with `PMIX_WAIT`, which waits for the value.
+    LookupWait { name: u32 },
+    /// `PMIx_Unpublish` of one name.
+    Unpublish { name: u32 },
 }

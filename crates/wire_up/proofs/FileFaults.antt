@@ -1,13 +1,13 @@
 -- The faults of a file are those of its lines: no text reads as a fault of memory, of reading or of writing.
 use Rattle.std.proofs.Common.{◌≡◌, ◌≢◌, ◌∙◌, ◌⊎◌, sym, subst, refl, ℕ, List, [], ◌∷◌, length, Bool, true, false, not, Option, Some, None, Result, Ok, Err, IfErr, inl, inr, if◌then◌else◌}
 use Rattle.wire_types.specs.declared.Fault.{Fault}
-use Rattle.wire_types.specs.declared.Fault.TheVariants.{Memory, Read, Write, TooLong, BadHeader, BadLine, UnknownName, Twice, TooMany}
+use Rattle.wire_types.specs.declared.Fault.TheVariants.{Memory, Read, Write, TooLong, BadHeader, BadLine, UnknownName, Twice, NotMember, TooMany}
 use Rattle.wire_lines.specs.Said as said
 use Rattle.wire_lines.specs.Text.{lines_of}
 use Rattle.wire_rehearsal.specs.Scripts.{Scripts}
 use Rattle.wire_script.specs.Statements.{Statement, statements}
 use Rattle.wire_script.specs.FirstPass.{Started, Declared, is_in_place, is_short, is_known, is_again, has_room, after, judged, Judges, JudgesAll, FirstPass, nothing}
-use Rattle.wire_script.specs.Reads.{Reads, ReadsShort, is_met, unmet, unmet_call, first_of, second_pass}
+use Rattle.wire_script.specs.Reads.{Reads, ReadsShort, is_declared_call, is_with_caller, call_fault, fault_in, first_fault, first_of, unless_fault}
 
 -- a fault of a line, or of the length of the file
 abbrev is_of_file : Fault → Bool
@@ -16,6 +16,7 @@ is_of_file (BadHeader line) = true
 is_of_file (BadLine line) = true
 is_of_file (UnknownName line) = true
 is_of_file (Twice line) = true
+is_of_file (NotMember line) = true
 is_of_file (TooMany line) = true
 is_of_file _ = false
 
@@ -52,28 +53,32 @@ abbrev IsFaultOfFile : Option Fault → Type 0
 IsFaultOfFile None = Unit {0}
 IsFaultOfFile (Some f) = is_of_file f ≡ true
 
-or_unknown : (b : Bool) (o : Option Fault) (n : ℕ) → IsFaultOfFile o → IsFaultOfFile (if b then o else Some (UnknownName n))
-or_unknown true o n p = p
-or_unknown false o n p = refl
-
-unmet_call_of_file : (d : Declared) (calls : List (ℕ × said.Call)) → IsFaultOfFile (unmet_call d calls)
-unmet_call_of_file d [] = tt
-unmet_call_of_file d (c ∷ cs) = or_unknown (is_met d c.1) (unmet_call d cs) c.0 (unmet_call_of_file d cs)
-
 both_of_file : (e f : Option Fault) → IsFaultOfFile e → IsFaultOfFile f → IsFaultOfFile (first_of e f)
 both_of_file None f p q = q
 both_of_file (Some e) f p q = p
 
-unmet_of_file : (d : Declared) (processes : List Started) → IsFaultOfFile (unmet d processes)
-unmet_of_file d [] = tt
-unmet_of_file d (p ∷ ps) = both_of_file (unmet_call d p.calls) (unmet d ps) (unmet_call_of_file d p.calls) (unmet_of_file d ps)
+two_tests : (a b : Bool) (n : ℕ) → IsFaultOfFile (if a then Some (UnknownName n) else if b then Some (NotMember n) else None)
+two_tests true b n = refl
+two_tests false true n = refl
+two_tests false false n = tt
 
-second_of_file : (d : Declared) (o : Option Fault) → IsFaultOfFile o → IsOfFile (second_pass d o)
+call_of_file : (d : Declared) (p : Started) (n : ℕ) (call : said.Call) → IsFaultOfFile (call_fault d p n call)
+call_of_file d p n call = two_tests (not (is_declared_call d call)) (not (is_with_caller d p call)) n
+
+calls_of_file : (d : Declared) (p : Started) (calls : List (ℕ × said.Call)) → IsFaultOfFile (fault_in d p calls)
+calls_of_file d p [] = tt
+calls_of_file d p (c ∷ cs) = both_of_file (call_fault d p c.0 c.1) (fault_in d p cs) (call_of_file d p c.0 c.1) (calls_of_file d p cs)
+
+processes_of_file : (d : Declared) (processes : List Started) → IsFaultOfFile (first_fault d processes)
+processes_of_file d [] = tt
+processes_of_file d (p ∷ ps) = both_of_file (fault_in d p p.calls) (first_fault d ps) (calls_of_file d p p.calls) (processes_of_file d ps)
+
+second_of_file : (d : Declared) (o : Option Fault) → IsFaultOfFile o → IsOfFile (unless_fault d o)
 second_of_file d None p = tt
 second_of_file d (Some f) p = p
 
 short_of_file : (bytes : List ℕ) (r : Result Scripts Fault) → ReadsShort bytes r → IsOfFile r
-short_of_file bytes r (Ok d, first, is) = subst IsOfFile (sym is) (second_of_file d (unmet d d.processes) (unmet_of_file d d.processes))
+short_of_file bytes r (Ok d, first, is) = subst IsOfFile (sym is) (second_of_file d (first_fault d d.processes) (processes_of_file d d.processes))
 short_of_file bytes r (Err f, first, is) = subst IsOfFile (sym is) (first_of_file (statements bytes) (length (lines_of bytes)) (Err f) first)
 
 -- the fault of a text is one of a file

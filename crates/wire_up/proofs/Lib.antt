@@ -2,3 +2,4 @@ pub mod Came
 pub mod FileFaults
 pub mod Limited
 pub mod Told
+pub mod Followed

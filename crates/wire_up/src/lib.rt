@@ -1,7 +1,9 @@
 //! Rehearsals of the wire-up of a PMIx job, from bytes to bytes.
 #![tactic(auto)]
 
+mod order;
 mod reading;
 mod replay;
 
+pub use order::follow;
 pub use replay::plain;

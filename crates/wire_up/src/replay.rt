@@ -20,7 +20,7 @@ use wire_types::{Fault, Outcome, Sink, Source};
 const FILE_BYTES_AND_ONE: usize = 4_194_305;
 
 /// The plan of a file that is read to its end.
-fn read_plan<R: Source>(alloc: Global, reader: &mut R) -> Result<Plan, Fault>
+pub(crate) fn read_plan<R: Source>(alloc: Global, reader: &mut R) -> Result<Plan, Fault>
     ensures ok { IfOk result (λ plan. ReadAs (R.coming reader.old) plan) }
     ensures quiet { OnOk result (R.failures reader.new ≡ R.failures reader.old) }
     ensures err { IfErr result (λ e. (e ≡ Memory) ⊎ (e ≡ Read) ⊎ Refuses (R.coming reader.old) e) }

@@ -1,7 +1,19 @@
-use Rattle.wire_script.proofs.Within.{counted_processes}
+use Rattle.std.proofs.Common.{◌∙◌, ap, sym, Ok}
+use Rattle.wire_script.specs.Reads.{unless_fault}
 use Rattle.wire_script.specs.Drafted.{declared_of}
 use Rattle.wire_script.specs.Tabled.{seen_of}
+use Rattle.wire_script.proofs.Sound.{scripts_are, sound_parts, second_fault}
 use Rattle.wire_script.proofs.second_pass.scripts_of.Goals as goal
 
-pub new-requires : goal.new-requires
-new-requires c = rw c.in_ok-processes.ensures (counted_processes (declared_of c.args.draft) (seen_of c.in_ok-tables.tables) c.requires)
+pub new-requires-5 : goal.new-requires-5
+new-requires-5 c =
+    sound_parts (declared_of c.args.draft) (seen_of c.number_processes.new.tables) c.in-Ok.processes.items
+    c.in-Ok.ensures.tables c.in-Ok.ensures.processes c.requires c.in-Ok.ensures.ok
+
+pub returns-clause-ok : goal.returns-clause-ok
+returns-clause-ok c =
+    ap (unless_fault (declared_of c.args.draft)) c.in-Ok.ensures.ok
+    ∙ ap Ok (sym (c.new-5.ensures ∙ scripts_are (declared_of c.args.draft) (seen_of c.number_processes.new.tables) c.in-Ok.processes.items c.in-Ok.ensures.tables c.in-Ok.ensures.processes))
+
+pub returns-in-Err-clause-err : goal.returns-in-Err-clause-err
+returns-in-Err-clause-err c = second_fault (declared_of c.args.draft) c.in-Err.fault c.in-Err.ensures.err

@@ -9,26 +9,26 @@ use Rattle.wire_plan.proofs.plan.Plan.event_total.Goals as goal
 
 pub total_of-requires : goal.total_of-requires
 total_of-requires c =
-    let rows = c.self.inside.events.items in
-    let total : sum_by (λ kinds. vec_len kinds) rows ≡ event_total (plan_of c.self.inside.scripts) =
-    sum_same _ _ rows (λ row. row.ok.0 ∙ sym (length-map row.items event_of))
-    ∙ total_shown (λ kinds. map event_of kinds.items) c.self.inside.scripts rows c.self.invariant.events in
-    let fits : event_total (plan_of c.self.inside.scripts) < 2 ^ 32 = total_fits c.self.inside.scripts c.self.invariant.counted.few_calls in
+    let rows = c.self.inside.rows.items in
+    let total : sum_by (λ row. vec_len row.kinds) rows ≡ event_total (plan_of c.self.inside.scripts) =
+    sum_same _ _ rows (λ row. row.kinds.ok.0 ∙ sym (length-map row.kinds.items (event_of c.self.inside.scripts.sets)))
+    ∙ total_shown (λ row. map (event_of c.self.inside.scripts.sets) row.kinds.items) c.self.inside.scripts rows c.self.invariant.0.events in
+    let fits : event_total (plan_of c.self.inside.scripts) < 2 ^ 32 = total_fits c.self.inside.scripts c.self.invariant.0.sound.counted.few_calls in
     rw c.deref.ensures.value (omega (arith, total, fits))
 
 pub returns-clause-total : goal.returns-clause-total
 returns-clause-total c =
-    let rows = c.self.inside.events.items in
+    let rows = c.self.inside.rows.items in
     c.total_of.ensures ∙ rw (c.deref.ensures.value, ← c.self.view_is)
-    (sum_same _ _ rows (λ row. row.ok.0 ∙ sym (length-map row.items event_of))
-    ∙ total_shown (λ kinds. map event_of kinds.items) c.self.inside.scripts rows c.self.invariant.events)
+    (sum_same _ _ rows (λ row. row.kinds.ok.0 ∙ sym (length-map row.kinds.items (event_of c.self.inside.scripts.sets)))
+    ∙ total_shown (λ row. map (event_of c.self.inside.scripts.sets) row.kinds.items) c.self.inside.scripts rows c.self.invariant.0.events)
 
 pub returns-clause-fits : goal.returns-clause-fits
 returns-clause-fits c =
-    let rows = c.self.inside.events.items in
-    let total : sum_by (λ kinds. vec_len kinds) rows ≡ event_total (plan_of c.self.inside.scripts) =
-    sum_same _ _ rows (λ row. row.ok.0 ∙ sym (length-map row.items event_of))
-    ∙ total_shown (λ kinds. map event_of kinds.items) c.self.inside.scripts rows c.self.invariant.events in
-    let fits : event_total (plan_of c.self.inside.scripts) < 2 ^ 32 = total_fits c.self.inside.scripts c.self.invariant.counted.few_calls in
+    let rows = c.self.inside.rows.items in
+    let total : sum_by (λ row. vec_len row.kinds) rows ≡ event_total (plan_of c.self.inside.scripts) =
+    sum_same _ _ rows (λ row. row.kinds.ok.0 ∙ sym (length-map row.kinds.items (event_of c.self.inside.scripts.sets)))
+    ∙ total_shown (λ row. map (event_of c.self.inside.scripts.sets) row.kinds.items) c.self.inside.scripts rows c.self.invariant.0.events in
+    let fits : event_total (plan_of c.self.inside.scripts) < 2 ^ 32 = total_fits c.self.inside.scripts c.self.invariant.0.sound.counted.few_calls in
     let told = rw c.deref.ensures.value at c.total_of.ensures in
     omega (arith, told, total, fits)

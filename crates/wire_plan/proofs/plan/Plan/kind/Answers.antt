@@ -10,13 +10,13 @@ use Rattle.wire_plan.proofs.plan.Plan.kind.Goals as goal
 pub bounds-events-event : goal.bounds-events-event
 unfolding event_count
 bounds-events-event c =
-    let counted : length c.events.result.now ≡ event_count (plan_of c.args.self.now) c.args.event.proc.number = sym (length-map c.events.result.now event_of) ∙ ap length c.events.ensures in
+    let counted : length c.events.result.now ≡ event_count (plan_of c.args.self.now) c.args.event.proc.number = sym (length-map c.events.result.now (event_of c.args.self.now.sets)) ∙ ap length c.events.ensures in
     rw counted c.requires
 
 pub returns : goal.returns
 unfolding event_count event_at
 returns c =
     let counted : length c.events.result.now ≡ event_count (plan_of c.args.self.now) c.args.event.proc.number =
-    sym (length-map c.events.result.now event_of) ∙ ap length c.events.ensures in
+    sym (length-map c.events.result.now (event_of c.args.self.now.sets)) ∙ ap length c.events.ensures in
     let within : c.args.event.at < length c.events.result.now = rw counted c.requires in
-    rw (← c.events.ensures) (slice_get-map event_of c.events.result.now c.args.event.at ∙ ap (option_map event_of) (slice_get-get_or c.events.result.now c.args.event.at _ within))
+    rw (← c.events.ensures) (slice_get-map (event_of c.args.self.now.sets) c.events.result.now c.args.event.at ∙ ap (option_map (event_of c.args.self.now.sets)) (slice_get-get_or c.events.result.now c.args.event.at _ within))

@@ -1,0 +1,33 @@
+-- An order of steps, one step at a time.
+use Rattle.std.proofs.Common.{◌≡◌, ◌∙◌, ap, sym, refl, subst, ℕ, zero, suc, ◌+◌, ◌<◌, ◌≤◌, List, [], ◌∷◌, ◌++◌, length, map, take, true, Some, arith, append_assoc}
+use Rattle.std.specs.Prelude.{slice_get, option_map}
+use Rattle.std.proofs.lemmas.Option.{slice_get-map, slice_get_within, same_Some}
+use Rattle.std.proofs.lemmas.List.{append-nil}
+use Rattle.wire_types.specs.declared.Proc.{Proc}
+use Rattle.wire_plan.specs.State.{start}
+use Rattle.wire_plan.specs.Machine.{is_enabled, IsInterleaving, run_from}
+use Rattle.wire_core.specs.Course.{Course, plan_in, state_of}
+use Rattle.wire_core.specs.Stops.{Follows}
+use Rattle.wire_core.proofs.Steps.{legal_push, run_append}
+
+take_more : (xs : List ℕ) (n x : ℕ) → slice_get xs n ≡ Some x → take (suc n) xs ≡ take n xs ++ x ∷ []
+take_more [] n x is = let lt = slice_get_within [] n x is in absurd (omega (arith, lt))
+take_more (y ∷ xs) zero x is = ap (λ z. z ∷ []) (same_Some _ _ is)
+take_more (y ∷ xs) (suc n) x is = ap (λ ys. y ∷ ys) (take_more xs n x is)
+
+-- no step
+pub follows_none : (course : Course) (order : List ℕ) → Follows course (take 0 order) course
+follows_none course order = record { enabled = tt; taken = λ i. record { scripts = course.scripts; history = sym (append-nil course.history) i } }
+
+-- one more, of a process that is enabled
+pub follows_more : (old now new : Course) (order : List ℕ) (n p : ℕ) → Follows old (take n order) now → slice_get order n ≡ Some p → is_enabled (plan_in now) (state_of now) p ≡ true → new ≡ record { scripts = now.scripts; history = now.history ++ p ∷ [] } → Follows old (take (suc n) order) new
+follows_more old now new order n p follows is on new_is =
+    let more = take_more order n p is in
+    let there : is_enabled (plan_in old) (run_from (plan_in old) (state_of old) (take n order)) p ≡ true =
+        ap (λ s. is_enabled (plan_in old) s p) (sym (run_append (plan_in old) start old.history (take n order)))
+        ∙ ap (λ c. is_enabled (plan_in c) (state_of c) p) (sym follows.taken) ∙ on in
+    subst (λ xs. Follows old xs new) (sym more) (record {
+      enabled = legal_push (plan_in old) (state_of old) (take n order) p follows.enabled there;
+      taken = new_is ∙ ap (λ (c : Course). record { scripts = c.scripts; history = c.history ++ p ∷ [] }) follows.taken
+          ∙ (λ i. record { scripts = old.scripts; history = append_assoc old.history (take n order) (p ∷ []) i });
+    })

@@ -1,0 +1,18 @@
+use Rattle.std.proofs.Common.{◌≡◌, ◌∙◌, ap, sym, Option, Some, None, true, refl}
+use Rattle.wire_types.specs.Plan.{Event, event_at}
+use Rattle.wire_rehearsal.specs.Planned.{plan_of}
+use Rattle.wire_plan.proofs.Basics.{event_within}
+use Rattle.wire_core.proofs.Meet.{has_fence, of_fence_within}
+use Rattle.wire_core.proofs.met.fence_of.Goals as goal
+
+pub call_of-requires : goal.call_of-requires
+call_of-requires c = of_fence_within (plan_of c.args.plan.now) c.args.event.proc.number c.args.event.at c.requires.half
+
+pub id_of-requires : goal.id_of-requires
+id_of-requires c =
+    rw c.call_of.ensures (has_fence c.args.plan.now c.args.fences.now c.args.event.proc.number c.args.event.at c.requires.fences c.requires.half).numbered
+
+pub returns : goal.returns
+returns c =
+    let found = rw c.call_of.ensures at c.id_of.ensures in
+    (has_fence c.args.plan.now c.args.fences.now c.args.event.proc.number c.args.event.at c.requires.fences c.requires.half).met c.id_of.result.number found

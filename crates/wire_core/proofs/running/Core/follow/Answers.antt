@@ -1,0 +1,15 @@
+use Rattle.std.proofs.Common.{◌≡◌, ◌∙◌, ◌+◌, ap, sym, subst, suc, map, take, arith}
+use Rattle.std.specs.Prelude.{option_map}
+use Rattle.std.proofs.lemmas.Option.{slice_get-map, slice_get-get_or}
+use Rattle.wire_core.specs.Stops.{Follows}
+use Rattle.wire_core.proofs.Following.{follows_more}
+use Rattle.wire_core.proofs.running.Core.follow.Goals as goal
+
+pub loop-step-preserved : goal.loop-step-preserved
+loop-step-preserved c =
+    let order = c.args.order.now in
+    let one : suc c.loop-step.step ≡ c.loop-step.step + 1 = omega arith in
+    subst (λ n. Follows c.args.self.now (take n (map (λ p. p.number) order)) c.step.new.self) one
+    (follows_more c.args.self.now c.loop-step.self c.step.new.self (map (λ p. p.number) order) c.loop-step.step _ c.loop-step.invariant
+    (slice_get-map (λ p. p.number) order c.loop-step.step ∙ ap (option_map (λ p. p.number)) (slice_get-get_or order c.loop-step.step _ c.loop-step-test.true))
+    (sym c.if-not-ready.ensures) c.step.ensures)

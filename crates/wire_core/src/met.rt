@@ -1,0 +1,115 @@
+//! The fences that events are part of.
+
+ghost use Rattle.std.specs.Prelude.{◌≡◌, ◌<◌, ◌≤◌, ℕ, suc, true, false, Some, length, option_map, IfSome, IfNone, OnSome};
+ghost use Rattle.wire_types.specs.Plan.{Arrive, place_of, event_at, event_count, event as event_in};
+ghost use Rattle.wire_types.specs.Fences.{arrivals as arrivals_of, is_complete as all_arrived};
+ghost use Rattle.wire_rehearsal.specs.Planned.{plan_of};
+ghost use Rattle.wire_fence.specs.Fences.{AreFencesOf};
+ghost use Rattle.wire_fence.specs.Arrivals.{TellsMissing, missing_at};
+ghost use Rattle.wire_plan.specs.Kinds.{event_of};
+ghost use Rattle.wire_plan.specs.Sight.{delivered};
+ghost use Rattle.wire_core.specs.Met.{is_of_fence, members_of, brings_at, stored_at, after_arrival, IsMet, IsArrival};
+
+use wire_fence::{Arrivals, FenceId, Fences};
+use wire_plan::{Kind, Plan};
+use wire_types::{Event, Proc};
+
+/// The fence that an event of the plan is part of.
+pub(crate) fn fence_of(plan: &Plan, fences: &Fences, event: Event) -> FenceId
+    requires fences { AreFencesOf plan.now fences.now }
+    requires half { is_of_fence (event_in (plan_of plan.now) (place_of event)) ≡ true }
+    ensures { IsMet plan.now fences.now (place_of event) result.number }
+{
+    fences.id_of(plan.call_of(event))
+}
+
+/// Whether all members have arrived at the fence that an event of the plan is part of.
+pub(crate) fn is_complete(
+    plan: &Plan,
+    fences: &Fences,
+    arrivals: &Arrivals,
+    event: Event,
+) -> bool
+    requires fences { AreFencesOf plan.now fences.now }
+    requires half { is_of_fence (event_in (plan_of plan.now) (place_of event)) ≡ true }
+    ensures { (cut : ℕ → ℕ) → TellsMissing plan.now cut fences.now arrivals.now
+        → result ≡ all_arrived (plan_of plan.now) cut (members_of (event_in (plan_of plan.now) (place_of event)))
+            (arrivals_of (plan_of plan.now) event.proc.number (members_of (event_in (plan_of plan.now) (place_of event))) (suc event.at)) }
+{
+    arrivals.complete(fence_of(plan, fences, event))
+}
+
+/// The fence at which an event of the plan, which is of this kind, arrives, where that is what it does.
+pub(crate) fn arrived_at(
+    plan: &Plan,
+    fences: &Fences,
+    event: Event,
+    kind: Kind,
+) -> Option<FenceId>
+    requires fences { AreFencesOf plan.now fences.now }
+    requires is { event_in (plan_of plan.now) (place_of event) ≡ Some (event_of plan.now.sets kind) }
+    ensures { IsArrival plan.now fences.now (place_of event) (option_map (λ f. f.number) result) }
+{
+    match kind {
+        Kind::Arrive { .. } => Some(fence_of(plan, fences, event)),
+        _ => None,
+    }
+}
+
+/// Notes the arrival of a process at a fence, where there is one.
+pub(crate) fn note_arrival(arrivals: &mut Arrivals, fence: Option<FenceId>, proc: Proc)
+    requires { IfSome fence (λ f. 0 < missing_at arrivals.old f.number) }
+    ensures { arrivals.new ≡ after_arrival (option_map (λ f. f.number) fence) arrivals.old }
+{
+    if let Some(fence) = fence {
+        arrivals.arrive(fence, proc);
+    }
+}
+
+/// Whether an event of the plan is an arrival at a fence that has brought the data of its process to a
+/// node.
+fn brings(
+    plan: &Plan,
+    fences: &Fences,
+    arrivals: &Arrivals,
+    event: Event,
+    node: u32,
+) -> bool
+    requires fences { AreFencesOf plan.now fences.now }
+    requires there { event.at < event_count (plan_of plan.now) event.proc.number }
+    ensures { (cut : ℕ → ℕ) → TellsMissing plan.now cut fences.now arrivals.now → result ≡ brings_at (plan_of plan.now) cut event.proc.number node event.at }
+{
+    match plan.kind(event) {
+        Kind::Arrive { .. } => {
+            let fence = fence_of(plan, fences, event);
+            arrivals.complete(fence) && fences.collects(fence) && fences.reaches(fence, node)
+        }
+        _ => false,
+    }
+}
+
+/// Of the arrivals of a process, so many of whose events are done, the last at a fence that has brought
+/// its data to a node.
+pub(crate) fn last_bringing(
+    plan: &Plan,
+    fences: &Fences,
+    arrivals: &Arrivals,
+    owner: Proc,
+    done: u32,
+    node: u32,
+) -> Option<u32>
+    requires fences { AreFencesOf plan.now fences.now }
+    requires within { done ≤ event_count (plan_of plan.now) owner.number }
+    ensures brought { (cut : ℕ → ℕ) (key : ℕ) → TellsMissing plan.now cut fences.now arrivals.now → cut owner.number ≡ done
+        → delivered (plan_of plan.now) cut owner.number node key (event_count (plan_of plan.now) owner.number) ≡ stored_at (plan_of plan.now) owner.number key result }
+    ensures done { IfSome result (λ at. at < done) }
+{
+    let mut at = done;
+    'events: while at > 0 {
+        at -= 1;
+        if brings(plan, fences, arrivals, Event { proc: owner, at }, node) {
+            return Some(at);
+        }
+    }
+    None
+}

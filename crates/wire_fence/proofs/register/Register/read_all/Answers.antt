@@ -1,0 +1,25 @@
+use Rattle.std.proofs.Common.{◌∙◌, ◌+◌, ◌<◌, List, Option, ℕ, length, map, Some, slice_get, subst, sym, ap, arith}
+use Rattle.std.proofs.lemmas.Option.{slice_get-get_or}
+use Rattle.std.proofs.lemmas.List.{map_push}
+use Rattle.wire_rehearsal.specs.Scripts.{numbers_of, calls_in}
+use Rattle.wire_fence.proofs.States.{AllRead, all_more_of}
+use Rattle.wire_fence.proofs.register.Register.read_all.Goals as goal
+
+pub read_calls-requires-clause-within : goal.read_calls-requires-clause-within
+read_calls-requires-clause-within c = λ k set_of_call collect is.
+    let low : c.loop-process.process-index < length c.args.processes.now = omega arith in
+    let here = slice_get-get_or c.args.processes.now c.loop-process.process-index c.process-item.result low ∙ ap Some (sym c.process-item.is) in
+    c.requires.within c.loop-process.process-index k set_of_call collect (ap (λ o. slice_get (calls_in o) k) here ∙ ap (λ calls. slice_get calls k) (sym c.calls.ensures) ∙ is)
+
+pub loop-process-preserved : goal.loop-process-preserved
+loop-process-preserved c =
+    let low : c.loop-process.process-index < length c.args.processes.now = omega arith in
+    record {
+      keyed = c.in_ok-numbers_there.ensures.keyed;
+      all = subst
+          (λ (xs : List (List (Option ℕ))). AllRead c.read_calls.new.self.rows.items (map (λ v. numbers_of v.items) c.args.sets.now) c.args.processes.now xs (c.loop-process.process-index + 1))
+          (sym (ap (map (λ v. v.items)) c.in_ok-push.ensures.items ∙ map_push (λ v. v.items) c.loop-process.numbers.items c.in_ok-numbers_there.numbers_there))
+          (all_more_of c.loop-process.self.rows.items c.read_calls.new.self.rows.items (map (λ v. numbers_of v.items) c.args.sets.now) c.args.processes.now (map (λ v. v.items) c.loop-process.numbers.items) c.in_ok-numbers_there.numbers_there.items c.loop-process.process-index c.process-item.result c.calls.result.now
+          c.loop-process.invariant.all low c.process-item.is c.calls.ensures
+          c.in_ok-numbers_there.ensures.few c.in_ok-numbers_there.ensures.numbers c.in_ok-numbers_there.ensures.kept c.in_ok-numbers_there.ensures.read);
+    }

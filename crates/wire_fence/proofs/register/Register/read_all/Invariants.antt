@@ -1,0 +1,11 @@
+use Rattle.std.proofs.Common.{map}
+use Rattle.wire_rehearsal.specs.Scripts.{numbers_of}
+use Rattle.wire_fence.specs.Rows.{IsKeyed}
+use Rattle.wire_fence.proofs.States.{AllRead}
+use Rattle.wire_fence.proofs.register.Register.read_all.Given as goal
+
+abbrev pub invariant-loop-process : goal.invariant-loop-process
+invariant-loop-process l = record {
+  keyed : IsKeyed l.self;
+  all : AllRead l.self.rows.items (map (λ v. numbers_of v.items) l.sets) l.processes (map (λ v. v.items) l.numbers.items) l.process-index;
+}

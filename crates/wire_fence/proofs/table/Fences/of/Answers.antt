@@ -1,0 +1,36 @@
+use Rattle.std.proofs.Common.{◌≡◌, ◌∙◌, ℕ, ◌<◌, List, length, map, get_or, subst, sym, ap, arith}
+use Rattle.std.proofs.lemmas.List.FromFn.{length-map-range_with_len}
+use Rattle.wire_types.specs.Fences.{has_node}
+use Rattle.wire_rehearsal.specs.Scripts.{Process, numbers_of, set_at}
+use Rattle.wire_rehearsal.specs.Planned.{plan_of}
+use Rattle.wire_procmap.specs.Map.{Map, process_count}
+use Rattle.wire_procmap.specs.Rows.{row_of}
+use Rattle.wire_fence.specs.Fences.{AreFencesOf}
+use Rattle.wire_fence.specs.Rows.{info_of, AreRead, AreAllNumbers, read_to}
+use Rattle.wire_fence.proofs.Tables.{fences_are, member_within}
+use Rattle.wire_fence.proofs.table.Fences.of.Goals as goal
+
+pub nodes_of_sets-requires : goal.nodes_of_sets-requires
+nodes_of_sets-requires c = λ k i low.
+    let s = c.args.scripts.now in
+    let sets : map (λ v. numbers_of v.items) c.deref.result.now ≡ s.sets = ap (map (λ v. numbers_of v.items)) c.deref.ensures.value ∙ c.in_ok-sets.ensures ∙ c.sets.ensures in
+    let low_there : i < length (set_at s.sets k) = subst (λ (xs : List (List ℕ)). i < length (set_at xs k)) sets low in
+    let within = member_within s k i c.processes-processes.ensures.sound low_there in
+    let same = ap (λ (xs : List (List ℕ)). get_or (set_at xs k) i 0) sets in
+    let count : process_count c.args.map.now ≡ length s.processes = ap (λ (m : Map). length m.rows) c.requires ∙ length-map-range_with_len (row_of s.processes) 0 (length s.processes) in
+    omega (arith, within, same, count)
+
+pub returns-clause-ok : goal.returns-clause-ok
+returns-clause-ok c =
+    let s = c.args.scripts.now in
+    let copied : map (λ v. numbers_of v.items) c.in_ok-sets.sets.items ≡ s.sets = c.in_ok-sets.ensures ∙ c.sets.ensures in
+    let looked_at : map (λ v. numbers_of v.items) c.deref.result.now ≡ s.sets = ap (map (λ v. numbers_of v.items)) c.deref.ensures.value ∙ copied in
+    let read : map (λ v. numbers_of v.items) c.deref-2.result.now ≡ s.sets = ap (map (λ v. numbers_of v.items)) c.deref-2.ensures.value ∙ copied in
+    let processes : c.processes-processes.result.now ≡ s.processes = c.processes-processes.ensures.processes in
+    let sound = c.processes-processes.ensures.sound in
+    subst (λ (xs : List (List ℕ)). AreFencesOf s (record { fences = map (info_of xs) c.read_all.new.self.rows.items; numbers = map (λ v. v.items) c.in_ok-numbers.numbers.items; nodes = map (λ v. v.items) c.in_ok-nodes.nodes.items })) (sym copied) (
+    fences_are s sound c.read_all.new.self.rows.items (map (λ v. v.items) c.in_ok-numbers.numbers.items) (map (λ v. v.items) c.in_ok-nodes.nodes.items)
+    (subst (λ (ps : List Process). AreRead s (read_to s (length ps)) c.read_all.new.self.rows.items) processes (c.in_ok-numbers.ensures.read s sound read processes))
+    (subst (λ (ps : List Process). AreAllNumbers c.read_all.new.self.rows.items ps (map (λ v. v.items) c.in_ok-numbers.numbers.items) (length ps)) processes c.in_ok-numbers.ensures.numbers)
+    (λ k node. c.in_ok-nodes.ensures s k node c.requires ∙ ap (λ (xs : List (List ℕ)). has_node (plan_of s) (set_at xs k) node) looked_at)
+    )

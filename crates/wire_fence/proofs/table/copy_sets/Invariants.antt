@@ -1,0 +1,6 @@
+use Rattle.std.proofs.Common.{◌≡◌, map, take}
+use Rattle.wire_rehearsal.specs.Scripts.{numbers_of}
+use Rattle.wire_fence.proofs.table.copy_sets.Given as goal
+
+abbrev pub invariant-loop-set : goal.invariant-loop-set
+invariant-loop-set l = map (λ v. numbers_of v.items) l.copy.items ≡ take l.set l.sets

@@ -1,0 +1,5 @@
+pub mod Fences
+pub mod Reading
+pub mod Rows
+pub mod Arrivals
+pub mod Laws

@@ -1,0 +1,166 @@
+//! The fences as calls are read: a row for each, by number.
+
+ghost use Rattle.std.specs.Prelude.{◌≡◌, ◌+◌, ◌<◌, ◌≤◌, ◌^◌, [], ℕ, map, length, slice_get, slice_index_or, OnOk, IfOk, Some};
+ghost use Rattle.wire_types.specs.declared.Call.TheVariants.{Fence as TheFence};
+ghost use Rattle.wire_types.specs.Plan.{update};
+ghost use Rattle.wire_rehearsal.specs.Scripts.{Scripts, IsSound, IsCounted, numbers_of, call_at, set_at};
+ghost use Rattle.wire_fence.specs.Fences.{calls_of};
+ghost use Rattle.wire_fence.specs.Rows.{IsKeyed, HasRow, IsCalled, IsAfter, AreNumbers, AreAllNumbers, AreRead, read_to, called};
+
+use indexmap::IndexSet;
+use std::alloc::{AllocError, Global};
+use wire_rehearsal::Process;
+use wire_types::{Call, Proc};
+
+// The nth fence over a set, as far as calls are read: how many members haven't called it, and whether
+// all that have say collect.
+#[derive(Clone, Copy)]
+pub(crate) struct Row {
+    pub set: u32,
+    pub nth: usize,
+    pub missing: usize,
+    pub collects: bool,
+}
+
+// The rows by number, and the number of each by set and nth.
+#[derive(Drop)]
+pub(crate) struct Register {
+    pub rows: Vec<Row>,
+    pub keys: IndexSet<(u32, usize)>,
+}
+
+impl Row {
+    fn called(self, collect: bool) -> Row
+        ensures { result ≡ called collect self }
+    {
+        Row {
+            set: self.set,
+            nth: self.nth,
+            missing: self.missing.saturating_sub(1),
+            collects: self.collects && collect,
+        }
+    }
+}
+
+// The members of a set, none where the number has no set.
+pub(crate) fn members_of(sets: &[Vec<Proc>], set: usize) -> &[Proc]
+    ensures { numbers_of result.now ≡ set_at (map (λ v. numbers_of v.items) sets.now) set }
+{
+    match sets.get(set) {
+        Some(members) => members.as_slice(),
+        None => &[],
+    }
+}
+
+impl Register {
+    pub(crate) fn new(alloc: Global) -> Register
+        ensures rows { result.rows.items ≡ [] }
+        ensures keyed { IsKeyed result }
+    {
+        Register {
+            rows: Vec::new(alloc),
+            keys: IndexSet::new(alloc),
+        }
+    }
+
+    // Counts a call of the nth fence over a set of so many members, and says the number of the fence.
+    pub(crate) fn add(
+        &mut self,
+        set: u32,
+        nth: usize,
+        members: usize,
+        collect: bool,
+    ) -> Result<usize, AllocError>
+        requires { IsKeyed self.old }
+        ensures keyed { OnOk result (IsKeyed self.new) }
+        ensures called { IfOk result (λ n. IsCalled self.old.rows.items set nth members collect n self.new.rows.items) }
+    {
+        let (number, is_new) = self.keys.insert_full((set, nth))?;
+        if is_new {
+            let row = Row {
+                set,
+                nth,
+                missing: members,
+                collects: true,
+            };
+            self.rows.push(row.called(collect))?;
+        } else {
+            let row = self.rows[number];
+            self.rows[number] = row.called(collect);
+        }
+        Ok(number)
+    }
+
+    // Reads a call of a process that has so many fence calls over each set before, and says the number
+    // of its fence, where it is a fence call.
+    fn read(
+        &mut self,
+        counts: &mut Vec<usize>,
+        sets: &[Vec<Proc>],
+        call: Call,
+    ) -> Result<Option<u32>, AllocError>
+        requires keyed { IsKeyed self.old }
+        requires room { length self.old.rows.items < 2 ^ 32 }
+        requires counts { (n : ℕ) → slice_index_or counts.old.items n 0 + 1 < 2 ^ 64 }
+        requires within { (set : ℕ) (collect : _) → call ≡ TheFence set collect → set < length counts.old.items }
+        ensures keyed { OnOk result (IsKeyed self.new) }
+        ensures after { IfOk result (λ number. IsAfter (map (λ v. numbers_of v.items) sets.now) call self.old.rows.items counts.old.items number self.new.rows.items counts.new.items) }
+    {
+        let Call::Fence { set, collect } = call else {
+            return Ok(None);
+        };
+        let nth = counts[set as usize] + 1;
+        counts[set as usize] = nth;
+        let number = self.add(set, nth, members_of(sets, set as usize).len(), collect)?;
+        Ok(Some(number as u32))
+    }
+
+    // Reads the calls of a process, and says the number of the fence of each that is a fence call.
+    fn read_calls(
+        &mut self,
+        alloc: Global,
+        sets: &[Vec<Proc>],
+        calls: &[Call],
+    ) -> Result<Vec<Option<u32>>, AllocError>
+        requires keyed { IsKeyed self.old }
+        requires room { length self.old.rows.items + length calls.now < 2 ^ 32 }
+        requires within { (c set : ℕ) (collect : _) → slice_get calls.now c ≡ Some (TheFence set collect) → set < length sets.now }
+        ensures keyed { OnOk result (IsKeyed self.new) }
+        ensures few { OnOk result (length self.new.rows.items ≤ length self.old.rows.items + length calls.now) }
+        ensures numbers { IfOk result (λ numbers. AreNumbers self.new.rows.items calls.now numbers.items (length calls.now)) }
+        ensures kept { OnOk result ((m k j : ℕ) → HasRow self.old.rows.items m k j → HasRow self.new.rows.items m k j) }
+        ensures read { OnOk result ((s : Scripts) (p : ℕ) (read : ℕ → ℕ) → IsSound s → map (λ v. numbers_of v.items) sets.now ≡ s.sets
+            → calls.now ≡ calls_of s p → read p ≡ 0 → AreRead s read self.old.rows.items → AreRead s (update read p (length calls.now)) self.new.rows.items) }
+    {
+        let mut counts = vec![in alloc; 0; sets.len()]?;
+        let mut numbers = Vec::with_capacity(alloc, calls.len())?;
+        for call in calls {
+            let number = self.read(&mut counts, sets, *call)?;
+            numbers.push(number)?;
+        }
+        Ok(numbers)
+    }
+
+    // Reads the calls of all processes. The rows are those of the fences then.
+    pub(crate) fn read_all(
+        &mut self,
+        alloc: Global,
+        sets: &[Vec<Proc>],
+        processes: &[Process],
+    ) -> Result<Vec<Vec<Option<u32>>>, AllocError>
+        requires keyed { IsKeyed self.old }
+        requires first { self.old.rows.items ≡ [] }
+        requires counted { IsCounted processes.now }
+        requires within { (p c set : ℕ) (collect : _) → call_at processes.now p c ≡ Some (TheFence set collect) → set < length sets.now }
+        ensures numbers { IfOk result (λ numbers. AreAllNumbers self.new.rows.items processes.now (map (λ v. v.items) numbers.items) (length processes.now)) }
+        ensures read { OnOk result ((s : Scripts) → IsSound s → map (λ v. numbers_of v.items) sets.now ≡ s.sets → processes.now ≡ s.processes
+            → AreRead s (read_to s (length processes.now)) self.new.rows.items) }
+    {
+        let mut numbers = Vec::with_capacity(alloc, processes.len())?;
+        for process in processes {
+            let numbers_there = self.read_calls(alloc, sets, process.calls())?;
+            numbers.push(numbers_there)?;
+        }
+        Ok(numbers)
+    }
+}

@@ -1,0 +1,216 @@
+//! The fences of scripts.
+
+ghost use Rattle.std.specs.Prelude.{◌≡◌, ◌<◌, ◌||◌, ◌==◌, ℕ, Some, false, is_some, true, [], length, map as map_list, slice_index_or, IfOk, OnOk, IsOkUnless};
+ghost use Rattle.std.specs.List.{list_all};
+ghost use Rattle.wire_types.specs.Fences.{has_node};
+ghost use Rattle.wire_rehearsal.specs.Scripts.{Scripts as TheScripts, numbers_of, set_at};
+ghost use Rattle.wire_rehearsal.specs.Planned.{plan_of};
+ghost use Rattle.wire_procmap.specs.Map.{map_of, process_count};
+ghost use Rattle.wire_fence.specs.Fences.{FenceInfo, AreFencesOf, fence_at, members_in, full_in, collects_in, reaches_in, number_at as the_number_at};
+
+use crate::register::{Register, Row, members_of};
+use std::alloc::{AllocError, Global};
+use std::marker::Model;
+use wire_procmap::ProcMap;
+use wire_rehearsal::{Scripts, Sets};
+use wire_types::{CallAt, Fault, Proc};
+
+/// A fence, by its number.
+#[derive(Clone, Copy, Debug, PartialEq, Eq)]
+pub struct FenceId {
+    pub number: u32,
+}
+
+/// The fences of scripts. The j-th fence call of a process over a set of processes is part of the j-th
+/// fence over the set.
+#[derive(Drop)]
+pub struct Fences {
+    sets: Vec<Vec<Proc>>,
+    nodes: Vec<Vec<bool>>,
+    rows: Vec<Row>,
+    numbers: Vec<Vec<Option<u32>>>,
+}
+
+impl Model for Fences {
+    ghost use Rattle.std.specs.Prelude.{map};
+    ghost use Rattle.wire_rehearsal.specs.Scripts.{numbers_of};
+    ghost use Rattle.wire_fence.specs.Fences.{FenceTable};
+    ghost use Rattle.wire_fence.specs.Rows.{info_of};
+
+    ghost Value = { FenceTable };
+
+    ghost view = { λ f. record {
+      fences = map (info_of (map (λ v. numbers_of v.items) f.sets.items)) f.rows.items;
+      numbers = map (λ v. v.items) f.numbers.items;
+      nodes = map (λ v. v.items) f.nodes.items;
+    } };
+}
+
+// A copy of each set, by number.
+fn copy_sets(alloc: Global, sets: &Sets) -> Result<Vec<Vec<Proc>>, AllocError>
+    ensures { IfOk result (λ copy. map_list (λ v. numbers_of v.items) copy.items ≡ sets.now) }
+{
+    let mut copy = Vec::with_capacity(alloc, sets.len() as usize)?;
+    for set in 0..sets.len() {
+        copy.push(Vec::from_slice(alloc, sets.members(set))?)?;
+    }
+    Ok(copy)
+}
+
+// Notes that a member is on the node.
+fn mark(nodes: &mut Vec<bool>, node: u32) -> Result<(), AllocError>
+    ensures { OnOk result ((n : ℕ) → slice_index_or nodes.new.items n false ≡ (slice_index_or nodes.old.items n false || (node == n))) }
+{
+    let place = node as usize;
+    if nodes.len() <= place {
+        nodes.resize(place + 1, false)?;
+    }
+    nodes[place] = true;
+    Ok(())
+}
+
+// Of each node whether one of the members is on it, up to the last node that has one.
+fn nodes_of(alloc: Global, map: &ProcMap, members: &[Proc]) -> Result<Vec<bool>, AllocError>
+    requires { (k : ℕ) → k < length members.now → slice_index_or (numbers_of members.now) k 0 < process_count map.now }
+    ensures { IfOk result (λ nodes. (s : TheScripts) (node : ℕ) → map.now ≡ map_of s
+        → slice_index_or nodes.items node false ≡ has_node (plan_of s) (numbers_of members.now) node) }
+{
+    let mut nodes = Vec::new(alloc);
+    for member in members {
+        mark(&mut nodes, map.node_of(*member))?;
+    }
+    Ok(nodes)
+}
+
+// The nodes of each set's members, by set.
+fn nodes_of_sets(
+    alloc: Global,
+    map: &ProcMap,
+    sets: &[Vec<Proc>],
+) -> Result<Vec<Vec<bool>>, AllocError>
+    requires { (set k : ℕ) → k < length (set_at (map_list (λ v. numbers_of v.items) sets.now) set)
+        → slice_index_or (set_at (map_list (λ v. numbers_of v.items) sets.now) set) k 0 < process_count map.now }
+    ensures { IfOk result (λ nodes. (s : TheScripts) (set node : ℕ) → map.now ≡ map_of s
+        → slice_index_or (slice_index_or (map_list (λ v. v.items) nodes.items) set []) node false ≡ has_node (plan_of s) (set_at (map_list (λ v. numbers_of v.items) sets.now) set) node) }
+{
+    let mut nodes = Vec::with_capacity(alloc, sets.len())?;
+    for set in 0..sets.len() {
+        nodes.push(nodes_of(alloc, map, members_of(sets, set))?)?;
+    }
+    Ok(nodes)
+}
+
+fn is_reached(nodes: &[Vec<bool>], set: usize, node: usize) -> bool
+    ensures { result ≡ slice_index_or (slice_index_or (map_list (λ v. v.items) nodes.now) set []) node false }
+{
+    match nodes.get(set) {
+        Some(of_set) => match of_set.get(node) {
+            Some(reached) => *reached,
+            None => false,
+        },
+        None => false,
+    }
+}
+
+// How many members the fence of each row has.
+fn sizes_of(alloc: Global, sets: &[Vec<Proc>], rows: &[Row]) -> Result<Vec<usize>, AllocError>
+    ensures { IfOk result (λ sizes. sizes.items ≡ map_list (λ row. length (set_at (map_list (λ v. numbers_of v.items) sets.now) row.set)) rows.now) }
+{
+    let mut sizes = Vec::with_capacity(alloc, rows.len())?;
+    for row in rows {
+        sizes.push(members_of(sets, row.set as usize).len())?;
+    }
+    Ok(sizes)
+}
+
+impl Fences {
+    /// The fences of scripts, whose process map is handed in. The only error is `Fault::Memory`.
+    pub fn of(alloc: Global, scripts: &Scripts, map: &ProcMap) -> Result<Fences, Fault>
+        requires { map.now ≡ map_of scripts.now }
+        ensures ok { IfOk result (λ fences. AreFencesOf scripts.now fences) }
+        ensures memory { IsOkUnless result Fault.Memory }
+    {
+        let processes = scripts.processes();
+        let sets = copy_sets(alloc, scripts.sets())?;
+        let nodes = nodes_of_sets(alloc, map, &sets)?;
+        let mut register = Register::new(alloc);
+        let numbers = register.read_all(alloc, &sets, processes)?;
+        Ok(Fences {
+            sets,
+            nodes,
+            rows: register.rows,
+            numbers,
+        })
+    }
+
+    fn number_at(&self, call: CallAt) -> Option<u32>
+        ensures { result ≡ the_number_at self.now call.proc.number call.call }
+    {
+        match self.numbers.get(call.proc.index()) {
+            Some(numbers) => match numbers.get(call.call as usize) {
+                Some(number) => *number,
+                None => None,
+            },
+            None => None,
+        }
+    }
+
+    /// The fence that a fence call of the scripts is part of.
+    pub fn id_of(&self, call: CallAt) -> FenceId
+        requires { is_some (the_number_at self.now call.proc.number call.call) ≡ true }
+        ensures { Some result.number ≡ the_number_at self.now call.proc.number call.call }
+    {
+        FenceId {
+            number: self.number_at(call).unwrap(),
+        }
+    }
+
+    /// The members of a fence, each once and in process order.
+    pub fn members(&self, fence: FenceId) -> &[Proc]
+        ensures { numbers_of result.now ≡ members_in (fence_at self.now fence.number) }
+    {
+        match self.rows.get(fence.number as usize) {
+            Some(row) => members_of(&self.sets, row.set as usize),
+            None => &[],
+        }
+    }
+
+    /// Whether each member calls the fence.
+    pub fn full(&self, fence: FenceId) -> bool
+        ensures { result ≡ full_in (fence_at self.now fence.number) }
+    {
+        match self.rows.get(fence.number as usize) {
+            Some(row) => row.missing == 0,
+            None => false,
+        }
+    }
+
+    /// Whether each call of the fence says that data is collected (PMIX_COLLECT_DATA).
+    pub fn collects(&self, fence: FenceId) -> bool
+        ensures { result ≡ collects_in (fence_at self.now fence.number) }
+    {
+        match self.rows.get(fence.number as usize) {
+            Some(row) => row.collects,
+            None => false,
+        }
+    }
+
+    /// Whether a member of the fence is on the node.
+    pub fn reaches(&self, fence: FenceId, node: u32) -> bool
+        ensures told { result ≡ reaches_in self.now node (fence_at self.now fence.number) }
+        ensures reached { (s : TheScripts) (info : FenceInfo) → AreFencesOf s self.now → fence_at self.now fence.number ≡ Some info → result ≡ has_node (plan_of s) info.members node }
+    {
+        match self.rows.get(fence.number as usize) {
+            Some(row) => is_reached(&self.nodes, row.set as usize, node as usize),
+            None => false,
+        }
+    }
+
+    // How many members each fence has, by number.
+    pub(crate) fn sizes(&self, alloc: Global) -> Result<Vec<usize>, AllocError>
+        ensures { IfOk result (λ sizes. sizes.items ≡ map_list (λ (f : FenceInfo). length f.members) self.now.fences) }
+    {
+        let sizes = sizes_of(alloc, &self.sets, &self.rows)?;
+        Ok(sizes)
+    }
+}

@@ -1,0 +1,10 @@
+//! What holds of every table of names.
+
+ghost use Rattle.wire_names.specs.Law.{NamesFollow};
+
+/// The tables that publishes and unpublishes leave follow, name by name, what such an event does to what
+/// stands under a name.
+#[tactic(auto, using(crate::proofs::Follows::names_follow))]
+pub fn names_follow()
+    ensures { NamesFollow }
+{}

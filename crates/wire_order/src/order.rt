@@ -1,0 +1,76 @@
+//! From bytes to an order of steps.
+
+ghost use Rattle.std.specs.Prelude.{◌≡◌, ◌≤◌, ◌==◌, ◌⊎◌, ◌+◌, ◌∷◌, ◌++◌, [], count_by, take, length, map, option_map, Ok, Err, OnOk, IfOk, IfErr};
+ghost use Rattle.wire_rehearsal.specs.Scripts.{Scripts as Said, numbers_of};
+ghost use Rattle.wire_script.specs.Statements.{statements};
+ghost use Rattle.wire_order.specs.Order as spec;
+ghost use Rattle.wire_order.specs.Order.{order_of, order_read};
+ghost use Rattle.wire_order.specs.Words.{IsTableOf};
+
+use crate::words::ProcWords;
+use std::alloc::{AllocError, Global};
+use wire_rehearsal::Scripts;
+use wire_script::Cursor;
+use wire_types::{Fault, Proc};
+
+/// The bytes that an order may have.
+const ORDER_BYTES: usize = 8_388_608;
+
+/// The steps that an order says: each line that isn't skipped is one step, and names its process by the
+/// name of its job, a colon and its rank. The first line of another form, or of a process that isn't
+/// there, is `BadOrder` with its number. An order of more than 8,388,608 bytes is `BadOrder` whatever it
+/// holds, with the line after as many as end among its first 8,388,608 bytes.
+pub fn read_order(alloc: Global, scripts: &Scripts, bytes: &[u8]) -> Result<Vec<Proc>, Fault>
+    ensures ok { IfOk result (λ order. order_read scripts.now bytes.now ≡ Ok (numbers_of order.items)) }
+    ensures err { IfErr result (λ e. (e ≡ Fault.Memory) ⊎ (order_read scripts.now bytes.now ≡ Err e)) }
+{
+    if bytes.len() > ORDER_BYTES {
+        return Err(Fault::BadOrder(line_past(bytes, ORDER_BYTES)));
+    }
+    read_steps(alloc, scripts, bytes)
+}
+
+/// The steps of an order within its limit.
+fn read_steps(alloc: Global, scripts: &Scripts, bytes: &[u8]) -> Result<Vec<Proc>, Fault>
+    requires { length bytes.now ≤ spec.order_bytes }
+    ensures ok { IfOk result (λ order. order_of scripts.now (statements bytes.now) ≡ Ok (numbers_of order.items)) }
+    ensures err { IfErr result
+        (λ e. (e ≡ Fault.Memory) ⊎ (order_of scripts.now (statements bytes.now) ≡ Err e)) }
+{
+    let table = ProcWords::new(alloc, scripts)?;
+    let mut order = Vec::new(alloc);
+    let mut cursor = Cursor::new(bytes);
+    'statements: while let Some(statement) = cursor.next_line(alloc)? {
+        let Some(step) = step_of(&table, &statement.words) else {
+            return Err(Fault::BadOrder(statement.number));
+        };
+        add_step(&mut order, step)?;
+    }
+    Ok(order)
+}
+
+fn add_step(order: &mut Vec<Proc>, step: Proc) -> Result<(), AllocError>
+    ensures { OnOk result (order.new.items ≡ order.old.items ++ step ∷ []) }
+{
+    order.push(step)?;
+    Ok(())
+}
+
+/// The process that the words of a line name.
+fn step_of(table: &ProcWords, words: &[&[u8]]) -> Option<Proc>
+    ensures { (s : Said) → IsTableOf s table.now
+        → option_map (λ p. p.number) result ≡ spec.step_of s (map (λ w. w.now) words.now) }
+{
+    match words {
+        [word] => table.proc_of(word),
+        _ => None,
+    }
+}
+
+/// The number of the line in which the limit falls.
+fn line_past(bytes: &[u8], limit: usize) -> u64
+    requires { limit ≤ length bytes.now }
+    ensures { result ≡ count_by (λ b. b == 10) (take limit bytes.now) + 1 }
+{
+    bytes[..limit].iter().filter(|b| **b == b'\n').count() as u64 + 1
+}

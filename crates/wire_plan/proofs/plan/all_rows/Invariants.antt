@@ -1,0 +1,11 @@
+use Rattle.std.proofs.Common.{◌≡◌, ◌++◌, map, drop}
+use Rattle.wire_types.specs.Plan.{events_of}
+use Rattle.wire_rehearsal.specs.Planned.{planned_call}
+use Rattle.wire_plan.specs.Kinds.{event_of, events_planned, calls_planned, calls_from}
+use Rattle.wire_plan.proofs.plan.all_rows.Given as goal
+
+abbrev pub invariant-loop-process : goal.invariant-loop-process
+invariant-loop-process l = record {
+  kinds : events_planned l.scripts ≡ map (λ row. map (event_of l.scripts.sets) row.kinds.items) l.all.items ++ map (λ p. events_of (map (planned_call l.scripts) p.calls)) (drop l.process-index l.processes);
+  calls : calls_planned l.scripts ≡ map (λ row. row.calls.items) l.all.items ++ map (λ p. calls_from 0 (map (planned_call l.scripts) p.calls)) (drop l.process-index l.processes);
+}

@@ -1,0 +1,74 @@
+//! The events of one process.
+
+ghost use Rattle.std.specs.Prelude.{◌≡◌, ◌+◌, ◌<◌, ◌^◌, ◌∷◌, ◌++◌, [], length, map, OnOk, IfOk};
+ghost use Rattle.wire_types.specs.Plan.{events_of};
+ghost use Rattle.wire_rehearsal.specs.Planned.{planned_call};
+ghost use Rattle.wire_procmap.specs.Map.{map_of};
+ghost use Rattle.wire_plan.specs.Kinds.{event_of, calls_from};
+
+use crate::kind::{Kind, first_kind};
+use std::alloc::{AllocError, Global};
+use wire_procmap::ProcMap;
+use wire_rehearsal::Scripts;
+use wire_types::Call;
+
+/// What the events of a process are, in their order, and the number of the call of each.
+#[derive(Drop)]
+pub(crate) struct Row {
+    pub kinds: Vec<Kind>,
+    pub calls: Vec<u32>,
+}
+
+impl Row {
+    fn add(&mut self, kind: Kind, call: u32) -> Result<(), AllocError>
+        ensures kinds { OnOk result (self.new.kinds.items ≡ self.old.kinds.items ++ kind ∷ []) }
+        ensures calls { OnOk result (self.new.calls.items ≡ self.old.calls.items ++ call ∷ []) }
+    {
+        self.kinds.push(kind)?;
+        self.calls.push(call)?;
+        Ok(())
+    }
+}
+
+/// Adds the events of a call.
+fn add_call(
+    row: &mut Row,
+    scripts: &Scripts,
+    places: &ProcMap,
+    call: Call,
+    number: u32,
+) -> Result<(), AllocError>
+    requires { places.now ≡ map_of scripts.now }
+    ensures kinds { OnOk result (map (event_of scripts.now.sets) row.new.kinds.items ≡ map (event_of scripts.now.sets) row.old.kinds.items ++ events_of (planned_call scripts.now call ∷ [])) }
+    ensures calls { OnOk result (row.new.calls.items ≡ row.old.calls.items ++ calls_from number (planned_call scripts.now call ∷ [])) }
+{
+    row.add(first_kind(scripts, places, call), number)?;
+    if let Call::Fence { set, .. } = call {
+        row.add(Kind::Leave { set }, number)?;
+    }
+    Ok(())
+}
+
+/// The events of a process that makes these calls.
+pub(crate) fn row_of(
+    alloc: Global,
+    scripts: &Scripts,
+    places: &ProcMap,
+    calls: &[Call],
+) -> Result<Row, AllocError>
+    requires places { places.now ≡ map_of scripts.now }
+    requires few { length calls.now < 2 ^ 31 }
+    ensures kinds { IfOk result (λ row. map (event_of scripts.now.sets) row.kinds.items ≡ events_of (map (planned_call scripts.now) calls.now)) }
+    ensures calls { IfOk result (λ row. row.calls.items ≡ calls_from 0 (map (planned_call scripts.now) calls.now)) }
+{
+    let mut row = Row {
+        kinds: Vec::with_capacity(alloc, calls.len())?,
+        calls: Vec::with_capacity(alloc, calls.len())?,
+    };
+    let mut number = 0;
+    for call in calls {
+        add_call(&mut row, scripts, places, *call, number)?;
+        number += 1;
+    }
+    Ok(row)
+}

@@ -1,0 +1,4 @@
+pub mod Keys
+pub mod Map
+pub mod Places
+pub mod Rows

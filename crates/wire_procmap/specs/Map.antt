@@ -1,0 +1,18 @@
+-- The map of scripts: the row of each process, and the kind of each key.
+use Rattle.std.specs.Prelude.{ℕ, List, length, map}
+use Rattle.wire_rehearsal.specs.Scripts.{Scripts}
+use Rattle.wire_procmap.specs.declared.key.KeyKind.{KeyKind}
+use Rattle.wire_procmap.specs.declared.row.Row.{Row}
+use Rattle.wire_procmap.specs.Keys.{kind_of}
+use Rattle.wire_procmap.specs.Rows.{rows_of}
+
+pub record Map : Type 0 where
+  pub rows : List Row
+  pub kinds : List KeyKind
+
+abbrev pub map_of : Scripts → Map
+map_of scripts = record { rows = rows_of scripts.processes; kinds = map kind_of scripts.keys }
+
+-- how many processes the map has
+abbrev pub process_count : Map → ℕ
+process_count m = length m.rows

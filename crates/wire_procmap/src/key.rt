@@ -1,0 +1,71 @@
+//! Kinds of keys.
+
+ghost use Rattle.std.specs.Prelude.{◌≡◌, map, IfOk};
+ghost use Rattle.wire_lines.specs.Said as said;
+ghost use Rattle.wire_procmap.specs.Keys as keys;
+
+use std::alloc::{AllocError, Global};
+use wire_rehearsal::Texts;
+
+/// What a get of a key asks of the process map.
+#[derive(Clone, Copy)]
+pub(crate) enum KeyKind {
+    /// Nothing: a key of the scripts' own.
+    Plain,
+    Rank,
+    LocalRank,
+    NodeRank,
+    JobSize,
+    Hostname,
+    /// A reserved key that the map doesn't answer.
+    Other,
+}
+
+impl KeyKind {
+    pub(crate) fn is_reserved(self) -> bool
+        ensures { result ≡ keys.is_reserved_kind self }
+    {
+        !matches!(self, KeyKind::Plain)
+    }
+}
+
+/// Whether the standard keeps the key for itself.
+#[tactic(auto, unfolding(wire_lines::specs::Said::is_reserved))]
+fn is_reserved(text: &[u8]) -> bool
+    ensures { result ≡ said.is_reserved text.now }
+{
+    text.starts_with(b"pmix".as_slice()) || text.starts_with(b"PMIX_".as_slice())
+}
+
+#[tactic(auto, unfolding(crate::specs::Keys::kind_of))]
+fn kind_of(text: &[u8]) -> KeyKind
+    ensures { result ≡ keys.kind_of text.now }
+{
+    if text == b"PMIX_RANK".as_slice() {
+        KeyKind::Rank
+    } else if text == b"PMIX_LOCAL_RANK".as_slice() {
+        KeyKind::LocalRank
+    } else if text == b"PMIX_NODE_RANK".as_slice() {
+        KeyKind::NodeRank
+    } else if text == b"PMIX_JOB_SIZE".as_slice() {
+        KeyKind::JobSize
+    } else if text == b"PMIX_HOSTNAME".as_slice() {
+        KeyKind::Hostname
+    } else if is_reserved(text) {
+        KeyKind::Other
+    } else {
+        KeyKind::Plain
+    }
+}
+
+/// The kind of each key, by the key's number.
+pub(crate) fn kinds_of(alloc: Global, texts: &Texts) -> Result<Vec<KeyKind>, AllocError>
+    ensures { IfOk result (λ kinds. kinds.items ≡ map keys.kind_of texts.now) }
+{
+    let count = texts.len();
+    let mut kinds = Vec::with_capacity(alloc, count as usize)?;
+    for number in 0..count {
+        kinds.push(kind_of(texts.text(number)))?;
+    }
+    Ok(kinds)
+}

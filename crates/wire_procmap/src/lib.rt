@@ -1,0 +1,11 @@
+//! The process map: of each process its job, its node and its ranks, and the replies of the reserved
+//! keys that tell them (PMIx Standard 5.0, Reserved Keys).
+#![tactic(auto)]
+
+mod key;
+mod law;
+mod map;
+mod row;
+
+pub use law::one_process;
+pub use map::ProcMap;

@@ -1,0 +1,86 @@
+-- The canonical text of what was read reads as the same.
+use Rattle.std.proofs.Common.{◌≡◌, ◌∙◌, ap, sym, subst, refl, ℕ, ◌-◌, List, [], ◌∷◌, ◌++◌, length, arith, Option, Some, None, Result, Ok, Err, MatchResult, inl, inr}
+use Rattle.std.specs.List.{flat_map}
+use Rattle.wire_types.specs.declared.Fault.{Fault}
+use Rattle.wire_lines.specs.Text.{lines_of}
+use Rattle.wire_lines.specs.Said.{Call, Said, Header, Node, Job, Rank, Calls, IsLawful}
+use Rattle.wire_rehearsal.specs.Scripts.{Scripts}
+use Rattle.wire_rehearsal.specs.Canonical.{line_text, lines_said, canonical}
+use Rattle.wire_script.specs.Statements.{Statement, statements}
+use Rattle.wire_script.specs.FirstPass.{Started, Declared, nothing, number_or_count, after, with_call, FirstPass}
+use Rattle.wire_script.specs.Reads.{first_fault, scripts_of, unless_fault, second_pass, ReadsShort}
+use Rattle.wire_script.specs.Back.{ReadsBack}
+use Rattle.wire_script.proofs.Recut.{AllLawful, numbered_lines, said_again}
+use Rattle.wire_script.proofs.Changed.{IsTaken, IsFit, CallsAre, AllCalls, Runs, Takes, changed_declaration, lines_run, lines_changed, lines_judged}
+use Rattle.wire_script.proofs.Order.{lines_added, nothing_shaped}
+use Rattle.wire_script.proofs.Ranked.{run_good}
+use Rattle.wire_script.proofs.Again.{canonical_call, scripts_changed, scripts_bare, met_changed, met_full}
+use Rattle.wire_script.proofs.Said.{again_same, again_fits, scripts_lines}
+
+-- all calls that lines declare may be said
+calls_push : (job : ℕ) (cs : List (ℕ × Call)) (c : ℕ × Call) → CallsAre (λ j b. IsFit b) job cs → IsFit c.1 → CallsAre (λ j b. IsFit b) job (cs ++ c ∷ [])
+calls_push job [] c h f = (f, tt)
+calls_push job (b ∷ cs) c h f = (h.0, calls_push job cs c h.1 f)
+
+fit_with : (ps : List Started) (c : ℕ × Call) → AllCalls (λ j b. IsFit b) ps → IsFit c.1 → AllCalls (λ j b. IsFit b) (with_call ps c)
+fit_with [] c h f = tt
+fit_with (p ∷ []) c h f = (calls_push p.job p.calls c h.0 f, tt)
+fit_with (p ∷ q ∷ ps) c h f = (h.0, fit_with (q ∷ ps) c h.1 f)
+
+fit_push : (ps : List Started) (p : Started) → AllCalls (λ j b. IsFit b) ps → CallsAre (λ j b. IsFit b) p.job p.calls → AllCalls (λ j b. IsFit b) (ps ++ p ∷ [])
+fit_push [] p h f = (f, tt)
+fit_push (q ∷ ps) p h f = (h.0, fit_push ps p h.1 f)
+
+fit_kept : (d : Declared) (n : ℕ) (a : Said) → IsLawful a → IsTaken d a → AllCalls (λ j b. IsFit b) d.processes → AllCalls (λ j b. IsFit b) (after d n a).processes
+fit_kept d n Header l t h = h
+fit_kept d n (Node name) l t h = h
+fit_kept d n (Job name) l t h = h
+fit_kept d n (Rank node) l t h = fit_push d.processes (record { job = length d.jobs - 1; rank = d.ranks; node = number_or_count d.nodes node; calls = [] }) h tt
+fit_kept d n (Calls c) l t h = fit_with d.processes (n, c) h (record { lawful = l; short = t.short })
+
+fit_run : (ls : List (ℕ × Said)) (d e : Declared) → Runs ls d e → AllCalls (λ j b. IsFit b) d.processes → AllCalls (λ j b. IsFit b) e.processes
+fit_run [] d e r h = subst (λ x. AllCalls (λ j b. IsFit b) x.processes) r h
+fit_run (l ∷ ls) d e r h = fit_run ls (after d l.0 l.1) e r.2 (fit_kept d l.0 l.1 r.0 r.1 h)
+
+first_run : (lines : List Statement) (n : ℕ) (d : Declared) → FirstPass lines n (Ok d) → (ls : List (ℕ × Said)) × Runs ls nothing d
+first_run [] n d f = absurd (cc)
+first_run (line ∷ lines) n d (inl f) = lines_run lines d nothing f.1
+first_run (line ∷ lines) n d (inr f) = absurd (let h = f.1 in cc)
+
+all_lawful : (xs : List Said) (d e : Declared) → Takes xs d e → AllLawful xs
+all_lawful [] d e t = tt
+all_lawful (a ∷ xs) d e t = (t.0, all_lawful xs (after d 0 a) e t.2)
+
+second_ok : (d : Declared) (s : Scripts) (u : Option Fault) → Ok s ≡ unless_fault d u → (u ≡ None) × (s ≡ scripts_of d)
+second_ok d s None h = (refl, cc)
+second_ok d s (Some f) h = absurd (cc)
+
+-- scripts of what some lines declare
+declared_back : (d : Declared) (s : Scripts) (ls : List (ℕ × Said)) (n : ℕ) → Runs ls nothing d → first_fault d d.processes ≡ None → s ≡ scripts_of d
+    → (e : Declared) × FirstPass (statements (canonical s)) n (Ok e) × (Ok s ≡ second_pass e)
+declared_back d s ls n run u is =
+    let good = run_good ls d run in
+    let fits = again_fits d good (fit_run ls nothing d run tt) u in
+    let same = again_same d good u in
+    let t = lines_changed (canonical_call d) ls nothing d (omega arith) run fits in
+    let shape = lines_added t.0 nothing (changed_declaration (canonical_call d) d) t.1 nothing_shaped in
+    let lines : lines_said s ≡ Header ∷ t.0 = ap lines_said is ∙ scripts_lines d ∙ ap (λ x. Header ∷ x) shape.0 in
+    let text : statements (canonical s) ≡ numbered_lines 1 (Header ∷ t.0) =
+        ap (λ x. statements (flat_map line_text x)) lines ∙ said_again (Header ∷ t.0) (tt, all_lawful t.0 nothing (changed_declaration (canonical_call d) d) t.1) in
+    let f = lines_judged t.0 2 nothing (changed_declaration (canonical_call d) d) t.1 in
+    let none : first_fault f.0 f.0.processes ≡ None = met_full f.0 (ap (λ x. first_fault x x.processes) f.2 ∙ met_changed (canonical_call d) d same u) in
+    let all : s ≡ scripts_of f.0 = is ∙ sym (scripts_changed (canonical_call d) d same) ∙ ap scripts_of (sym f.2) ∙ scripts_bare f.0 in
+    (f.0, subst (λ l. FirstPass l n (Ok f.0)) (sym text) (inl ((refl, tt), f.1)), ap Ok all ∙ ap (unless_fault f.0) (sym none))
+
+short_back : (bytes : List ℕ) (s : Scripts) (q : Result Declared Fault) → FirstPass (statements bytes) (length (lines_of bytes)) q
+    → MatchResult q (λ d. Ok s ≡ second_pass d) (λ f. Ok s ≡ Err f) → ReadsShort (canonical s) (Ok s)
+short_back bytes s (Err f) first m = absurd (cc)
+short_back bytes s (Ok d) first m =
+    let t = first_run (statements bytes) (length (lines_of bytes)) d first in
+    let u = second_ok d s (first_fault d d.processes) m in
+    let r = declared_back d s t.0 (length (lines_of (canonical s))) t.1 u.0 u.1 in
+    (Ok r.0, r.1, r.2)
+
+pub reads_back : ReadsBack
+reads_back bytes s (inl h) small = absurd (let e = h.1 in cc)
+reads_back bytes s (inr h) small = inr (small, short_back bytes s h.1.0 h.1.1 h.1.2)

@@ -1,0 +1,82 @@
+-- One call, and one process, after another.
+use Rattle.std.proofs.Common.{◌≡◌, ◌∙◌, ap, sym, refl, ℕ, zero, suc, ◌+◌, ◌*◌, ◌<◌, ◌≤◌, List, [], ◌∷◌, ◌++◌, Option, None, length, map, take, drop, get_or, arith}
+use Rattle.std.proofs.lemmas.List.{length-map}
+use Rattle.std.proofs.lemmas.Grind.{common_steps}
+use Rattle.wire_types.specs.declared.Fault.{Fault}
+use Rattle.wire_lines.specs.Shown.{call_by}
+use Rattle.wire_script.specs.FirstPass.{Started, Declared}
+use Rattle.wire_script.specs.Reads.{Seen, call_fault, first_of, fault_in, first_fault}
+use Rattle.wire_script.specs.Within.{call_count}
+use Rattle.wire_script.specs.Drafted.{placed_of, started_of}
+use Rattle.wire_script.specs.Tabled.{seen_with, seen_after, all_seen, entry_count}
+use Rattle.wire_script.specs.declared.draft.Started.{Started as Building}
+use Rattle.wire_script.specs.declared.draft.Placed.{Placed}
+
+-- what is left begins with the next element
+pub drop_at : {A : Type 0} (xs : List A) (i : ℕ) (x : A) → i < length xs → x ≡ get_or xs i x → drop i xs ≡ x ∷ drop (i + 1) xs
+drop_at [] i x lt is = absurd (omega arith)
+drop_at (y ∷ ys) zero x lt is = ap (λ z. z ∷ ys) (sym is)
+drop_at (y ∷ ys) (suc i) x lt is =
+    let one : suc i + 1 ≡ suc (i + 1) = omega arith in
+    rw one (drop_at ys i x (omega arith) is)
+
+grown : {A B C : Type 0} (f : B → C) (g : A → B) (out : List C) (xs : List A) (i : ℕ) (y : C) (d : A) → i < length xs
+    → out ≡ map f (map g (take i xs)) → y ≡ f (g (get_or xs i d)) → out ++ y ∷ [] ≡ map f (map g (take (i + 1) xs))
+grown f g out xs i y d lt e last = grind (arith, common_steps)
+
+taken : {A B : Type 0} (f : A → B) (xs : List A) (i : ℕ) (d : A) → i < length xs → map f (take (i + 1) xs) ≡ map f (take i xs) ++ f (get_or xs i d) ∷ []
+taken f xs i d lt = grind (arith, common_steps)
+
+-- what was taken ends with the next element
+pub take_at : {A B : Type 0} (f : A → B) (xs : List A) (i : ℕ) (x : A) → i < length xs → x ≡ get_or xs i x → map f (take (i + 1) xs) ≡ map f (take i xs) ++ f x ∷ []
+take_at f xs i x lt is = taken f xs i x lt ∙ ap (λ z. map f (take i xs) ++ f z ∷ []) (sym is)
+
+-- one element more is made
+pub made_on : {A B C : Type 0} (f : B → C) (g : A → B) (out new : List C) (xs : List A) (i : ℕ) (x : A) (y : C) → i < length xs → x ≡ get_or xs i x
+    → new ≡ out ++ y ∷ [] → out ≡ map f (map g (take i xs)) → y ≡ f (g x) → new ≡ map f (map g (take (i + 1) xs))
+made_on f g out new xs i x y lt is pushed so_far made = pushed ∙ grown f g out xs i y x lt so_far (made ∙ ap (λ z. f (g z)) is)
+
+take_past : {A : Type 0} (xs : List A) (i : ℕ) → length xs ≤ i → take i xs ≡ xs
+take_past [] zero h = refl
+take_past [] (suc i) h = refl
+take_past (x ∷ xs) zero h = absurd (omega arith)
+take_past (x ∷ xs) (suc i) h = ap (λ l. x ∷ l) (take_past xs i (omega arith))
+
+-- all are made
+pub made_all : {A B C : Type 0} (f : B → C) (g : A → B) (out : List C) (xs : List A) (i : ℕ) → length xs ≤ i → out ≡ map f (map g (take i xs)) → out ≡ map f (map g xs)
+made_all f g out xs i past so_far = so_far ∙ ap (λ l. map f (map g l)) (take_past xs i past)
+
+pub calls_on : (d : Declared) (all s t : Seen) (job : ℕ) (cs : List Placed) (i : ℕ) (x : Placed) → i < length cs → x ≡ get_or cs i x
+    → all ≡ seen_after d s job (map placed_of (drop i cs)) → t ≡ seen_with d s job (call_by x.call) → all ≡ seen_after d t job (map placed_of (drop (i + 1) cs))
+calls_on d all s t job cs i x lt is so_far tables =
+    so_far
+    ∙ ap (λ l. seen_after d s job (map placed_of l)) (drop_at cs i x lt is)
+    ∙ ap (λ u. seen_after d u job (map placed_of (drop (i + 1) cs))) (sym tables)
+
+pub call_faults_on : (d : Declared) (all : Option Fault) (p : Started) (cs : List Placed) (i : ℕ) (x : Placed) → i < length cs → x ≡ get_or cs i x
+    → all ≡ fault_in d p (map placed_of (drop i cs)) → call_fault d p x.line (call_by x.call) ≡ None → all ≡ fault_in d p (map placed_of (drop (i + 1) cs))
+call_faults_on d all p cs i x lt is so_far none =
+    so_far
+    ∙ ap (λ l. fault_in d p (map placed_of l)) (drop_at cs i x lt is)
+    ∙ ap (λ f. first_of f (fault_in d p (map placed_of (drop (i + 1) cs)))) none
+
+pub processes_on : (d : Declared) (all s t : Seen) (ps : List Building) (i : ℕ) (x : Building) → i < length ps → x ≡ get_or ps i x
+    → all ≡ all_seen d s (map started_of (drop i ps)) → t ≡ seen_after d s x.job (map placed_of x.calls.items) → all ≡ all_seen d t (map started_of (drop (i + 1) ps))
+processes_on d all s t ps i x lt is so_far tables =
+    so_far
+    ∙ ap (λ l. all_seen d s (map started_of l)) (drop_at ps i x lt is)
+    ∙ ap (λ u. all_seen d u (map started_of (drop (i + 1) ps))) (sym tables)
+
+pub room_on : (s t : Seen) (bound : ℕ) (ps : List Building) (i : ℕ) (x : Building) → i < length ps → x ≡ get_or ps i x
+    → entry_count s + 2 * call_count (map started_of (drop i ps)) ≤ bound → entry_count t ≤ entry_count s + 2 * length x.calls.items
+    → entry_count t + 2 * call_count (map started_of (drop (i + 1) ps)) ≤ bound
+room_on s t bound ps i x lt is room more =
+    let cut = ap (λ l. call_count (map started_of l)) (drop_at ps i x lt is) in
+    omega (arith, length-map x.calls.items placed_of)
+
+pub process_faults_on : (d : Declared) (all : Option Fault) (ps : List Building) (i : ℕ) (x : Building) → i < length ps → x ≡ get_or ps i x
+    → all ≡ first_fault d (map started_of (drop i ps)) → fault_in d (started_of x) (map placed_of x.calls.items) ≡ None → all ≡ first_fault d (map started_of (drop (i + 1) ps))
+process_faults_on d all ps i x lt is so_far none =
+    so_far
+    ∙ ap (λ l. first_fault d (map started_of l)) (drop_at ps i x lt is)
+    ∙ ap (λ f. first_of f (first_fault d (map started_of (drop (i + 1) ps)))) none

@@ -1,0 +1,40 @@
+//! Numbers for what calls name, as first seen.
+
+ghost use Rattle.std.specs.Prelude.{◌≡◌, ◌+◌, ◌≤◌, ◌<◌, ◌^◌, List, ℕ, length, OnOk, IfOk};
+ghost use Rattle.wire_rehearsal.specs.Scripts.{numbers_of};
+ghost use Rattle.wire_script.specs.FirstPass.{number_or_count};
+ghost use Rattle.wire_script.specs.Tabled.{with_text, GoesOn};
+
+use std::alloc::{AllocError, Global};
+use wire_rehearsal::{Sets, Texts};
+use wire_types::Proc;
+
+/// The number of a text, which is added where it isn't there.
+pub fn number_text(alloc: Global, texts: &mut Texts, text: &[u8]) -> Result<u32, AllocError>
+    requires { length texts.old + 1 < 2 ^ 32 }
+    ensures texts { OnOk result (texts.new ≡ with_text texts.old text.now) }
+    ensures number { IfOk result
+        (λ n. (later : List (List ℕ)) → GoesOn texts.new later → n ≡ number_or_count later text.now) }
+    ensures grown { OnOk result (length texts.new ≤ length texts.old + 1) }
+{
+    let number = texts.number_or_count(text);
+    if !texts.contains(text) {
+        texts.add(alloc, text)?;
+    }
+    Ok(number)
+}
+
+/// The number of a set, which is added where it isn't there.
+pub fn number_set(sets: &mut Sets, set: Vec<Proc>) -> Result<u32, AllocError>
+    requires { length sets.old + 1 < 2 ^ 32 }
+    ensures sets { OnOk result (sets.new ≡ with_text sets.old (numbers_of set.items)) }
+    ensures number { IfOk result
+        (λ n. (later : List (List ℕ)) → GoesOn sets.new later → n ≡ number_or_count later (numbers_of set.items)) }
+    ensures grown { OnOk result (length sets.new ≤ length sets.old + 1) }
+{
+    let number = sets.number_or_count(&set);
+    if !sets.contains(&set) {
+        sets.add(set)?;
+    }
+    Ok(number)
+}
