@@ -1,8 +1,8 @@
 -- The call that an event is part of.
-use Rattle.std.proofs.Common.{ltb, ◌≡◌, ◌∙◌, ap, sym, refl, subst, ℕ, zero, suc, ◌+◌, ◌-◌, ◌<◌, ◌≤◌, List, [], ◌∷◌, ◌++◌, length, map, take, Bool, true, false, cond, Option, Some, None, arith, ◌⊎◌, inl, inr, length-append, append_assoc}
+use Rattle.std.proofs.Common.{ltb, ◌≡◌, ◌∙◌, ap, sym, refl, subst, ℕ, zero, suc, ◌+◌, ◌-◌, ◌<◌, ◌≤◌, List, [], ◌∷◌, ◌++◌, length, map, take, Bool, true, false, cond, Option, Some, None, arith, ◌⊎◌, inl, inr, length-append}
 use Rattle.std.specs.Prelude.{slice_get, option_map}
-use Rattle.std.proofs.lemmas.Bool.{cases_lt, cond_below, cond_above, true≢false}
-use Rattle.std.proofs.lemmas.Option.{slice_get-map, slice_get_within, slice_get_past, same_Some}
+use Rattle.std.proofs.lemmas.Bool.{cases_lt, cond_below, cond_above}
+use Rattle.std.proofs.lemmas.Option.{slice_get-map, slice_get_within, same_Some}
 use Rattle.wire_types.specs.Plan.{Plan, Call, CallFixed, Event, Arrive, Leave, Publish, Unpublish, events_of, events, event_at, process_events, set_of}
 use Rattle.wire_types.specs.Plan as plan
 use Rattle.wire_types.specs.declared.Call.{Call as Written}
@@ -55,25 +55,25 @@ behind s (call ∷ calls) at e is =
     let found : slice_get (events_in s call ++ events_of rest) at ≡ Some e = ap (λ es. slice_get es at) (sym (split s call calls)) ∙ is in
     elim (cases_lt at size) [
       | inl low ↦ record {
-          c = 0;
-          i = at;
-          call = call;
-          is = refl;
-          here = sym (get_left (events_in s call) (events_of rest) at low) ∙ found;
-          place = omega arith;
-          number = sym (cond_below at size 0 (suc (call_number rest (at - size))) low);
-        }
+        c = 0;
+        i = at;
+        call = call;
+        is = refl;
+        here = sym (get_left (events_in s call) (events_of rest) at low) ∙ found;
+        place = omega arith;
+        number = sym (cond_below at size 0 (suc (call_number rest (at - size))) low);
+      }
       | inr high ↦
           let same : at ≡ size + (at - size) = omega (arith, high) in
           let later : slice_get (events_of rest) (at - size) ≡ Some e =
-              sym (get_right (events_in s call) (events_of rest) (at - size)) ∙ ap (slice_get (events_in s call ++ events_of rest)) (sym same) ∙ found in
+          sym (get_right (events_in s call) (events_of rest) (at - size)) ∙ ap (slice_get (events_in s call ++ events_of rest)) (sym same) ∙ found in
           further s call calls at e size refl high (behind s calls (at - size) e later)
     ]
   where
     further : (s : Scripts) (call : Written) (calls : List Written) (at : ℕ) (e : Event) (size : ℕ) → size ≡ call_size (planned_call s call) → size ≤ at → IsBehind s calls (at - size) e → IsBehind s (call ∷ calls) at e
     further s call calls at e size is high b =
         let longer : start_of s (call ∷ calls) (suc b.c) ≡ call_size (planned_call s call) + start_of s calls b.c =
-            ap length (split s call (take b.c calls)) ∙ length-append (events_in s call) (events_of (map (planned_call s) (take b.c calls))) in
+        ap length (split s call (take b.c calls)) ∙ length-append (events_in s call) (events_of (map (planned_call s) (take b.c calls))) in
         let there = b.place in
         record {
           c = suc b.c;
@@ -97,9 +97,9 @@ start_more s (x ∷ calls) zero call is =
 start_more s (x ∷ calls) (suc c) call is =
     let ih = start_more s calls c call is in
     let long : start_of s (x ∷ calls) (suc (suc c)) ≡ call_size (planned_call s x) + start_of s calls (suc c) =
-        ap length (split s x (take (suc c) calls)) ∙ length-append (events_in s x) (events_of (map (planned_call s) (take (suc c) calls))) in
+    ap length (split s x (take (suc c) calls)) ∙ length-append (events_in s x) (events_of (map (planned_call s) (take (suc c) calls))) in
     let short : start_of s (x ∷ calls) (suc c) ≡ call_size (planned_call s x) + start_of s calls c =
-        ap length (split s x (take c calls)) ∙ length-append (events_in s x) (events_of (map (planned_call s) (take c calls))) in
+    ap length (split s x (take c calls)) ∙ length-append (events_in s x) (events_of (map (planned_call s) (take c calls))) in
     omega (arith, ih, long, short)
 
 -- the events of a call stand among those of all
@@ -114,7 +114,7 @@ stands s (x ∷ calls) zero i call e is here =
     ∙ get_left (events_in s x) (events_of (map (planned_call s) calls)) i lt ∙ found
 stands s (x ∷ calls) (suc c) i call e is here =
     let short : start_of s (x ∷ calls) (suc c) ≡ call_size (planned_call s x) + start_of s calls c =
-        ap length (split s x (take c calls)) ∙ length-append (events_in s x) (events_of (map (planned_call s) (take c calls))) in
+    ap length (split s x (take c calls)) ∙ length-append (events_in s x) (events_of (map (planned_call s) (take c calls))) in
     let place : start_of s (x ∷ calls) (suc c) + i ≡ length (events_in s x) + (start_of s calls c + i) = omega (arith, short) in
     ap (λ es. slice_get es (start_of s (x ∷ calls) (suc c) + i)) (split s x calls)
     ∙ ap (slice_get (events_in s x ++ events_of (map (planned_call s) calls))) place

@@ -1,9 +1,9 @@
 -- What fences have brought of a process's data to a node.
-use Rattle.std.proofs.Common.{◌≡◌, ◌∙◌, ap, sym, refl, subst, ℕ, zero, suc, ◌+◌, ◌<◌, ◌≤◌, List, Bool, true, false, cond, ◌&&◌, Option, Some, None, ◌⊎◌, inl, inr, arith}
-use Rattle.std.proofs.lemmas.Bool.{cases_Bool, true≢false, false_from_ne_true, cases_lt, leb-true, and_parts}
-use Rattle.wire_types.specs.Plan.{Plan, Event, Arrive, Place, event, event_at, event_count}
+use Rattle.std.proofs.Common.{◌≡◌, ◌∙◌, ap, sym, refl, ℕ, zero, suc, ◌≤◌, List, Bool, true, false, cond, ◌&&◌, Option, Some, inl, inr, arith}
+use Rattle.std.proofs.lemmas.Bool.{false_from_ne_true, cases_lt, leb-true, and_parts}
+use Rattle.wire_types.specs.Plan.{Plan, Event, Arrive, event_at}
 use Rattle.wire_types.specs.Puts.{stored}
-use Rattle.wire_types.specs.Fences.{arrivals, is_complete, is_collecting, is_member, has_node}
+use Rattle.wire_types.specs.Fences.{arrivals, is_complete, is_collecting, has_node}
 use Rattle.wire_rehearsal.specs.Scripts.{Scripts, set_at}
 use Rattle.wire_rehearsal.specs.Planned.{plan_of}
 use Rattle.wire_fence.specs.Fences.{FenceTable, AreFencesOf, fence_at, collects_in, reaches_in}
@@ -19,9 +19,9 @@ brings_told s table cut p at number node members collect fences is m complete co
     let over = (fences.each number fence m.there).is in
     let its_members : fence.members ≡ set_at s.sets fence.set = ap (λ f. f.members) over in
     let collecting : collects ≡ is_collecting plan fence.members fence.nth =
-        collects_is ∙ ap collects_in m.there ∙ ap (λ f. f.collects) over ∙ ap (λ ms. is_collecting plan ms fence.nth) (sym its_members) in
+    collects_is ∙ ap collects_in m.there ∙ ap (λ f. f.collects) over ∙ ap (λ ms. is_collecting plan ms fence.nth) (sym its_members) in
     let reaching : reaches ≡ has_node plan fence.members node =
-        reaches_is ∙ ap (reaches_in table node) m.there ∙ fences.nodes fence.set node ∙ ap (λ ms. has_node plan ms node) (sym its_members) in
+    reaches_is ∙ ap (reaches_in table node) m.there ∙ fences.nodes fence.set node ∙ ap (λ ms. has_node plan ms node) (sym its_members) in
     let same : fence.members ≡ members = m.members ∙ ap members_of is in
     (λ i. complete_is i && (collecting i && (sym m.member i && reaching i)))
     ∙ ap (λ j. brings plan cut p node fence.members j) (sym m.nth)

@@ -1,11 +1,10 @@
 -- An order of steps, one step at a time.
-use Rattle.std.proofs.Common.{◌≡◌, ◌∙◌, ap, sym, refl, subst, ℕ, zero, suc, ◌+◌, ◌<◌, ◌≤◌, List, [], ◌∷◌, ◌++◌, length, map, take, true, Some, arith, append_assoc}
-use Rattle.std.specs.Prelude.{slice_get, option_map}
-use Rattle.std.proofs.lemmas.Option.{slice_get-map, slice_get_within, same_Some}
+use Rattle.std.proofs.Common.{◌≡◌, ◌∙◌, ap, sym, subst, ℕ, zero, suc, List, [], ◌∷◌, ◌++◌, take, true, Some, arith, append_assoc}
+use Rattle.std.specs.Prelude.{slice_get}
+use Rattle.std.proofs.lemmas.Option.{slice_get_within, same_Some}
 use Rattle.std.proofs.lemmas.List.{append-nil}
-use Rattle.wire_types.specs.declared.Proc.{Proc}
 use Rattle.wire_plan.specs.State.{start}
-use Rattle.wire_plan.specs.Machine.{is_enabled, IsInterleaving, run_from}
+use Rattle.wire_plan.specs.Machine.{is_enabled, run_from}
 use Rattle.wire_core.specs.Course.{Course, plan_in, state_of}
 use Rattle.wire_core.specs.Stops.{Follows}
 use Rattle.wire_core.proofs.Steps.{legal_push, run_append}
@@ -24,8 +23,8 @@ pub follows_more : (old now new : Course) (order : List ℕ) (n p : ℕ) → Fol
 follows_more old now new order n p follows is on new_is =
     let more = take_more order n p is in
     let there : is_enabled (plan_in old) (run_from (plan_in old) (state_of old) (take n order)) p ≡ true =
-        ap (λ s. is_enabled (plan_in old) s p) (sym (run_append (plan_in old) start old.history (take n order)))
-        ∙ ap (λ c. is_enabled (plan_in c) (state_of c) p) (sym follows.taken) ∙ on in
+    ap (λ s. is_enabled (plan_in old) s p) (sym (run_append (plan_in old) start old.history (take n order)))
+    ∙ ap (λ c. is_enabled (plan_in c) (state_of c) p) (sym follows.taken) ∙ on in
     subst (λ xs. Follows old xs new) (sym more) (record {
       enabled = legal_push (plan_in old) (state_of old) (take n order) p follows.enabled there;
       taken = new_is ∙ ap (λ (c : Course). record { scripts = c.scripts; history = c.history ++ p ∷ [] }) follows.taken

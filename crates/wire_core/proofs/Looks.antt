@@ -1,5 +1,5 @@
 -- What a core reads of its ranks is what the state says.
-use Rattle.std.proofs.Common.{◌≡◌, ◌∙◌, ap, sym, refl, subst, ℕ, zero, suc, ◌+◌, ◌<◌, ◌≤◌, List, [], ◌∷◌, length, Bool, true, false, cond, Option, Some, None, arith}
+use Rattle.std.proofs.Common.{◌≡◌, ◌∙◌, ap, sym, refl, ℕ, ◌≤◌, List, length, Bool, true, false, cond, Option, Some, None, arith}
 use Rattle.std.specs.Prelude.{option_map, slice_get, is_some, not, IsTrue, ◌↔◌, ◌==◌}
 use Rattle.std.proofs.lemmas.Bool.{true≢false, false_from_ne_true}
 use Rattle.std.proofs.lemmas.Option.{slice_get_past}
@@ -8,11 +8,11 @@ use Rattle.wire_types.specs.Puts.{own, stored, scope_of}
 use Rattle.wire_types.specs.declared.CallAt.{CallAt}
 use Rattle.wire_store.specs.declared.Seen.{Seen}
 use Rattle.wire_store.specs.declared.Seen.TheVariants as seen
-use Rattle.wire_store.specs.Kept.{last_put, last_stored, last_stored_before, seen as store_shows, kept_after}
+use Rattle.wire_store.specs.Kept.{last_put, last_stored, last_stored_before, seen as store_shows}
 use Rattle.wire_store.specs.Told.{seen_put}
 use Rattle.wire_store.proofs.Told.{store_tells}
 use Rattle.wire_plan.specs.State.{State, start}
-use Rattle.wire_plan.specs.Sight.{Sight, Nothing, Outside, Shown, held, served, for_others, delivered, brought, get_now_sees}
+use Rattle.wire_plan.specs.Sight.{Outside, Shown, held, served, for_others, delivered, brought, get_now_sees}
 use Rattle.wire_plan.specs.Machine.{IsInterleaving, run}
 use Rattle.wire_plan.specs.Machine.{IsEnd}
 use Rattle.wire_plan.specs.Plain.{lowest}

@@ -1,10 +1,10 @@
 -- The fence of an event, by the number that its call has in the table of fences.
-use Rattle.std.proofs.Common.{◌≡◌, ◌∙◌, ap, sym, refl, subst, ℕ, zero, suc, ◌+◌, ◌<◌, List, length, map, take, Bool, true, false, Option, Some, None, arith, ◌⊎◌, inl, inr}
-use Rattle.std.specs.Prelude.{slice_get, is_some}
+use Rattle.std.proofs.Common.{◌≡◌, ◌∙◌, ap, sym, refl, subst, ℕ, suc, ◌+◌, ◌<◌, List, length, take, Bool, true, Option, Some, None, arith, ◌⊎◌, inl, inr}
+use Rattle.std.specs.Prelude.{is_some}
 use Rattle.std.proofs.lemmas.Bool.{true≢false}
 use Rattle.std.proofs.lemmas.Option.{slice_get-get_or, same_Some}
-use Rattle.wire_types.specs.Plan.{Plan, Event, Arrive, Leave, Place, event, event_at, event_count, set_of}
-use Rattle.wire_types.specs.Fences.{arrivals, arrivals_with, is_member, is_complete}
+use Rattle.wire_types.specs.Plan.{Plan, Event, Leave, Place, event, event_at, event_count, set_of}
+use Rattle.wire_types.specs.Fences.{arrivals, arrivals_with, is_complete}
 use Rattle.wire_types.specs.declared.Call.TheVariants as written
 use Rattle.wire_rehearsal.specs.Scripts.{Scripts, call_at, set_at}
 use Rattle.wire_rehearsal.specs.Planned.{plan_of}

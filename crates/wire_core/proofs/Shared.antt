@@ -1,10 +1,9 @@
 -- What is kept of all processes together follows each step.
-use Rattle.std.proofs.Common.{◌≡◌, ◌∙◌, ap, sym, refl, subst, ℕ, zero, suc, ◌<◌, List, length, Bool, true, false, cond, Option, Some, None, ◌⊎◌, inl, inr, arith}
-use Rattle.std.specs.Prelude.{option_map, is_some, ◌==◌, ⊤, replicate, slice_index_or, IfSome}
-use Rattle.std.proofs.lemmas.Option.{same_Some}
-use Rattle.wire_types.specs.Plan.{Plan, Event, Put, Commit, Arrive, Leave, Get, GetNow, Publish, Lookup, LookupWait, Unpublish, Fixed, Place, event, event_at, update}
+use Rattle.std.proofs.Common.{◌≡◌, ◌∙◌, ap, sym, refl, ℕ, zero, suc, ◌<◌, List, length, Bool, true, false, cond, Option, Some, None, inl, inr, arith}
+use Rattle.std.specs.Prelude.{option_map, is_some, ◌==◌, replicate, IfSome}
+use Rattle.wire_types.specs.Plan.{Plan, Event, Put, Commit, Arrive, Leave, Get, GetNow, Publish, Lookup, LookupWait, Unpublish, Fixed, Place, event_at}
 use Rattle.wire_types.specs.declared.CallAt.{CallAt}
-use Rattle.wire_rehearsal.specs.Scripts.{Scripts, IsSound, name_in}
+use Rattle.wire_rehearsal.specs.Scripts.{Scripts, IsSound}
 use Rattle.wire_rehearsal.specs.Planned.{plan_of}
 use Rattle.wire_fence.specs.declared.FenceId.{FenceId}
 use Rattle.wire_fence.specs.Fences.{FenceTable, AreFencesOf}
@@ -13,10 +12,10 @@ use Rattle.wire_fence.proofs.Missing.{other_events_keep, arrival_counts, arrivin
 use Rattle.wire_names.specs.Names.{published, after_publish, after_unpublish}
 use Rattle.wire_names.specs.Law.{names_after, standing_after, HasName}
 use Rattle.wire_names.proofs.Follows.{names_follow}
-use Rattle.wire_plan.specs.State.{State, start, next_place, next_event}
+use Rattle.wire_plan.specs.State.{State, start, next_place}
 use Rattle.wire_plan.specs.Machine.{step, name_after, is_publisher}
 use Rattle.wire_plan.specs.Ends.{call_of}
-use Rattle.wire_core.specs.Met.{IsMet, IsArrival, members_of, after_arrival}
+use Rattle.wire_core.specs.Met.{IsArrival, members_of, after_arrival}
 use Rattle.wire_core.specs.Ranks.{AreNamesOf, IsShared}
 use Rattle.wire_core.proofs.Behind.{IsBehind, IsPart, First, Second, Other, part, changed_name, calls_by, event_behind}
 

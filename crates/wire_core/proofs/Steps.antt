@@ -1,14 +1,12 @@
 -- Steps of a core: its ranks stay those of the state that its history leads to.
-use Rattle.std.proofs.Common.{◌≡◌, ◌∙◌, ap, sym, refl, subst, ℕ, zero, suc, ◌+◌, ◌-◌, ◌<◌, ◌≤◌, List, [], ◌∷◌, ◌++◌, length, map, drop, Bool, true, false, cond, Option, Some, None, arith, ◌⊎◌, inl, inr, append_assoc, count_by}
-use Rattle.std.specs.Prelude.{slice_get, slice_set, vec_capacity, replicate, option_map, is_some, ◌==◌}
-use Rattle.std.specs.List.{flat_map}
-use Rattle.std.proofs.lemmas.Bool.{cases_eq}
-use Rattle.std.proofs.lemmas.Option.{slice_get_within, slice_get_past, get_or_from_slice_get, same_Some}
+use Rattle.std.proofs.Common.{◌≡◌, ◌∙◌, ap, sym, refl, subst, ℕ, zero, suc, ◌+◌, ◌-◌, ◌<◌, ◌≤◌, List, [], ◌∷◌, ◌++◌, length, map, drop, Bool, true, cond, Option, Some, None, arith, ◌⊎◌, inl, inr, append_assoc, count_by}
+use Rattle.std.specs.Prelude.{slice_get, slice_set, vec_capacity, replicate}
+use Rattle.std.proofs.lemmas.Option.{slice_get_within, get_or_from_slice_get, same_Some}
 use Rattle.std.proofs.lemmas.List.{length-map, length-set, length-append}
 use Rattle.std.proofs.lemmas.List.Sums.{sum_by-cons}
 use Rattle.std.proofs.lemmas.List.Concat.{flat_map-append}
 use Rattle.std.proofs.Math.Seq.{drop-cons}
-use Rattle.wire_types.specs.Plan.{Plan, process_count, Event, events, event_at, event_count, event}
+use Rattle.wire_types.specs.Plan.{Plan, process_count, Event, events, event_at, event_count}
 use Rattle.wire_types.specs.declared.CallAt.{CallAt}
 use Rattle.wire_types.specs.declared.Reply.{Reply}
 use Rattle.wire_rehearsal.specs.Scripts.{Scripts}

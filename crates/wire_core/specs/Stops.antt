@@ -1,5 +1,5 @@
 -- How far an order of steps is followed.
-use Rattle.std.specs.Prelude.{◌≡◌, ℕ, suc, List, ◌++◌, take, Option, Some, false, slice_get}
+use Rattle.std.specs.Prelude.{◌≡◌, ℕ, suc, List, ◌++◌, take, Some, false, slice_get}
 use Rattle.wire_types.specs.declared.Fault.{Fault}
 use Rattle.wire_types.specs.declared.Fault.TheVariants.{NotReady}
 use Rattle.wire_plan.specs.Machine.{is_enabled, IsInterleaving}

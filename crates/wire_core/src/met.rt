@@ -24,28 +24,18 @@ pub(crate) fn fence_of(plan: &Plan, fences: &Fences, event: Event) -> FenceId
 }
 
 /// Whether all members have arrived at the fence that an event of the plan is part of.
-pub(crate) fn is_complete(
-    plan: &Plan,
-    fences: &Fences,
-    arrivals: &Arrivals,
-    event: Event,
-) -> bool
+pub(crate) fn is_complete(plan: &Plan, fences: &Fences, arrivals: &Arrivals, event: Event) -> bool
     requires fences { AreFencesOf plan.now fences.now }
     requires half { is_of_fence (event_in (plan_of plan.now) (place_of event)) ≡ true }
     ensures { (cut : ℕ → ℕ) → TellsMissing plan.now cut fences.now arrivals.now
         → result ≡ all_arrived (plan_of plan.now) cut (members_of (event_in (plan_of plan.now) (place_of event)))
-            (arrivals_of (plan_of plan.now) event.proc.number (members_of (event_in (plan_of plan.now) (place_of event))) (suc event.at)) }
+        (arrivals_of (plan_of plan.now) event.proc.number (members_of (event_in (plan_of plan.now) (place_of event))) (suc event.at)) }
 {
     arrivals.complete(fence_of(plan, fences, event))
 }
 
 /// The fence at which an event of the plan, which is of this kind, arrives, where that is what it does.
-pub(crate) fn arrived_at(
-    plan: &Plan,
-    fences: &Fences,
-    event: Event,
-    kind: Kind,
-) -> Option<FenceId>
+pub(crate) fn arrived_at(plan: &Plan, fences: &Fences, event: Event, kind: Kind) -> Option<FenceId>
     requires fences { AreFencesOf plan.now fences.now }
     requires is { event_in (plan_of plan.now) (place_of event) ≡ Some (event_of plan.now.sets kind) }
     ensures { IsArrival plan.now fences.now (place_of event) (option_map (λ f. f.number) result) }
@@ -68,13 +58,7 @@ pub(crate) fn note_arrival(arrivals: &mut Arrivals, fence: Option<FenceId>, proc
 
 /// Whether an event of the plan is an arrival at a fence that has brought the data of its process to a
 /// node.
-fn brings(
-    plan: &Plan,
-    fences: &Fences,
-    arrivals: &Arrivals,
-    event: Event,
-    node: u32,
-) -> bool
+fn brings(plan: &Plan, fences: &Fences, arrivals: &Arrivals, event: Event, node: u32) -> bool
     requires fences { AreFencesOf plan.now fences.now }
     requires there { event.at < event_count (plan_of plan.now) event.proc.number }
     ensures { (cut : ℕ → ℕ) → TellsMissing plan.now cut fences.now arrivals.now → result ≡ brings_at (plan_of plan.now) cut event.proc.number node event.at }

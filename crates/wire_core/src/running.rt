@@ -19,7 +19,9 @@ use crate::ends::{add_unanswered, replied};
 use crate::met::{arrived_at, is_complete, note_arrival};
 use crate::names::note_name;
 use crate::rank::Rank;
-use crate::replies::{bare_reply, is_shown, reply_to_get, reply_to_lookup, reply_to_publish, reply_to_unpublish};
+use crate::replies::{
+    bare_reply, is_shown, reply_to_get, reply_to_lookup, reply_to_publish, reply_to_unpublish,
+};
 use std::alloc::Global;
 use std::marker::Model;
 use wire_fence::{Arrivals, Fences};
@@ -126,8 +128,13 @@ impl<'a> Core<'a> {
         match self.next_kind(proc) {
             None => false,
             Some(
-                Kind::Put { .. } | Kind::Commit | Kind::Arrive { .. } | Kind::GetNow { .. }
-                | Kind::Publish { .. } | Kind::Lookup { .. } | Kind::Unpublish { .. }
+                Kind::Put { .. }
+                | Kind::Commit
+                | Kind::Arrive { .. }
+                | Kind::GetNow { .. }
+                | Kind::Publish { .. }
+                | Kind::Lookup { .. }
+                | Kind::Unpublish { .. }
                 | Kind::Fixed(_),
             ) => true,
             Some(Kind::Leave { .. }) => is_complete(
@@ -147,12 +154,16 @@ impl<'a> Core<'a> {
         ensures { given (plan_of self.now.scripts) (answer (plan_of self.now.scripts) (state_of self.now) (next_place (state_of self.now) proc.number) (Some (event_of self.now.scripts.sets kind))) ≡ replies_in result }
     {
         match kind {
-            Kind::Put { .. } | Kind::Commit | Kind::Leave { .. } => Some(bare_reply(Status::Success)),
+            Kind::Put { .. } | Kind::Commit | Kind::Leave { .. } => Some(bare_reply(
+                Status::Success,
+            )),
             Kind::Arrive { .. } => None,
             Kind::Get { owner, key } => Some(reply_to_get(self.seen_by(proc, owner, key))),
             Kind::GetNow { owner, key } => Some(reply_to_get(self.seen_now(proc, owner, key))),
             Kind::Publish { name } => Some(reply_to_publish(self.names.lookup(name))),
-            Kind::Lookup { name } | Kind::LookupWait { name } => Some(reply_to_lookup(self.names.lookup(name))),
+            Kind::Lookup { name } | Kind::LookupWait { name } => Some(reply_to_lookup(
+                self.names.lookup(name),
+            )),
             Kind::Unpublish { name } => Some(reply_to_unpublish(self.names.lookup(name), proc)),
             Kind::Fixed(reply) => Some(reply),
         }

@@ -1,7 +1,7 @@
 -- The events of calls, one call after another, and those of the processes of a plan.
-use Rattle.std.proofs.Common.{◌≡◌, ◌∙◌, ap, sym, refl, subst, ℕ, zero, suc, ◌+◌, ◌*◌, ◌-◌, ◌^◌, ◌<◌, ◌≤◌, List, [], ◌∷◌, ◌++◌, length, map, Option, Some, None, inl, inr, cond, ltb, Bool, true, false, length-append, arith, append_assoc}
+use Rattle.std.proofs.Common.{◌≡◌, ◌∙◌, ap, sym, refl, subst, ℕ, zero, suc, ◌+◌, ◌*◌, ◌-◌, ◌^◌, ◌<◌, ◌≤◌, List, [], ◌∷◌, ◌++◌, length, map, Option, Some, None, inl, inr, length-append, arith, append_assoc}
 use Rattle.std.specs.Prelude.{slice_get, option_map, sum_by, replicate}
-use Rattle.std.proofs.lemmas.Option.{slice_get-map, slice_get_cases, slice_get_within}
+use Rattle.std.proofs.lemmas.Option.{slice_get-map, slice_get_cases}
 use Rattle.std.proofs.lemmas.List.{length-map}
 use Rattle.std.proofs.lemmas.List.Sums.{sum_by-cons}
 use Rattle.std.proofs.lemmas.Bool.{cases_lt, cond_below, cond_above}
@@ -107,7 +107,7 @@ call_from n [] i lt = absurd (omega (arith, lt))
 call_from n (c ∷ calls) i lt =
     let size = call_size c in
     let first : length (events_of (c ∷ calls)) ≡ size + length (events_of calls) =
-        ap length (events_first c calls) ∙ length-append (events_of (c ∷ [])) (events_of calls) in
+    ap length (events_first c calls) ∙ length-append (events_of (c ∷ [])) (events_of calls) in
     elim (cases_lt i size) [
       | inl low ↦
           let same : n ≡ n + 0 = omega arith in
@@ -156,7 +156,7 @@ pub call_shown : {V : Type 0} (view : V → List ℕ) (s : Scripts) (rows : List
 unfolding event_count events
 call_shown view s rows shown p i row is lt =
     let row_is : view row ≡ calls_from 0 (calls_of (plan_of s) p) =
-        ap numbers_in (ap (option_map view) (sym is) ∙ sym (slice_get-map view rows p)) ∙ ap (λ r. numbers_in (slice_get r p)) shown ∙ calls_row s p in
+    ap numbers_in (ap (option_map view) (sym is) ∙ sym (slice_get-map view rows p)) ∙ ap (λ r. numbers_in (slice_get r p)) shown ∙ calls_row s p in
     let same : 0 + call_number (calls_of (plan_of s) p) i ≡ call_number (calls_of (plan_of s) p) i = omega arith in
     ap (λ r. slice_get r i) row_is ∙ call_from 0 (calls_of (plan_of s) p) i (go (slice_get (plan_of s).processes p) lt) ∙ ap Some same
   where

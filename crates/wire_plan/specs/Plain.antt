@@ -1,5 +1,5 @@
 -- The plain run: the lowest process that may go on, at each step.
-use Rattle.std.specs.Prelude.{◌≡◌, ◌<◌, ℕ, zero, suc, List, [], ◌∷◌, Bool, false, Option, Some, None, slice_get, take, if◌then◌else◌}
+use Rattle.std.specs.Prelude.{◌≡◌, ◌<◌, ℕ, zero, suc, List, [], ◌∷◌, false, Option, Some, None, slice_get, take, if◌then◌else◌}
 use Rattle.wire_types.specs.Plan.{Plan, process_count}
 use Rattle.wire_plan.specs.State.{State, start}
 use Rattle.wire_plan.specs.Machine.{is_enabled, step, IsInterleaving, run, IsEnd}

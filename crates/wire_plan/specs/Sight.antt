@@ -1,6 +1,6 @@
 -- What a get sees.
 use Rattle.std.specs.Prelude.{ℕ, zero, suc, List, Bool, true, false, ◌&&◌, Option, Some, None, ◌==◌, if◌then◌else◌}
-use Rattle.wire_types.specs.Plan.{Plan, Event, Put, Arrive, event_at, event_count, node_of, same_node, admits}
+use Rattle.wire_types.specs.Plan.{Plan, Event, Arrive, event_at, event_count, node_of, same_node, admits}
 use Rattle.wire_plan.specs.State.{State}
 use Rattle.wire_types.specs.Puts.{own, stored, scope_of}
 use Rattle.wire_types.specs.Fences.{arrivals, is_member, is_complete, is_collecting, has_node}

@@ -104,7 +104,9 @@ fn given_text(scripts: &Scripts, place: CallAt) -> &[u8]
     ensures { result.now ≡ spec.given_text scripts.now (call_at scripts.now.processes place.proc.number place.call) }
 {
     match find_call(scripts, place) {
-        Some(Call::Put { value, .. } | Call::Publish { value, .. }) => scripts.values().text(*value),
+        Some(Call::Put { value, .. } | Call::Publish { value, .. }) => scripts
+            .values()
+            .text(*value),
         _ => b"".as_slice(),
     }
 }

@@ -256,5 +256,5 @@ scripts_bare d = scripts_changed no_change d (λ k p i c at. same_again d p.job 
 pub met_full : (d : Declared) → first_fault (bare_declaration d) (bare_declaration d).processes ≡ None → first_fault d d.processes ≡ None
 met_full d h = none_met d d.processes (λ k p i c at.
     let m = all_met (bare_declaration d) (bare_declaration d).processes k (changed_process no_change p) i (changed_call no_change p.job c) h
-      (get_map (changed_process no_change) d.processes k p at.0, get_map (changed_call no_change p.job) p.calls i c at.1) in
+    (get_map (changed_process no_change) d.processes k p at.0, get_map (changed_call no_change p.job) p.calls i c at.1) in
     (sym (declared_changed no_change d c.1) ∙ m.0, sym (caller_changed no_change d p c.1) ∙ m.1))

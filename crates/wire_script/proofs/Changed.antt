@@ -192,9 +192,10 @@ module _ (f : Change) where
   lines_changed (l ∷ ls) d e r t h =
       let later = ranks_kept d l.0 l.1 r in
       let fit = (line_fits d l.0 l.1 r t.1 (run_fits ls (after d l.0 l.1) e later t.2 h)).1 in
-      let rest = lines_changed ls (after d l.0 l.1) e later t.2 h in
-      (changed_line f d l.1 ∷ rest.0,
-        (changed_lawful f d l.1 fit t.0, changed_taken f d l.1 fit t.1, subst (λ y. Takes rest.0 y (changed_declaration f e)) (changed_after f d l.0 l.1) rest.1))
+      let rest = lines_changed ls (after d l.0 l.1) e later t.2 h in (
+        changed_line f d l.1 ∷ rest.0,
+        (changed_lawful f d l.1 fit t.0, changed_taken f d l.1 fit t.1, subst (λ y. Takes rest.0 y (changed_declaration f e)) (changed_after f d l.0 l.1) rest.1),
+      )
 
 -- no call changes, and lines have no numbers
 abbrev pub no_change : Change

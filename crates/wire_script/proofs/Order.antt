@@ -77,10 +77,10 @@ last_push : (nodes : List Name) (qs : List Started) (p : Started) (js : List Nam
 last_push nodes qs p js j at =
     jobs_push nodes (qs ++ p ∷ []) 0 js j
     ∙ ap (λ t. t ++ job_lines nodes (qs ++ p ∷ []) (0 + length js) j)
-        (jobs_same nodes (qs ++ p ∷ []) qs 0 js (λ i small. filter_push_no (λ x. x.job == i) qs p (ne_eqb p.job i (λ e. omega arith))))
+    (jobs_same nodes (qs ++ p ∷ []) qs 0 js (λ i small. filter_push_no (λ x. x.job == i) qs p (ne_eqb p.job i (λ e. omega arith))))
     ∙ ap (λ t. jobs_lines nodes qs 0 js ++ Job j ∷ t)
-        (ap (flat_map (process_lines nodes)) (filter_push_yes (λ x. x.job == 0 + length js) qs p (eq-eqb p.job (0 + length js) (omega arith)))
-        ∙ flat_push (process_lines nodes) (of_job qs (0 + length js)) p)
+    (ap (flat_map (process_lines nodes)) (filter_push_yes (λ x. x.job == 0 + length js) qs p (eq-eqb p.job (0 + length js) (omega arith)))
+    ∙ flat_push (process_lines nodes) (of_job qs (0 + length js)) p)
     ∙ sym (append_assoc (jobs_lines nodes qs 0 js) (job_lines nodes qs (0 + length js) j) (process_lines nodes p))
     ∙ ap (λ t. t ++ process_lines nodes p) (sym (jobs_push nodes qs 0 js j))
 
@@ -94,7 +94,7 @@ job_push : (nodes jobs : List Name) (qs : List Started) (p : Started) → p.job 
 job_push nodes jobs qs p at =
     let e = ends jobs (omega arith) in
     subst (λ t. jobs_lines nodes (qs ++ p ∷ []) 0 t ≡ jobs_lines nodes qs 0 t ++ process_lines nodes p) (sym e.2)
-      (last_push nodes qs p e.0 e.1 (let n : length jobs ≡ length (e.0 ++ e.1 ∷ []) = ap length e.2 in omega (arith, length-append e.0 (e.1 ∷ []))))
+    (last_push nodes qs p e.0 e.1 (let n : length jobs ≡ length (e.0 ++ e.1 ∷ []) = ap length e.2 in omega (arith, length-append e.0 (e.1 ∷ []))))
 
 call_last : (qs : List Started) (p : Started) (c : ℕ × Call) → with_call (qs ++ p ∷ []) c ≡ qs ++ with_calls p (p.calls ++ c ∷ []) ∷ []
 call_last [] p c = refl
@@ -145,19 +145,19 @@ line_added d Header t s = absurd (true≢false (sym t.place))
 line_added d (Node x) t s = node_push d.nodes d.jobs d.processes x t.place
 line_added d (Job j) t s =
     at_end (map (λ n. Node n) d.nodes) (jobs_lines d.nodes d.processes 0 d.jobs) (jobs_lines d.nodes d.processes 0 (d.jobs ++ j ∷ [])) (Job j)
-      (jobs_push d.nodes d.processes 0 d.jobs j
-      ∙ ap (λ m. jobs_lines d.nodes d.processes 0 d.jobs ++ job_lines d.nodes d.processes m j) (zero-add (length d.jobs))
-      ∙ ap (λ t. jobs_lines d.nodes d.processes 0 d.jobs ++ Job j ∷ flat_map (process_lines d.nodes) t) (none_of (length d.jobs) d.processes s.below))
+    (jobs_push d.nodes d.processes 0 d.jobs j
+    ∙ ap (λ m. jobs_lines d.nodes d.processes 0 d.jobs ++ job_lines d.nodes d.processes m j) (zero-add (length d.jobs))
+    ∙ ap (λ t. jobs_lines d.nodes d.processes 0 d.jobs ++ Job j ∷ flat_map (process_lines d.nodes) t) (none_of (length d.jobs) d.processes s.below))
 line_added d (Rank node) t s =
     let p : Started = record { job = length d.jobs - 1; rank = d.ranks; node = number_or_count d.nodes node; calls = [] } in
     let some = ltb-true _ _ t.place in
     at_end (map (λ n. Node n) d.nodes) (jobs_lines d.nodes d.processes 0 d.jobs) (jobs_lines d.nodes (d.processes ++ p ∷ []) 0 d.jobs) (Rank node)
-      (job_push d.nodes d.jobs d.processes p (omega arith)
-      ∙ ap (λ x. jobs_lines d.nodes d.processes 0 d.jobs ++ Rank x ∷ []) ((text_at_number d.nodes node t.known).1))
+    (job_push d.nodes d.jobs d.processes p (omega arith)
+    ∙ ap (λ x. jobs_lines d.nodes d.processes 0 d.jobs ++ Rank x ∷ []) ((text_at_number d.nodes node t.known).1))
 line_added d (Calls c) t s =
     let l = s.last (ltb-true _ _ t.place) in
     at_end (map (λ n. Node n) d.nodes) (jobs_lines d.nodes d.processes 0 d.jobs) (jobs_lines d.nodes (with_call d.processes (0, c)) 0 d.jobs) (Calls c)
-      (subst (λ ps. jobs_lines d.nodes (with_call ps (0, c)) 0 d.jobs ≡ jobs_lines d.nodes ps 0 d.jobs ++ Calls c ∷ []) (sym l.2) (call_push d.nodes d.jobs l.0 l.1 (0, c) l.3))
+    (subst (λ ps. jobs_lines d.nodes (with_call ps (0, c)) 0 d.jobs ≡ jobs_lines d.nodes ps 0 d.jobs ++ Calls c ∷ []) (sym l.2) (call_push d.nodes d.jobs l.0 l.1 (0, c) l.3))
 
 shape_kept : (d : Declared) (a : Said) → IsTaken d a → IsShaped d → IsShaped (after d 0 a)
 shape_kept d Header t s = s

@@ -16,9 +16,9 @@ same_self x = (bytes_eq-Decides x x).1 refl
 
 differ : (x y : Name) → bytes_eq y x ≡ false → bytes_eq x y ≡ false
 differ x y h = elim (bytes_eq x y) as (λ t. bytes_eq x y ≡ t → t ≡ false) [
-    | true ↦ λ e. absurd (true≢false (sym ((bytes_eq-Decides y x).1 (sym ((bytes_eq-Decides x y).0 e))) ∙ h))
-    | false ↦ λ e. refl
-  ] refl
+  | true ↦ λ e. absurd (true≢false (sym ((bytes_eq-Decides y x).1 (sym ((bytes_eq-Decides x y).0 e))) ∙ h))
+  | false ↦ λ e. refl
+] refl
 
 -- no name is there twice
 abbrev pub AreApart : List Name → Type 0
@@ -187,7 +187,7 @@ below_at m (q ∷ ps) zero p h at = let same : q ≡ p = cc in subst (λ x. x.jo
 below_at m (q ∷ ps) (suc k) p h at = below_at m ps k p h.1 at
 
 more_counted : (n : ℕ → ℕ) (job j : ℕ) → n j ≤ with_one n job j
-more_counted n job j = elim (j == job) as (λ t. n j ≤ (if t then n j + 1 else n j)) [ | true ↦ omega arith | false ↦ omega arith ]
+more_counted n job j = elim (j == job) as (λ t. n j ≤ (if t then n j + 1 else n j)) [ true ↦ omega arith | false ↦ omega arith ]
 
 -- a rank is no less than the processes before
 rank_least : (n : ℕ → ℕ) (ps : List Started) (k : ℕ) (p : Started) → AreRanked n ps → slice_get ps k ≡ Some p → n p.job ≤ p.rank
@@ -208,7 +208,7 @@ rank_most n (q ∷ ps) (suc k) p h at =
     omega arith
   where
     one_at_most : (j : ℕ) → with_one n q.job j ≤ n j + 1
-    one_at_most j = elim (j == q.job) as (λ t. (if t then n j + 1 else n j) ≤ n j + 1) [ | true ↦ omega arith | false ↦ omega arith ]
+    one_at_most j = elim (j == q.job) as (λ t. (if t then n j + 1 else n j) ≤ n j + 1) [ true ↦ omega arith | false ↦ omega arith ]
 
 counted_once : (n : ℕ → ℕ) (j job : ℕ) → j ≡ job → with_one n job j ≡ n j + 1
 counted_once n j job e = rw (eq-eqb j job e) refl

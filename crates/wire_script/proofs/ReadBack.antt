@@ -66,7 +66,7 @@ declared_back d s ls n run u is =
     let shape = lines_added t.0 nothing (changed_declaration (canonical_call d) d) t.1 nothing_shaped in
     let lines : lines_said s ≡ Header ∷ t.0 = ap lines_said is ∙ scripts_lines d ∙ ap (λ x. Header ∷ x) shape.0 in
     let text : statements (canonical s) ≡ numbered_lines 1 (Header ∷ t.0) =
-        ap (λ x. statements (flat_map line_text x)) lines ∙ said_again (Header ∷ t.0) (tt, all_lawful t.0 nothing (changed_declaration (canonical_call d) d) t.1) in
+    ap (λ x. statements (flat_map line_text x)) lines ∙ said_again (Header ∷ t.0) (tt, all_lawful t.0 nothing (changed_declaration (canonical_call d) d) t.1) in
     let f = lines_judged t.0 2 nothing (changed_declaration (canonical_call d) d) t.1 in
     let none : first_fault f.0 f.0.processes ≡ None = met_full f.0 (ap (λ x. first_fault x x.processes) f.2 ∙ met_changed (canonical_call d) d same u) in
     let all : s ≡ scripts_of f.0 = is ∙ sym (scripts_changed (canonical_call d) d same) ∙ ap scripts_of (sym f.2) ∙ scripts_bare f.0 in

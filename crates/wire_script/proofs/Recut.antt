@@ -56,7 +56,7 @@ line_all : (p : ℕ → Bool) → ((b : ℕ) → is_word_byte b ≡ true → p b
 line_all p f s w [] h = all_weaker is_word_byte p f w (and_right _ _ h.0)
 line_all p f s w (v ∷ vs) h =
     all_append p w (32 ∷ join_with_byte 32 (v ∷ vs)) (all_weaker is_word_byte p f w (and_right _ _ h.0))
-      (both (p 32) (list_all p (join_with_byte 32 (v ∷ vs))) s (line_all p f s v vs h.1))
+    (both (p 32) (list_all p (join_with_byte 32 (v ∷ vs))) s (line_all p f s v vs h.1))
 
 -- a line that ends in a line feed is the first piece
 pieces_line : (xs ys : List ℕ) → list_all no_feed xs ≡ true → pieces_of (xs ++ 10 ∷ ys) ≡ xs ∷ pieces_of ys
@@ -119,7 +119,7 @@ digit_word d h = both (is_word_byte (48 + d)) true (digit_byte d h) refl
 digits_word : (n : ℕ) → n < 10 ^ 9 → list_all is_word_byte (decimal n) ≡ true
 digits_word n small =
     decimal_by_steps (λ m ds. list_all is_word_byte ds ≡ true) (λ m h. digit_word m h)
-      (λ m ds h k. all_append is_word_byte ds ((48 + m % 10) ∷ []) k (digit_word (m % 10) (omega arith))) n (omega arith)
+    (λ m ds h k. all_append is_word_byte ds ((48 + m % 10) ∷ []) k (digit_word (m % 10) (omega arith))) n (omega arith)
 
 some_bytes : (xs ys : List ℕ) (b : ℕ) → not (length (xs ++ b ∷ ys) == 0) ≡ true
 some_bytes xs ys b =
@@ -129,7 +129,7 @@ some_bytes xs ys b =
 proc_word : (job : List ℕ) (rank : ℕ) → IsTrue (is_name job) → rank < 10 ^ 9 → IsTrue (is_word (spelled_proc job rank))
 proc_word job rank h small =
     both (not (length (spelled_proc job rank) == 0)) (list_all is_word_byte (spelled_proc job rank)) (some_bytes job (decimal rank) 58)
-      (all_append is_word_byte job (58 ∷ decimal rank) (and_right _ _ (name_word job h)) (digits_word rank small))
+    (all_append is_word_byte job (58 ∷ decimal rank) (and_right _ _ (name_word job h)) (digits_word rank small))
 
 scope_word : (s : Scope) → IsTrue (is_word (spelled_scope s))
 scope_word Local = refl
@@ -140,15 +140,15 @@ item_word : (i : Item) → IsLawfulItem i → IsTrue (is_word (spelled_item i))
 item_word (One job rank) h = proc_word job rank h.0 h.1
 item_word (Every job) h =
     both (not (length (spelled_item (Every job)) == 0)) (list_all is_word_byte (spelled_item (Every job))) (some_bytes job (codes "*") 58)
-      (all_append is_word_byte job (58 ∷ codes "*") (and_right _ _ (name_word job h)) refl)
+    (all_append is_word_byte job (58 ∷ codes "*") (and_right _ _ (name_word job h)) refl)
 
 -- items with commas between them are a word
 items_word : (i : Item) (is : List Item) → IsLawfulItem i → AreLawful is → IsTrue (is_word (join_with_byte 44 (map spelled_item (i ∷ is))))
 items_word i [] h k = item_word i h
 items_word i (j ∷ js) h k =
     both (not (length (join_with_byte 44 (map spelled_item (i ∷ j ∷ js))) == 0)) (list_all is_word_byte (join_with_byte 44 (map spelled_item (i ∷ j ∷ js))))
-      (some_bytes (spelled_item i) (join_with_byte 44 (map spelled_item (j ∷ js))) 44)
-      (all_append is_word_byte (spelled_item i) (44 ∷ join_with_byte 44 (map spelled_item (j ∷ js))) (and_right _ _ (item_word i h)) (and_right _ _ (items_word j js k.0 k.1)))
+    (some_bytes (spelled_item i) (join_with_byte 44 (map spelled_item (j ∷ js))) 44)
+    (all_append is_word_byte (spelled_item i) (44 ∷ join_with_byte 44 (map spelled_item (j ∷ js))) (and_right _ _ (item_word i h)) (and_right _ _ (items_word j js k.0 k.1)))
 
 set_word : (s : Set) → IsLawfulSet s → IsTrue (is_word (spelled_set s))
 set_word Own h = refl

@@ -26,7 +26,7 @@ in_seen : (h : ℕ → Call → List (List ℕ)) (ps : List Started) (k : ℕ) (
     → is_among (h p.job c.1) x ≡ true → is_among (first_seen (in_calls h ps)) x ≡ true
 in_seen h ps k p i c x at e =
     seen_among (in_calls h ps) x
-      (among_flat (λ q. flat_map (λ b. h q.job b.1) q.calls) ps k p x at.0 (among_flat (λ b. h p.job b.1) p.calls i c x at.1 e))
+    (among_flat (λ q. flat_map (λ b. h q.job b.1) q.calls) ps k p x at.0 (among_flat (λ b. h p.job b.1) p.calls i c x at.1 e))
 
 pub record HasCall (d : Declared) (job : ℕ) (c : Call) : Type 0 where
   pub keys : (x : List ℕ) → is_among (keys_in c) x ≡ true → is_among (seen_in d).keys x ≡ true
@@ -61,7 +61,7 @@ position_holds : (f : Started → Bool) (ps : List Started) → position_or_len 
 position_holds f [] h = absurd (omega arith)
 position_holds f (x ∷ ps) h =
     elim (f x) as (λ t. f x ≡ t → cond (not t) (1 + position_or_len f ps) 0 < length (x ∷ ps)
-        → (q : Started) × (slice_get (x ∷ ps) (cond (not t) (1 + position_or_len f ps) 0) ≡ Some q) × (f q ≡ true)) [
+    → (q : Started) × (slice_get (x ∷ ps) (cond (not t) (1 + position_or_len f ps) 0) ≡ Some q) × (f q ≡ true)) [
       | true ↦ λ e k. (x, refl, e)
       | false ↦ λ e k.
           let one : 1 + position_or_len f ps ≡ suc (position_or_len f ps) = omega arith in
@@ -82,9 +82,10 @@ proc_named d s name rank g h =
     let is = process_there d s d.processes (record { job = 0; rank = 0; node = 0; calls = [] }) (proc_number d name rank) q.0 q.1 in
     let below = below_at (length d.jobs) d.processes (proc_number d name rank) q.0 g.below q.1 in
     let f : Process → Name = λ x. text_at d.jobs x.job in
-    let r : Process → ℕ = λ x. x.rank in
-    (ap f is ∙ ap (text_at d.jobs) job ∙ (text_at_number d.jobs name (place_among d.jobs name (omega arith))).1,
-      ap r is ∙ eqb-true q.0.rank rank (and_right _ _ q.2))
+    let r : Process → ℕ = λ x. x.rank in (
+      ap f is ∙ ap (text_at d.jobs) job ∙ (text_at_number d.jobs name (place_among d.jobs name (omega arith))).1,
+      ap r is ∙ eqb-true q.0.rank rank (and_right _ _ q.2),
+    )
 
 put_same : (scope : Scope) (k l v w : List ℕ) → k ≡ l → v ≡ w → Put scope k v ≡ Put scope l w
 put_same scope k l v w a b = cc
@@ -195,7 +196,7 @@ module _ (d : Declared) where
   of_job_lines n [] = refl
   of_job_lines n (p ∷ ps) =
       elim (p.job == n) as (λ t. flat_map (process_said (scripts_of d)) (cond t (process_of d (seen_in d) p ∷ filter (λ q. q.job == n) (map (process_of d (seen_in d)) ps)) (filter (λ q. q.job == n) (map (process_of d (seen_in d)) ps)))
-        ≡ flat_map (process_lines d.nodes) (cond t (changed_process (canonical_call d) p ∷ of_job (map (changed_process (canonical_call d)) ps) n) (of_job (map (changed_process (canonical_call d)) ps) n))) [
+      ≡ flat_map (process_lines d.nodes) (cond t (changed_process (canonical_call d) p ∷ of_job (map (changed_process (canonical_call d)) ps) n) (of_job (map (changed_process (canonical_call d)) ps) n))) [
         | true ↦
             ap (λ l. (Rank (text_at d.nodes p.node) ∷ l) ++ flat_map (process_said (scripts_of d)) (filter (λ q. q.job == n) (map (process_of d (seen_in d)) ps))) (calls_lines p.job p.calls)
             ∙ ap (λ l. process_lines d.nodes (changed_process (canonical_call d) p) ++ l) (of_job_lines n ps)

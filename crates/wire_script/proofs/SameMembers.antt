@@ -144,7 +144,7 @@ position_there f [] k p at h = absurd (cc)
 position_there f (x ∷ ps) zero p at h = let same : x ≡ p = cc in let yes : f x ≡ true = ap f same ∙ h in rw yes (omega arith)
 position_there f (x ∷ ps) (suc k) p at h =
     let rest = position_there f ps k p at h in
-    elim (f x) as (λ t. cond (not t) (1 + position_or_len f ps) 0 < length (x ∷ ps)) [ | true ↦ omega arith | false ↦ omega arith ]
+    elim (f x) as (λ t. cond (not t) (1 + position_or_len f ps) 0 < length (x ∷ ps)) [ true ↦ omega arith | false ↦ omega arith ]
 
 -- the same, counted from 0
 place_at : (f : Started → Bool) (ps : List Started) (k : ℕ) (p : Started) → slice_get ps k ≡ Some p → is_member (places_from f 0 ps) k ≡ f p
@@ -158,7 +158,7 @@ all_items : (q : Item → Bool) (f : ℕ → List Item) (xs : List ℕ) → ((m 
 all_items q f [] h = refl
 all_items q f (x ∷ xs) h =
     all_both q (f x) (flat_map f xs) (h x (let one : (x == x) ≡ true = eq-eqb x x refl in rw one refl))
-      (all_items q f xs (λ m e. h m (or_true (x == m) (is_member xs m) e)))
+    (all_items q f xs (λ m e. h m (or_true (x == m) (is_member xs m) e)))
 
 lawful_both : (xs ys : List Item) → AreLawful xs → AreLawful ys → AreLawful (xs ++ ys)
 lawful_both [] ys h k = k
@@ -168,7 +168,7 @@ lawful_items : (f : ℕ → List Item) (xs : List ℕ) → ((m : ℕ) → is_mem
 lawful_items f [] h = tt
 lawful_items f (x ∷ xs) h =
     lawful_both (f x) (flat_map f xs) (h x (let one : (x == x) ≡ true = eq-eqb x x refl in rw one refl))
-      (lawful_items f xs (λ m e. h m (or_true (x == m) (is_member xs m) e)))
+    (lawful_items f xs (λ m e. h m (or_true (x == m) (is_member xs m) e)))
 
 -- a process of this rank in a job of this name, or all of the job at its first process
 abbrev parts : Bool → ℕ → Name → List Item
@@ -185,25 +185,25 @@ parts_named d false rank j name p e = or_false (is_proc (number_or_count d.jobs 
 
 parts_declared : (d : Declared) (whole : Bool) (rank : ℕ) (name : Name) → is_among d.jobs name ≡ true → has_proc d name rank ≡ true → list_all (is_declared_item d) (parts whole rank name) ≡ true
 parts_declared d true rank name h k =
-    elim (rank == 0) as (λ t. list_all (is_declared_item d) (if t then Every name ∷ [] else []) ≡ true) [ | true ↦ both (is_among d.jobs name) true h refl | false ↦ refl ]
+    elim (rank == 0) as (λ t. list_all (is_declared_item d) (if t then Every name ∷ [] else []) ≡ true) [ true ↦ both (is_among d.jobs name) true h refl | false ↦ refl ]
 parts_declared d false rank name h k = both (has_proc d name rank) true k refl
 
 parts_short : (whole : Bool) (rank : ℕ) (name : Name) → is_short_name name ≡ true → list_all is_short_item (parts whole rank name) ≡ true
 parts_short true rank name h =
-    elim (rank == 0) as (λ t. list_all is_short_item (if t then Every name ∷ [] else []) ≡ true) [ | true ↦ both (is_short_name name) true h refl | false ↦ refl ]
+    elim (rank == 0) as (λ t. list_all is_short_item (if t then Every name ∷ [] else []) ≡ true) [ true ↦ both (is_short_name name) true h refl | false ↦ refl ]
 parts_short false rank name h = both (is_short_name name) true h refl
 
 parts_lawful : (whole : Bool) (rank : ℕ) (name : Name) → IsTrue (is_name name) → rank < 10 ^ 9 → AreLawful (parts whole rank name)
 parts_lawful true rank name h small =
-    elim (rank == 0) as (λ t. AreLawful (if t then Every name ∷ [] else [])) [ | true ↦ (h, tt) | false ↦ tt ]
+    elim (rank == 0) as (λ t. AreLawful (if t then Every name ∷ [] else [])) [ true ↦ (h, tt) | false ↦ tt ]
 parts_lawful false rank name h small = ((h, small), tt)
 
 proc_has : (d : Declared) (m : ℕ) (q : Started) (name : Name) → slice_get d.processes m ≡ Some q → number_or_count d.jobs name ≡ q.job → has_proc d name q.rank ≡ true
 unfolding has_proc
 proc_has d m q name at e =
     lt-ltb (proc_number d name q.rank) (length d.processes)
-      (position_there (is_proc (number_or_count d.jobs name) q.rank) d.processes m q at
-        (both (q.job == number_or_count d.jobs name) (q.rank == q.rank) (eq-eqb q.job (number_or_count d.jobs name) (sym e)) (eq-eqb q.rank q.rank refl)))
+    (position_there (is_proc (number_or_count d.jobs name) q.rank) d.processes m q at
+    (both (q.job == number_or_count d.jobs name) (q.rank == q.rank) (eq-eqb q.job (number_or_count d.jobs name) (sym e)) (eq-eqb q.rank q.rank refl)))
 
 -- a set that a process of a job says
 module _ (d : Declared) (s : Seen) (g : IsGood d) (job : ℕ) (set : Set) where
@@ -234,7 +234,7 @@ module _ (d : Declared) (s : Seen) (g : IsGood d) (job : ℕ) (set : Set) where
   whole_there : (j m : ℕ) (q : Started) → is_whole_job j ≡ true → slice_get d.processes m ≡ Some q → q.job ≡ j → is_member members m ≡ true
   whole_there j m q w at e =
       all_member (is_member members) (text.members_of scripts.processes j) m w
-        (ap (λ l. is_member l m) (members_places d s 0 j d.processes) ∙ place_at (λ p. p.job == j) d.processes m q at ∙ eq-eqb q.job j e)
+      (ap (λ l. is_member l m) (members_places d s 0 j d.processes) ∙ place_at (λ p. p.job == j) d.processes m q at ∙ eq-eqb q.job j e)
 
   forward : (k m : ℕ) (p q : Started) → slice_get d.processes k ≡ Some p → slice_get d.processes m ≡ Some q → is_member members m ≡ true
       → (t : Bool) → is_whole_job q.job ≡ t → (if t then ((q.rank == 0) && (p.job == q.job)) else ((p.job == q.job) && (p.rank == q.rank))) ≡ true → is_member members k ≡ true
@@ -251,29 +251,29 @@ module _ (d : Declared) (s : Seen) (g : IsGood d) (job : ℕ) (set : Set) where
       let zero_rank : (r.1.rank == 0) ≡ true = eq-eqb r.1.rank 0 r.4 in
       let same_job : (p.job == r.1.job) ≡ true = eq-eqb p.job r.1.job (sym r.3) in
       member_some (λ m. list_any (λ i. names_it d i p) (member_items scripts members m)) members r.0 (whole_there p.job r.0 r.1 w r.2 r.3)
-        (item_named r.0 r.1 p r.2 ∙ rw (all, zero_rank, same_job) refl)
+      (item_named r.0 r.1 p r.2 ∙ rw (all, zero_rank, same_job) refl)
   backward k p at h false w =
       let job_same : (p.job == p.job) ≡ true = eq-eqb p.job p.job refl in
       let rank_same : (p.rank == p.rank) ≡ true = eq-eqb p.rank p.rank refl in
       member_some (λ m. list_any (λ i. names_it d i p) (member_items scripts members m)) members k h
-        (item_named k p p at ∙ rw (w, job_same, rank_same) refl)
+      (item_named k p p at ∙ rw (w, job_same, rank_same) refl)
 
   -- the items name the members
   listed_is : (k : ℕ) (p : Started) → slice_get d.processes k ≡ Some p → list_any (λ i. names_it d i p) (set_items scripts members) ≡ is_member members k
   listed_is k p at =
       any_flat (λ i. names_it d i p) (member_items scripts members) members
       ∙ same_bools (list_any (λ m. list_any (λ i. names_it d i p) (member_items scripts members m)) members) (is_member members k)
-          (λ e.
-            let r = some_member (λ m. list_any (λ i. names_it d i p) (member_items scripts members m)) members e in
-            let t = there_at (is_in d job set) d.processes r.0 r.1 in
-            forward k r.0 p t.0 at t.1 r.1 (is_whole_job t.0.job) refl (sym (item_named r.0 t.0 p t.1) ∙ r.2))
-          (λ e. backward k p at e (is_whole_job p.job) refl)
+      (λ e.
+      let r = some_member (λ m. list_any (λ i. names_it d i p) (member_items scripts members m)) members e in
+      let t = there_at (is_in d job set) d.processes r.0 r.1 in
+      forward k r.0 p t.0 at t.1 r.1 (is_whole_job t.0.job) refl (sym (item_named r.0 t.0 p t.1) ∙ r.2))
+      (λ e. backward k p at e (is_whole_job p.job) refl)
 
   -- the canonical words of the set name the same processes
   pub set_kept : (k : ℕ) (p : Started) → slice_get d.processes k ≡ Some p → is_in d job (set_said scripts job members) p ≡ is_in d job set p
   set_kept k p at =
       elim (bytes_eq members (text.members_of scripts.processes job))
-        as (λ t. bytes_eq members (text.members_of scripts.processes job) ≡ t → is_in d job (if t then Own else Listed (set_items scripts members)) p ≡ is_in d job set p) [
+      as (λ t. bytes_eq members (text.members_of scripts.processes job) ≡ t → is_in d job (if t then Own else Listed (set_items scripts members)) p ≡ is_in d job set p) [
         | true ↦ λ e.
             let same = (bytes_eq-Decides members (text.members_of scripts.processes job)).0 e ∙ members_places d s 0 job d.processes in
             sym (place_at (λ q. q.job == job) d.processes k p at) ∙ sym (ap (λ l. is_member l k) same) ∙ place_at (is_in d job set) d.processes k p at
@@ -292,7 +292,7 @@ module _ (d : Declared) (s : Seen) (g : IsGood d) (job : ℕ) (set : Set) where
             let name = text_at d.jobs t.0.job in
             ap (list_all (is_declared_item d)) (item_parts m t.0 t.1)
             ∙ parts_declared d (is_whole_job t.0.job) t.0.rank name (text_among d.jobs t.0.job (below_at (length d.jobs) d.processes m t.0 g.below t.1))
-                (proc_has d m t.0 name t.1 (job_name m t.0 t.1)))
+            (proc_has d m t.0 name t.1 (job_name m t.0 t.1)))
       ]
 
   pub set_short : is_short_set (set_said scripts job members) ≡ true
@@ -310,12 +310,13 @@ module _ (d : Declared) (s : Seen) (g : IsGood d) (job : ℕ) (set : Set) where
   set_lawful k p at h =
       elim (bytes_eq members (text.members_of scripts.processes job)) as (λ t. IsLawfulSet (if t then Own else Listed (set_items scripts members))) [
         | true ↦ tt
-        | false ↦
-            (any_some (λ i. names_it d i p) (set_items scripts members) (listed_is k p at ∙ place_at (is_in d job set) d.processes k p at ∙ h),
-            lawful_items (member_items scripts members) members (λ m e.
+        | false ↦ (
+          any_some (λ i. names_it d i p) (set_items scripts members) (listed_is k p at ∙ place_at (is_in d job set) d.processes k p at ∙ h),
+          lawful_items (member_items scripts members) members (λ m e.
               let t = there_at (is_in d job set) d.processes m e in
               let name = name_at d.jobs t.0.job g.names (below_at (length d.jobs) d.processes m t.0 g.below t.1) in
               let small = rank_most (λ j. 0) d.processes m t.0 g.ranked t.1 in
               let within = get_within d.processes m t.0 t.1 in
-              subst AreLawful (sym (item_parts m t.0 t.1)) (parts_lawful (is_whole_job t.0.job) t.0.rank (text_at d.jobs t.0.job) name.0 (let few = g.few in omega arith))))
+              subst AreLawful (sym (item_parts m t.0 t.1)) (parts_lawful (is_whole_job t.0.job) t.0.rank (text_at d.jobs t.0.job) name.0 (let few = g.few in omega arith))),
+        )
       ]

@@ -61,7 +61,7 @@ fn write_followed<W: Sink>(
     ensures quiet { OnOk result (W.failures writer.new ≡ W.failures writer.old) }
     ensures err { IfErr result (λ e. (((e ≡ Memory) ⊎ StopsAfter plan.now (numbers_of order.now) e) × (writer.new ≡ writer.old))
         ⊎ (IsInterleaving (plan_of plan.now) start (numbers_of order.now) × WritesFront (W.written writer.old) (W.written writer.new) (report_after plan.now (numbers_of order.now)) e
-            × (W.failures writer.new ≡ one_more (W.failures writer.old)))) }
+        × (W.failures writer.new ≡ one_more (W.failures writer.old)))) }
 {
     let outcome = outcome_after(alloc, plan, order)?;
     write_report(alloc, plan.scripts(), &outcome, writer)

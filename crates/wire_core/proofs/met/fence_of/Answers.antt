@@ -1,7 +1,4 @@
-use Rattle.std.proofs.Common.{◌≡◌, ◌∙◌, ap, sym, Option, Some, None, true, refl}
-use Rattle.wire_types.specs.Plan.{Event, event_at}
 use Rattle.wire_rehearsal.specs.Planned.{plan_of}
-use Rattle.wire_plan.proofs.Basics.{event_within}
 use Rattle.wire_core.proofs.Meet.{has_fence, of_fence_within}
 use Rattle.wire_core.proofs.met.fence_of.Goals as goal
 

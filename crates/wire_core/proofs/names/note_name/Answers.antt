@@ -1,4 +1,4 @@
-use Rattle.std.proofs.Common.{◌<◌, [], Some, length, subst}
+use Rattle.std.proofs.Common.{[], Some, subst}
 use Rattle.wire_names.specs.Law.{HasName}
 use Rattle.wire_plan.specs.Kinds.{event_of}
 use Rattle.wire_core.proofs.names.note_name.Goals as goal

@@ -1,4 +1,4 @@
-use Rattle.std.proofs.Common.{◌≡◌, ◌<◌, ◌∙◌, ap, length, arith}
+use Rattle.std.proofs.Common.{◌≡◌, ◌∙◌, ap, length, arith}
 use Rattle.wire_procmap.specs.Map.{process_count}
 use Rattle.wire_procmap.proofs.Tables.{count_of_map}
 use Rattle.wire_plan.proofs.kind.reserved_reply.Goals as goal

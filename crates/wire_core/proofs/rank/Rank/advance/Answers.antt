@@ -1,4 +1,4 @@
-use Rattle.std.proofs.Common.{◌≡◌, [], ap, true}
+use Rattle.std.proofs.Common.{[], ap}
 use Rattle.wire_plan.specs.Kinds.{event_of}
 use Rattle.wire_core.specs.Puts.{is_put}
 use Rattle.wire_core.proofs.rank.Rank.advance.Goals as goal

@@ -1,6 +1,5 @@
-use Rattle.std.proofs.Common.{map, ◌≡◌, ◌∙◌, ◌≤◌, ap, sym, refl, arith, length, Some}
+use Rattle.std.proofs.Common.{map, ◌∙◌, ◌≤◌, ap, sym, refl, arith, length}
 use Rattle.std.proofs.lemmas.Option.{slice_get_read}
-use Rattle.wire_types.specs.Plan.{process_count}
 use Rattle.wire_rehearsal.specs.Planned.{plan_of}
 use Rattle.wire_plan.specs.Sight.{held, for_others}
 use Rattle.wire_plan.specs.Machine.{run}

@@ -1,4 +1,4 @@
-use Rattle.std.proofs.Common.{◌≡◌, Some, suc, ap, sym, refl, arith, true, ◌∙◌}
+use Rattle.std.proofs.Common.{◌≡◌, Some, suc, ap, sym, refl, arith, true}
 use Rattle.wire_types.specs.Plan.{process_count}
 use Rattle.wire_rehearsal.specs.Planned.{plan_of}
 use Rattle.wire_plan.specs.Machine.{is_enabled}

@@ -1,4 +1,4 @@
-use Rattle.std.proofs.Common.{◌≤◌, ◌≡◌, ap, sym, arith}
+use Rattle.std.proofs.Common.{◌≤◌, ap, sym, arith}
 use Rattle.wire_types.specs.Plan.{event_count}
 use Rattle.wire_rehearsal.specs.Planned.{plan_of}
 use Rattle.wire_core.specs.Course.{state_of}

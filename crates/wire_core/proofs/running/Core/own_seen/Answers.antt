@@ -1,4 +1,4 @@
-use Rattle.std.proofs.Common.{map, ◌≡◌, ◌∙◌, ap, ◌≤◌, sym, refl, arith, length}
+use Rattle.std.proofs.Common.{map, ◌∙◌, ap, ◌≤◌, sym, refl, arith, length}
 use Rattle.std.proofs.lemmas.Option.{slice_get_read}
 use Rattle.wire_types.specs.Plan.{process_count}
 use Rattle.wire_types.specs.Puts.{own}

@@ -18,5 +18,5 @@ returns-in-Some-Leave c =
     let s = run plan (map (λ p. p.number) c.self.inside.history.items) in
     let place = rw (← c.self.view_is) at c.next_place.ensures in
     let is : next_event plan s c.args.proc.number ≡ Some (event_of c.self.inside.plan.now.sets (kind.Leave c.in-Some-Leave.field-0-0)) =
-        subst (λ course. next_event (plan_of course.scripts) (state_of course) c.args.proc.number ≡ Some (event_of course.scripts.sets (kind.Leave c.in-Some-Leave.field-0-0))) (sym c.self.view_is) (sym c.in-Some-Leave.ensures.kind ∙ ap (λ k. Some (event_of c.args.self.now.scripts.sets k)) c.in-Some-Leave.field-0-is) in
+    subst (λ course. next_event (plan_of course.scripts) (state_of course) c.args.proc.number ≡ Some (event_of course.scripts.sets (kind.Leave c.in-Some-Leave.field-0-0))) (sym c.self.view_is) (sym c.in-Some-Leave.ensures.kind ∙ ap (λ k. Some (event_of c.args.self.now.scripts.sets k)) c.in-Some-Leave.field-0-is) in
     rw (← c.self.view_is) (c.is_complete.ensures s.done c.self.invariant.2.arrived ∙ ap (complete_at plan s.done) place ∙ leave_enabled plan s c.args.proc.number _ is)

@@ -1,14 +1,13 @@
-use Rattle.std.proofs.Common.{◌≡◌, ◌∙◌, ◌<◌, ◌≤◌, ◌+◌, ◌-◌, ap, sym, refl, subst, arith, ℕ, suc, ◌∷◌, [], ◌++◌, length, true, Some, None}
+use Rattle.std.proofs.Common.{◌≡◌, ◌-◌, ap, sym, refl, arith, suc, ◌∷◌, [], ◌++◌, length}
 use Rattle.wire_types.specs.Plan.{process_count}
 use Rattle.wire_rehearsal.specs.Planned.{plan_of}
 use Rattle.wire_plan.specs.State.{start}
-use Rattle.wire_plan.specs.Machine.{is_enabled, run, IsInterleaving}
-use Rattle.wire_plan.specs.Plain.{lowest, plain_from}
+use Rattle.wire_plan.specs.Plain.{plain_from}
 use Rattle.wire_plan.specs.Laws.{event_total}
 use Rattle.wire_plan.proofs.PlainRun.{lowest_enabled}
 use Rattle.wire_core.specs.Course.{state_of}
 use Rattle.wire_core.proofs.Looks.{nobody}
-use Rattle.wire_core.proofs.Steps.{step_history, legal_push, length_push, ahead_step, ahead_end}
+use Rattle.wire_core.proofs.Steps.{step_history, legal_push, length_push, ahead_step}
 use Rattle.wire_core.proofs.running.Core.run_lowest.Goals as goal
 
 pub steps-init : goal.steps-init

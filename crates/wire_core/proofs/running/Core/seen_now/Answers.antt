@@ -1,4 +1,4 @@
-use Rattle.std.proofs.Common.{◌≡◌, ◌≤◌, map, sym, arith}
+use Rattle.std.proofs.Common.{◌≤◌, map, sym, arith}
 use Rattle.wire_types.specs.Plan.{process_count}
 use Rattle.wire_rehearsal.specs.Planned.{plan_of}
 use Rattle.wire_plan.specs.Machine.{run}

@@ -1,8 +1,7 @@
-use Rattle.std.proofs.Common.{◌≡◌, ◌∙◌, ◌<◌, ◌+◌, ap, sym, refl, subst, arith, ℕ, suc, List, ◌∷◌, [], ◌++◌, map, length, Some}
-use Rattle.std.specs.Prelude.{slice_get, option_map}
+use Rattle.std.proofs.Common.{◌≡◌, ◌∙◌, ◌<◌, ap, sym, refl, subst, arith, ◌∷◌, [], ◌++◌, map, length, Some}
+use Rattle.std.specs.Prelude.{option_map}
 use Rattle.std.proofs.lemmas.List.{length-map, map-append}
 use Rattle.std.proofs.lemmas.Option.{slice_get_read}
-use Rattle.wire_types.specs.Plan.{event_at}
 use Rattle.wire_rehearsal.specs.Planned.{plan_of}
 use Rattle.wire_store.specs.Kept.{kept_with}
 use Rattle.wire_plan.specs.Kinds.{event_of}
@@ -131,9 +130,11 @@ invariant_of-self c =
     let arriving = subst (λ x. IsArrival c.self.inside.plan.now c.self.inside.fences.now x (option_map (λ f. f.number) c.arrived_at-fence.result)) place c.arrived_at-fence.ensures in
     let shared = shared_step c.self.inside.plan.now s c.self.inside.fences.now c.self.inside.arrivals c.self.inside.names c.args.proc.number (option_map (λ f. f.number) c.arrived_at-fence.result) (event_of sets c.in-Some.kind) c.self.invariant.2 is arriving in
     let noted : c.note_name.new.names ≡ names_after (calls_at plan c.args.proc.number (s.done c.args.proc.number)) (Some (event_of sets c.in-Some.kind)) c.self.inside.names =
-        c.note_name.ensures sets ∙ ap (λ a. names_after a (Some (event_of sets c.in-Some.kind)) c.self.inside.names) call in
-    (rw (pushed, c.index.ensures) course, rw c.push_reserved.ensures.capacity c.self.invariant.1,
-      rw (pushed, c.note_arrival.ensures, noted) (subst (λ st. IsShared c.self.inside.plan.now st c.self.inside.fences.now (after_arrival (option_map (λ f. f.number) c.arrived_at-fence.result) c.self.inside.arrivals) (names_after (calls_at plan c.args.proc.number (s.done c.args.proc.number)) (Some (event_of sets c.in-Some.kind)) c.self.inside.names)) (sym (run_push plan start w c.args.proc.number)) shared))
+    c.note_name.ensures sets ∙ ap (λ a. names_after a (Some (event_of sets c.in-Some.kind)) c.self.inside.names) call in (
+      rw (pushed, c.index.ensures) course,
+      rw c.push_reserved.ensures.capacity c.self.invariant.1,
+      rw (pushed, c.note_arrival.ensures, noted) (subst (λ st. IsShared c.self.inside.plan.now st c.self.inside.fences.now (after_arrival (option_map (λ f. f.number) c.arrived_at-fence.result) c.self.inside.arrivals) (names_after (calls_at plan c.args.proc.number (s.done c.args.proc.number)) (Some (event_of sets c.in-Some.kind)) c.self.inside.names)) (sym (run_push plan start w c.args.proc.number)) shared),
+    )
 
 pub note_arrival-requires : goal.note_arrival-requires
 note_arrival-requires c =

@@ -1,9 +1,7 @@
-use Rattle.std.proofs.Common.{◌≡◌, ◌<◌, ◌∙◌, ap, sym, refl, length, map, Some, arith}
-use Rattle.std.specs.Prelude.{slice_get}
+use Rattle.std.proofs.Common.{◌<◌, ◌∙◌, ap, sym, refl, length, map, arith}
 use Rattle.std.proofs.lemmas.Option.{slice_get_read, slice_get_within, same_Some}
 use Rattle.wire_types.specs.Plan.{event_count}
 use Rattle.wire_rehearsal.specs.Planned.{plan_of}
-use Rattle.wire_plan.specs.Ends.{call_number, calls_of}
 use Rattle.wire_plan.specs.Kinds.{event_of}
 use Rattle.wire_plan.proofs.Planning.{row_within, call_shown}
 use Rattle.wire_plan.proofs.plan.Plan.call_of.Goals as goal
@@ -12,7 +10,7 @@ pub index-row-requires : goal.index-row-requires
 index-row-requires c =
     let s = c.self.inside.scripts in
     let there : c.args.event.proc.number < length c.self.inside.rows.items =
-        row_within (λ row. map (event_of s.sets) row.kinds.items) s c.self.inside.rows.items c.self.invariant.0.events c.args.event.proc.number c.args.event.at (rw (c.self.view_is) c.requires) in
+    row_within (λ row. map (event_of s.sets) row.kinds.items) s c.self.inside.rows.items c.self.invariant.0.events c.args.event.proc.number c.args.event.at (rw (c.self.view_is) c.requires) in
     let index = c.index.ensures in
     let len = c.self.inside.rows.ok.0 in
     omega (arith, there, index, len)

@@ -1,5 +1,4 @@
-use Rattle.std.proofs.Common.{◌≡◌, ◌<◌, ◌≤◌, sym, refl, subst, map, length, Some, None}
-use Rattle.std.specs.Prelude.{slice_get, slice_index_or}
+use Rattle.std.proofs.Common.{sym, refl, map, length}
 use Rattle.std.proofs.lemmas.Option.{slice_get_read, slice_get_past}
 use Rattle.wire_plan.specs.Kinds.{event_of}
 use Rattle.wire_plan.proofs.Planning.{events_shown, events_past}

@@ -1,4 +1,4 @@
-use Rattle.std.proofs.Common.{◌≡◌, ◌<◌, ◌∙◌, ap, sym, refl, subst, length, arith, ◌≤◌}
+use Rattle.std.proofs.Common.{◌<◌, ◌∙◌, sym, refl, length}
 use Rattle.std.proofs.lemmas.List.{length-map}
 use Rattle.std.proofs.lemmas.Option.{slice_get_read}
 use Rattle.wire_rehearsal.specs.Planned.{planned_process}
