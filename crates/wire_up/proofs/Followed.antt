@@ -1,11 +1,10 @@
 -- From what the parts of following an order answer to what it answers.
-use Rattle.std.proofs.Common.{[], ◌∷◌, ◌+◌, ◌==◌, Bool, true, false, length, count_by, if◌then◌else◌, Vec, Global, ◌≡◌, ◌∙◌, ap, subst, sym, refl, ℕ, suc, List, take, ◌⊎◌, inl, inr, Option, Some, None, Result, Ok, Err, IfSome, IfOk, IfErr, IsErrAnd, OnOk}
+use Rattle.std.proofs.Common.{[], ◌∷◌, ◌+◌, ◌==◌, Bool, true, false, length, count_by, if◌then◌else◌, Vec, Global, ◌≡◌, ◌∙◌, ap, subst, sym, refl, ℕ, suc, List, take, ◌⊎◌, inl, inr, Option, Some, None, Result, Ok, Err, IfSome, IfOk, IfErr, OnOk}
 use Rattle.std.specs.Prelude.{nat_lt}
 use Rattle.std.specs.Io.KnownBytes.{Appends}
 use Rattle.wire_types.specs.declared.Fault.{Fault}
 use Rattle.wire_types.specs.declared.Fault.TheVariants.{Memory, Read, Write, NotReady, BadOrder}
 use Rattle.wire_types.specs.Front.{WritesFront}
-use Rattle.wire_types.specs.Outcome.{Ends}
 use Rattle.wire_types.specs.declared.Proc.{Proc}
 use Rattle.wire_rehearsal.specs.Scripts.{Scripts, numbers_of}
 use Rattle.wire_rehearsal.specs.Planned.{plan_of}
@@ -13,11 +12,9 @@ use Rattle.wire_script.specs.Statements.{Statement, statements}
 use Rattle.wire_order.specs.Order.{order_read, order_within, order_of, step_of, with_step}
 use Rattle.wire_order.proofs.Limited.{order_limited}
 use Rattle.wire_plan.specs.State.{start}
-use Rattle.wire_plan.specs.Machine.{run, IsInterleaving}
-use Rattle.wire_plan.specs.Ends.{outcome}
-use Rattle.wire_report.specs.Report.{report}
+use Rattle.wire_plan.specs.Machine.{IsInterleaving}
 use Rattle.wire_up.specs.Replay.{ReadAs, Refuses}
-use Rattle.wire_up.specs.Follow.{OrdersAs, RefusesSteps, StopsAfter, StopsBefore, OrderedAs, WritesFollowed, BreaksOffFollowed, RefusesOrder, StopsInOrder, report_after}
+use Rattle.wire_up.specs.Follow.{OrdersAs, RefusesSteps, StopsAfter, StopsBefore, OrderedAs, WritesFollowed, BreaksOffFollowed, report_after}
 
 -- what came of an order, all that was to come reads as
 pub orders_as : (coming : Option (List ℕ)) (bytes shown : List ℕ) (s shown_s : Scripts) (steps : List ℕ) → shown ≡ bytes → shown_s ≡ s → IfSome coming (λ all. bytes ≡ take 8388609 all) → order_read shown_s shown ≡ Ok steps → OrdersAs coming s steps

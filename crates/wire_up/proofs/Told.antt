@@ -41,6 +41,12 @@ breaks_off coming old new s (Err e) n read (inr (m, carries, short, front)) is =
     let same : m ≡ n = cc in
     record { scripts = s; read = read; wrote = subst (λ k. Appends old new (take k (plain_report s))) same front; short = subst (λ k. k < length (plain_report s)) same short }
 
+-- the writing is no failed read
+pub no_read_writing : (old new : Option (List ℕ)) (s : Scripts) (r : Result (Unit {0}) Fault) → IfErr r (WritesOrNot old new s) → r ≡ Err Read → ⊥
+no_read_writing old new s (Ok x) err is = let bad : Ok x ≡ Err Read = is in cc
+no_read_writing old new s (Err e) (inl memory) is = let bad : Memory ≡ Read = cc in cc
+no_read_writing old new s (Err e) (inr (m, carries, short, front)) is = let bad : Write m ≡ Read = cc in cc
+
 -- the writing refuses no file
 pub not_refused : (coming old new : Option (List ℕ)) (s : Scripts) (r : Result (Unit {0}) Fault) → IfErr r (WritesOrNot old new s) → IfErr r (λ e. e ≢ Memory → e ≢ Read → ((n : ℕ) → e ≢ Write n) → Refuses coming e)
 not_refused coming old new s (Ok x) err = tt

@@ -1,5 +1,5 @@
 -- What following an order of steps writes: the report of the state to which the steps lead.
-use Rattle.std.specs.Prelude.{◌≡◌, ℕ, ◌<◌, suc, List, Option, Some, Ok, Err, ◌⊎◌, false, length, take, slice_get}
+use Rattle.std.specs.Prelude.{◌≡◌, ℕ, suc, List, Option, Some, Ok, Err, ◌⊎◌, false, take, slice_get}
 use Rattle.std.specs.Io.KnownBytes.{Appends}
 use Rattle.wire_types.specs.Front.{WritesFront}
 use Rattle.wire_types.specs.declared.Fault.{Fault}

@@ -1,6 +1,6 @@
 use Rattle.std.proofs.Common.{inl, refl}
 use Rattle.wire_up.proofs.Told.{handed_on}
-use Rattle.wire_up.proofs.Followed.{of_file, on_ok_too, followed_ok, followed_err, not_read_late}
+use Rattle.wire_up.proofs.Followed.{of_file, of_order, on_ok_too, followed_ok, followed_err, not_read_late}
 use Rattle.wire_up.proofs.order.follow.Goals as goal
 
 pub returns-in_err-plan-clause-err : goal.returns-in_err-plan-clause-err
@@ -21,3 +21,7 @@ returns-clause-err g c =
 pub returns-clause-read_failed : goal.returns-clause-read_failed
 returns-clause-read_failed g c is =
     absurd (not_read_late c.in_ok-plan.plan _ (g.W.Sink.written c.args.writer.now) (g.W.Sink.written c.write_followed.new.writer) _ _ c.write_followed.result c.write_followed.ensures.err is)
+
+pub returns-in_err-order-clause-err : goal.returns-in_err-order-clause-err
+returns-in_err-order-clause-err g c =
+    handed_on c.from_residual-in_err-order.result c.in_err-order.field-0.0 _ c.from_residual-in_err-order.ensures.1 (inl (of_order _ _ _ _ c.in_ok-plan.ensures.ok c.in_err-order.ensures.err, refl))

@@ -1,4 +1,4 @@
-use Rattle.wire_up.proofs.Told.{same_error, before_writing, writes_report, breaks_off, not_refused, untouched, both_quiet}
+use Rattle.wire_up.proofs.Told.{no_read_writing, same_error, before_writing, writes_report, breaks_off, not_refused, untouched, both_quiet}
 use Rattle.wire_up.proofs.replay.plain.Goals as goal
 
 pub returns-in_err-plan-clause-front : goal.returns-in_err-plan-clause-front
@@ -23,3 +23,7 @@ returns-clause-front g c n is = breaks_off _ _ _ _ c.write_plain.result n c.in_o
 
 pub returns-clause-untouched : goal.returns-clause-untouched
 returns-clause-untouched g c = untouched _ _ (g.W.Sink.written c.args.writer.now) (g.W.Sink.written c.write_plain.new.writer) c.in_ok-plan.plan c.write_plain.result c.write_plain.ensures.err c.write_plain.ensures.memory
+
+pub returns-clause-read_failed : goal.returns-clause-read_failed
+returns-clause-read_failed g c is =
+    absurd (no_read_writing (g.W.Sink.written c.args.writer.now) (g.W.Sink.written c.write_plain.new.writer) c.in_ok-plan.plan c.write_plain.result c.write_plain.ensures.err is)
