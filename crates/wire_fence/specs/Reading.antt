@@ -1,4 +1,4 @@
--- What the first calls of the processes say of a fence.
+-- What the first calls of the processes say of a fence: for the contracts of private functions.
 use Rattle.std.specs.Prelude.{ℕ, zero, suc, List, take, Bool, true, ◌&&◌, ◌==◌, Option, Some, slice_get, if◌then◌else◌}
 use Rattle.wire_types.specs.declared.Call.{Call}
 use Rattle.wire_types.specs.declared.Call.TheVariants.{Fence}

@@ -1,4 +1,4 @@
--- The fences as calls are read, one call after the other.
+-- The fences as calls are read, one call after the other: for the contracts of private functions. What a fence is is said in Fences.
 use Rattle.std.specs.Prelude.{◌≡◌, ℕ, suc, ◌+◌, ◌-◌, ◌<◌, ◌≤◌, List, [], ◌∷◌, ◌++◌, Bool, true, ◌&&◌, ◌==◌, Option, Some, None, length, map, take, set, count_by, nat_le, nat_lt, slice_get, slice_index_or, if◌then◌else◌}
 use Rattle.std.specs.List.{list_all}
 use Rattle.wire_types.specs.declared.Call.{Call}

@@ -57,7 +57,8 @@ impl Arrivals {
         self.missing[fence.number as usize] -= 1;
     }
 
-    /// Counts the arrival of a member that hasn't arrived. It takes no memory.
+    /// Counts the arrival of a member that hasn't arrived: the caller ensures that it is one. Only how many
+    /// are missing is kept, not who. It takes no memory.
     pub fn arrive(&mut self, fence: FenceId, proc: Proc)
         requires { 0 < how_many_missing self.old fence.number }
         ensures one { self.new ≡ one_arrived fence.number self.old }
@@ -67,7 +68,7 @@ impl Arrivals {
         self.count_one(fence);
     }
 
-    /// Whether all members have arrived at a fence.
+    /// Whether all members have arrived at a fence. Nobody is missing at a number that no fence has.
     pub fn complete(&self, fence: FenceId) -> bool
         ensures none { result ≡ (how_many_missing self.now fence.number == 0) }
         ensures complete { (s : TheScripts) (cut : ℕ → ℕ) (table : FenceTable) (info : FenceInfo) → TellsMissing s cut table self.now

@@ -36,7 +36,7 @@ spelled_scope Local = codes "local"
 spelled_scope Remote = codes "remote"
 spelled_scope Global = codes "global"
 
--- a name, a colon and a rank: the decimal digits of a number of at most nine
+-- a name, a colon and a rank in decimal; a lawful rank has at most nine digits
 abbrev pub spelled_proc : List ℕ → ℕ → List ℕ
 spelled_proc job rank = job ++ 58 ∷ decimal rank
 

@@ -135,7 +135,7 @@ not_published_once : PublishesOnce named (record { proc = 0; at = 0 }) 5 → ⊥
 unfolding named events node_of event_at event_count
 not_published_once once = let taken : true ≡ false = once.stays (record { proc = 1; at = 1 }) in cc
 
--- what became of every call: two that wait for each other, and what they haven't come to
+-- what became of every call where one process has put and may commit, and another waits for what was put
 ends_of_the_wait : outcome never_committed (run never_committed (0 ∷ [])) ≡ record { rows = (Replied (bare status.Success) ∷ (Ready ∷ [])) ∷ ((Waiting ∷ []) ∷ []); waiting = 1 }
 unfolding never_committed events node_of event_at event_count
 ends_of_the_wait = refl

@@ -31,7 +31,7 @@ pub data Edge (plan : Plan) (x y : Place) : Type 0 where
   Feeds : (key : ℕ) → event plan y ≡ Some (Get x.proc key) → x.proc ≢ y.proc → put_count plan x.proc key (event_count plan x.proc) ≡ 1 → Stores plan x key → Edge plan x y
   Announces : (name : ℕ) → event plan y ≡ Some (LookupWait name) → PublishesOnce plan x name → Edge plan x y
 
--- whether an event is there and, its sources aside, doesn't wait for ever
+-- whether an event is there and, its sources aside, isn't ruled out by its own script or its owner's
 abbrev pub may_come : Plan → Place → Option Event → Bool
 may_come plan y None = false
 may_come plan y (Some (Get owner key)) =

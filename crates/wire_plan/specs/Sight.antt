@@ -11,7 +11,7 @@ pub data Sight : Type 0 where
   Outside : Sight
   Shown : (put : ℕ) → Sight
 
--- one's own put
+-- a put that is shown whatever its scope: one's own, or one that was brought
 abbrev pub held : Option ℕ → Sight
 held None = Nothing
 held (Some put) = Shown put
@@ -51,7 +51,7 @@ abbrev pub get_sees : Plan → (ℕ → ℕ) → ℕ → ℕ → ℕ → ℕ →
 get_sees plan cut q i p key =
     if q == p then held (own plan p key i) else served plan p (same_node plan p q) (stored plan p key (cut p))
 
--- the last of p's puts of the key that came to the node
+-- what p had stored under the key at its last arrival that brought its data to the node, where that put is for other nodes
 abbrev pub brought : Plan → State → ℕ → ℕ → ℕ → Option ℕ
 brought plan s p key node = for_others plan p (delivered plan s.done p node key (event_count plan p))
 

@@ -9,12 +9,14 @@ pub fn runs_end()
     ensures { RunsEnd }
 {}
 
-/// Where a process may go on, its next event is live, and all that comes before it has happened.
+/// In a state that a run has come to: where a process may go on, its next event is live, and all that
+/// comes before it has happened.
 pub fn enabled_is_due()
     ensures { EnabledIsDue }
 {}
 
-/// In a settled plan two processes that may both go on don't disturb each other.
+/// In a settled plan, in a state that a run has come to, two processes that may both go on don't disturb
+/// each other.
 pub fn enabled_commute()
     ensures { EnabledCommute }
 {}
@@ -25,7 +27,8 @@ pub fn one_end()
     ensures { OneEnd }
 {}
 
-/// In a settled plan replies are fates, and a process may go on exactly where its sources are done and its fate isn't to wait.
+/// In a settled plan, in a state that a run has come to, replies are fates, and a process may go on
+/// exactly where its sources are done and its fate isn't to wait.
 #[tactic(auto, using(crate::proofs::Fates::fates_tell))]
 pub fn fates_tell()
     ensures { FatesTell }
@@ -53,7 +56,7 @@ pub fn no_findings()
     ensures { NoFindings }
 {}
 
-/// For each order of the names the list of findings is one.
+/// For each order of the names there is at most one list of findings.
 pub fn one_list()
     ensures { OneList }
 {}

@@ -57,7 +57,7 @@ abbrev pub set_said : Scripts → ℕ → List ℕ → said.Set
 set_said s job set =
     if same_members set (members_of s.processes job) then said.Own else said.Listed (set_items s set)
 
--- items, with a comma after each
+-- items, with a comma after each: for the contract of the code that writes them, no part of the canonical text
 abbrev pub items_text : List said.Item → List ℕ
 items_text items = flat_map (λ i. said.spelled_item i ++ 44 ∷ []) items
 

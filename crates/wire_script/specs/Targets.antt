@@ -1,4 +1,4 @@
--- What the items of a set name, by number.
+-- What the items of a set name, by number: for the contracts of private functions. What is read is said in Reads.
 use Rattle.std.specs.Prelude.{ℕ, ◌==◌, ◌&&◌, Bool, false, nat_lt, List, length}
 use Rattle.std.specs.List.{list_any, position_or_len}
 use Rattle.wire_lines.specs.Said as said

@@ -42,7 +42,7 @@ fn line_past(bytes: &[u8], limit: usize) -> u64
     bytes[..limit].iter().filter(|b| **b == b'\n').count() as u64 + 1
 }
 
-/// A law: a text reads as one value.
+/// A law: a text reads as at most one value.
 pub fn reads_once()
     ensures { ReadsOnce }
 {}
