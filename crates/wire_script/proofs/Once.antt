@@ -35,7 +35,7 @@ first_once (line ∷ lines) n r s (inl a) (inr b) = absurd (b.0 a.0)
 first_once (line ∷ lines) n r s (inr a) (inl b) = absurd (a.0 b.0)
 first_once (line ∷ lines) n r s (inr a) (inr b) = a.1 ∙ sym b.1
 
-short_once : (bytes : List ℕ) (r s : Result Scripts Fault) → ReadsShort bytes r → ReadsShort bytes s → r ≡ s
+pub short_once : (bytes : List ℕ) (r s : Result Scripts Fault) → ReadsShort bytes r → ReadsShort bytes s → r ≡ s
 short_once bytes r s a b =
     both_once (λ d x. x ≡ second_pass d) (λ d x y p q. p ∙ sym q) a.0 b.0 r s
     (first_once (statements bytes) (length (lines_of bytes)) a.0 b.0 a.1 b.1) a.2 b.2

@@ -9,11 +9,12 @@ use Rattle.wire_rehearsal.specs.Canonical.{line_text, lines_said, canonical}
 use Rattle.wire_script.specs.Statements.{Statement, statements}
 use Rattle.wire_script.specs.FirstPass.{Started, Declared, nothing, number_or_count, after, with_call, FirstPass}
 use Rattle.wire_script.specs.Reads.{first_fault, scripts_of, unless_fault, second_pass, ReadsShort}
-use Rattle.wire_script.specs.Back.{ReadsBack}
+use Rattle.wire_script.specs.Back.{ReadsBack, OneCanonical}
 use Rattle.wire_script.proofs.Recut.{AllLawful, numbered_lines, said_again}
 use Rattle.wire_script.proofs.Changed.{IsTaken, IsFit, CallsAre, AllCalls, Runs, Takes, changed_declaration, lines_run, lines_changed, lines_judged}
 use Rattle.wire_script.proofs.Order.{lines_added, nothing_shaped}
 use Rattle.wire_script.proofs.Ranked.{run_good}
+use Rattle.wire_script.proofs.Once.{short_once}
 use Rattle.wire_script.proofs.Again.{canonical_call, scripts_changed, scripts_bare, met_changed, met_full}
 use Rattle.wire_script.proofs.Said.{again_same, again_fits, scripts_lines}
 
@@ -84,3 +85,12 @@ short_back bytes s (Ok d) first m =
 pub reads_back : ReadsBack
 reads_back bytes s (inl h) small = absurd (let e = h.1 in cc)
 reads_back bytes s (inr h) small = inr (small, short_back bytes s h.1.0 h.1.1 h.1.2)
+
+pub one_canonical : OneCanonical
+one_canonical a b s t (inl h) reads same = absurd (let e = h.1 in cc)
+one_canonical a b s t (inr h) (inl k) same = absurd (let e = k.1 in cc)
+one_canonical a b s t (inr h) (inr k) same =
+    let first = short_back a s h.1.0 h.1.1 h.1.2 in
+    let second = short_back b t k.1.0 k.1.1 k.1.2 in
+    let is : Ok s ≡ Ok t = short_once (canonical s) (Ok s) (Ok t) first (subst (λ x. ReadsShort x (Ok t)) (sym same) second) in
+    cc

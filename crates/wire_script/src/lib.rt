@@ -11,5 +11,5 @@ mod reader;
 mod second_pass;
 
 pub use lines::{Cursor, Statement};
-pub use reader::{read, reads_back, reads_once};
+pub use reader::{one_canonical, read, reads_back, reads_once};
 pub use wire_rehearsal::{Process, Scripts, Sets, Texts};

@@ -1,6 +1,6 @@
 //! The lines of a file that say something.
 
-ghost use Rattle.std.specs.Prelude.{◌≡◌, ◌+◌, ◌<◌, ◌≤◌, ◌^◌, ◌∷◌, [], length, map, MatchOption, OnOk, IfOk};
+ghost use Rattle.std.specs.Prelude.{◌≡◌, ◌+◌, ◌<◌, ◌≤◌, ◌^◌, ◌∷◌, [], length, map, MatchOption, OnOk, OnErr, IfOk};
 ghost use Rattle.wire_script.specs.Statements.{is_skipped, statements};
 ghost use Rattle.wire_script.specs.Left.{left, end_of, stated};
 
@@ -42,7 +42,7 @@ impl<'a> Cursor<'a> {
         }
     }
 
-    /// The next line that isn't skipped.
+    /// The next line that isn't skipped. Where memory runs out, the cursor is as it was.
     pub fn next_line(&mut self, alloc: Global) -> Result<Option<Statement<'a>>, AllocError>
         requires { self.old.line + length self.old.rest.now < 2 ^ 64 }
         ensures left { IfOk result (λ next. MatchOption next (left self.old ≡ []) (λ l. left self.old
@@ -51,17 +51,24 @@ impl<'a> Cursor<'a> {
         ensures last { IfOk result (λ next. MatchOption next (self.new.line
             ≡ end_of self.new) (λ l. l.number < self.new.line)) }
         ensures room { self.new.line + length self.new.rest.now ≤ self.old.line + length self.old.rest.now }
+        ensures err { OnErr result (self.new ≡ self.old) }
     {
-        'lines: while !self.rest.is_empty() {
-            let (piece, rest) = cut_piece(self.rest);
+        let mut at = Cursor {
+            rest: self.rest,
+            line: self.line,
+        };
+        'lines: while !at.rest.is_empty() {
+            let (piece, rest) = cut_piece(at.rest);
             let words = words(alloc, trim_return(piece))?;
-            let number = self.line;
-            self.rest = rest;
-            self.line += 1;
+            let number = at.line;
+            at.rest = rest;
+            at.line += 1;
             if !is_skipped_line(&words) {
+                *self = at;
                 return Ok(Some(Statement { number, words }));
             }
         }
+        *self = at;
         Ok(None)
     }
 }

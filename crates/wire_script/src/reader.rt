@@ -2,7 +2,7 @@
 
 ghost use Rattle.std.specs.Prelude.{◌≡◌, ◌≤◌, ◌==◌, ◌⊎◌, ◌+◌, count_by, take, length, Ok, Err, IfOk, IfErr};
 ghost use Rattle.wire_script.specs.Limits as limit;
-ghost use Rattle.wire_script.specs.Back.{ReadsBack};
+ghost use Rattle.wire_script.specs.Back.{ReadsBack, OneCanonical};
 ghost use Rattle.wire_script.specs.Reads.{Reads, ReadsShort, ReadsOnce};
 
 use crate::first_pass::first_pass;
@@ -45,6 +45,12 @@ fn line_past(bytes: &[u8], limit: usize) -> u64
 /// A law: a text reads as at most one value.
 pub fn reads_once()
     ensures { ReadsOnce }
+{}
+
+/// A law: scripts that were read and have the same canonical text are the same, also where that text is
+/// past the limit of a file.
+pub fn one_canonical()
+    ensures { OneCanonical }
 {}
 
 /// A law: the canonical text of scripts that were read reads as these scripts, where it is within the

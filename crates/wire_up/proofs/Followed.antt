@@ -130,3 +130,8 @@ no_read_of_order s bytes (Err e) (inr reads) is =
     let its = found.1 in
     let bad : BadOrder found.0 ≡ Read = cc in
     cc
+
+-- what holds of every fault holds of the one that is answered
+pub err_always : {A : Type 0} (r : Result A Fault) (P : Fault → Type 0) → ((e : Fault) → P e) → IfErr r P
+err_always (Ok x) P f = tt
+err_always (Err e) P f = f e

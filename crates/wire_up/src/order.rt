@@ -6,11 +6,12 @@ ghost use Rattle.std.specs.Io.KnownBytes.{Appends};
 ghost use Rattle.wire_types.specs.Counting.{one_more};
 ghost use Rattle.wire_types.specs.Front.{WritesFront};
 ghost use Rattle.wire_types.specs.Outcome.{ends_of};
-ghost use Rattle.wire_rehearsal.specs.Scripts.{numbers_of};
+ghost use Rattle.wire_rehearsal.specs.Scripts.{Scripts, numbers_of};
 ghost use Rattle.wire_rehearsal.specs.Planned.{plan_of};
 ghost use Rattle.wire_plan.specs.State.{start};
 ghost use Rattle.wire_plan.specs.Machine.{run, IsInterleaving};
 ghost use Rattle.wire_plan.specs.Ends.{outcome};
+ghost use Rattle.wire_up.specs.Replay.{ReadAs};
 ghost use Rattle.wire_up.specs.Follow.{WritesFollowed, BreaksOffFollowed, StopsBefore, OrdersAs, RefusesSteps, StopsAfter, report_after};
 
 use crate::reading::read_up_to;
@@ -35,6 +36,7 @@ fn read_steps<O: Source>(
     ensures quiet { OnOk result (O.failures order_reader.new ≡ O.failures order_reader.old) }
     ensures err { IfErr result (λ e. (e ≡ Memory) ⊎ (e ≡ Read) ⊎ RefusesSteps (O.coming order_reader.old) plan.now e) }
     ensures read { result ≡ Err Read → O.failures order_reader.new ≡ one_more (O.failures order_reader.old) }
+    ensures unfailed { IfErr result (λ e. e ≢ Memory → e ≢ Read → O.failures order_reader.new ≡ O.failures order_reader.old) }
 {
     let bytes = read_up_to(alloc, order_reader, ORDER_BYTES_AND_ONE)?;
     read_order(alloc, plan.scripts(), bytes.as_slice())
@@ -88,8 +90,10 @@ pub fn follow<R: Source, O: Source, W: Sink>(
     ensures err { IfErr result (λ e. (StopsBefore (R.coming reader.old) (O.coming order_reader.old) e × (writer.new ≡ writer.old))
         ⊎ (BreaksOffFollowed (R.coming reader.old) (O.coming order_reader.old) (W.written writer.old) (W.written writer.new) e × (W.failures writer.new ≡ one_more (W.failures writer.old)))) }
 
-    // A failed read is answered only where a reader failed.
-    ensures read_failed { result ≡ Err Read → (R.failures reader.new ≡ one_more (R.failures reader.old)) ⊎ (O.failures order_reader.new ≡ one_more (O.failures order_reader.old)) }
+    // A failed read is answered only where a reader failed, that of the order only where the file reads.
+    ensures read_failed { result ≡ Err Read → (R.failures reader.new ≡ one_more (R.failures reader.old))
+        ⊎ ((O.failures order_reader.new ≡ one_more (O.failures order_reader.old)) × (scripts : Scripts) × ReadAs (R.coming reader.old) scripts) }
+    ensures unfailed { IfErr result (λ e. e ≢ Memory → e ≢ Read → (R.failures reader.new ≡ R.failures reader.old) × (O.failures order_reader.new ≡ O.failures order_reader.old)) }
 {
     let plan = read_plan(alloc, reader)?;
     let order = read_steps(alloc, &plan, order_reader)?;

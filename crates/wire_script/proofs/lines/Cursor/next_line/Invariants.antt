@@ -4,10 +4,11 @@ use Rattle.wire_script.proofs.lines.Cursor.next_line.Given as goal
 
 abbrev pub invariant-lines : goal.invariant-lines
 invariant-lines l = record {
-  left : left l.initial.self ≡ left l.self;
-  end : end_of l.self ≡ end_of l.initial.self;
-  room : l.self.line + length l.self.rest.now ≤ l.initial.self.line + length l.initial.self.rest.now;
+  left : left l.initial.self ≡ left l.at;
+  end : end_of l.at ≡ end_of l.initial.self;
+  room : l.at.line + length l.at.rest.now ≤ l.initial.self.line + length l.initial.self.rest.now;
+  kept : l.self ≡ l.initial.self;
 }
 
 abbrev pub decreases-lines : goal.decreases-lines
-decreases-lines l = length l.self.rest.now
+decreases-lines l = length l.at.rest.now
