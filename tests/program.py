@@ -67,6 +67,9 @@ def runs(room):
     for it in examples(".order"):
         words = ["follow", f"examples/{it}.order", f"examples/{it}.plan"]
         yield Run(f"{it}.order", words, wrote=text_of(f"examples/{it}.followed"))
+    for it in examples(".question"):
+        words = ["why", *text_of(f"examples/{it}.question").decode().split(), f"examples/{it}.plan"]
+        yield Run(f"{it}.question", words, wrote=text_of(f"examples/{it}.answer"))
     yield Run("standard input", ["replay"], given=plan, wrote=report)
     yield Run("a file, whatever stands on standard input", ["replay", example], given=b"?", wrote=report)
     yield Run("the largest file", ["replay", large], wrote=b"waiting 0\n")
@@ -124,6 +127,41 @@ def follows(room):
     yield Run("follow with an unknown option", ["follow", "--loud", order, example], status=5, said=usage)
 
 
+def through_fences(count):
+    """The answer whether the first arrival of rank 0 is before the last one of rank 255, of so many fences that all ranks
+    call: from fence to fence by rank 0, the lowest."""
+    steps = [f"app:0 {n} fence {half}" for n in range(1, count - 1) for half in ("arrive", "leave")]
+    ends = [f"app:0 {count - 1} fence arrive", f"app:255 {count - 1} fence leave", f"app:255 {count} fence arrive"]
+    return "\n".join(["before", *steps, *ends, ""]).encode()
+
+
+def questions(room):
+    """The runs of `why`."""
+    plan, usage = text_of(EXAMPLE), (b"Usage: wire_up",)
+    example, odd = os.path.join(TOP, EXAMPLE), written(room, "odd.plan", plan + b"getaway app:0 k\n")
+    rank = b"rank n0\n" + b"fence all\n" * 64
+    fences = written(room, "fences.plan", b"rehearsal 1\nnode n0\njob app\n" + rank * 256)
+    words, far = ["why", "app:0", "1", "app:1", "1"], ["why", "app:0", "1", "app:255", "64", fences]
+    answer = b"before\napp:0 1 put\napp:0 2 commit\napp:1 1 get\n"
+    read, full, memory = b"wire_up: fault 10 Read\n", b"wire_up: fault 11 Write 0\n", b"wire_up: fault 1 Memory\n"
+    line = b"wire_up: fault 4 BadLine 10\n"
+    yield Run("a question", [*words, example], wrote=answer)
+    yield Run("a question, the file on standard input", words, given=plan, wrote=answer)
+    yield Run("a question through many fences", far, wrote=through_fences(64))
+    yield Run("help on why", ["why", "--help"], wrote=(b"Usage: wire_up why",))
+    for n, word in enumerate(("app:2", "3", "app:01", "01"), 1):
+        odd_words = [*words[:n], word, *words[n + 1 :], example]
+        yield Run(f"a wrong word {n}", odd_words, status=2, said=b"wire_up: fault 13 BadOrder %d\n" % n)
+    yield Run("two wrong words", ["why", "app:0", "0", "app", "1", example], status=2, said=b"wire_up: fault 13 BadOrder 2\n")
+    yield Run("a file that is refused, with a wrong word", ["why", "app:9", *words[2:], odd], status=2, said=line)
+    yield Run("too little memory for a question", far, status=3, said=memory, set_up=with_little_memory)
+    yield Run("no such file to ask about", [*words, os.path.join(room, "none")], status=4, said=read)
+    yield Run("a question, and a full device", [*words, example], status=4, said=full, set_up=onto("/dev/full", 1))
+    yield Run("why with three words", words[:4], given=plan, status=5, said=usage)
+    yield Run("why with a word too many", [*words, example, example], status=5, said=usage)
+    yield Run("why with a number that is read as an option", ["why", "app:0", "-1", *words[3:]], given=plan, status=5, said=usage)
+
+
 def start(program, run, **streams):
     how = {"cwd": TOP, "preexec_fn": run.set_up, "stderr": subprocess.PIPE, "timeout": SECONDS}
     return subprocess.run([program, *run.words], input=run.given, **how, **streams)
@@ -173,7 +211,7 @@ def tell(name, what):
 def all_runs(program):
     """Runs all, and answers how many went well and how many didn't."""
     with tempfile.TemporaryDirectory(prefix="wire-up-") as room:
-        well = [went_well(program, run) for run in (*runs(room), *follows(room))]
+        well = [went_well(program, run) for run in (*runs(room), *follows(room), *questions(room))]
         well += [breaks_off(program, room, size) for size in (1, 20, len(text_of(ITS_REPORT)) - 1)]
     for kept, shown in ((EXAMPLE, "crates/program/data/business-card.plan"), (ITS_REPORT, "crates/program/stdout")):
         well.append(text_of(kept) == text_of(shown) or tell(shown, f"is run on another text than {kept}"))

@@ -3,14 +3,14 @@
 #![tactic(auto)]
 
 use clap::error::ErrorKind;
-use clap::{Arg, Command, Error};
+use clap::{Arg, ArgMatches, Command, Error};
 use std::alloc::{AllocError, Global};
 use std::fs::File;
 use std::process::ExitCode;
 use std::rt::{Env, Files};
 use std::{env, io};
 use wire_types::{Fault, FromRead, ToWrite, write_out};
-use wire_up::{follow, plain};
+use wire_up::{follow, plain, why};
 
 /// The exit status of a command line that says nothing that the program does.
 const USAGE: u8 = 5;
@@ -57,13 +57,33 @@ fn follow_command<'a>(alloc: Global) -> Result<Command<'a>, AllocError> {
         .arg(file_argument(alloc))
 }
 
+/// A word of a question, which has to be given.
+fn question_argument<'a>(alloc: Global, name: &'a str, help: &'a str) -> Arg<'a> {
+    Arg::new(alloc, name).help(help).required(true)
+}
+
+fn why_command<'a>(alloc: Global) -> Result<Command<'a>, AllocError> {
+    let about =
+        "Tells whether one call comes before another in every run, and by which chain of events";
+    let first = "The process of the first call: its job, a colon, and its rank";
+    let number = "The number of that call among those of its process, from 1";
+    Command::new(alloc, "why")
+        .about(about)
+        .arg(question_argument(alloc, "P", first))?
+        .arg(question_argument(alloc, "N", number))?
+        .arg(question_argument(alloc, "Q", "The process of the second call"))?
+        .arg(question_argument(alloc, "M", "The number of that call"))?
+        .arg(file_argument(alloc))
+}
+
 /// The command line of the program.
 fn command_line<'a>(alloc: Global) -> Result<Command<'a>, AllocError> {
     Command::new(alloc, "wire_up")
         .about("Rehearses the wire-up of a PMIx job")
         .subcommand_required(true)
         .subcommand(replay_command(alloc)?)?
-        .subcommand(follow_command(alloc)?)
+        .subcommand(follow_command(alloc)?)?
+        .subcommand(why_command(alloc)?)
 }
 
 /// The arguments of the program, its own name among them.
@@ -99,6 +119,15 @@ fn obey<'a>(
             if let Some(replay) = matches.subcommand_matches("replay") {
                 return Ok(replay_file(rt, replay.get_str("FILE"))?);
             }
+            if let Some(asking) = matches.subcommand_matches("why") {
+                let words = [
+                    word_of(asking, "P"),
+                    word_of(asking, "N"),
+                    word_of(asking, "Q"),
+                    word_of(asking, "M"),
+                ];
+                return Ok(why_file(rt, words, asking.get_str("FILE"))?);
+            }
             let Some(following) = matches.subcommand_matches("follow") else {
                 return Err(Failure::Usage);
             };
@@ -109,6 +138,11 @@ fn obey<'a>(
         }
         Err(error) => tell(rt, &error),
     }
+}
+
+/// A word of a question. `clap` lets no question pass without its four words.
+fn word_of<'a>(matches: &ArgMatches<'a>, name: &str) -> &'a str {
+    matches.get_str(name).unwrap_or("")
 }
 
 /// Tells why there is nothing to do: help was asked for, or the words can't be read.
@@ -168,6 +202,27 @@ fn follow_file(
                 &mut writer,
             )
         }
+    }
+}
+
+/// Answers a question about a file, or about standard input where none is named.
+fn why_file(
+    rt: &(impl Files + Input + Print + AllocGlobal),
+    words: [&str; 4],
+    file: Option<&str>,
+) -> Result<(), Fault> {
+    let mut writer = ToWrite::new(io::writer(rt));
+    match file {
+        Some(path) => {
+            let file = File::open(rt, path).map_err(|_| Fault::Read)?;
+            why(rt.alloc(), &mut FromRead::new(file), &mut writer, words)
+        }
+        None => why(
+            rt.alloc(),
+            &mut FromRead::new(rt.reader()),
+            &mut writer,
+            words,
+        ),
     }
 }
 

@@ -10,6 +10,8 @@ mod limits;
 #[cfg(test)]
 mod names;
 #[cfg(test)]
+mod questions;
+#[cfg(test)]
 mod refusals;
 #[cfg(test)]
 mod reports;

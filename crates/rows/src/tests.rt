@@ -4,15 +4,18 @@ use crate::fences::FENCES;
 use crate::follows::FOLLOWS;
 use crate::limits::LIMITS;
 use crate::names::NAMES;
+use crate::questions::QUESTIONS;
 use crate::refusals::REFUSALS;
 use crate::reports::{REPORTS, Reported};
 use crate::texts::TEXTS;
 use std::alloc::Global;
 use std::process::Abort;
 use std::test::Fail;
+use wire_marks::Marks;
+use wire_plan::Plan;
 use wire_script::read;
-use wire_types::{EndlessSource, Fault, MemorySink, MemorySource};
-use wire_up::{follow, plain};
+use wire_types::{EndlessSource, Event, Fault, MemorySink, MemorySource, Proc};
+use wire_up::{follow, plain, why};
 
 /// A reader of these bytes, which gives at most so many a call.
 fn reader(bytes: &[u8], per_call: usize) -> MemorySource<'_> {
@@ -253,5 +256,77 @@ fn order_limit(rt: HostRuntime) -> Result<(), Fail> {
         to.bytes
             .ends_with(b"app:1 1 get waiting\nwaiting 1\n".as_slice())
     );
+    Ok(())
+}
+
+/// Each question has its answer, or its fault and then nothing is written.
+#[test]
+fn questions(rt: HostRuntime) -> Result<(), Fail> {
+    let alloc = rt.alloc();
+    for row in &QUESTIONS {
+        for per_call in [1, usize::MAX] {
+            let mut to = writer(alloc, per_call);
+            let answer = why(alloc, &mut reader(row.plan, per_call), &mut to, row.words);
+            match row.answer {
+                Ok(text) => {
+                    assert_eq!(rt; answer, Ok(()), "{}", row.name);
+                    assert_eq!(rt; to.bytes.as_slice(), text.as_bytes(), "{}", row.name);
+                }
+                Err(fault) => {
+                    assert_eq!(rt; answer, Err(fault), "{}", row.name);
+                    assert!(rt; to.bytes.is_empty(), "{}", row.name);
+                }
+            }
+        }
+    }
+    Ok(())
+}
+
+/// The marks of a plan.
+fn marks_of(alloc: Global, text: &[u8]) -> Result<Marks, Fault> {
+    Marks::of(alloc, &Plan::build(alloc, read(alloc, text)?)?)
+}
+
+/// A clock tells how many events of each process are an event or before it; of a call that is never reached
+/// it is 0.
+#[test]
+fn clocks(rt: HostRuntime) -> Result<(), Fail> {
+    let alloc = rt.alloc();
+    let at = |proc: u32, at: u32| Event {
+        proc: Proc::new(proc),
+        at,
+    };
+    let fenced =
+        b"rehearsal 1\nnode n0\nnode n1\njob app\nrank n0\npublish x 1\nfence all\nrank n1\nfence all\npublish x 2\n";
+    let marks = marks_of(alloc, fenced.as_slice())?;
+    assert_eq!(rt; marks.clock(at(1, 2), Proc::new(0)), 2);
+    assert_eq!(rt; marks.clock(at(1, 2), Proc::new(1)), 3);
+    let stuck =
+        b"rehearsal 1\nnode n0\nnode n1\njob app\nrank n0\nget app:1 b\nput global a 1\ncommit\nrank n1\nget app:0 a\nput global b 2\ncommit\n";
+    let marks = marks_of(alloc, stuck.as_slice())?;
+    for number in 0..6 {
+        for proc in 0..2 {
+            assert_eq!(rt; marks.clock(at(number / 3, number % 3), Proc::new(proc)), 0);
+        }
+    }
+    Ok(())
+}
+
+/// A writer that fails, or takes nothing, after so many bytes of an answer.
+#[test]
+fn answers_cut(rt: HostRuntime) -> Result<(), Fail> {
+    let alloc = rt.alloc();
+    let row = &QUESTIONS[0];
+    let Ok(text) = row.answer else {
+        return Ok(());
+    };
+    for room in 0..text.len() {
+        for takes_nothing in [false, true] {
+            let mut to = brief_writer(alloc, room, takes_nothing);
+            let answer = why(alloc, &mut reader(row.plan, 7), &mut to, row.words);
+            assert_eq!(rt; answer, Err(Fault::Write(room as u64)));
+            assert_eq!(rt; to.bytes.as_slice(), &text.as_bytes()[..room]);
+        }
+    }
     Ok(())
 }

@@ -9,7 +9,8 @@ use Rattle.wire_rehearsal.specs.Planned.{plan_of}
 use Rattle.wire_fence.specs.Fences.{FenceTable, AreFencesOf, fence_at, collects_in, reaches_in}
 use Rattle.wire_plan.specs.Sight.{brings, delivered, delivered_with, stored_at_with}
 use Rattle.wire_plan.proofs.Basics.{arrivals_step, arrivals_rise, list_all_at_member}
-use Rattle.wire_core.specs.Met.{members_of, IsMet, brings_with, brings_at}
+use Rattle.wire_plan.specs.Meetings.{members_of, IsMet}
+use Rattle.wire_core.specs.Met.{brings_with, brings_at}
 
 -- the three looks at a fence tell whether it has brought its members' data
 pub brings_told : (s : Scripts) (table : FenceTable) (cut : ℕ → ℕ) (p at number node : ℕ) (members : List ℕ) (collect : Bool) → AreFencesOf s table → event_at (plan_of s) p at ≡ Some (Arrive members collect) → (m : IsMet s table (record { proc = p; at = at }) number) → (complete collects reaches : Bool) → complete ≡ is_complete (plan_of s) cut m.fence.members m.fence.nth → collects ≡ collects_in (fence_at table number) → reaches ≡ reaches_in table node (fence_at table number) → (complete && (collects && reaches)) ≡ brings_at (plan_of s) cut p node at

@@ -1,4 +1,3 @@
-pub mod Behind
 pub mod Meet
 pub mod Bring
 pub mod Shared

@@ -15,9 +15,10 @@ use Rattle.wire_names.proofs.Follows.{names_follow}
 use Rattle.wire_plan.specs.State.{State, start, next_place}
 use Rattle.wire_plan.specs.Machine.{step, name_after, is_publisher}
 use Rattle.wire_plan.specs.Ends.{call_of}
-use Rattle.wire_core.specs.Met.{IsArrival, members_of, after_arrival}
+use Rattle.wire_plan.specs.Meetings.{members_of}
+use Rattle.wire_core.specs.Met.{IsArrival, after_arrival}
 use Rattle.wire_core.specs.Ranks.{AreNamesOf, IsShared}
-use Rattle.wire_core.proofs.Behind.{IsBehind, IsPart, First, Second, Other, part, changed_name, calls_by, event_behind}
+use Rattle.wire_plan.proofs.Behind.{IsBehind, IsPart, First, Second, Other, part, changed_name, calls_by, event_behind}
 
 -- before the first event nothing stands under any name
 pub new_names : (scripts : Scripts) (names : List (Option CallAt)) → names ≡ replicate (length scripts.names) None → AreNamesOf scripts start names

@@ -1,34 +1,14 @@
--- The fence that an event is part of.
-use Rattle.std.specs.Prelude.{◌≡◌, ℕ, suc, List, [], Bool, true, false, Option, Some, None}
-use Rattle.wire_types.specs.Plan.{Plan, Event, Arrive, Leave, Place, event, event_at}
+-- What an event of a fence does.
+use Rattle.std.specs.Prelude.{◌≡◌, ℕ, suc, List, Bool, false, Option, Some, None}
+use Rattle.wire_types.specs.Plan.{Plan, Event, Arrive, Place, event, event_at}
 use Rattle.wire_types.specs.Puts.{stored}
-use Rattle.wire_types.specs.Fences.{arrivals, is_member}
+use Rattle.wire_types.specs.Fences.{arrivals}
 use Rattle.wire_rehearsal.specs.Scripts.{Scripts}
 use Rattle.wire_rehearsal.specs.Planned.{plan_of}
-use Rattle.wire_fence.specs.Fences.{FenceInfo, FenceTable, fence_at}
+use Rattle.wire_fence.specs.Fences.{FenceTable}
 use Rattle.wire_fence.specs.Arrivals.{one_arrived}
 use Rattle.wire_plan.specs.Sight.{brings}
-
--- whether the event is one of the two halves of a fence
-abbrev pub is_of_fence : Option Event → Bool
-is_of_fence (Some (Arrive members collect)) = true
-is_of_fence (Some (Leave members)) = true
-is_of_fence _ = false
-
--- the members of its fence
-abbrev pub members_of : Option Event → List ℕ
-members_of (Some (Arrive members collect)) = members
-members_of (Some (Leave members)) = members
-members_of _ = []
-
--- the number is that of the fence of the event at x: its members, of whom x's process is one, and how many fences over them
--- that process has arrived at, this one too
-pub record IsMet (s : Scripts) (table : FenceTable) (x : Place) (number : ℕ) : Type 0 where
-  pub fence : FenceInfo
-  pub there : fence_at table number ≡ Some fence
-  pub members : fence.members ≡ members_of (event (plan_of s) x)
-  pub member : is_member fence.members x.proc ≡ true
-  pub nth : arrivals (plan_of s) x.proc fence.members (suc x.at) ≡ fence.nth
+use Rattle.wire_plan.specs.Meetings.{IsMet}
 
 -- the number, if there is one, is that of the fence at which the event at x arrives
 abbrev pub IsArrival : Scripts → FenceTable → Place → Option ℕ → Type 0

@@ -8,20 +8,12 @@ ghost use Rattle.wire_fence.specs.Fences.{AreFencesOf};
 ghost use Rattle.wire_fence.specs.Arrivals.{TellsMissing, missing_at};
 ghost use Rattle.wire_plan.specs.Kinds.{event_of};
 ghost use Rattle.wire_plan.specs.Sight.{delivered};
-ghost use Rattle.wire_core.specs.Met.{is_of_fence, members_of, brings_at, stored_at, after_arrival, IsMet, IsArrival};
+ghost use Rattle.wire_plan.specs.Meetings.{is_of_fence, members_of};
+ghost use Rattle.wire_core.specs.Met.{brings_at, stored_at, after_arrival, IsArrival};
 
 use wire_fence::{Arrivals, FenceId, Fences};
-use wire_plan::{Kind, Plan};
+use wire_plan::{Kind, Plan, fence_of};
 use wire_types::{Event, Proc};
-
-/// The fence that an event of the plan is part of.
-pub(crate) fn fence_of(plan: &Plan, fences: &Fences, event: Event) -> FenceId
-    requires fences { AreFencesOf plan.now fences.now }
-    requires half { is_of_fence (event_in (plan_of plan.now) (place_of event)) ≡ true }
-    ensures { IsMet plan.now fences.now (place_of event) result.number }
-{
-    fences.id_of(plan.call_of(event))
-}
 
 /// Whether all members have arrived at the fence that an event of the plan is part of.
 pub(crate) fn is_complete(plan: &Plan, fences: &Fences, arrivals: &Arrivals, event: Event) -> bool

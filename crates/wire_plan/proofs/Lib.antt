@@ -19,3 +19,15 @@ pub mod HaveFates
 pub mod Rows
 pub mod SettledRow
 pub mod Reached
+pub mod Behind
+pub mod AllPlaces
+pub mod Gathering
+pub mod Meet
+pub mod KeyRows
+pub mod KeyFacts
+pub mod Grown
+pub mod Numbered
+pub mod Wired
+pub mod Awaited
+pub mod Delivering
+pub mod Building

@@ -4,7 +4,8 @@ use Rattle.std.proofs.lemmas.Bool.{cases_lt}
 use Rattle.wire_types.specs.Plan.{Plan, GetNow, event}
 use Rattle.wire_types.specs.Plan.{Place}
 use Rattle.wire_plan.specs.Races.{Delivery, ByFence, IsOf, Brings, IsSettled}
-use Rattle.wire_plan.specs.Findings.{Finding, Rewrite, KeyRace, NameRace, IsLower, IsFound, IsPairBefore, IsSooner, Has, IsSorted}
+use Rattle.wire_plan.specs.Findings.{Finding, Rewrite, KeyRace, NameRace, IsFound, IsPairBefore, IsSooner, Has, IsSorted}
+use Rattle.wire_plan.specs.Places.{IsLower}
 use Rattle.wire_plan.specs.Laws.{NoFindings, IsOneWay, OneList}
 
 -- of two places one is lower

@@ -1,15 +1,15 @@
 -- The events of calls, one call after another, and those of the processes of a plan.
-use Rattle.std.proofs.Common.{◌≡◌, ◌∙◌, ap, sym, refl, subst, ℕ, zero, suc, ◌+◌, ◌*◌, ◌-◌, ◌^◌, ◌<◌, ◌≤◌, List, [], ◌∷◌, ◌++◌, length, map, Option, Some, None, inl, inr, length-append, arith, append_assoc}
+use Rattle.std.proofs.Common.{◌≡◌, ◌∙◌, ap, sym, refl, subst, ℕ, zero, suc, ◌+◌, ◌*◌, ◌-◌, ◌^◌, ◌<◌, ◌≤◌, List, [], ◌∷◌, ◌++◌, length, map, take, drop, get_or, add-one, Option, Some, None, inl, inr, length-append, arith, append_assoc}
 use Rattle.std.specs.Prelude.{slice_get, option_map, sum_by, replicate}
 use Rattle.std.proofs.lemmas.Option.{slice_get-map, slice_get_cases}
-use Rattle.std.proofs.lemmas.List.{length-map}
+use Rattle.std.proofs.lemmas.List.{length-map, drop_more}
 use Rattle.std.proofs.lemmas.List.Sums.{sum_by-cons}
 use Rattle.std.proofs.lemmas.Bool.{cases_lt, cond_below, cond_above}
 use Rattle.wire_types.specs.Plan.{Plan, Call, CallPut, CallCommit, CallFence, CallGet, CallGetNow, CallPublish, CallLookup, CallLookupWait, CallUnpublish, CallFixed, Event, events_of, process_events, process_node, events, event_at, event_count, node_of}
 use Rattle.wire_types.specs.Plan as plan
 use Rattle.wire_rehearsal.specs.Scripts.{Process, Scripts, call_count}
 use Rattle.wire_rehearsal.specs.Planned.{planned_call, planned_process, plan_of}
-use Rattle.wire_plan.specs.Kinds.{events_planned, calls_from, calls_planned}
+use Rattle.wire_plan.specs.Kinds.{events_planned, calls_from, calls_planned, starts_from, starts_planned}
 use Rattle.wire_plan.specs.Laws.{event_total}
 use Rattle.wire_plan.specs.Ends.{call_number, call_size, calls_of, process_calls}
 
@@ -163,6 +163,92 @@ call_shown view s rows shown p i row is lt =
     go : (o : Option plan.Process) → i < length (process_events o) → i < length (events_of (process_calls o))
     go None lt = lt
     go (Some q) lt = lt
+
+-- each call starts where the events of those before it end
+start_from : (n : ℕ) (calls : List Call) (c : ℕ) → c < length calls → slice_get (starts_from n calls) c ≡ Some (n + length (events_of (take c calls)))
+start_from n [] c lt = absurd (omega (arith, lt))
+start_from n (x ∷ calls) zero lt = let same : n ≡ n + length (events_of []) = omega arith in ap Some same
+start_from n (x ∷ calls) (suc c) lt =
+    let size : length (events_of (x ∷ take c calls)) ≡ call_size x + length (events_of (take c calls)) =
+    ap length (events_first x (take c calls)) ∙ length-append (events_of (x ∷ [])) (events_of (take c calls)) in
+    let same : (n + call_size x) + length (events_of (take c calls)) ≡ n + length (events_of (x ∷ take c calls)) = omega (arith, size) in
+    start_from (n + call_size x) calls c (omega (arith, lt)) ∙ ap Some same
+
+starts_row : (s : Scripts) (p : ℕ) → numbers_in (slice_get (starts_planned s) p) ≡ starts_from 0 (calls_of (plan_of s) p)
+starts_row s p =
+    ap numbers_in (slice_get-map (λ q. starts_from 0 (map (planned_call s) q.calls)) s.processes p)
+    ∙ go (slice_get s.processes p)
+    ∙ ap (λ o. starts_from 0 (process_calls o)) (sym (slice_get-map (planned_process s) s.processes p))
+  where
+    go : (o : Option Process) → numbers_in (option_map (λ q. starts_from 0 (map (planned_call s) q.calls)) o) ≡ starts_from 0 (process_calls (option_map (planned_process s) o))
+    go None = refl
+    go (Some q) = refl
+
+module _ {V : Type 0} (view : V → List ℕ) (s : Scripts) (rows : List V) (shown : map view rows ≡ starts_planned s) where
+  -- a row tells where the calls of its process start
+  pub start_shown : (p c : ℕ) (row : V) → slice_get rows p ≡ Some row → c < length (calls_of (plan_of s) p) → slice_get (view row) c ≡ Some (length (events_of (take c (calls_of (plan_of s) p))))
+  start_shown p c row is lt =
+      let row_is : view row ≡ starts_from 0 (calls_of (plan_of s) p) =
+      ap numbers_in (ap (option_map view) (sym is) ∙ sym (slice_get-map view rows p)) ∙ ap (λ r. numbers_in (slice_get r p)) shown ∙ starts_row s p in
+      let same : 0 + length (events_of (take c (calls_of (plan_of s) p))) ≡ length (events_of (take c (calls_of (plan_of s) p))) = omega arith in
+      ap (λ r. slice_get r c) row_is ∙ start_from 0 (calls_of (plan_of s) p) c lt ∙ ap Some same
+
+  -- who makes a call has a row
+  pub caller_within : (p c : ℕ) → c < length (calls_of (plan_of s) p) → p < length rows
+  caller_within p c lt = elim (slice_get_cases s.processes p).1 [
+    | inl h ↦
+        let rows_count : length rows ≡ length s.processes =
+        sym (length-map rows view) ∙ ap length shown ∙ length-map s.processes (λ q. starts_from 0 (map (planned_call s) q.calls)) in
+        let there = h.1 in
+        omega (arith, rows_count, there)
+    | inr h ↦
+        let no_calls : length (calls_of (plan_of s) p) ≡ 0 = ap (λ o. length (process_calls o)) (slice_get-map (planned_process s) s.processes p ∙ ap (option_map (planned_process s)) h.1) in
+        absurd (omega (arith, no_calls, lt))
+  ]
+
+module _ {K : Type 0} (ev : K → Event) where
+  -- one more call, behind the starts of those before it
+  pub add_starts : (call : Call) (rest : List Call) (old new : List ℕ) (kinds more : List K) → map ev more ≡ map ev kinds ++ events_of (call ∷ []) → new ≡ old ++ length kinds ∷ [] → old ++ starts_from (length kinds) (call ∷ rest) ≡ new ++ starts_from (length more) rest
+  add_starts call rest old new kinds more grown is =
+      let size : length more ≡ length kinds + call_size call =
+      sym (length-map more ev) ∙ ap length grown ∙ length-append (map ev kinds) (events_of (call ∷ [])) ∙ ap (λ n. n + call_size call) (length-map kinds ev) in
+      sym (append_assoc old (length kinds ∷ []) (starts_from (length kinds + call_size call) rest))
+      ∙ (λ t. sym is t ++ starts_from (sym size t) rest)
+
+  -- no more kinds than events of the calls
+  pub few_kinds : {C : Type 0} (f : C → Call) (calls : List C) (kinds : List K) (rest : List Event) → events_of (map f calls) ≡ map ev kinds ++ rest → length calls < 2 ^ 31 → length kinds < 2 ^ 32
+  few_kinds f calls kinds rest is few =
+      let all = ap length is ∙ length-append (map ev kinds) rest in
+      omega (arith, all, length-map kinds ev, length-map calls f, events_few (map f calls), few)
+
+module _ {K C : Type 0} (ev : K → Event) (f : C → Call) (calls : List C) (i : ℕ) (d : C) (lt : i < length calls) where
+  one_off : map f (drop i calls) ≡ f (get_or calls i d) ∷ map f (drop (i + 1) calls)
+  one_off = ap (map f) (drop_more calls i d lt)
+
+  -- the events of one more call, of those that are left
+  pub events_step : (kinds more : List K) → events_of (map f calls) ≡ map ev kinds ++ events_of (map f (drop i calls))
+      → map ev more ≡ map ev kinds ++ events_of (f (get_or calls i d) ∷ []) → events_of (map f calls) ≡ map ev more ++ events_of (map f (drop (i + 1) calls))
+  events_step kinds more before grown =
+      before
+      ∙ ap (λ cs. map ev kinds ++ events_of cs) one_off
+      ∙ add_events (f (get_or calls i d)) (map f (drop (i + 1) calls)) (map ev kinds) (map ev more) grown
+
+  -- its number for each of them
+  pub numbers_step : (n : ℕ) (old new : List ℕ) → calls_from 0 (map f calls) ≡ old ++ calls_from n (map f (drop i calls))
+      → new ≡ old ++ calls_from n (f (get_or calls i d) ∷ []) → calls_from 0 (map f calls) ≡ new ++ calls_from (n + 1) (map f (drop (i + 1) calls))
+  numbers_step n old new before grown =
+      before
+      ∙ ap (λ cs. old ++ calls_from n cs) one_off
+      ∙ add_numbers n (f (get_or calls i d)) (map f (drop (i + 1) calls)) old new grown
+      ∙ ap (λ m. new ++ calls_from m (map f (drop (i + 1) calls))) (sym (add-one n))
+
+  -- and where it starts
+  pub starts_step : (kinds more : List K) (old new : List ℕ) → starts_from 0 (map f calls) ≡ old ++ starts_from (length kinds) (map f (drop i calls))
+      → map ev more ≡ map ev kinds ++ events_of (f (get_or calls i d) ∷ []) → new ≡ old ++ length kinds ∷ [] → starts_from 0 (map f calls) ≡ new ++ starts_from (length more) (map f (drop (i + 1) calls))
+  starts_step kinds more old new before grown is =
+      before
+      ∙ ap (λ cs. old ++ starts_from (length kinds) cs) one_off
+      ∙ add_starts ev (f (get_or calls i d)) (map f (drop (i + 1) calls)) old new kinds more grown is
 
 -- the node of a process
 pub node_planned : (s : Scripts) (p : ℕ) (q : Process) → slice_get s.processes p ≡ Some q → node_of (plan_of s) p ≡ q.node

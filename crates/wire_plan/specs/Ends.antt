@@ -1,5 +1,5 @@
 -- What a state says became of every call.
-use Rattle.std.specs.Prelude.{ℕ, zero, suc, ◌-◌, List, [], ◌∷◌, ◌++◌, Bool, true, false, not, ◌&&◌, Option, Some, None, is_some, length, map, replicate, nat_lt, slice_get, if◌then◌else◌}
+use Rattle.std.specs.Prelude.{ℕ, zero, suc, ◌-◌, List, [], ◌∷◌, ◌++◌, Bool, true, false, not, ◌&&◌, Option, Some, None, is_some, length, take, map, replicate, nat_lt, slice_get, if◌then◌else◌}
 use Rattle.std.specs.List.{flat_map}
 use Rattle.wire_types.specs.Plan.{Plan, Process, Call, events_of, process_count}
 use Rattle.wire_types.specs.Outcome.{Ends}
@@ -33,6 +33,10 @@ calls_of plan p = process_calls (slice_get plan.processes p)
 -- the call to which an event belongs
 abbrev pub call_of : Plan → Place → CallAt
 call_of plan x = record { proc = record { number = x.proc }; call = call_number (calls_of plan x.proc) x.at }
+
+-- the first event of a call: the number of the events of the calls before it
+abbrev pub first_event : Plan → CallAt → Place
+first_event plan call = record { proc = call.proc.number; at = length (events_of (take call.call (calls_of plan call.proc.number))) }
 
 -- the reply that an answer gives to a call; the first half of a fence gives none
 abbrev pub given : Plan → Answer → List Reply

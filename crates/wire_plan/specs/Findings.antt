@@ -1,7 +1,8 @@
 -- The list of what the checker finds.
-use Rattle.std.specs.Prelude.{◌≡◌, ℕ, ◌<◌, List, [], ◌∷◌, Bool, true, ◌⊎◌, ◌↔◌}
+use Rattle.std.specs.Prelude.{◌≡◌, ℕ, List, [], ◌∷◌, Bool, true, ◌⊎◌, ◌↔◌}
 use Rattle.wire_types.specs.Plan.{Plan}
 use Rattle.wire_types.specs.Plan.{Place}
+use Rattle.wire_plan.specs.Places.{IsLower}
 use Rattle.wire_plan.specs.Races.{IsRewrite, IsNodeRace, IsDeliveryRace, IsNameRace}
 
 -- the lower place stands first
@@ -9,9 +10,6 @@ pub data Finding : Type 0 where
   Rewrite : (first later : Place) → Finding
   KeyRace : (lower higher : Place) → (owner key : ℕ) → Finding
   NameRace : (lower higher : Place) → (name : ℕ) → Finding
-
-abbrev pub IsLower : Place → Place → Type 0
-IsLower x y = (x.proc < y.proc) ⊎ ((x.proc ≡ y.proc) × (x.at < y.at))
 
 -- a race on a key, told by either of its places first
 abbrev pub IsKeyRace : Plan → Place → Place → ℕ → ℕ → Type 0

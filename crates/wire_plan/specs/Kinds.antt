@@ -1,5 +1,5 @@
 -- What the kinds of events are, and the events that scripts plan, each with the number of its call.
-use Rattle.std.specs.Prelude.{◌≡◌, ℕ, suc, List, [], ◌∷◌, ◌++◌, map, replicate}
+use Rattle.std.specs.Prelude.{◌≡◌, ℕ, suc, ◌+◌, List, [], ◌∷◌, ◌++◌, map, replicate}
 use Rattle.wire_types.specs.Plan.{Event, Call, events_of, set_of}
 use Rattle.wire_types.specs.Plan as plan
 use Rattle.wire_types.specs.declared.Call.{Call as Written}
@@ -34,6 +34,11 @@ abbrev pub calls_from : ℕ → List Call → List ℕ
 calls_from n [] = []
 calls_from n (call ∷ calls) = replicate (call_size call) n ++ calls_from (suc n) calls
 
+-- for each of these calls the number of its first event, the first of them with this number
+abbrev pub starts_from : ℕ → List Call → List ℕ
+starts_from n [] = []
+starts_from n (call ∷ calls) = n ∷ starts_from (n + call_size call) calls
+
 -- the events that the calls of each process are made of
 abbrev pub events_planned : Scripts → List (List Event)
 events_planned s = map (λ p. events_of (map (planned_call s) p.calls)) s.processes
@@ -42,8 +47,13 @@ events_planned s = map (λ p. events_of (map (planned_call s) p.calls)) s.proces
 abbrev pub calls_planned : Scripts → List (List ℕ)
 calls_planned s = map (λ p. calls_from 0 (map (planned_call s) p.calls)) s.processes
 
--- the rows are the events of these scripts, with their calls
-pub record AreEventsOf (s : Scripts) (rows : List (List Event)) (numbers : List (List ℕ)) : Type 0 where
+-- and the number of the first event of each call
+abbrev pub starts_planned : Scripts → List (List ℕ)
+starts_planned s = map (λ p. starts_from 0 (map (planned_call s) p.calls)) s.processes
+
+-- the rows are the events of these scripts, with their calls, and where each call starts
+pub record AreEventsOf (s : Scripts) (rows : List (List Event)) (numbers firsts : List (List ℕ)) : Type 0 where
   pub events : rows ≡ events_planned s
   pub calls : numbers ≡ calls_planned s
+  pub starts : firsts ≡ starts_planned s
   pub sound : IsSound s

@@ -11,9 +11,15 @@ pub mod Sight
 pub mod Machine
 pub mod Order
 pub mod Races
+pub mod Places
+pub mod Index
 pub mod Findings
 pub mod Fate
 pub mod Laws
 pub mod Plain
 pub mod Kinds
 pub mod Ends
+pub mod Meetings
+pub mod Keys
+pub mod Tables
+pub mod Indexed

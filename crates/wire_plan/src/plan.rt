@@ -1,67 +1,52 @@
-//! A plan: scripts with the events of each process.
+//! A plan: scripts with the events of each process, and what is looked up of them.
 
-ghost use Rattle.std.specs.Prelude.{◌≡◌, ◌<◌, ◌^◌, Some, length, map, sum_by, vec_len, IfOk, IfErr};
-ghost use Rattle.wire_types.specs.Plan.{place_of, process_count, events, event_at, event_count, node_of};
+ghost use Rattle.std.specs.Prelude.{◌≡◌, ◌<◌, ◌^◌, ℕ, List, [], true, Some, length, map, option_map, IfOk, IfErr, IfSome, MatchOption};
+ghost use Rattle.wire_types.specs.Plan.{Place, Get, Leave, place_of, process_count, events, event_at, event_count, event as event_in, node_of};
+ghost use Rattle.wire_types.specs.Puts.{put_count};
+ghost use Rattle.wire_types.specs.Fences.{arrivals as arrivals_of};
 ghost use Rattle.wire_rehearsal.specs.Scripts.{IsSound};
 ghost use Rattle.wire_rehearsal.specs.Planned.{plan_of};
 ghost use Rattle.wire_procmap.specs.Map.{map_of};
 ghost use Rattle.wire_fence.specs.Fences.{AreFencesOf};
-ghost use Rattle.wire_plan.specs.Kinds.{event_of, events_planned, calls_planned};
-ghost use Rattle.wire_plan.specs.Ends.{call_of};
+ghost use Rattle.wire_plan.specs.Kinds.{event_of};
+ghost use Rattle.wire_plan.specs.Ends.{call_of, calls_of, first_event};
 ghost use Rattle.wire_plan.specs.Laws.{event_total};
+ghost use Rattle.wire_plan.specs.Order.{may_come, Stores, PublishesOnce};
+ghost use Rattle.wire_plan.specs.Races.{IsPutOnce};
+ghost use Rattle.wire_plan.specs.Index.{AreSources, AreArrivals, AreNameCalls, AreLooks, IsAwaited, IsFirstPut, IsNextDelivery, source_list, previous_of};
+ghost use Rattle.wire_plan.specs.Meetings.{is_of_fence, IsMet};
 
+use crate::deliveries::next_delivery;
+use crate::events::Events;
+use crate::index::Index;
 use crate::kind::Kind;
-use crate::row::{Row, row_of};
-use std::alloc::{AllocError, Global};
+use crate::meetings::{arrivals_at, fence_at, is_full};
+use crate::sources::{Sources, previous_event};
+use std::alloc::Global;
 use std::marker::Model;
-use wire_fence::Fences;
+use wire_fence::{FenceId, Fences};
 use wire_procmap::ProcMap;
 use wire_rehearsal::Scripts;
 use wire_types::{CallAt, Event, Fault, Proc};
 
-/// Scripts, with their process map, their fences, and the events of each process.
+/// Scripts, with their process map, their fences, the events of each process, and what they wait for.
 #[derive(Drop)]
 pub struct Plan {
-    scripts: Scripts,
-    places: ProcMap,
+    events: Events,
     fences: Fences,
-    rows: Vec<Row>,
+    index: Index,
 }
 
 impl Model for Plan {
-    ghost use Rattle.std.specs.Prelude.{◌≡◌, map};
     ghost use Rattle.wire_rehearsal.specs.Scripts as spec;
-    ghost use Rattle.wire_procmap.specs.Map.{map_of};
     ghost use Rattle.wire_fence.specs.Fences.{AreFencesOf};
-    ghost use Rattle.wire_plan.specs.Kinds.{event_of, AreEventsOf};
+    ghost use Rattle.wire_plan.specs.Indexed.{IsIndexed};
 
     ghost Value = { spec.Scripts };
 
-    ghost view = { λ p. p.scripts };
+    ghost view = { λ p. p.events };
 
-    ghost invariant = { λ p. AreEventsOf p.scripts (map (λ row. map (event_of p.scripts.sets) row.kinds.items) p.rows.items) (map (λ row. row.calls.items) p.rows.items) × (p.places ≡ map_of p.scripts) × AreFencesOf p.scripts p.fences };
-}
-
-/// The events of each process.
-fn all_rows(alloc: Global, scripts: &Scripts, places: &ProcMap) -> Result<Vec<Row>, AllocError>
-    requires { places.now ≡ map_of scripts.now }
-    ensures kinds { IfOk result (λ all. map (λ row. map (event_of scripts.now.sets) row.kinds.items) all.items ≡ events_planned scripts.now) }
-    ensures calls { IfOk result (λ all. map (λ row. row.calls.items) all.items ≡ calls_planned scripts.now) }
-{
-    let processes = scripts.processes();
-    let mut all = Vec::with_capacity(alloc, processes.len())?;
-    for process in processes {
-        all.push(row_of(alloc, scripts, places, process.calls())?)?;
-    }
-    Ok(all)
-}
-
-/// How many events these rows hold.
-fn total_of(rows: &[Row]) -> usize
-    requires { sum_by (λ row. vec_len row.kinds) rows.now < 2 ^ 64 }
-    ensures { result ≡ sum_by (λ row. vec_len row.kinds) rows.now }
-{
-    rows.iter().map(|row| row.kinds.len()).sum()
+    ghost invariant = { λ p. AreFencesOf p.events p.fences × IsIndexed p.events p.fences p.index };
 }
 
 impl Plan {
@@ -70,14 +55,13 @@ impl Plan {
         ensures ok { IfOk result (λ plan. plan ≡ scripts) }
         ensures err { IfErr result (λ e. e ≡ Fault.Memory) }
     {
-        let places = ProcMap::new(alloc, &scripts)?;
-        let fences = Fences::of(alloc, &scripts, &places)?;
-        let rows = all_rows(alloc, &scripts, &places)?;
+        let events = Events::of(alloc, scripts)?;
+        let fences = Fences::of(alloc, events.scripts(), events.map())?;
+        let index = Index::of(alloc, &events, &fences)?;
         Ok(Plan {
-            scripts,
-            places,
+            events,
             fences,
-            rows,
+            index,
         })
     }
 
@@ -86,14 +70,14 @@ impl Plan {
         ensures scripts { result.now ≡ self.now }
         ensures sound { IsSound self.now }
     {
-        &self.scripts
+        self.events.scripts()
     }
 
     /// The process map of its scripts.
     pub fn map(&self) -> &ProcMap
         ensures { result.now ≡ map_of self.now }
     {
-        &self.places
+        self.events.map()
     }
 
     /// The fences of its scripts.
@@ -107,26 +91,21 @@ impl Plan {
     pub fn process_count(&self) -> u32
         ensures { result ≡ process_count (plan_of self.now) }
     {
-        self.scripts.processes().len() as u32
+        self.events.process_count()
     }
 
     /// What the events of a process are, in their order; none where it isn't of the plan.
     pub fn events(&self, proc: Proc) -> &[Kind]
         ensures { map (event_of self.now.sets) result.now ≡ events (plan_of self.now) proc.number }
     {
-        match self.rows.get(proc.index()) {
-            Some(row) => row.kinds.as_slice(),
-            None => &[],
-        }
+        self.events.events(proc)
     }
 
     /// How many events a process has, none where it isn't of the plan.
     pub fn event_count(&self, proc: Proc) -> u32
         ensures { result ≡ event_count (plan_of self.now) proc.number }
     {
-        // The borrow gives the proof what the scripts promise of their numbers.
-        let _scripts = &self.scripts;
-        self.events(proc).len() as u32
+        self.events.event_count(proc)
     }
 
     /// How many events all processes have.
@@ -134,7 +113,7 @@ impl Plan {
         ensures total { result ≡ event_total (plan_of self.now) }
         ensures fits { result < 2 ^ 32 }
     {
-        total_of(&self.rows)
+        self.events.event_total()
     }
 
     /// What an event of the plan is.
@@ -142,7 +121,7 @@ impl Plan {
         requires { event.at < event_count (plan_of self.now) event.proc.number }
         ensures { event_at (plan_of self.now) event.proc.number event.at ≡ Some (event_of self.now.sets result) }
     {
-        self.events(event.proc)[event.at as usize]
+        self.events.kind(event)
     }
 
     /// The call that an event of the plan belongs to.
@@ -150,11 +129,15 @@ impl Plan {
         requires { event.at < event_count (plan_of self.now) event.proc.number }
         ensures { result ≡ call_of (plan_of self.now) (place_of event) }
     {
-        let row = &self.rows[event.proc.index()];
-        CallAt {
-            proc: event.proc,
-            call: row.calls[event.at as usize],
-        }
+        self.events.call_of(event)
+    }
+
+    /// The first event of a call of the plan: the one event of most calls, the arrival of a fence.
+    pub fn first_event(&self, call: CallAt) -> Event
+        requires { call.call < length (calls_of (plan_of self.now) call.proc.number) }
+        ensures { place_of result ≡ first_event (plan_of self.now) call }
+    {
+        self.events.first_event(call)
     }
 
     /// The number of the node of a process of the plan.
@@ -162,6 +145,162 @@ impl Plan {
         requires { proc.number < process_count (plan_of self.now) }
         ensures { result ≡ node_of (plan_of self.now) proc.number }
     {
-        self.scripts.processes()[proc.index()].node()
+        self.events.node_of(proc)
     }
+
+    // Whether a get of a key isn't ruled out by the scripts.
+    fn may_get(&self, event: Event, owner: Proc, key: u32) -> bool
+        ensures { result ≡ may_come (plan_of self.now) (place_of event) (Some (Get owner.number key)) }
+    {
+        if owner == event.proc {
+            self.index.keys.is_put_before(owner, key, event.at)
+        } else {
+            self.index.keys.may_get(owner, key)
+        }
+    }
+
+    /// Whether an event of the plan, its sources aside, isn't ruled out by its own script or its owner's:
+    /// a get of what is never stored waits for ever, and so does the end of a fence that a member doesn't
+    /// call.
+    pub fn may_come(&self, event: Event) -> bool
+        requires { event.at < event_count (plan_of self.now) event.proc.number }
+        ensures { result ≡ may_come (plan_of self.now) (place_of event) (event_in (plan_of self.now) (place_of event)) }
+    {
+        match self.kind(event) {
+            Kind::Get { owner, key } => self.may_get(event, owner, key),
+            Kind::Leave { .. } => is_full(&self.events, &self.fences, event),
+            _ => true,
+        }
+    }
+
+    // The commit or the publish that an event of the plan waits for.
+    fn awaited(&self, event: Event) -> Option<Event>
+        requires { event.at < event_count (plan_of self.now) event.proc.number }
+        ensures { IsAwaited (plan_of self.now) (place_of event) (option_map place_of result) }
+    {
+        match self.kind(event) {
+            Kind::Get { owner, key } => {
+                if owner == event.proc {
+                    None
+                } else {
+                    self.index.keys.feeding(owner, key)
+                }
+            }
+            Kind::LookupWait { name } => self.index.names.once_published(name),
+            _ => None,
+        }
+    }
+
+    // The arrivals at the fence that an event of the plan ends; none where it ends none.
+    fn arrivals_before(&self, event: Event) -> &[Event]
+        requires { event.at < event_count (plan_of self.now) event.proc.number }
+        ensures leave { (members : List ℕ) → event_in (plan_of self.now) (place_of event) ≡ Some (Leave members)
+            → AreArrivals (plan_of self.now) members (arrivals_of (plan_of self.now) event.proc.number members event.at) (map place_of result.now) }
+        ensures others { ((members : List ℕ) → event_in (plan_of self.now) (place_of event) ≡ Some (Leave members) → ⊥) → result.now ≡ [] }
+    {
+        match self.kind(event) {
+            Kind::Leave { .. } => arrivals_at(
+                &self.index.meetings,
+                &self.events,
+                &self.fences,
+                event,
+            ),
+            _ => &[],
+        }
+    }
+
+    /// What an event of the plan waits for: the event before it in its process, the commit that stores the
+    /// key for which it waits, where the key is put once, or the publish of the name for which it waits,
+    /// where the name is published once and nobody unpublishes it, and the arrivals at the fence that it
+    /// ends.
+    pub fn sources(&self, event: Event) -> Sources<'_>
+        requires { event.at < event_count (plan_of self.now) event.proc.number }
+        ensures sources { AreSources (plan_of self.now) (place_of event) (source_list result.previous result.awaited result.arrivals.now) }
+        ensures previous { option_map place_of result.previous ≡ previous_of (place_of event) }
+        ensures leave { (members : List ℕ) → event_in (plan_of self.now) (place_of event) ≡ Some (Leave members)
+            → AreArrivals (plan_of self.now) members (arrivals_of (plan_of self.now) event.proc.number members event.at) (map place_of result.arrivals.now) }
+        ensures others { ((members : List ℕ) → event_in (plan_of self.now) (place_of event) ≡ Some (Leave members) → ⊥) → result.arrivals.now ≡ [] }
+    {
+        Sources {
+            previous: previous_event(event),
+            awaited: self.awaited(event),
+            arrivals: self.arrivals_before(event),
+        }
+    }
+
+    /// How often a process puts a key.
+    pub fn put_count(&self, owner: Proc, key: u32) -> u32
+        ensures { result ≡ put_count (plan_of self.now) owner.number key (event_count (plan_of self.now) owner.number) }
+    {
+        self.index.keys.put_count(owner, key)
+    }
+
+    /// The event by which a process puts a key first; `None` where it never does.
+    pub fn first_put(&self, owner: Proc, key: u32) -> Option<Event>
+        ensures { MatchOption result (put_count (plan_of self.now) owner.number key (event_count (plan_of self.now) owner.number) ≡ 0)
+            (λ x. (x.proc ≡ owner) × IsFirstPut (plan_of self.now) (place_of x) key) }
+    {
+        self.index.keys.first_put(owner, key)
+    }
+
+    /// The commit that stores a key of a process: the first one after its first put of the key; `None`
+    /// where there is none (PMIx Standard 5.0, Posting Key-Value Pairs).
+    pub fn store_of(&self, owner: Proc, key: u32) -> Option<Event>
+        ensures { MatchOption result ((x : Place) → x.proc ≡ owner.number → Stores (plan_of self.now) x key → ⊥)
+            (λ x. (x.proc ≡ owner) × Stores (plan_of self.now) (place_of x) key) }
+    {
+        self.index.keys.store_of(owner, key)
+    }
+
+    /// The first arrival of a process, from its event of this number on, at a fence that brings a key of
+    /// it to a node: a fence that each member calls, each with data collection, with a member on the node,
+    /// before which the process has stored the key for processes of other nodes. For a key that the process
+    /// puts once (PMIx Standard 5.0, PMIx_Fence with PMIX_COLLECT_DATA).
+    pub fn next_delivery(&self, owner: Proc, key: u32, node: u32, from: u32) -> Option<Event>
+        ensures owner { IfSome result (λ e. e.proc ≡ owner) }
+        ensures next { IsPutOnce (plan_of self.now) owner.number key → IsNextDelivery (plan_of self.now) owner.number key node from (option_map (λ e. e.at) result) }
+    {
+        next_delivery(
+            &self.events,
+            &self.fences,
+            &self.index.keys,
+            owner,
+            key,
+            node,
+            from,
+        )
+    }
+
+    /// The publish of a name that is published once and that nobody unpublishes; `None` of any other name.
+    pub fn once_published(&self, name: u32) -> Option<Event>
+        ensures { MatchOption result ((x : Place) → PublishesOnce (plan_of self.now) x name → ⊥)
+            (λ x. PublishesOnce (plan_of self.now) (place_of x) name) }
+    {
+        self.index.names.once_published(name)
+    }
+
+    /// The calls on a name, in process order. Each name is a shard of its own.
+    pub fn name_calls(&self, name: u32) -> &[Event]
+        ensures { AreNameCalls (plan_of self.now) name (map place_of result.now) }
+    {
+        self.index.names.calls(name)
+    }
+
+    /// The gets that are answered at once and ask another process for a key, in process order. Each key
+    /// is a shard of its own (PMIx Standard 5.0, PMIx_Get with PMIX_IMMEDIATE).
+    pub fn looks(&self, key: u32) -> &[Event]
+        ensures { AreLooks (plan_of self.now) key (map place_of result.now) }
+    {
+        self.index.looks.looks(key)
+    }
+}
+
+/// The fence that an event of the plan, the arrival at it or its end, is part of: its number among these
+/// fences of the plan's scripts (PMIx Standard 5.0, PMIx_Fence).
+pub fn fence_of(plan: &Plan, fences: &Fences, event: Event) -> FenceId
+    requires fences { AreFencesOf plan.now fences.now }
+    requires half { is_of_fence (event_in (plan_of plan.now) (place_of event)) ≡ true }
+    ensures { IsMet plan.now fences.now (place_of event) result.number }
+{
+    fence_at(&plan.events, fences, event)
 }

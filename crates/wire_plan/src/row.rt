@@ -4,7 +4,7 @@ ghost use Rattle.std.specs.Prelude.{◌≡◌, ◌+◌, ◌<◌, ◌^◌, ◌∷
 ghost use Rattle.wire_types.specs.Plan.{events_of};
 ghost use Rattle.wire_rehearsal.specs.Planned.{planned_call};
 ghost use Rattle.wire_procmap.specs.Map.{map_of};
-ghost use Rattle.wire_plan.specs.Kinds.{event_of, calls_from};
+ghost use Rattle.wire_plan.specs.Kinds.{event_of, calls_from, starts_from};
 
 use crate::kind::{Kind, first_kind};
 use std::alloc::{AllocError, Global};
@@ -12,17 +12,20 @@ use wire_procmap::ProcMap;
 use wire_rehearsal::Scripts;
 use wire_types::Call;
 
-/// What the events of a process are, in their order, and the number of the call of each.
+/// What the events of a process are, in their order, and the number of the call of each; and for each
+/// call the number of its first event.
 #[derive(Drop)]
 pub(crate) struct Row {
     pub kinds: Vec<Kind>,
     pub calls: Vec<u32>,
+    pub starts: Vec<u32>,
 }
 
 impl Row {
     fn add(&mut self, kind: Kind, call: u32) -> Result<(), AllocError>
         ensures kinds { OnOk result (self.new.kinds.items ≡ self.old.kinds.items ++ kind ∷ []) }
         ensures calls { OnOk result (self.new.calls.items ≡ self.old.calls.items ++ call ∷ []) }
+        ensures starts { OnOk result (self.new.starts.items ≡ self.old.starts.items) }
     {
         self.kinds.push(kind)?;
         self.calls.push(call)?;
@@ -38,10 +41,13 @@ fn add_call(
     call: Call,
     number: u32,
 ) -> Result<(), AllocError>
-    requires { places.now ≡ map_of scripts.now }
+    requires places { places.now ≡ map_of scripts.now }
+    requires few { length row.old.kinds.items < 2 ^ 32 }
     ensures kinds { OnOk result (map (event_of scripts.now.sets) row.new.kinds.items ≡ map (event_of scripts.now.sets) row.old.kinds.items ++ events_of (planned_call scripts.now call ∷ [])) }
     ensures calls { OnOk result (row.new.calls.items ≡ row.old.calls.items ++ calls_from number (planned_call scripts.now call ∷ [])) }
+    ensures starts { OnOk result (row.new.starts.items ≡ row.old.starts.items ++ length row.old.kinds.items ∷ []) }
 {
+    row.starts.push(row.kinds.len() as u32)?;
     row.add(first_kind(scripts, places, call), number)?;
     if let Call::Fence { set, .. } = call {
         row.add(Kind::Leave { set }, number)?;
@@ -60,10 +66,12 @@ pub(crate) fn row_of(
     requires few { length calls.now < 2 ^ 31 }
     ensures kinds { IfOk result (λ row. map (event_of scripts.now.sets) row.kinds.items ≡ events_of (map (planned_call scripts.now) calls.now)) }
     ensures calls { IfOk result (λ row. row.calls.items ≡ calls_from 0 (map (planned_call scripts.now) calls.now)) }
+    ensures starts { IfOk result (λ row. row.starts.items ≡ starts_from 0 (map (planned_call scripts.now) calls.now)) }
 {
     let mut row = Row {
         kinds: Vec::with_capacity(alloc, calls.len())?,
         calls: Vec::with_capacity(alloc, calls.len())?,
+        starts: Vec::with_capacity(alloc, calls.len())?,
     };
     let mut number = 0;
     for call in calls {

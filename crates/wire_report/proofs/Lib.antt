@@ -1,2 +1,3 @@
 pub mod LinesLeft
 pub mod Rows
+pub mod Chains

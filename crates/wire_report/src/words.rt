@@ -112,7 +112,7 @@ fn given_text(scripts: &Scripts, place: CallAt) -> &[u8]
 }
 
 /// The call at a place, where there is one.
-fn find_call(scripts: &Scripts, place: CallAt) -> Option<&Call>
+pub fn find_call(scripts: &Scripts, place: CallAt) -> Option<&Call>
     ensures { option_copied result ≡ call_at scripts.now.processes place.proc.number place.call }
 {
     match scripts.processes().get(place.proc.index()) {

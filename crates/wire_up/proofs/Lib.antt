@@ -3,3 +3,4 @@ pub mod FileFaults
 pub mod Limited
 pub mod Told
 pub mod Followed
+pub mod Asked

@@ -2,8 +2,10 @@
 #![tactic(auto)]
 
 mod order;
+mod question;
 mod reading;
 mod replay;
 
 pub use order::follow;
+pub use question::why;
 pub use replay::plain;

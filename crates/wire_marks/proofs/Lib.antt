@@ -1,0 +1,7 @@
+pub mod Marking
+pub mod Tables
+pub mod Growing
+pub mod OneChain
+pub mod Same
+pub mod Joining
+pub mod Back

@@ -1,0 +1,6 @@
+use Rattle.wire_rehearsal.specs.Planned.{plan_of}
+use Rattle.wire_marks.proofs.Growing.{marks_whole}
+use Rattle.wire_marks.proofs.grow.all_clocks.Goals as goal
+
+pub returns : goal.returns
+returns c = marks_whole (plan_of c.args.plan.now) c.passes.clocks.items c.passes.invariant.growing.marked (c.passes.invariant.stuck c.passes-test.false)

@@ -1,0 +1,26 @@
+use Rattle.std.proofs.Common.{[], append_assoc}
+use Rattle.wire_types.specs.Plan.{place_of}
+use Rattle.wire_rehearsal.specs.Planned.{plan_of}
+use Rattle.wire_plan.proofs.Due.{live_may}
+use Rattle.wire_marks.proofs.Growing.{come_within, after_live}
+use Rattle.wire_marks.proofs.Back.{none_lowest, some_leads, some_event, is_step_back}
+use Rattle.wire_marks.proofs.steps.step_back.Goals as goal
+
+pub sources-sources-requires : goal.sources-sources-requires
+sources-sources-requires c = come_within (plan_of c.args.plan.now) (place_of c.args.y) (live_may (after_live c.requires.before))
+
+pub unwrap-requires : goal.unwrap-requires
+unwrap-requires c =
+    let plan = plan_of c.args.plan.now in
+    let first = c.lowest_of-first.ensures plan [] c.requires.marks (none_lowest plan (place_of c.args.x)) in
+    let second = c.lowest_of-second.ensures plan _ c.requires.marks first in
+    let all = c.lowest_among-lowest.ensures plan _ c.requires.marks second in
+    some_event c.lowest_among-lowest.result (some_leads plan (place_of c.args.x) (place_of c.args.y) _ _ c.sources-sources.ensures.sources c.requires.before (rw append_assoc at all))
+
+pub returns : goal.returns
+returns c =
+    let plan = plan_of c.args.plan.now in
+    let first = c.lowest_of-first.ensures plan [] c.requires.marks (none_lowest plan (place_of c.args.x)) in
+    let second = c.lowest_of-second.ensures plan _ c.requires.marks first in
+    let all = c.lowest_among-lowest.ensures plan _ c.requires.marks second in
+    is_step_back plan (place_of c.args.x) (place_of c.args.y) _ (place_of c.unwrap.result) c.sources-sources.ensures.sources (rw (append_assoc, c.unwrap.ensures) at all)

@@ -1,0 +1,47 @@
+-- What the marks of a plan are: how many events of each process are live, and a clock for each of them.
+use Rattle.std.specs.Prelude.{◌≡◌, ◌⊎◌, ◌↔◌, ◌<◌, ℕ, List, [], Option, Some, None, Vec, length, slice_get, slice_index}
+use Rattle.std.specs.declared.alloc.Global.{Global}
+use Rattle.wire_types.specs.Plan.{Plan, Place}
+use Rattle.wire_plan.specs.Order.{Live, Before}
+
+-- the list in a vector of a table, and none past its end
+abbrev pub items_in : {A : Type 0} → Option (Vec A Global) → List A
+items_in None = []
+items_in (Some v) = v.items
+
+abbrev pub items_at : {A : Type 0} → List (Vec A Global) → ℕ → List A
+items_at xs i = items_in (slice_get xs i)
+
+-- a clock for each live event of each process: for each process a number
+abbrev pub Clocks : Type 0
+Clocks = List (Vec (Vec ℕ Global) Global)
+
+-- how many events of the process are marked
+abbrev pub marked_count : Clocks → ℕ → ℕ
+marked_count clocks p = length (items_at clocks p)
+
+abbrev pub clock_at : Clocks → Place → List ℕ
+clock_at clocks y = items_at (items_at clocks y.proc) y.at
+
+-- what the clock of y says of the process q, 0 where y isn't marked
+abbrev pub clock_of : Clocks → Place → ℕ → ℕ
+clock_of clocks y q = slice_index (clock_at clocks y) q
+
+-- x is y, or before it
+abbrev pub LeadsTo : Plan → Place → Place → Type 0
+LeadsTo plan x y = (x ≡ y) ⊎ Before plan x y
+
+-- the clock counts, of each process, its events that are y or before y
+pub record IsClock (plan : Plan) (y : Place) (clock : ℕ → ℕ) : Type 0 where
+  pub only : (x : Place) → x.at < clock x.proc → LeadsTo plan x y
+  pub all : (x : Place) → LeadsTo plan x y → x.at < clock x.proc
+
+-- the number is how many events of the process q are y or before y; it is 0 where y isn't live
+pub record IsClockOf (plan : Plan) (y : Place) (q number : ℕ) : Type 0 where
+  pub counts : Live plan y → (x : Place) → x.proc ≡ q → (x.at < number) ↔ LeadsTo plan x y
+  pub dead : (Live plan y → ⊥) → number ≡ 0
+
+-- the marks are this plan's
+pub record AreMarks (plan : Plan) (clocks : Clocks) : Type 0 where
+  pub live : (y : Place) → (y.at < marked_count clocks y.proc) ↔ Live plan y
+  pub told : (y : Place) → Live plan y → IsClock plan y (clock_of clocks y)

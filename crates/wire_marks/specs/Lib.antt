@@ -1,0 +1,4 @@
+pub mod Clocks
+pub mod Shown
+pub mod Marking
+pub mod Meeting

@@ -1,0 +1,12 @@
+//! Which events of a plan are live, and which come before which.
+#![tactic(auto)]
+
+mod grow;
+mod joins;
+mod law;
+mod marks;
+mod steps;
+mod table;
+
+pub use law::one_shown;
+pub use marks::Marks;

@@ -1,0 +1,93 @@
+//! The marks of a plan.
+
+ghost use Rattle.std.specs.Prelude.{◌≡◌, ◌↔◌, IsTrue, IfOk, IsOkUnless, MatchOption, map};
+ghost use Rattle.wire_types.specs.Plan.{Plan as ThePlan, place_of};
+ghost use Rattle.wire_rehearsal.specs.Planned.{plan_of};
+ghost use Rattle.wire_plan.specs.Order.{Live, Before};
+ghost use Rattle.wire_marks.specs.Clocks.{clock_of, AreMarks, IsClockOf};
+ghost use Rattle.wire_marks.specs.Shown.{IsShown};
+
+use crate::grow::all_clocks;
+use crate::steps::{chain_between, is_same};
+use crate::table::{clock_at, is_marked};
+use std::alloc::Global;
+use std::marker::Model;
+use wire_plan::Plan;
+use wire_types::{Event, Fault, Proc};
+
+/// Which events of a plan are live, and which are before which, by clocks.
+#[derive(Drop)]
+pub struct Marks {
+    clocks: Vec<Vec<Vec<u32>>>,
+}
+
+impl Model for Marks {
+    ghost use Rattle.wire_marks.specs.Clocks.{Clocks};
+
+    ghost Value = { Clocks };
+
+    ghost view = { λ m. m.clocks.items };
+}
+
+impl Marks {
+    /// The marks of a plan. An event is marked after its sources, so what waits in a circle never
+    /// is. The one fault is `Fault::Memory`.
+    pub fn of(alloc: Global, plan: &Plan) -> Result<Marks, Fault>
+        ensures ok { IfOk result (λ marks. AreMarks (plan_of plan.now) marks) }
+        ensures memory { IsOkUnless result Fault.Memory }
+    {
+        let clocks = all_clocks(alloc, plan)?;
+        Ok(Marks { clocks })
+    }
+
+    /// Whether an event is live: it may come, and all that it waits for is live.
+    pub fn live(&self, event: Event) -> bool
+        ensures { (plan : ThePlan) → AreMarks plan self.now → (IsTrue result ↔ Live plan (place_of event)) }
+    {
+        is_marked(&self.clocks, event)
+    }
+
+    // What the clock of an event says of a process.
+    fn count(&self, event: Event, proc: Proc) -> u32
+        ensures { result ≡ clock_of self.now (place_of event) proc.number }
+    {
+        let clock = clock_at(&self.clocks, event);
+        clock.get(proc.index()).copied().unwrap_or(0)
+    }
+
+    /// Whether there is a chain from x to y, through live events.
+    pub fn before(&self, x: Event, y: Event) -> bool
+        ensures { (plan : ThePlan) → AreMarks plan self.now → (IsTrue result ↔ Before plan (place_of x) (place_of y)) }
+    {
+        !is_same(x, y) && x.at < self.count(y, x.proc)
+    }
+
+    /// How many events of a process are this one or before it, 0 where it isn't live.
+    pub fn clock(&self, event: Event, proc: Proc) -> u32
+        ensures { (plan : ThePlan) → AreMarks plan self.now → IsClockOf plan (place_of event) proc.number result }
+    {
+        self.count(event, proc)
+    }
+
+    /// The chain from x to y that is shown, both ends in it, and none where x isn't before y. Each
+    /// event but x stands after the lowest of its sources that is x or that x is before. The caller
+    /// ensures that the marks are those of the plan. The one fault is `Fault::Memory`.
+    pub fn chain(
+        &self,
+        alloc: Global,
+        plan: &Plan,
+        x: Event,
+        y: Event,
+    ) -> Result<Option<Vec<Event>>, Fault>
+        requires { AreMarks (plan_of plan.now) self.now }
+        ensures shown { IfOk result (λ o. MatchOption o (Before (plan_of plan.now) (place_of x) (place_of y) → ⊥)
+            (λ chain. IsShown (plan_of plan.now) (place_of x) (place_of y) (map place_of chain.items) × Before (plan_of plan.now) (place_of x) (place_of y))) }
+        ensures memory { IsOkUnless result Fault.Memory }
+    {
+        if !self.before(x, y) {
+            return Ok(None);
+        }
+        let chain = chain_between(alloc, self, plan, x, y)?;
+        Ok(Some(chain))
+    }
+}

@@ -1,0 +1,20 @@
+use Rattle.std.proofs.Common.{◌≡◌, ◌≤◌, ◌+◌, suc, subst, arith}
+use Rattle.wire_types.specs.Plan.{process_count}
+use Rattle.wire_rehearsal.specs.Planned.{plan_of}
+use Rattle.wire_plan.specs.Tables.{AreListedTo}
+use Rattle.wire_plan.proofs.Numbered.{listed_plan}
+use Rattle.wire_plan.proofs.by_number.ByNumber.of.Goals as goal
+
+pub loop-number-preserved : goal.loop-number-preserved
+loop-number-preserved c =
+    let next : suc c.loop-number.number ≡ c.loop-number.number + 1 = omega arith in
+    let told = rw (c.new-in-loop-number.ensures) at c.in_ok-read_all.ensures in
+    subst (λ p. AreListedTo (plan_of c.args.events.now) c.args.listing p 0 c.read_all.new.self) next
+    (told c.loop-number.invariant)
+
+pub returns : goal.returns
+returns c =
+    let over = c.loop-number-test.false in
+    let count = c.process_count-number-end.ensures in
+    let last : process_count (plan_of c.args.events.now) ≤ c.loop-number.number = omega (arith, over, count) in
+    listed_plan (plan_of c.args.events.now) c.args.listing c.loop-number.number c.loop-number.table last c.loop-number.invariant

@@ -1,0 +1,15 @@
+use Rattle.std.proofs.Common.{◌≡◌, ◌<◌, ◌∙◌, ℕ, subst, arith}
+use Rattle.std.specs.Prelude.{slice_get}
+use Rattle.wire_types.specs.Plan.{process_count}
+use Rattle.wire_rehearsal.specs.Planned.{plan_of}
+use Rattle.wire_plan.specs.Keys.{IsKeyRow, row_in}
+use Rattle.wire_plan.proofs.KeyRows.{table_done}
+use Rattle.wire_plan.proofs.keys.KeyTable.of.Goals as goal
+
+pub returns : goal.returns
+returns c = λ p key.
+    let plan = plan_of c.args.events.now in
+    let rows = c.loop-number.rows.items in
+    let end : c.loop-number.number ≡ process_count plan = rw (← c.process_count-number-end.ensures) (omega arith) in
+    table_done plan rows (c.loop-number.invariant.count ∙ end)
+    (subst (λ n. (q k : ℕ) → q < n → IsKeyRow plan q k (row_in (slice_get rows q) k)) end c.loop-number.invariant.each) p key

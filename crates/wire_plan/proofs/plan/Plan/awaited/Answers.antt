@@ -1,0 +1,22 @@
+use Rattle.std.proofs.Common.{◌∙◌, ap, sym, subst, Some, eq-eqb}
+use Rattle.std.proofs.lemmas.Bool.{true≢false}
+use Rattle.wire_types.specs.Plan.{place_of}
+use Rattle.wire_rehearsal.specs.Planned.{plan_of}
+use Rattle.wire_plan.specs.Kinds.{event_of}
+use Rattle.wire_plan.specs.Keys.{AreKeysOf}
+use Rattle.wire_plan.specs.Tables.{AreNamesOf}
+use Rattle.wire_plan.proofs.Awaited.{key_of_other, once_name}
+use Rattle.wire_plan.proofs.plan.Plan.awaited.Goals as goal
+
+pub returns-else-eq : goal.returns-else-eq
+returns-else-eq c =
+    key_of_other (plan_of c.args.self.now) (place_of c.args.event) c.in-Get.owner c.in-Get.key c.feeding.result
+    (c.kind.ensures ∙ ap (λ k. Some (event_of c.args.self.now.sets k)) c.in-Get.is)
+    (λ same. true≢false (sym (eq-eqb c.in-Get.owner.number c.args.event.proc.number same) ∙ sym c.if-eq.ensures))
+    (c.feeding.ensures (plan_of c.args.self.now) (subst (λ s. AreKeysOf (plan_of s) c.self.inside.index.keys) c.self.view_is c.self.invariant.1.keys))
+
+pub returns-in-LookupWait : goal.returns-in-LookupWait
+returns-in-LookupWait c =
+    once_name (plan_of c.args.self.now) (place_of c.args.event) c.in-LookupWait.name c.once_published.result
+    (c.kind.ensures ∙ ap (λ k. Some (event_of c.args.self.now.sets k)) c.in-LookupWait.is)
+    (c.once_published.ensures (plan_of c.args.self.now) (subst (λ s. AreNamesOf (plan_of s) c.self.inside.index.names) c.self.view_is c.self.invariant.1.names))

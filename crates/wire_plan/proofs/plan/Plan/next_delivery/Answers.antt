@@ -1,0 +1,10 @@
+use Rattle.std.proofs.Common.{subst, option_map}
+use Rattle.wire_rehearsal.specs.Planned.{plan_of}
+use Rattle.wire_plan.specs.Races.{IsPutOnce}
+use Rattle.wire_plan.specs.Index.{IsNextDelivery}
+use Rattle.wire_plan.proofs.plan.Plan.next_delivery.Goals as goal
+
+pub returns-clause-next : goal.returns-clause-next
+returns-clause-next c =
+    subst (λ s. IsPutOnce (plan_of s) c.args.owner.number c.args.key → IsNextDelivery (plan_of s) c.args.owner.number c.args.key c.args.node c.args.from (option_map (λ e. e.at) c.next_delivery.result))
+    c.self.view_is c.next_delivery.ensures.next

@@ -1,0 +1,71 @@
+-- What is looked up in a plan: the sources of an event, the puts of a key, the calls on a name, and the fences that bring a key to a node.
+use Rattle.std.specs.Prelude.{◌≡◌, ◌≢◌, ℕ, zero, suc, ◌<◌, ◌≤◌, List, ◌++◌, true, Option, Some, None, map, option_map, option_to_list, slice_get, MatchOption}
+use Rattle.wire_types.specs.Plan.{Plan, Place, Put, Get, GetNow, LookupWait, event, place_of}
+use Rattle.wire_types.specs.declared.Event.{Event}
+use Rattle.wire_types.specs.declared.Scope.{Scope}
+use Rattle.wire_types.specs.Puts.{own}
+use Rattle.wire_plan.specs.Names.{calls_name}
+use Rattle.wire_plan.specs.Order.{Edge, Stores, IsArrival, PublishesOnce}
+use Rattle.wire_plan.specs.Races.{ByFence, Brings, IsPutOnce}
+use Rattle.wire_plan.specs.Places.{AreAll}
+
+-- these are the sources of the edges into y, and no others
+pub record AreSources (plan : Plan) (y : Place) (sources : List Place) : Type 0 where
+  pub only : (k : ℕ) (z : Place) → slice_get sources k ≡ Some z → Edge plan z y
+  pub all : (z : Place) → Edge plan z y → (k : ℕ) × (slice_get sources k ≡ Some z)
+
+-- the event before it in its process
+abbrev pub previous_at : ℕ → ℕ → Option Place
+previous_at p zero = None
+previous_at p (suc i) = Some (record { proc = p; at = i })
+
+abbrev pub previous_of : Place → Option Place
+previous_of y = previous_at y.proc y.at
+
+-- what an event waits for: the event before it, a commit or a publish, and the arrivals at a fence
+abbrev pub source_list : Option Event → Option Event → List Event → List Place
+source_list previous single arrivals = option_to_list (option_map place_of previous) ++ (option_to_list (option_map place_of single) ++ map place_of arrivals)
+
+-- what is found, if anything, is the commit that a get of another process's key waits for, or the publish that a waiting look-up
+-- waits for
+pub record IsAwaited (plan : Plan) (y : Place) (found : Option Place) : Type 0 where
+  pub only : (z : Place) → found ≡ Some z → Edge plan z y
+  pub feeds : (z : Place) (key : ℕ) → event plan y ≡ Some (Get z.proc key) → z.proc ≢ y.proc → IsPutOnce plan z.proc key → Stores plan z key → found ≡ Some z
+  pub announces : (z : Place) (name : ℕ) → event plan y ≡ Some (LookupWait name) → PublishesOnce plan z name → found ≡ Some z
+
+-- x is its process's first put of the key
+pub record IsFirstPut (plan : Plan) (x : Place) (key : ℕ) : Type 0 where
+  pub scope : Scope
+  pub is : event plan x ≡ Some (Put key scope)
+  pub first : own plan x.proc key x.at ≡ None
+
+-- the arrivals at the j-th fence over these members
+abbrev pub AreArrivals : Plan → List ℕ → ℕ → List Place → Type 0
+AreArrivals plan members j places = AreAll (IsArrival plan members j) places
+
+-- the calls on a name
+abbrev pub AreNameCalls : Plan → ℕ → List Place → Type 0
+AreNameCalls plan name places = AreAll (λ x. calls_name plan name x (event plan x) ≡ true) places
+
+-- x asks another process for the key and is answered at once
+pub record IsLook (plan : Plan) (key : ℕ) (x : Place) : Type 0 where
+  pub owner : ℕ
+  pub is : event plan x ≡ Some (GetNow owner key)
+  pub other : x.proc ≢ owner
+
+abbrev pub AreLooks : Plan → ℕ → List Place → Type 0
+AreLooks plan key places = AreAll (IsLook plan key) places
+
+-- p's event number `at` is its arrival at a fence that brings its key to the node
+pub record IsDelivering (plan : Plan) (p key node at : ℕ) : Type 0 where
+  pub members : List ℕ
+  pub j : ℕ
+  pub arrival : IsArrival plan members j (record { proc = p; at = at })
+  pub brings : Brings plan p key node (ByFence members j)
+
+-- the first such arrival that isn't before p's event number `from`, if there is one
+abbrev pub IsNextDelivery : Plan → ℕ → ℕ → ℕ → ℕ → Option ℕ → Type 0
+IsNextDelivery plan p key node from found =
+    MatchOption found
+    ((at : ℕ) → from ≤ at → IsDelivering plan p key node at → ⊥)
+    (λ at. (from ≤ at) × IsDelivering plan p key node at × ((other : ℕ) → from ≤ other → other < at → IsDelivering plan p key node other → ⊥))

@@ -1,0 +1,197 @@
+//! Events listed by the number of a name or of a key.
+
+ghost use Rattle.std.specs.Prelude.{◌≡◌, ◌≢◌, ◌<◌, ◌++◌, ◌∷◌, [], ℕ, suc, List, Some, length, map, OnOk, IfOk};
+ghost use Rattle.wire_types.specs.Plan.{Plan as ThePlan, Place, place_of, event_at};
+ghost use Rattle.wire_rehearsal.specs.Planned.{plan_of};
+ghost use Rattle.wire_plan.specs.Kinds.{event_of};
+ghost use Rattle.wire_plan.specs.Tables.{is_listed, is_number, places_at, AreListed, AreListedTo};
+
+use crate::events::Events;
+use crate::kind::Kind;
+use std::alloc::{AllocError, Global};
+use std::marker::Model;
+use wire_types::{Event, Proc};
+
+/// Which events are listed, and by what.
+#[derive(Clone, Copy)]
+pub(crate) enum Listing {
+    /// The calls on a name, by the name.
+    NameCalls,
+    /// The publishes of a name, by the name.
+    Publishes,
+    /// The calls that may take a name away, by the name.
+    Takes,
+    /// The gets that are answered at once and ask another process, by the key.
+    Looks,
+}
+
+impl Listing {
+    // The number that an event of a process is listed under, if it is listed.
+    fn number_of(self, proc: Proc, kind: Kind) -> Option<u32>
+        ensures { (plan : ThePlan) (sets : List (List ℕ)) (number : ℕ) (x : Place) → x.proc ≡ proc.number → is_listed plan self number x (Some (event_of sets kind)) ≡ is_number result number }
+    {
+        match self {
+            Listing::NameCalls => name_called(kind),
+            Listing::Publishes => name_published(kind),
+            Listing::Takes => name_taken(kind),
+            Listing::Looks => key_looked_at(proc, kind),
+        }
+    }
+}
+
+// The name of a call on a name.
+fn name_called(kind: Kind) -> Option<u32>
+    ensures { (plan : ThePlan) (sets : List (List ℕ)) (number : ℕ) (x : Place) → is_listed plan Listing.NameCalls number x (Some (event_of sets kind)) ≡ is_number result number }
+{
+    match kind {
+        Kind::Publish { name } => Some(name),
+        Kind::Lookup { name } => Some(name),
+        Kind::LookupWait { name } => Some(name),
+        Kind::Unpublish { name } => Some(name),
+        _ => None,
+    }
+}
+
+// The name of a publish.
+fn name_published(kind: Kind) -> Option<u32>
+    ensures { (plan : ThePlan) (sets : List (List ℕ)) (number : ℕ) (x : Place) → is_listed plan Listing.Publishes number x (Some (event_of sets kind)) ≡ is_number result number }
+{
+    match kind {
+        Kind::Publish { name } => Some(name),
+        _ => None,
+    }
+}
+
+// The name of a call that may take it away.
+fn name_taken(kind: Kind) -> Option<u32>
+    ensures { (plan : ThePlan) (sets : List (List ℕ)) (number : ℕ) (x : Place) → is_listed plan Listing.Takes number x (Some (event_of sets kind)) ≡ is_number result number }
+{
+    match kind {
+        Kind::Unpublish { name } => Some(name),
+        _ => None,
+    }
+}
+
+// The key of a get that is answered at once and asks another process.
+fn key_looked_at(proc: Proc, kind: Kind) -> Option<u32>
+    ensures { (plan : ThePlan) (sets : List (List ℕ)) (number : ℕ) (x : Place) → x.proc ≡ proc.number → is_listed plan Listing.Looks number x (Some (event_of sets kind)) ≡ is_number result number }
+{
+    match kind {
+        Kind::GetNow { owner, key } => {
+            if owner.number == proc.number {
+                None
+            } else {
+                Some(key)
+            }
+        }
+        _ => None,
+    }
+}
+
+/// Events by number, those of each number in process order.
+#[derive(Drop)]
+pub(crate) struct ByNumber {
+    lists: Vec<Vec<Event>>,
+}
+
+impl Model for ByNumber {
+    ghost use Rattle.std.specs.Prelude.{List, map};
+    ghost use Rattle.wire_types.specs.Plan.{Place, place_of};
+
+    ghost Value = { List (List Place) };
+
+    ghost view = { λ t. map (λ v. map place_of v.items) t.lists.items };
+}
+
+impl ByNumber {
+    // Gives each number up to this one a list, at first an empty one.
+    fn reach(&mut self, alloc: Global, number: u32) -> Result<(), AllocError>
+        ensures same { OnOk result ((n : ℕ) → places_at self.new n ≡ places_at self.old n) }
+        ensures there { OnOk result (number < length self.new) }
+    {
+        for _ in self.lists.len()..number as usize + 1 {
+            self.lists.push(Vec::new(alloc))?;
+        }
+        Ok(())
+    }
+
+    // Adds an event to a list that is there.
+    fn append(&mut self, number: u32, event: Event) -> Result<(), AllocError>
+        requires { number < length self.old }
+        ensures here { OnOk result (places_at self.new number ≡ places_at self.old number ++ place_of event ∷ []) }
+        ensures others { OnOk result ((n : ℕ) → n ≢ number → places_at self.new n ≡ places_at self.old n) }
+    {
+        self.lists[number as usize].push(event)?;
+        Ok(())
+    }
+
+    // Adds an event to the list of a number.
+    fn add(&mut self, alloc: Global, number: u32, event: Event) -> Result<(), AllocError>
+        ensures here { OnOk result (places_at self.new number ≡ places_at self.old number ++ place_of event ∷ []) }
+        ensures others { OnOk result ((n : ℕ) → n ≢ number → places_at self.new n ≡ places_at self.old n) }
+    {
+        self.reach(alloc, number)?;
+        self.append(number, event)
+    }
+
+    // Adds an event, where it is listed.
+    fn read(
+        &mut self,
+        alloc: Global,
+        listing: Listing,
+        event: Event,
+        kind: Kind,
+    ) -> Result<(), AllocError>
+        ensures { OnOk result ((plan : ThePlan) (sets : List (List ℕ)) → event_at plan event.proc.number event.at ≡ Some (event_of sets kind)
+            → AreListedTo plan listing event.proc.number event.at self.old → AreListedTo plan listing event.proc.number (suc event.at) self.new) }
+    {
+        if let Some(number) = listing.number_of(event.proc, kind) {
+            self.add(alloc, number, event)?;
+        }
+        Ok(())
+    }
+
+    // Adds the events of a process that are listed.
+    fn read_all(
+        &mut self,
+        alloc: Global,
+        listing: Listing,
+        events: &Events,
+        proc: Proc,
+    ) -> Result<(), AllocError>
+        ensures { OnOk result (AreListedTo (plan_of events.now) listing proc.number 0 self.old → AreListedTo (plan_of events.now) listing (suc proc.number) 0 self.new) }
+    {
+        for at in 0..events.event_count(proc) {
+            let event = Event { proc, at };
+            self.read(alloc, listing, event, events.kind(event))?;
+        }
+        Ok(())
+    }
+
+    /// The events that are listed, by number. The only error is that memory ran out.
+    pub(crate) fn of(
+        alloc: Global,
+        events: &Events,
+        listing: Listing,
+    ) -> Result<ByNumber, AllocError>
+        ensures { IfOk result (λ table. AreListed (plan_of events.now) listing table) }
+    {
+        let mut table = ByNumber {
+            lists: Vec::new(alloc),
+        };
+        for number in 0..events.process_count() {
+            table.read_all(alloc, listing, events, Proc::new(number))?;
+        }
+        Ok(table)
+    }
+
+    /// The events that are listed under a number, in process order; none where there are none.
+    pub(crate) fn list(&self, number: u32) -> &[Event]
+        ensures { map place_of result.now ≡ places_at self.now number }
+    {
+        match self.lists.get(number as usize) {
+            Some(list) => list.as_slice(),
+            None => &[],
+        }
+    }
+}

@@ -1,0 +1,167 @@
+//! The events of scripts, and what they are made of.
+
+ghost use Rattle.std.specs.Prelude.{◌≡◌, ◌<◌, ◌^◌, Some, length, map, sum_by, vec_len, IfOk, IfErr};
+ghost use Rattle.wire_types.specs.Plan.{place_of, process_count, events, event_at, event_count, node_of};
+ghost use Rattle.wire_rehearsal.specs.Scripts.{IsSound};
+ghost use Rattle.wire_rehearsal.specs.Planned.{plan_of};
+ghost use Rattle.wire_procmap.specs.Map.{map_of};
+ghost use Rattle.wire_plan.specs.Kinds.{event_of, events_planned, calls_planned, starts_planned};
+ghost use Rattle.wire_plan.specs.Ends.{call_of, calls_of, first_event};
+ghost use Rattle.wire_plan.specs.Laws.{event_total};
+
+use crate::kind::Kind;
+use crate::row::{Row, row_of};
+use std::alloc::{AllocError, Global};
+use std::marker::Model;
+use wire_procmap::ProcMap;
+use wire_rehearsal::Scripts;
+use wire_types::{CallAt, Event, Fault, Proc};
+
+/// Scripts, with their process map, their fences, and the events of each process.
+#[derive(Drop)]
+pub(crate) struct Events {
+    scripts: Scripts,
+    places: ProcMap,
+    rows: Vec<Row>,
+}
+
+impl Model for Events {
+    ghost use Rattle.std.specs.Prelude.{◌≡◌, map};
+    ghost use Rattle.wire_rehearsal.specs.Scripts as spec;
+    ghost use Rattle.wire_procmap.specs.Map.{map_of};
+    ghost use Rattle.wire_plan.specs.Kinds.{event_of, AreEventsOf};
+
+    ghost Value = { spec.Scripts };
+
+    ghost view = { λ p. p.scripts };
+
+    ghost invariant = { λ p. AreEventsOf p.scripts (map (λ row. map (event_of p.scripts.sets) row.kinds.items) p.rows.items) (map (λ row. row.calls.items) p.rows.items) (map (λ row. row.starts.items) p.rows.items) × (p.places ≡ map_of p.scripts) };
+}
+
+/// The events of each process.
+fn all_rows(alloc: Global, scripts: &Scripts, places: &ProcMap) -> Result<Vec<Row>, AllocError>
+    requires { places.now ≡ map_of scripts.now }
+    ensures kinds { IfOk result (λ all. map (λ row. map (event_of scripts.now.sets) row.kinds.items) all.items ≡ events_planned scripts.now) }
+    ensures calls { IfOk result (λ all. map (λ row. row.calls.items) all.items ≡ calls_planned scripts.now) }
+    ensures starts { IfOk result (λ all. map (λ row. row.starts.items) all.items ≡ starts_planned scripts.now) }
+{
+    let processes = scripts.processes();
+    let mut all = Vec::with_capacity(alloc, processes.len())?;
+    for process in processes {
+        all.push(row_of(alloc, scripts, places, process.calls())?)?;
+    }
+    Ok(all)
+}
+
+/// How many events these rows hold.
+fn total_of(rows: &[Row]) -> usize
+    requires { sum_by (λ row. vec_len row.kinds) rows.now < 2 ^ 64 }
+    ensures { result ≡ sum_by (λ row. vec_len row.kinds) rows.now }
+{
+    rows.iter().map(|row| row.kinds.len()).sum()
+}
+
+impl Events {
+    /// The events of scripts. The one fault is `Fault::Memory`.
+    pub(crate) fn of(alloc: Global, scripts: Scripts) -> Result<Events, Fault>
+        ensures ok { IfOk result (λ events. events ≡ scripts) }
+        ensures err { IfErr result (λ e. e ≡ Fault.Memory) }
+    {
+        let places = ProcMap::new(alloc, &scripts)?;
+        let rows = all_rows(alloc, &scripts, &places)?;
+        Ok(Events {
+            scripts,
+            places,
+            rows,
+        })
+    }
+
+    /// The scripts that it was made of.
+    pub(crate) fn scripts(&self) -> &Scripts
+        ensures scripts { result.now ≡ self.now }
+        ensures sound { IsSound self.now }
+    {
+        &self.scripts
+    }
+
+    /// The process map of its scripts.
+    pub(crate) fn map(&self) -> &ProcMap
+        ensures { result.now ≡ map_of self.now }
+    {
+        &self.places
+    }
+
+    /// How many processes there are.
+    pub(crate) fn process_count(&self) -> u32
+        ensures { result ≡ process_count (plan_of self.now) }
+    {
+        self.scripts.processes().len() as u32
+    }
+
+    /// What the events of a process are, in their order; none where it isn't of the plan.
+    pub(crate) fn events(&self, proc: Proc) -> &[Kind]
+        ensures { map (event_of self.now.sets) result.now ≡ events (plan_of self.now) proc.number }
+    {
+        match self.rows.get(proc.index()) {
+            Some(row) => row.kinds.as_slice(),
+            None => &[],
+        }
+    }
+
+    /// How many events a process has, none where it isn't of the plan.
+    pub(crate) fn event_count(&self, proc: Proc) -> u32
+        ensures { result ≡ event_count (plan_of self.now) proc.number }
+    {
+        // The borrow gives the proof what the scripts promise of their numbers.
+        let _scripts = &self.scripts;
+        self.events(proc).len() as u32
+    }
+
+    /// How many events all processes have.
+    pub(crate) fn event_total(&self) -> usize
+        ensures total { result ≡ event_total (plan_of self.now) }
+        ensures fits { result < 2 ^ 32 }
+    {
+        total_of(&self.rows)
+    }
+
+    /// What an event of the plan is.
+    pub(crate) fn kind(&self, event: Event) -> Kind
+        requires { event.at < event_count (plan_of self.now) event.proc.number }
+        ensures { event_at (plan_of self.now) event.proc.number event.at ≡ Some (event_of self.now.sets result) }
+    {
+        self.events(event.proc)[event.at as usize]
+    }
+
+    /// The call that an event of the plan belongs to.
+    pub(crate) fn call_of(&self, event: Event) -> CallAt
+        requires { event.at < event_count (plan_of self.now) event.proc.number }
+        ensures { result ≡ call_of (plan_of self.now) (place_of event) }
+    {
+        let row = &self.rows[event.proc.index()];
+        CallAt {
+            proc: event.proc,
+            call: row.calls[event.at as usize],
+        }
+    }
+
+    /// The first event of a call of the plan.
+    pub(crate) fn first_event(&self, call: CallAt) -> Event
+        requires { call.call < length (calls_of (plan_of self.now) call.proc.number) }
+        ensures { place_of result ≡ first_event (plan_of self.now) call }
+    {
+        let row = &self.rows[call.proc.index()];
+        Event {
+            proc: call.proc,
+            at: row.starts[call.call as usize],
+        }
+    }
+
+    /// The number of the node of a process of the plan.
+    pub(crate) fn node_of(&self, proc: Proc) -> u32
+        requires { proc.number < process_count (plan_of self.now) }
+        ensures { result ≡ node_of (plan_of self.now) proc.number }
+    {
+        self.scripts.processes()[proc.index()].node()
+    }
+}

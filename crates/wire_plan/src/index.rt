@@ -1,0 +1,38 @@
+//! What is looked up of a plan's events.
+
+ghost use Rattle.std.specs.Prelude.{IfOk};
+ghost use Rattle.wire_fence.specs.Fences.{AreFencesOf};
+ghost use Rattle.wire_plan.specs.Indexed.{IsIndexed};
+
+use crate::events::Events;
+use crate::keys::KeyTable;
+use crate::looks::LookTable;
+use crate::meetings::Meetings;
+use crate::names::NameTable;
+use std::alloc::{AllocError, Global};
+use wire_fence::Fences;
+
+/// Who arrives at each fence, the keys that are put, the calls on each name, and the gets that are answered
+/// at once.
+#[derive(Drop)]
+pub(crate) struct Index {
+    pub meetings: Meetings,
+    pub keys: KeyTable,
+    pub names: NameTable,
+    pub looks: LookTable,
+}
+
+impl Index {
+    /// The index of these events, whose fences these are. The only error is that memory ran out.
+    pub(crate) fn of(alloc: Global, events: &Events, fences: &Fences) -> Result<Index, AllocError>
+        requires { AreFencesOf events.now fences.now }
+        ensures { IfOk result (λ index. IsIndexed events.now fences.now index) }
+    {
+        Ok(Index {
+            meetings: Meetings::of(alloc, events, fences)?,
+            keys: KeyTable::of(alloc, events)?,
+            names: NameTable::of(alloc, events)?,
+            looks: LookTable::of(alloc, events)?,
+        })
+    }
+}

@@ -1,0 +1,38 @@
+//! The gets that are answered at once, of each key.
+
+ghost use Rattle.std.specs.Prelude.{map, IfOk};
+ghost use Rattle.wire_types.specs.Plan.{Plan as ThePlan, place_of};
+ghost use Rattle.wire_rehearsal.specs.Planned.{plan_of};
+ghost use Rattle.wire_plan.specs.Index.{AreLooks};
+ghost use Rattle.wire_plan.specs.Tables.{AreLooksOf};
+
+use crate::by_number::{ByNumber, Listing};
+use crate::events::Events;
+use std::alloc::{AllocError, Global};
+use wire_types::Event;
+
+/// The gets that are answered at once and ask another process, by key.
+#[derive(Drop)]
+pub(crate) struct LookTable {
+    looks: ByNumber,
+}
+
+impl LookTable {
+    /// The gets of each key that are answered at once and ask another process. The only error is that
+    /// memory ran out.
+    pub(crate) fn of(alloc: Global, events: &Events) -> Result<LookTable, AllocError>
+        ensures { IfOk result (λ table. AreLooksOf (plan_of events.now) table) }
+    {
+        Ok(LookTable {
+            looks: ByNumber::of(alloc, events, Listing::Looks)?,
+        })
+    }
+
+    /// The gets of a key that are answered at once and ask another process (PMIx Standard 5.0, PMIx_Get
+    /// with PMIX_IMMEDIATE), in process order. None where there are none.
+    pub(crate) fn looks(&self, key: u32) -> &[Event]
+        ensures { (plan : ThePlan) → AreLooksOf plan self.now → AreLooks plan key (map place_of result.now) }
+    {
+        self.looks.list(key)
+    }
+}

@@ -1,0 +1,62 @@
+//! The calls on each name.
+
+ghost use Rattle.std.specs.Prelude.{◌≡◌, map, IfOk, MatchOption};
+ghost use Rattle.wire_types.specs.Plan.{Plan as ThePlan, Place, place_of};
+ghost use Rattle.wire_rehearsal.specs.Planned.{plan_of};
+ghost use Rattle.wire_plan.specs.Order.{PublishesOnce};
+ghost use Rattle.wire_plan.specs.Index.{AreNameCalls};
+ghost use Rattle.wire_plan.specs.Tables.{only_of, AreNamesOf};
+
+use crate::by_number::{ByNumber, Listing};
+use crate::events::Events;
+use std::alloc::{AllocError, Global};
+use wire_types::Event;
+
+/// The calls on each name, and of these the publishes and what may take the name away.
+#[derive(Drop)]
+pub(crate) struct NameTable {
+    calls: ByNumber,
+    publishes: ByNumber,
+    takes: ByNumber,
+}
+
+// The publish of a name, where there is one and nothing may take the name away.
+fn only_publish(publishes: &[Event], takes: &[Event]) -> Option<Event>
+    ensures { result ≡ only_of publishes.now takes.now }
+{
+    if !takes.is_empty() {
+        return None;
+    }
+    match publishes {
+        [publish] => Some(*publish),
+        _ => None,
+    }
+}
+
+impl NameTable {
+    /// The calls on each name. The only error is that memory ran out.
+    pub(crate) fn of(alloc: Global, events: &Events) -> Result<NameTable, AllocError>
+        ensures { IfOk result (λ table. AreNamesOf (plan_of events.now) table) }
+    {
+        Ok(NameTable {
+            calls: ByNumber::of(alloc, events, Listing::NameCalls)?,
+            publishes: ByNumber::of(alloc, events, Listing::Publishes)?,
+            takes: ByNumber::of(alloc, events, Listing::Takes)?,
+        })
+    }
+
+    /// The calls on a name, in process order: publishes, look-ups and unpublishes (PMIx Standard 5.0,
+    /// PMIx_Publish, PMIx_Lookup, PMIx_Unpublish). None where no event calls it.
+    pub(crate) fn calls(&self, name: u32) -> &[Event]
+        ensures { (plan : ThePlan) → AreNamesOf plan self.now → AreNameCalls plan name (map place_of result.now) }
+    {
+        self.calls.list(name)
+    }
+
+    /// The publish of a name that is published once and that nobody unpublishes. None of any other name.
+    pub(crate) fn once_published(&self, name: u32) -> Option<Event>
+        ensures { (plan : ThePlan) → AreNamesOf plan self.now → MatchOption result ((x : Place) → PublishesOnce plan x name → ⊥) (λ x. PublishesOnce plan (place_of x) name) }
+    {
+        only_publish(self.publishes.list(name), self.takes.list(name))
+    }
+}

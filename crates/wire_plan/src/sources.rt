@@ -1,0 +1,31 @@
+//! What an event waits for.
+
+ghost use Rattle.std.specs.Prelude.{◌≡◌, option_map};
+ghost use Rattle.wire_types.specs.Plan.{place_of};
+ghost use Rattle.wire_plan.specs.Index.{previous_of};
+
+use wire_types::Event;
+
+/// The sources of an event: each happens before it in every run in which it happens.
+#[derive(Clone, Copy)]
+pub struct Sources<'a> {
+    /// The event before it in its process.
+    pub previous: Option<Event>,
+    /// The commit or the publish that it waits for.
+    pub awaited: Option<Event>,
+    /// The arrivals at the fence whose end it is, in process order.
+    pub arrivals: &'a [Event],
+}
+
+/// The event before an event in its process.
+pub(crate) fn previous_event(event: Event) -> Option<Event>
+    ensures { option_map place_of result ≡ previous_of (place_of event) }
+{
+    if event.at == 0 {
+        return None;
+    }
+    Some(Event {
+        proc: event.proc,
+        at: event.at - 1,
+    })
+}

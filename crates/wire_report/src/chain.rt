@@ -1,0 +1,85 @@
+//! Whether one call is before another, and the chain that shows it.
+
+ghost use Rattle.std.specs.Prelude.{◌≡◌, ◌≢◌, ◌<◌, ◌⊎◌, ℕ, List, length, Err, IfOk, OnOk, IfErr};
+ghost use Rattle.std.specs.Io.KnownBytes.{Appends};
+ghost use Rattle.wire_types.specs.declared.Fault.TheVariants.{Memory};
+ghost use Rattle.wire_types.specs.Counting.{one_more};
+ghost use Rattle.wire_types.specs.Front.{WritesFront};
+ghost use Rattle.wire_rehearsal.specs.Planned.{plan_of};
+ghost use Rattle.wire_plan.specs.Ends.{calls_of};
+ghost use Rattle.wire_marks.specs.Clocks.{AreMarks};
+ghost use Rattle.wire_report.specs.Chain.{IsChainText, OneChainText};
+
+use crate::steps::{ordered_text, unordered_text};
+use std::alloc::Global;
+use wire_marks::Marks;
+use wire_plan::Plan;
+use wire_types::{CallAt, Fault, Sink, write_out};
+
+/// Whether call x is before call y in every run, with the chain that shows it: `before` and the events of
+/// the chain from x to y, else `after` and those from y to x, else `unordered` and the calls of the two
+/// whose event happens in no run. A fence counts by the arrival at it. Fails only where memory runs out.
+pub fn chain_text(
+    alloc: Global,
+    plan: &Plan,
+    marks: &Marks,
+    x: CallAt,
+    y: CallAt,
+) -> Result<Vec<u8>, Fault>
+    requires marks { AreMarks (plan_of plan.now) marks.now }
+    requires x_there { x.call < length (calls_of (plan_of plan.now) x.proc.number) }
+    requires y_there { y.call < length (calls_of (plan_of plan.now) y.proc.number) }
+    ensures ok { IfOk result (λ text. IsChainText plan.now x y text.items) }
+    ensures err { IfErr result (λ e. e ≡ Memory) }
+{
+    let from = plan.first_event(x);
+    let to = plan.first_event(y);
+    if let Some(chain) = marks.chain(alloc, plan, from, to)? {
+        return ordered_text(alloc, plan, b"before\n".as_slice(), chain.as_slice());
+    }
+    if let Some(chain) = marks.chain(alloc, plan, to, from)? {
+        return ordered_text(alloc, plan, b"after\n".as_slice(), chain.as_slice());
+    }
+    unordered_text(alloc, plan, marks, x, y)
+}
+
+/// Writes the text of the chain to the sink, once all of it is made: where memory runs out, nothing is
+/// written.
+pub fn write_chain<S: Sink>(
+    alloc: Global,
+    plan: &Plan,
+    marks: &Marks,
+    x: CallAt,
+    y: CallAt,
+    sink: &mut S,
+) -> Result<(), Fault>
+    requires marks { AreMarks (plan_of plan.now) marks.now }
+    requires x_there { x.call < length (calls_of (plan_of plan.now) x.proc.number) }
+    requires y_there { y.call < length (calls_of (plan_of plan.now) y.proc.number) }
+    ensures ok { OnOk result ((text : List ℕ) × IsChainText plan.now x y text × Appends (S.written sink.old) (S.written sink.new) text) }
+    ensures quiet { OnOk result (S.failures sink.new ≡ S.failures sink.old) }
+    ensures memory { result ≡ Err Memory → sink.new ≡ sink.old }
+    ensures err { IfErr result (λ e. (e ≡ Memory) ⊎ ((text : List ℕ) × IsChainText plan.now x y text × WritesFront (S.written sink.old) (S.written sink.new) text e)) }
+    ensures failed { IfErr result (λ e. e ≢ Memory → S.failures sink.new ≡ one_more (S.failures sink.old)) }
+{
+    let text = chain_text(alloc, plan, marks, x, y)?;
+    write_text(sink, text.as_slice())
+}
+
+/// Writes a text to the sink.
+fn write_text<S: Sink>(sink: &mut S, text: &[u8]) -> Result<(), Fault>
+    ensures ok { OnOk result (Appends (S.written sink.old) (S.written sink.new) text.now) }
+    ensures quiet { OnOk result (S.failures sink.new ≡ S.failures sink.old) }
+    ensures memory { result ≡ Err Memory → sink.new ≡ sink.old }
+    ensures err { IfErr result (λ e. WritesFront (S.written sink.old) (S.written sink.new) text.now e) }
+    ensures failed { IfErr result (λ e. S.failures sink.new ≡ one_more (S.failures sink.old)) }
+{
+    write_out(sink, text).map_err(Fault::Write)
+}
+
+/// For two calls of a plan there is one text.
+pub fn one_chain_text()
+    ensures { OneChainText }
+{
+    wire_marks::one_shown();
+}
