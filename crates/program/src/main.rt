@@ -64,7 +64,7 @@ fn question_argument<'a>(alloc: Global, name: &'a str, help: &'a str) -> Arg<'a>
 
 fn why_command<'a>(alloc: Global) -> Result<Command<'a>, AllocError> {
     let about =
-        "Tells whether one call comes before another in every run, and by which chain of events";
+        "Tells whether a chain of events leads from one call to another, and shows the chain";
     let first = "The process of the first call: its job, a colon, and its rank";
     let number = "The number of that call among those of its process, from 1";
     Command::new(alloc, "why")

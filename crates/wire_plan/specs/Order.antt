@@ -1,4 +1,4 @@
--- Which events come before which, in every run.
+-- Which events wait for which, by edges and by chains of them.
 use Rattle.std.specs.Prelude.{◌≡◌, ◌≢◌, ℕ, suc, List, Bool, true, false, ◌||◌, Option, Some, None, is_some, ◌==◌, nat_le, if◌then◌else◌}
 use Rattle.wire_types.specs.Plan.{Plan, Event, Arrive, Leave, Get, Publish, LookupWait, event, event_count}
 use Rattle.wire_types.specs.Plan.{Place}
@@ -31,7 +31,7 @@ pub data Edge (plan : Plan) (x y : Place) : Type 0 where
   Feeds : (key : ℕ) → event plan y ≡ Some (Get x.proc key) → x.proc ≢ y.proc → put_count plan x.proc key (event_count plan x.proc) ≡ 1 → Stores plan x key → Edge plan x y
   Announces : (name : ℕ) → event plan y ≡ Some (LookupWait name) → PublishesOnce plan x name → Edge plan x y
 
--- whether an event is there and, its sources aside, isn't ruled out by its own script or its owner's
+-- whether an event is there and, its sources aside, isn't ruled out by the scripts
 abbrev pub may_come : Plan → Place → Option Event → Bool
 may_come plan y None = false
 may_come plan y (Some (Get owner key)) =

@@ -159,9 +159,9 @@ impl Plan {
         }
     }
 
-    /// Whether an event of the plan, its sources aside, isn't ruled out by its own script or its owner's:
-    /// a get of what is never stored waits for ever, and so does the end of a fence that a member doesn't
-    /// call.
+    /// Whether an event of the plan, its sources aside, isn't ruled out by the scripts. What is: a get of
+    /// one's own key that no put stands before, a get of a key that its owner never puts, or puts once and
+    /// doesn't commit after that, and the end of a fence that a member doesn't call.
     pub fn may_come(&self, event: Event) -> bool
         requires { event.at < event_count (plan_of self.now) event.proc.number }
         ensures { result ≡ may_come (plan_of self.now) (place_of event) (event_in (plan_of self.now) (place_of event)) }

@@ -6,12 +6,13 @@ ghost use Rattle.wire_plan.specs.Index.{previous_of};
 
 use wire_types::Event;
 
-/// The sources of an event: each happens before it in every run in which it happens.
+/// The sources of an event. Together they are exactly what it waits for: each happens before it in every
+/// run in which it happens.
 #[derive(Clone, Copy)]
 pub struct Sources<'a> {
     /// The event before it in its process.
     pub previous: Option<Event>,
-    /// The commit or the publish that it waits for.
+    /// One more source, where there is one beside the others: a commit or a publish.
     pub awaited: Option<Event>,
     /// The arrivals at the fence whose end it is, in process order.
     pub arrivals: &'a [Event],

@@ -1,4 +1,4 @@
--- The text of a chain, as bytes: whether one call is before another in every run, and the events that show it.
+-- The text of a chain, as bytes: whether one call is before another, and the events that show it.
 use Rattle.std.specs.Prelude.{◌≡◌, ℕ, ◌+◌, List, [], ◌++◌, Option, Some, None, codes, decimal, slice_get}
 use Rattle.std.specs.List.{flat_map}
 use Rattle.wire_types.specs.declared.Call.{Call}
@@ -66,12 +66,12 @@ pub data IsDeadLine (scripts : Scripts) (x : CallAt) (text : List ℕ) : Type 0 
   Dead : (IsCallLive (plan_of scripts) x → ⊥) → text ≡ dead_line scripts x → IsDeadLine scripts x text
   Alive : IsCallLive (plan_of scripts) x → text ≡ [] → IsDeadLine scripts x text
 
--- the text is that of x and then that of y; a call asked against itself has one
+-- the dead lines, x's and then y's; a call asked against itself has one
 pub data AreDeadLines (scripts : Scripts) (x y : CallAt) (text : List ℕ) : Type 0 where
   OfOne : x ≡ y → IsDeadLine scripts x text → AreDeadLines scripts x y text
   OfTwo : (x ≡ y → ⊥) → (first second : List ℕ) → IsDeadLine scripts x first → IsDeadLine scripts y second → text ≡ first ++ second → AreDeadLines scripts x y text
 
--- the text tells whether call x is before call y, else whether y is before x, and else which of them can't come
+-- the text tells whether call x is before call y, else whether y is before x, and else which of them isn't live
 pub data IsChainText (scripts : Scripts) (x y : CallAt) (text : List ℕ) : Type 0 where
   TellsBefore : (chain : List Place) → IsCallChain (plan_of scripts) x y chain → text ≡ codes "before\n" ++ event_lines scripts chain → IsChainText scripts x y text
   TellsAfter : (chain : List Place) → (IsCallBefore (plan_of scripts) x y → ⊥) → IsCallChain (plan_of scripts) y x chain → text ≡ codes "after\n" ++ event_lines scripts chain → IsChainText scripts x y text

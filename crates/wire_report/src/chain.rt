@@ -16,9 +16,9 @@ use wire_marks::Marks;
 use wire_plan::Plan;
 use wire_types::{CallAt, Fault, Sink, write_out};
 
-/// Whether call x is before call y in every run, with the chain that shows it: `before` and the events of
-/// the chain from x to y, else `after` and those from y to x, else `unordered` and the calls of the two
-/// whose event happens in no run. A fence counts by the arrival at it. Fails only where memory runs out.
+/// Whether a chain of events leads from call x to call y: `before` and the events of the chain that is
+/// shown, else `after` and those of the chain from y to x, else `unordered` and which of the two calls
+/// isn't live. A fence counts by the arrival at it. The one fault is `Fault::Memory`.
 pub fn chain_text(
     alloc: Global,
     plan: &Plan,

@@ -1,4 +1,4 @@
--- What a question writes: whether one call is before another in every run, and the chain that shows it.
+-- What a question writes: whether one call is before another, and the chain that shows it.
 use Rattle.std.specs.Prelude.{◌≡◌, ℕ, List, [], Option, Result, Ok, Err, ◌⊎◌, slice_index_or}
 use Rattle.std.specs.Io.KnownBytes.{Appends}
 use Rattle.wire_types.specs.Front.{WritesFront}

@@ -69,9 +69,10 @@ fn write_answer<W: Sink>(
     write_order(alloc, plan, x, y, writer)
 }
 
-/// Answers whether one call of a file of scripts is before another in every run, and shows by which chain
-/// of events: reads the file to its end, and writes `before` and the events of the chain, else `after` and
-/// those of the chain the other way round, else `unordered` and which of the two calls happens in no run.
+/// Answers whether a chain of events leads from one call of a file of scripts to another: reads the file to
+/// its end, and writes `before` and the events of the chain, else `after` and those of the chain the other
+/// way round, else `unordered` and which of the two calls isn't live. Where a chain leads from one event to
+/// another, the first has happened in every run in which the second does.
 ///
 /// The words are a process, as in an order, and the number of a call of it, from 1, twice. The faults of
 /// the file come first, then `BadOrder` with the number of the lowest wrong word, from 1. After the fault
