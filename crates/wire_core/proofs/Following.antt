@@ -3,8 +3,12 @@ use Rattle.std.proofs.Common.{◌≡◌, ◌∙◌, ap, sym, subst, ℕ, zero, s
 use Rattle.std.specs.Prelude.{slice_get}
 use Rattle.std.proofs.lemmas.Option.{slice_get_within, same_Some}
 use Rattle.std.proofs.lemmas.List.{append-nil}
-use Rattle.wire_plan.specs.State.{start}
-use Rattle.wire_plan.specs.Machine.{is_enabled, run_from}
+use Rattle.wire_types.specs.Plan.{Plan}
+use Rattle.wire_plan.specs.State.{State, start}
+use Rattle.wire_plan.specs.Machine.{is_enabled, step, IsInterleaving, run, run_from, IsEnd}
+use Rattle.wire_plan.specs.Plain.{plain_run}
+use Rattle.wire_plan.specs.Races.{IsSettled}
+use Rattle.wire_plan.proofs.PlainRun.{plain_runs}
 use Rattle.wire_core.specs.Course.{Course, plan_in, state_of}
 use Rattle.wire_core.specs.Stops.{Follows}
 use Rattle.wire_core.proofs.Steps.{legal_push, run_append}
@@ -30,3 +34,16 @@ follows_more old now new order n p follows is on new_is =
       taken = new_is ∙ ap (λ (c : Course). record { scripts = c.scripts; history = c.history ++ p ∷ [] }) follows.taken
           ∙ (λ i. record { scripts = old.scripts; history = append_assoc old.history (take n order) (p ∷ []) i });
     })
+
+-- steps after steps
+legal_after : (plan : Plan) (s : State) (v w : List ℕ) → IsInterleaving plan s v → IsInterleaving plan (run_from plan s v) w → IsInterleaving plan s (v ++ w)
+legal_after plan s [] w first more = more
+legal_after plan s (p ∷ v) w first more = (first.0, legal_after plan (step plan s p) v w first.1 more)
+
+-- where nothing was done before, the plan is settled and nobody may go on after the steps, the plain run ends in the same state
+pub ends_plainly : (old new : Course) (order : List ℕ) → Follows old order new → old.history ≡ [] → IsSettled (plan_in new) → IsEnd (plan_in new) (state_of new) → state_of new ≡ run (plan_in new) (plain_run (plan_in new))
+ends_plainly old new order follows is_new settled ended =
+    let legal : IsInterleaving (plan_in old) start old.history = subst (IsInterleaving (plan_in old) start) (sym is_new) tt in
+    let all : IsInterleaving (plan_in new) start new.history =
+    subst (λ (c : Course). IsInterleaving (plan_in c) start c.history) (sym follows.taken) (legal_after (plan_in old) start old.history order legal follows.enabled) in
+    (plain_runs (plan_in new)).is_the_end new.history settled all ended

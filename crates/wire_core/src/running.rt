@@ -6,8 +6,9 @@ ghost use Rattle.wire_types.specs.Outcome.{ends_of};
 ghost use Rattle.wire_rehearsal.specs.Planned.{plan_of};
 ghost use Rattle.wire_plan.specs.Kinds.{event_of};
 ghost use Rattle.wire_plan.specs.State.{start, next_place, next_event};
-ghost use Rattle.wire_plan.specs.Machine.{is_enabled, IsInterleaving, IsEnd, reply as answer};
-ghost use Rattle.wire_plan.specs.Plain.{lowest, plain_from};
+ghost use Rattle.wire_plan.specs.Machine.{is_enabled, run, IsInterleaving, IsEnd, reply as answer};
+ghost use Rattle.wire_plan.specs.Plain.{lowest, plain_from, plain_run};
+ghost use Rattle.wire_plan.specs.Races.{IsSettled};
 ghost use Rattle.wire_plan.specs.Laws.{event_total};
 ghost use Rattle.wire_plan.specs.Ends.{given, is_waiting, outcome, row};
 ghost use Rattle.wire_core.specs.Course.{plan_in, state_of};
@@ -221,10 +222,13 @@ impl<'a> Core<'a> {
     }
 
     /// Takes these steps, each of one event. Where a process isn't ready when it comes, the fault is
-    /// `NotReady` with the number of the step, from 1, and the steps before it stand.
+    /// `NotReady` with the number of the step, from 1, and the steps before it stand. Where the run
+    /// hadn't begun, the plan is settled and no process is ready afterwards, the state is the one in which
+    /// the plain run ends.
     pub fn follow(&mut self, order: &[Proc]) -> Result<(), Fault>
         ensures ok { OnOk result (Follows self.old (map (λ p. p.number) order.now) self.new) }
         ensures err { IfErr result (λ e. StopsAt self.old (map (λ p. p.number) order.now) self.new e) }
+        ensures settled { self.old.history ≡ [] → IsSettled (plan_in self.new) → IsEnd (plan_in self.new) (state_of self.new) → state_of self.new ≡ run (plan_in self.new) (plain_run (plan_in self.new)) }
     {
         for (step, proc) in order.iter().enumerate() {
             if !self.ready(*proc) {

@@ -6,7 +6,7 @@ use Rattle.wire_types.specs.Plan.{Plan, Place, Event, Leave, event, place_of}
 use Rattle.wire_types.specs.declared.Event.{Event as EventPlace}
 use Rattle.wire_types.specs.Fences.{arrivals}
 use Rattle.wire_plan.specs.Order.{Edge, Follows, Meets, Feeds, Announces}
-use Rattle.wire_plan.specs.Index.{AreSources, AreArrivals, IsAwaited, previous_at, previous_of, source_list}
+use Rattle.wire_plan.specs.Index.{AreSources, AreArrivals, Awaits, Stored, Published, IsAwaited, previous_at, previous_of, source_list}
 use Rattle.wire_plan.proofs.Due.{place_path}
 
 -- what stands in a list behind an option
@@ -32,6 +32,11 @@ is_previous : (p i : ℕ) (z : Place) → z.proc ≡ p → suc z.at ≡ i → pr
 is_previous p zero z proc at = absurd (omega (arith, at))
 is_previous p (suc i) z proc at = ap Some (sym (place_path z p i proc (omega (arith, at))))
 
+-- what it awaits is a source of it
+awaited_edge : (plan : Plan) (y z : Place) → Awaits plan y z → Edge plan z y
+awaited_edge plan y z (Stored key is other once stores) = Feeds key is other once stores
+awaited_edge plan y z (Published name is once) = Announces name is once
+
 -- whether it ends a fence
 ends_fence : (o : Option Event) → ((members : List ℕ) × (o ≡ Some (Leave members))) ⊎ ((members : List ℕ) → o ≡ Some (Leave members) → ⊥)
 ends_fence (Some (Leave members)) = inl (members, refl)
@@ -52,7 +57,7 @@ module _ (plan : Plan) (y : Place) (previous awaited : Option EventPlace) (came 
   is_source k z is = elim (front_or_rest (option_map place_of previous) _ k z is) [
     | inl here ↦ let p = previous_is y.proc y.at z (sym first ∙ here) in Follows p.0 p.1
     | inr later ↦ elim (front_or_rest (option_map place_of awaited) _ later.0 z later.1) [
-      | inl here ↦ second.only z here
+      | inl here ↦ awaited_edge plan y z (second.only z here)
       | inr last ↦ an_arrival last.0 z last.1
     ]
   ]
@@ -60,8 +65,8 @@ module _ (plan : Plan) (y : Place) (previous awaited : Option EventPlace) (came 
   stands : (z : Place) → Edge plan z y → (k : ℕ) × (slice_get (source_list previous awaited came) k ≡ Some z)
   stands z (Follows proc at) = front_stands (option_map place_of previous) _ z (first ∙ is_previous y.proc y.at z proc at)
   stands z (Meets members is arrival) = rest_stands (option_map place_of previous) _ z (rest_stands (option_map place_of awaited) _ z ((leave members is).all z arrival))
-  stands z (Feeds key is other once stores) = rest_stands (option_map place_of previous) _ z (front_stands (option_map place_of awaited) _ z (second.feeds z key is other once stores))
-  stands z (Announces name is once) = rest_stands (option_map place_of previous) _ z (front_stands (option_map place_of awaited) _ z (second.announces z name is once))
+  stands z (Feeds key is other once stores) = rest_stands (option_map place_of previous) _ z (front_stands (option_map place_of awaited) _ z (second.all z (Stored key is other once stores)))
+  stands z (Announces name is once) = rest_stands (option_map place_of previous) _ z (front_stands (option_map place_of awaited) _ z (second.all z (Published name is once)))
 
   pub sources_are : AreSources plan y (source_list previous awaited came)
   sources_are = record { only = is_source; all = stands }

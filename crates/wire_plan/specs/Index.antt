@@ -26,12 +26,16 @@ previous_of y = previous_at y.proc y.at
 abbrev pub source_list : Option Event → Option Event → List Event → List Place
 source_list previous single arrivals = option_to_list (option_map place_of previous) ++ (option_to_list (option_map place_of single) ++ map place_of arrivals)
 
--- what is found, if anything, is the commit that a get of another process's key waits for, or the publish that a waiting look-up
--- waits for
+-- y is a get of another process's key that is put once, and z the commit that stores the key; or y is a waiting look-up of a
+-- name that is published once, and z that publish
+pub data Awaits (plan : Plan) (y z : Place) : Type 0 where
+  Stored : (key : ℕ) → event plan y ≡ Some (Get z.proc key) → z.proc ≢ y.proc → IsPutOnce plan z.proc key → Stores plan z key → Awaits plan y z
+  Published : (name : ℕ) → event plan y ≡ Some (LookupWait name) → PublishesOnce plan z name → Awaits plan y z
+
+-- what is found, if anything, is that commit or that publish
 pub record IsAwaited (plan : Plan) (y : Place) (found : Option Place) : Type 0 where
-  pub only : (z : Place) → found ≡ Some z → Edge plan z y
-  pub feeds : (z : Place) (key : ℕ) → event plan y ≡ Some (Get z.proc key) → z.proc ≢ y.proc → IsPutOnce plan z.proc key → Stores plan z key → found ≡ Some z
-  pub announces : (z : Place) (name : ℕ) → event plan y ≡ Some (LookupWait name) → PublishesOnce plan z name → found ≡ Some z
+  pub only : (z : Place) → found ≡ Some z → Awaits plan y z
+  pub all : (z : Place) → Awaits plan y z → found ≡ Some z
 
 -- x is its process's first put of the key
 pub record IsFirstPut (plan : Plan) (x : Place) (key : ℕ) : Type 0 where

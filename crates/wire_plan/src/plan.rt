@@ -217,6 +217,7 @@ impl Plan {
         requires { event.at < event_count (plan_of self.now) event.proc.number }
         ensures sources { AreSources (plan_of self.now) (place_of event) (source_list result.previous result.awaited result.arrivals.now) }
         ensures previous { option_map place_of result.previous ≡ previous_of (place_of event) }
+        ensures awaited { IsAwaited (plan_of self.now) (place_of event) (option_map place_of result.awaited) }
         ensures leave { (members : List ℕ) → event_in (plan_of self.now) (place_of event) ≡ Some (Leave members)
             → AreArrivals (plan_of self.now) members (arrivals_of (plan_of self.now) event.proc.number members event.at) (map place_of result.arrivals.now) }
         ensures others { ((members : List ℕ) → event_in (plan_of self.now) (place_of event) ≡ Some (Leave members) → ⊥) → result.arrivals.now ≡ [] }

@@ -12,7 +12,7 @@ use wire_types::Event;
 pub struct Sources<'a> {
     /// The event before it in its process.
     pub previous: Option<Event>,
-    /// One more source, where there is one beside the others: a commit or a publish.
+    /// The commit that stores the key for which a get waits, or the publish for which a lookup-wait waits.
     pub awaited: Option<Event>,
     /// The arrivals at the fence whose end it is, in process order.
     pub arrivals: &'a [Event],

@@ -1,12 +1,18 @@
 use Rattle.std.proofs.Common.{◌∙◌, ap, sym, subst, Some, eq-eqb}
-use Rattle.std.proofs.lemmas.Bool.{true≢false}
+use Rattle.std.proofs.lemmas.Bool.{true≢false, eqb-true}
 use Rattle.wire_types.specs.Plan.{place_of}
 use Rattle.wire_rehearsal.specs.Planned.{plan_of}
 use Rattle.wire_plan.specs.Kinds.{event_of}
 use Rattle.wire_plan.specs.Keys.{AreKeysOf}
 use Rattle.wire_plan.specs.Tables.{AreNamesOf}
-use Rattle.wire_plan.proofs.Awaited.{key_of_other, once_name}
+use Rattle.wire_plan.proofs.Awaited.{own_key, key_of_other, once_name, awaits_other}
 use Rattle.wire_plan.proofs.plan.Plan.awaited.Goals as goal
+
+pub returns-then-eq : goal.returns-then-eq
+returns-then-eq c =
+    own_key (plan_of c.args.self.now) (place_of c.args.event) c.in-Get.owner.number c.in-Get.key
+    (c.kind.ensures ∙ ap (λ k. Some (event_of c.args.self.now.sets k)) c.in-Get.is)
+    (eqb-true c.in-Get.owner.number c.args.event.proc.number (sym c.if-eq.ensures))
 
 pub returns-else-eq : goal.returns-else-eq
 returns-else-eq c =
@@ -20,3 +26,6 @@ returns-in-LookupWait c =
     once_name (plan_of c.args.self.now) (place_of c.args.event) c.in-LookupWait.name c.once_published.result
     (c.kind.ensures ∙ ap (λ k. Some (event_of c.args.self.now.sets k)) c.in-LookupWait.is)
     (c.once_published.ensures (plan_of c.args.self.now) (subst (λ s. AreNamesOf (plan_of s) c.self.inside.index.names) c.self.view_is c.self.invariant.1.names))
+
+pub returns-in_default : goal.returns-in_default
+returns-in_default c = awaits_other (plan_of c.args.self.now) (place_of c.args.event) c.args.self.now.sets c.kind.result c.kind.ensures c.in_default.not-Get c.in_default.not-LookupWait
