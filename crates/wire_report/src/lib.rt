@@ -1,11 +1,13 @@
-//! The texts of a replay and of a chain, as bytes.
+//! The texts of a replay, of a chain and of findings, as bytes.
 #![tactic(auto)]
 
 mod chain;
+mod findings;
 mod lines;
 mod report;
 mod steps;
 mod words;
 
 pub use chain::{chain_text, one_chain_text, write_chain};
+pub use findings::{findings_text, write_findings};
 pub use report::{report_text, write_report};

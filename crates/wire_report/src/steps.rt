@@ -139,7 +139,7 @@ fn push_line(
 }
 
 /// Appends a call: its process, and its number from 1.
-fn push_call(out: &mut Vec<u8>, scripts: &Scripts, call: CallAt) -> Result<(), AllocError>
+pub fn push_call(out: &mut Vec<u8>, scripts: &Scripts, call: CallAt) -> Result<(), AllocError>
     ensures { OnOk result (out.new.items ≡ out.old.items ++ spec.call_text scripts.now call) }
 {
     push_proc(out, scripts, call.proc)?;
@@ -148,7 +148,7 @@ fn push_call(out: &mut Vec<u8>, scripts: &Scripts, call: CallAt) -> Result<(), A
 }
 
 /// Appends a process by its number; nothing where it isn't there.
-fn push_proc(out: &mut Vec<u8>, scripts: &Scripts, proc: Proc) -> Result<(), AllocError>
+pub fn push_proc(out: &mut Vec<u8>, scripts: &Scripts, proc: Proc) -> Result<(), AllocError>
     ensures { OnOk result (out.new.items ≡ out.old.items
         ++ spec.proc_text_in scripts.now (slice_get scripts.now.processes proc.number)) }
 {

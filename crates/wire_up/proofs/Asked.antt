@@ -1,12 +1,12 @@
 -- From what the parts of answering a question answer to what it answers.
-use Rattle.std.proofs.Common.{◌≡◌, ◌≢◌, ◌∙◌, ap, subst, sym, refl, ℕ, ◌<◌, List, length, ◌⊎◌, inl, inr, Option, Some, None, Result, Ok, Err, IfErr, IfOk, OnOk}
+use Rattle.std.proofs.Common.{◌≡◌, ◌≢◌, ◌∙◌, ap, subst, sym, refl, ℕ, ◌<◌, List, length, ◌⊎◌, inl, inr, Option, Some, None, Result, Ok, Err, IfErr, IfOk, OnOk, Vec, Global}
 use Rattle.std.specs.Prelude.{slice_get, option_map}
 use Rattle.std.proofs.lemmas.List.{length-map}
 use Rattle.std.proofs.lemmas.Option.{slice_get-map}
 use Rattle.std.specs.Io.KnownBytes.{Appends}
 use Rattle.wire_types.specs.declared.CallAt.{CallAt}
 use Rattle.wire_types.specs.declared.Fault.{Fault}
-use Rattle.wire_types.specs.declared.Fault.TheVariants.{Memory, Read, Write, BadOrder}
+use Rattle.wire_types.specs.declared.Fault.TheVariants.{Memory, Read, BadOrder}
 use Rattle.wire_types.specs.Front.{WritesFront}
 use Rattle.wire_rehearsal.specs.Scripts.{Scripts, Process, calls_in}
 use Rattle.wire_rehearsal.specs.Planned.{plan_of, planned_call, planned_process}
@@ -14,7 +14,7 @@ use Rattle.wire_order.specs.Question.{QuestionReads, Asks as AsksBoth, First, Se
 use Rattle.wire_plan.specs.Ends.{calls_of, process_calls}
 use Rattle.wire_report.specs.Chain.{IsChainText}
 use Rattle.wire_up.specs.Replay.{ReadAs, Refuses}
-use Rattle.wire_up.specs.Why.{Asks, Answers, WritesAnswer, BreaksOffAnswer, RefusesQuestion, StopsBeforeAnswer}
+use Rattle.wire_up.specs.Why.{Asks, Answers, WritesAnswer, BreaksOffAnswer, StopsBeforeAnswer}
 
 -- the calls that are named are the plan's
 made_in : (s : Scripts) (o : Option Process) → length (calls_in o) ≡ length (process_calls (option_map (planned_process s) o))
@@ -50,41 +50,23 @@ pub all_there : (s : Scripts) (words : List (List ℕ)) (r : Result (CallAt × C
 all_there s words (Ok calls) asks = both_there s _ _ _ _ calls asks
 all_there s words (Err e) asks = tt
 
--- what is written tells the order of the calls that the words name
-pub answered : (s : Scripts) (words : List (List ℕ)) (x y : CallAt) (old new : Option (List ℕ)) (r : Result (Unit {0}) Fault) → Asks s words (Ok (x, y))
-    → OnOk r ((text : List ℕ) × IsChainText s x y text × Appends old new text) → OnOk r ((text : List ℕ) × Answers s words text × Appends old new text)
-answered s words x y old new (Ok u) asks (text, tells, wrote) = (text, record { x = x; y = y; asks = asks; tells = tells }, wrote)
-answered s words x y old new (Err e) asks told = tt
+-- a text that tells the order of the calls that the words name answers them
+pub answered : (s : Scripts) (words : List (List ℕ)) (x y : CallAt) (r : Result (Vec ℕ Global) Fault) → Asks s words (Ok (x, y)) → IfOk r (λ text. IsChainText s x y text.items) → IfOk r (λ text. Answers s words text.items)
+answered s words x y (Ok text) asks tells = record { x = x; y = y; asks = asks; tells = tells }
+answered s words x y (Err e) asks tells = tt
 
--- what a fault of it leaves
-abbrev pub Told : Scripts → List (List ℕ) → Option (List ℕ) → Option (List ℕ) → Type 0 → Type 0 → Fault → Type 0
-Told s words old new kept failed e =
-    (((e ≡ Memory) ⊎ Asks s words (Err e)) × kept) ⊎ ((text : List ℕ) × Answers s words text × WritesFront old new text e × failed)
+-- all of the answer goes out
+pub answer_ok : (coming : Option (List ℕ)) (words : List (List ℕ)) (old new : Option (List ℕ)) (s : Scripts) (text out : List ℕ) (r : Result (Unit {0}) Fault) → ReadAs coming s → Answers s words text → out ≡ text → OnOk r (Appends old new out) → OnOk r (WritesAnswer coming words old new)
+answer_ok coming words old new s text out (Ok u) read answers at wrote =
+    record { scripts = s; read = read; text = text; answers = answers; wrote = subst (λ t. Appends old new t) at wrote }
+answer_ok coming words old new s text out (Err e) read answers at wrote = tt
 
-pub not_answered : (s : Scripts) (words : List (List ℕ)) (x y : CallAt) (old new : Option (List ℕ)) (kept failed : Type 0) (r : Result (Unit {0}) Fault) → Asks s words (Ok (x, y))
-    → IfErr r (λ e. ((e ≡ Memory) × kept) ⊎ ((text : List ℕ) × IsChainText s x y text × WritesFront old new text e × failed)) → IfErr r (Told s words old new kept failed)
-not_answered s words x y old new kept failed (Ok u) asks told = tt
-not_answered s words x y old new kept failed (Err e) asks (inl (memory, same)) = inl (inl memory, same)
-not_answered s words x y old new kept failed (Err e) asks (inr (text, tells, front, count)) = inr (text, record { x = x; y = y; asks = asks; tells = tells }, front, count)
-
-pub answer_ok : (coming : Option (List ℕ)) (words : List (List ℕ)) (old new : Option (List ℕ)) (s : Scripts) (r : Result (Unit {0}) Fault) → ReadAs coming s
-    → OnOk r ((text : List ℕ) × Answers s words text × Appends old new text) → OnOk r (WritesAnswer coming words old new)
-answer_ok coming words old new s (Ok u) read (text, answers, wrote) = record { scripts = s; read = read; text = text; answers = answers; wrote = wrote }
-answer_ok coming words old new s (Err e) read told = tt
-
-pub answer_err : (coming : Option (List ℕ)) (words : List (List ℕ)) (old new : Option (List ℕ)) (s : Scripts) (kept failed : Type 0) (r : Result (Unit {0}) Fault) → ReadAs coming s
-    → IfErr r (Told s words old new kept failed) → IfErr r (λ e. (StopsBeforeAnswer coming words e × kept) ⊎ (BreaksOffAnswer coming words old new e × failed))
-answer_err coming words old new s kept failed (Ok u) read told = tt
-answer_err coming words old new s kept failed (Err e) read (inl (inl memory, same)) = inl (inl memory, same)
-answer_err coming words old new s kept failed (Err e) read (inl (inr refuses, same)) = inl (inr (inr (inr (record { scripts = s; read = read; refuses = refuses }))), same)
-answer_err coming words old new s kept failed (Err e) read (inr (text, answers, front, count)) = inr (record { scripts = s; read = read; text = text; answers = answers; wrote = front }, count)
-
--- none of which is a failed read
-pub no_read_answering : (s : Scripts) (words : List (List ℕ)) (old new : Option (List ℕ)) (kept failed : Type 0) (r : Result (Unit {0}) Fault) → IfErr r (Told s words old new kept failed) → r ≡ Err Read → ⊥
-no_read_answering s words old new kept failed (Ok u) told is = let bad : Ok u ≡ Err Read = is in cc
-no_read_answering s words old new kept failed (Err e) (inl (inl memory, same)) is = let bad : Memory ≡ Read = cc in cc
-no_read_answering s words old new kept failed (Err e) (inl (inr refuses, same)) is = word_no_read s _ _ _ _ e refuses (cc)
-no_read_answering s words old new kept failed (Err e) (inr (text, answers, (n, carries, short, front), count)) is = let bad : Write n ≡ Read = cc in cc
+-- or the front of it that the fault counts
+pub answer_err : (coming : Option (List ℕ)) (words : List (List ℕ)) (old new : Option (List ℕ)) (s : Scripts) (text out : List ℕ) (kept failed : Type 0) (r : Result (Unit {0}) Fault) → ReadAs coming s → Answers s words text → out ≡ text → IfErr r (WritesFront old new out) → IfErr r (λ _. failed)
+    → IfErr r (λ e. (StopsBeforeAnswer coming words e × kept) ⊎ (BreaksOffAnswer coming words old new e × failed))
+answer_err coming words old new s text out kept failed (Ok u) read answers at front count = tt
+answer_err coming words old new s text out kept failed (Err e) read answers at front count =
+    inr (record { scripts = s; read = read; text = text; answers = answers; wrote = subst (λ t. WritesFront old new t e) at front }, count)
 
 -- a fault of the file comes before the writing
 pub file_stops : (coming : Option (List ℕ)) (words : List (List ℕ)) (e : Fault) → (e ≡ Memory) ⊎ ((e ≡ Read) ⊎ Refuses coming e) → StopsBeforeAnswer coming words e
@@ -92,11 +74,12 @@ file_stops coming words e (inl memory) = inl memory
 file_stops coming words e (inr (inl read)) = inr (inl read)
 file_stops coming words e (inr (inr refuses)) = inr (inr (inl refuses))
 
--- a fault of the writing of two calls' order
-pub order_err : (s : Scripts) (x y : CallAt) (old new : Option (List ℕ)) (kept failed : Type 0) (r : Result (Unit {0}) Fault) → (r ≡ Err Memory → kept)
-    → IfErr r (λ e. (e ≡ Memory) ⊎ ((text : List ℕ) × IsChainText s x y text × WritesFront old new text e)) → IfErr r (λ e. e ≢ Memory → failed)
-    → IfErr r (λ e. ((e ≡ Memory) × kept) ⊎ ((text : List ℕ) × IsChainText s x y text × WritesFront old new text e × failed))
-order_err s x y old new kept failed (Ok u) same told count = tt
-order_err s x y old new kept failed (Err e) same (inl memory) count = inl (memory, same (ap Err memory))
-order_err s x y old new kept failed (Err e) same (inr (text, tells, front)) count =
-    inr (text, tells, front, count (λ memory. let bad : Write front.0 ≡ Memory = sym front.1 ∙ memory in cc))
+-- and so does a wrong word
+pub word_stops : (coming : Option (List ℕ)) (words : List (List ℕ)) (s : Scripts) (e : Fault) → ReadAs coming s → (e ≡ Memory) ⊎ Asks s words (Err e) → StopsBeforeAnswer coming words e
+word_stops coming words s e read (inl memory) = inl memory
+word_stops coming words s e read (inr refuses) = inr (inr (inr (record { scripts = s; read = read; refuses = refuses })))
+
+-- which is no failed read
+pub no_read_of_words : (s : Scripts) (words : List (List ℕ)) (e : Fault) → (e ≡ Memory) ⊎ Asks s words (Err e) → e ≢ Read
+no_read_of_words s words e (inl memory) is = let bad : Memory ≡ Read = sym memory ∙ is in cc
+no_read_of_words s words e (inr refuses) is = word_no_read s _ _ _ _ e refuses is

@@ -1,31 +1,29 @@
 -- From what the parts of following an order answer to what it answers.
-use Rattle.std.proofs.Common.{[], ◌∷◌, ◌+◌, ◌==◌, Bool, true, false, length, count_by, if◌then◌else◌, Vec, Global, ◌≡◌, ◌∙◌, ap, subst, sym, refl, ℕ, suc, List, take, ◌⊎◌, inl, inr, Option, Some, None, Result, Ok, Err, IfSome, IfOk, IfErr, OnOk}
+use Rattle.std.proofs.Common.{[], ◌∷◌, ◌+◌, ◌==◌, Bool, true, false, length, count_by, if◌then◌else◌, Vec, Global, ◌≡◌, ◌≢◌, ◌∙◌, ap, subst, sym, refl, ℕ, suc, List, take, ◌⊎◌, inl, inr, Option, Some, None, Result, Ok, Err, IfSome, IfOk, IfErr, OnOk}
 use Rattle.std.specs.Prelude.{nat_lt}
 use Rattle.std.specs.Io.KnownBytes.{Appends}
 use Rattle.wire_types.specs.declared.Fault.{Fault}
-use Rattle.wire_types.specs.declared.Fault.TheVariants.{Memory, Read, Write, NotReady, BadOrder}
+use Rattle.wire_types.specs.declared.Fault.TheVariants.{Memory, Read, NotReady, BadOrder}
 use Rattle.wire_types.specs.Front.{WritesFront}
 use Rattle.wire_types.specs.declared.Proc.{Proc}
 use Rattle.wire_rehearsal.specs.Scripts.{Scripts, numbers_of}
-use Rattle.wire_rehearsal.specs.Planned.{plan_of}
 use Rattle.wire_script.specs.Statements.{Statement, statements}
 use Rattle.wire_order.specs.Order.{order_read, order_within, order_of, step_of, with_step}
 use Rattle.wire_order.proofs.Limited.{order_limited}
-use Rattle.wire_plan.specs.State.{start}
-use Rattle.wire_plan.specs.Machine.{IsInterleaving}
 use Rattle.wire_up.specs.Replay.{ReadAs, Refuses}
-use Rattle.wire_up.specs.Follow.{OrdersAs, RefusesSteps, StopsAfter, StopsBefore, OrderedAs, WritesFollowed, BreaksOffFollowed, report_after}
+use Rattle.wire_up.proofs.Texts.{LeadsTo}
+use Rattle.wire_up.specs.Follow.{OrdersAs, RefusesSteps, StopsAfter, StopsBefore, OrderedAs, WritesFollowed, BreaksOffFollowed}
 
 -- what came of an order, all that was to come reads as
-pub orders_as : (coming : Option (List ℕ)) (bytes shown : List ℕ) (s shown_s : Scripts) (steps : List ℕ) → shown ≡ bytes → shown_s ≡ s → IfSome coming (λ all. bytes ≡ take 8388609 all) → order_read shown_s shown ≡ Ok steps → OrdersAs coming s steps
-orders_as None bytes shown s shown_s steps same scripts front reads = record { bytes = shown; came = tt; reads = ap (λ t. order_read t shown) (sym scripts) ∙ reads }
-orders_as (Some all) bytes shown s shown_s steps same scripts front reads =
-    record { bytes = all; came = refl; reads = sym (order_limited s all) ∙ ap (order_read s) (sym (same ∙ front)) ∙ ap (λ t. order_read t shown) (sym scripts) ∙ reads }
+pub orders_as : (coming : Option (List ℕ)) (bytes shown : List ℕ) (s : Scripts) (steps : List ℕ) → shown ≡ bytes → IfSome coming (λ all. bytes ≡ take 8388609 all) → order_read s shown ≡ Ok steps → OrdersAs coming s steps
+orders_as None bytes shown s steps same front reads = record { bytes = shown; came = tt; reads = reads }
+orders_as (Some all) bytes shown s steps same front reads =
+    record { bytes = all; came = refl; reads = sym (order_limited s all) ∙ ap (order_read s) (sym (same ∙ front)) ∙ reads }
 
-pub refuses_steps : (coming : Option (List ℕ)) (bytes shown : List ℕ) (s shown_s : Scripts) (e : Fault) → shown ≡ bytes → shown_s ≡ s → IfSome coming (λ all. bytes ≡ take 8388609 all) → order_read shown_s shown ≡ Err e → RefusesSteps coming s e
-refuses_steps None bytes shown s shown_s e same scripts front reads = record { bytes = shown; came = tt; reads = ap (λ t. order_read t shown) (sym scripts) ∙ reads }
-refuses_steps (Some all) bytes shown s shown_s e same scripts front reads =
-    record { bytes = all; came = refl; reads = sym (order_limited s all) ∙ ap (order_read s) (sym (same ∙ front)) ∙ ap (λ t. order_read t shown) (sym scripts) ∙ reads }
+pub refuses_steps : (coming : Option (List ℕ)) (bytes shown : List ℕ) (s : Scripts) (e : Fault) → shown ≡ bytes → IfSome coming (λ all. bytes ≡ take 8388609 all) → order_read s shown ≡ Err e → RefusesSteps coming s e
+refuses_steps None bytes shown s e same front reads = record { bytes = shown; came = tt; reads = reads }
+refuses_steps (Some all) bytes shown s e same front reads =
+    record { bytes = all; came = refl; reads = sym (order_limited s all) ∙ ap (order_read s) (sym (same ∙ front)) ∙ reads }
 
 pub ok_too : {A : Type 0} (r : Result A Fault) (P Q : A → Type 0) → ((x : A) → P x → Q x) → IfOk r P → IfOk r Q
 ok_too (Ok x) P Q f p = f x p
@@ -36,18 +34,18 @@ err_too (Ok x) P Q f p = tt
 err_too (Err e) P Q f p = f e p
 
 -- a read of the order failed, or the order is refused
-pub order_fault : (coming : Option (List ℕ)) (s : Scripts) (e : Fault) (bytes shown : List ℕ) (shown_s : Scripts) → shown ≡ bytes → shown_s ≡ s → IfSome coming (λ all. bytes ≡ take 8388609 all) → (e ≡ Memory) ⊎ (order_read shown_s shown ≡ Err e) → (e ≡ Memory) ⊎ ((e ≡ Read) ⊎ RefusesSteps coming s e)
-order_fault coming s e bytes shown shown_s same scripts front (inl memory) = inl memory
-order_fault coming s e bytes shown shown_s same scripts front (inr reads) = inr (inr (refuses_steps coming bytes shown s shown_s e same scripts front reads))
+pub order_fault : (coming : Option (List ℕ)) (s : Scripts) (e : Fault) (bytes shown : List ℕ) → shown ≡ bytes → IfSome coming (λ all. bytes ≡ take 8388609 all) → (e ≡ Memory) ⊎ (order_read s shown ≡ Err e) → (e ≡ Memory) ⊎ ((e ≡ Read) ⊎ RefusesSteps coming s e)
+order_fault coming s e bytes shown same front (inl memory) = inl memory
+order_fault coming s e bytes shown same front (inr reads) = inr (inr (refuses_steps coming bytes shown s e same front reads))
 
 -- of an order that is read, and of one that isn't
-pub steps_ok : (coming : Option (List ℕ)) (bytes shown : List ℕ) (s shown_s : Scripts) (r : Result (Vec Proc Global) Fault) → shown ≡ bytes → shown_s ≡ s → IfSome coming (λ all. bytes ≡ take 8388609 all) → IfOk r (λ order. order_read shown_s shown ≡ Ok (numbers_of order.items)) → IfOk r (λ order. OrdersAs coming s (numbers_of order.items))
-steps_ok coming bytes shown s shown_s (Ok order) same scripts front reads = orders_as coming bytes shown s shown_s (numbers_of order.items) same scripts front reads
-steps_ok coming bytes shown s shown_s (Err e) same scripts front reads = tt
+pub steps_ok : (coming : Option (List ℕ)) (bytes shown : List ℕ) (s : Scripts) (r : Result (Vec Proc Global) Fault) → shown ≡ bytes → IfSome coming (λ all. bytes ≡ take 8388609 all) → IfOk r (λ order. order_read s shown ≡ Ok (numbers_of order.items)) → IfOk r (λ order. OrdersAs coming s (numbers_of order.items))
+steps_ok coming bytes shown s (Ok order) same front reads = orders_as coming bytes shown s (numbers_of order.items) same front reads
+steps_ok coming bytes shown s (Err e) same front reads = tt
 
-pub steps_err : (coming : Option (List ℕ)) (bytes shown : List ℕ) (s shown_s : Scripts) (r : Result (Vec Proc Global) Fault) → shown ≡ bytes → shown_s ≡ s → IfSome coming (λ all. bytes ≡ take 8388609 all) → IfErr r (λ e. (e ≡ Memory) ⊎ (order_read shown_s shown ≡ Err e)) → IfErr r (λ e. (e ≡ Memory) ⊎ ((e ≡ Read) ⊎ RefusesSteps coming s e))
-steps_err coming bytes shown s shown_s (Ok order) same scripts front reads = tt
-steps_err coming bytes shown s shown_s (Err e) same scripts front reads = order_fault coming s e bytes shown shown_s same scripts front reads
+pub steps_err : (coming : Option (List ℕ)) (bytes shown : List ℕ) (s : Scripts) (r : Result (Vec Proc Global) Fault) → shown ≡ bytes → IfSome coming (λ all. bytes ≡ take 8388609 all) → IfErr r (λ e. (e ≡ Memory) ⊎ (order_read s shown ≡ Err e)) → IfErr r (λ e. (e ≡ Memory) ⊎ ((e ≡ Read) ⊎ RefusesSteps coming s e))
+steps_err coming bytes shown s (Ok order) same front reads = tt
+steps_err coming bytes shown s (Err e) same front reads = order_fault coming s e bytes shown same front reads
 
 pub on_ok_too : {A : Type 0} (r : Result A Fault) (P Q : Type 0) → (P → Q) → OnOk r P → OnOk r Q
 on_ok_too (Ok x) P Q f p = f p
@@ -65,39 +63,47 @@ of_order coming order_coming s e read (inl memory) = inl memory
 of_order coming order_coming s e read (inr (inl failed)) = inr (inl failed)
 of_order coming order_coming s e read (inr (inr refuses)) = inr (inr (inr (inl (record { scripts = s; read = read; refuses = refuses }))))
 
--- and of the steps and the writing
-abbrev pub Written : Scripts → List ℕ → Option (List ℕ) → Option (List ℕ) → Type 0 → Type 0 → Fault → Type 0
-Written s steps old new kept failed e = (((e ≡ Memory) ⊎ StopsAfter s steps e) × kept) ⊎ (IsInterleaving (plan_of s) start steps × WritesFront old new (report_after s steps) e × failed)
+-- the steps of an order that is read, as they are shown
+ordered_as : (coming order_coming : Option (List ℕ)) (s : Scripts) (order shown : List Proc) → shown ≡ order → ReadAs coming s → OrdersAs order_coming s (numbers_of order) → OrderedAs coming order_coming s (numbers_of shown)
+ordered_as coming order_coming s order shown same read orders =
+    record { read = read; order = subst (λ ps. OrdersAs order_coming s (numbers_of ps)) (sym same) orders }
 
-pub of_steps : (coming order_coming old new : Option (List ℕ)) (s : Scripts) (steps : List ℕ) (kept failed : Type 0) (e : Fault) → OrderedAs coming order_coming s steps → Written s steps old new kept failed e → (StopsBefore coming order_coming e × kept) ⊎ (BreaksOffFollowed coming order_coming old new e × failed)
-of_steps coming order_coming old new s steps kept failed e ordered (inl (inl memory, same)) = inl (inl memory, same)
-of_steps coming order_coming old new s steps kept failed e ordered (inl (inr stops, same)) =
-    inl (inr (inr (inr (inr (record { scripts = s; steps = steps; ordered = ordered; stops = stops })))), same)
-of_steps coming order_coming old new s steps kept failed e ordered (inr (enabled, wrote, count)) =
-    inr (record { scripts = s; steps = steps; ordered = ordered; enabled = enabled; wrote = wrote }, count)
+-- and of the steps
+pub of_steps : (coming order_coming : Option (List ℕ)) (s : Scripts) (order shown : List Proc) (e : Fault) → shown ≡ order → ReadAs coming s → OrdersAs order_coming s (numbers_of order) → (e ≡ Memory) ⊎ StopsAfter s (numbers_of shown) e → StopsBefore coming order_coming e
+of_steps coming order_coming s order shown e same read orders (inl memory) = inl memory
+of_steps coming order_coming s order shown e same read orders (inr stops) =
+    inr (inr (inr (inr (record { scripts = s; steps = numbers_of shown; ordered = ordered_as coming order_coming s order shown same read orders; stops = stops }))))
 
--- none of which is a failed read
-pub not_read_late : (s : Scripts) (steps : List ℕ) (old new : Option (List ℕ)) (kept failed : Type 0) (r : Result (Unit {0}) Fault) → IfErr r (Written s steps old new kept failed) → r ≡ Err Read → ⊥
-not_read_late s steps old new kept failed (Ok x) w is = let bad : Ok x ≡ Err Read = is in cc
-not_read_late s steps old new kept failed (Err e) (inl (inl memory, same)) is = let bad : Memory ≡ Read = cc in cc
-not_read_late s steps old new kept failed (Err e) (inl (inr stops, same)) is = let at = stops.is in let bad : NotReady (suc stops.n) ≡ Read = cc in cc
-not_read_late s steps old new kept failed (Err e) (inr (enabled, (n, carries, short, front), count)) is = let bad : Write n ≡ Read = cc in cc
+-- which are no failed read
+pub no_read_of_steps : (s : Scripts) (steps : List ℕ) (e : Fault) → (e ≡ Memory) ⊎ StopsAfter s steps e → e ≢ Read
+no_read_of_steps s steps e (inl memory) is = let bad : Memory ≡ Read = sym memory ∙ is in cc
+no_read_of_steps s steps e (inr stops) is = let bad : NotReady (suc stops.n) ≡ Read = sym stops.is ∙ is in cc
 
-pub followed_ok : (coming order_coming old new : Option (List ℕ)) (s : Scripts) (order shown : List Proc) (r : Result (Unit {0}) Fault) → shown ≡ order → ReadAs coming s → OrdersAs order_coming s (numbers_of order) → OnOk r (IsInterleaving (plan_of s) start (numbers_of shown) × Appends old new (report_after s (numbers_of shown))) → OnOk r (WritesFollowed coming order_coming old new)
-followed_ok coming order_coming old new s order shown (Ok x) same read orders (enabled, wrote) =
+pub followed_ok : (coming order_coming old new : Option (List ℕ)) (s : Scripts) (order shown : List Proc) (text out : List ℕ) (r : Result (Unit {0}) Fault) → shown ≡ order → ReadAs coming s → OrdersAs order_coming s (numbers_of order) → LeadsTo s (numbers_of shown) text → out ≡ text → OnOk r (Appends old new out) → OnOk r (WritesFollowed coming order_coming old new)
+followed_ok coming order_coming old new s order shown text out (Ok x) same read orders (enabled, is) at wrote =
     record {
       scripts = s;
       steps = numbers_of shown;
-      ordered = record { read = read; order = subst (λ ps. OrdersAs order_coming s (numbers_of ps)) (sym same) orders };
+      ordered = ordered_as coming order_coming s order shown same read orders;
       enabled = enabled;
-      wrote = wrote;
+      wrote = subst (λ t. Appends old new t) (at ∙ is) wrote;
     }
-followed_ok coming order_coming old new s order shown (Err e) same read orders told = tt
+followed_ok coming order_coming old new s order shown text out (Err e) same read orders leads at wrote = tt
 
-pub followed_err : (coming order_coming old new : Option (List ℕ)) (s : Scripts) (order shown : List Proc) (kept failed : Type 0) (r : Result (Unit {0}) Fault) → shown ≡ order → ReadAs coming s → OrdersAs order_coming s (numbers_of order) → IfErr r (Written s (numbers_of shown) old new kept failed) → IfErr r (λ e. (StopsBefore coming order_coming e × kept) ⊎ (BreaksOffFollowed coming order_coming old new e × failed))
-followed_err coming order_coming old new s order shown kept failed (Ok x) same read orders told = tt
-followed_err coming order_coming old new s order shown kept failed (Err e) same read orders told =
-    of_steps coming order_coming old new s (numbers_of shown) kept failed e (record { read = read; order = subst (λ ps. OrdersAs order_coming s (numbers_of ps)) (sym same) orders }) told
+pub followed_err : (coming order_coming old new : Option (List ℕ)) (s : Scripts) (order shown : List Proc) (text out : List ℕ) (kept failed : Type 0) (r : Result (Unit {0}) Fault) → shown ≡ order → ReadAs coming s → OrdersAs order_coming s (numbers_of order) → LeadsTo s (numbers_of shown) text → out ≡ text → IfErr r (WritesFront old new out) → IfErr r (λ _. failed)
+    → IfErr r (λ e. (StopsBefore coming order_coming e × kept) ⊎ (BreaksOffFollowed coming order_coming old new e × failed))
+followed_err coming order_coming old new s order shown text out kept failed (Ok x) same read orders leads at front count = tt
+followed_err coming order_coming old new s order shown text out kept failed (Err e) same read orders (enabled, is) at front count =
+    inr (
+      record {
+        scripts = s;
+        steps = numbers_of shown;
+        ordered = ordered_as coming order_coming s order shown same read orders;
+        enabled = enabled;
+        wrote = subst (λ t. WritesFront old new t e) (at ∙ is) front;
+      },
+      count,
+    )
 
 -- an order has no fault but a bad line
 abbrev IsBad : Result (List ℕ) Fault → Type 0

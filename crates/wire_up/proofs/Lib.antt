@@ -4,3 +4,5 @@ pub mod Limited
 pub mod Told
 pub mod Followed
 pub mod Asked
+pub mod Texts
+pub mod Verdicts

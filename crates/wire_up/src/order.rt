@@ -2,9 +2,7 @@
 
 ghost use Rattle.std.specs.Prelude.{◌≡◌, ◌≢◌, ◌⊎◌, ℕ, Ok, Err, map, OnOk, IfOk, IfErr};
 ghost use Rattle.wire_types.specs.declared.Fault.TheVariants.{Memory, Read, Write};
-ghost use Rattle.std.specs.Io.KnownBytes.{Appends};
 ghost use Rattle.wire_types.specs.Counting.{one_more};
-ghost use Rattle.wire_types.specs.Front.{WritesFront};
 ghost use Rattle.wire_types.specs.Outcome.{ends_of};
 ghost use Rattle.wire_rehearsal.specs.Scripts.{Scripts, numbers_of};
 ghost use Rattle.wire_rehearsal.specs.Planned.{plan_of};
@@ -15,12 +13,14 @@ ghost use Rattle.wire_up.specs.Replay.{ReadAs};
 ghost use Rattle.wire_up.specs.Follow.{WritesFollowed, BreaksOffFollowed, StopsBefore, OrdersAs, RefusesSteps, StopsAfter, report_after};
 
 use crate::reading::read_up_to;
-use crate::replay::read_plan;
+use crate::replay::read_scripts;
+use crate::writing::write_text;
 use std::alloc::Global;
 use wire_core::Core;
 use wire_order::read_order;
 use wire_plan::Plan;
-use wire_report::write_report;
+use wire_rehearsal::Scripts;
+use wire_report::report_text;
 use wire_types::{Fault, Outcome, Proc, Sink, Source};
 
 /// One byte more than an order may have, so that a longer one is seen to be too long.
@@ -29,17 +29,17 @@ const ORDER_BYTES_AND_ONE: usize = 8_388_609;
 /// The steps of an order that is read to its end.
 fn read_steps<O: Source>(
     alloc: Global,
-    plan: &Plan,
+    scripts: &Scripts,
     order_reader: &mut O,
 ) -> Result<Vec<Proc>, Fault>
-    ensures ok { IfOk result (λ order. OrdersAs (O.coming order_reader.old) plan.now (numbers_of order.items)) }
+    ensures ok { IfOk result (λ order. OrdersAs (O.coming order_reader.old) scripts.now (numbers_of order.items)) }
     ensures quiet { OnOk result (O.failures order_reader.new ≡ O.failures order_reader.old) }
-    ensures err { IfErr result (λ e. (e ≡ Memory) ⊎ (e ≡ Read) ⊎ RefusesSteps (O.coming order_reader.old) plan.now e) }
+    ensures err { IfErr result (λ e. (e ≡ Memory) ⊎ (e ≡ Read) ⊎ RefusesSteps (O.coming order_reader.old) scripts.now e) }
     ensures read { result ≡ Err Read → O.failures order_reader.new ≡ one_more (O.failures order_reader.old) }
     ensures unfailed { IfErr result (λ e. e ≢ Memory → e ≢ Read → O.failures order_reader.new ≡ O.failures order_reader.old) }
 {
     let bytes = read_up_to(alloc, order_reader, ORDER_BYTES_AND_ONE)?;
-    read_order(alloc, plan.scripts(), bytes.as_slice())
+    read_order(alloc, scripts, bytes.as_slice())
 }
 
 /// What became of every call after these steps.
@@ -52,21 +52,22 @@ fn outcome_after(alloc: Global, plan: &Plan, order: &[Proc]) -> Result<Outcome, 
     core.outcome(alloc)
 }
 
-/// Writes the report of the state after these steps.
-fn write_followed<W: Sink>(
-    alloc: Global,
-    plan: &Plan,
-    order: &[Proc],
-    writer: &mut W,
-) -> Result<(), Fault>
-    ensures ok { OnOk result (IsInterleaving (plan_of plan.now) start (numbers_of order.now) × Appends (W.written writer.old) (W.written writer.new) (report_after plan.now (numbers_of order.now))) }
-    ensures quiet { OnOk result (W.failures writer.new ≡ W.failures writer.old) }
-    ensures err { IfErr result (λ e. (((e ≡ Memory) ⊎ StopsAfter plan.now (numbers_of order.now) e) × (writer.new ≡ writer.old))
-        ⊎ (IsInterleaving (plan_of plan.now) start (numbers_of order.now) × WritesFront (W.written writer.old) (W.written writer.new) (report_after plan.now (numbers_of order.now)) e
-        × (W.failures writer.new ≡ one_more (W.failures writer.old)))) }
+/// The report of the state after these steps of a plan.
+fn report_of(alloc: Global, plan: &Plan, order: &[Proc]) -> Result<Vec<u8>, Fault>
+    ensures ok { IfOk result (λ text. IsInterleaving (plan_of plan.now) start (numbers_of order.now) × (text.items ≡ report_after plan.now (numbers_of order.now))) }
+    ensures err { IfErr result (λ e. (e ≡ Memory) ⊎ StopsAfter plan.now (numbers_of order.now) e) }
 {
     let outcome = outcome_after(alloc, plan, order)?;
-    write_report(alloc, plan.scripts(), &outcome, writer)
+    report_text(alloc, plan.scripts(), &outcome)
+}
+
+/// The report of the state after these steps of scripts.
+fn followed_text(alloc: Global, scripts: Scripts, order: &[Proc]) -> Result<Vec<u8>, Fault>
+    ensures ok { IfOk result (λ text. IsInterleaving (plan_of scripts) start (numbers_of order.now) × (text.items ≡ report_after scripts (numbers_of order.now))) }
+    ensures err { IfErr result (λ e. (e ≡ Memory) ⊎ StopsAfter scripts (numbers_of order.now) e) }
+{
+    let plan = Plan::build(alloc, scripts)?;
+    report_of(alloc, &plan, order)
 }
 
 /// Runs the steps of an order: reads the file of scripts and then the order, each to its end, takes the
@@ -95,7 +96,8 @@ pub fn follow<R: Source, O: Source, W: Sink>(
         ⊎ ((O.failures order_reader.new ≡ one_more (O.failures order_reader.old)) × (scripts : Scripts) × ReadAs (R.coming reader.old) scripts) }
     ensures unfailed { IfErr result (λ e. e ≢ Memory → e ≢ Read → (R.failures reader.new ≡ R.failures reader.old) × (O.failures order_reader.new ≡ O.failures order_reader.old)) }
 {
-    let plan = read_plan(alloc, reader)?;
-    let order = read_steps(alloc, &plan, order_reader)?;
-    write_followed(alloc, &plan, &order, writer)
+    let scripts = read_scripts(alloc, reader)?;
+    let order = read_steps(alloc, &scripts, order_reader)?;
+    let text = followed_text(alloc, scripts, order.as_slice())?;
+    write_text(writer, text.as_slice())
 }

@@ -1,29 +1,33 @@
 //! A question about two calls of a file of scripts: whether one is before the other.
 
 ghost use Rattle.std.specs.Prelude.{◌≡◌, ◌≢◌, ◌<◌, ◌⊎◌, ℕ, List, Ok, Err, length, map, OnOk, IfOk, IfErr};
-ghost use Rattle.std.specs.Io.KnownBytes.{Appends};
 ghost use Rattle.wire_types.specs.declared.Fault.TheVariants.{Memory, Read};
 ghost use Rattle.wire_types.specs.Counting.{one_more};
-ghost use Rattle.wire_types.specs.Front.{WritesFront};
 ghost use Rattle.wire_rehearsal.specs.Planned.{plan_of};
 ghost use Rattle.wire_plan.specs.Ends.{calls_of};
 ghost use Rattle.wire_report.specs.Chain.{IsChainText};
 ghost use Rattle.wire_up.specs.Why.{Asks, Answers, WritesAnswer, BreaksOffAnswer, StopsBeforeAnswer};
 
-use crate::replay::read_plan;
+use crate::replay::read_scripts;
+use crate::writing::write_text;
 use std::alloc::Global;
 use wire_marks::Marks;
 use wire_order::{Question, calls_asked};
 use wire_plan::Plan;
-use wire_report::write_chain;
+use wire_rehearsal::Scripts;
+use wire_report::chain_text;
 use wire_types::{CallAt, Fault, Sink, Source};
 
 /// The two calls that the words of a question name.
-fn calls_named(alloc: Global, plan: &Plan, words: [&str; 4]) -> Result<(CallAt, CallAt), Fault>
-    ensures ok { IfOk result (λ calls. Asks plan.now (map (λ w. w.now) words.entry) (Ok calls)) }
-    ensures x_there { IfOk result (λ calls. calls.0.call < length (calls_of (plan_of plan.now) calls.0.proc.number)) }
-    ensures y_there { IfOk result (λ calls. calls.1.call < length (calls_of (plan_of plan.now) calls.1.proc.number)) }
-    ensures err { IfErr result (λ e. (e ≡ Memory) ⊎ Asks plan.now (map (λ w. w.now) words.entry) (Err e)) }
+fn calls_named(
+    alloc: Global,
+    scripts: &Scripts,
+    words: [&str; 4],
+) -> Result<(CallAt, CallAt), Fault>
+    ensures ok { IfOk result (λ calls. Asks scripts.now (map (λ w. w.now) words.entry) (Ok calls)) }
+    ensures x_there { IfOk result (λ calls. calls.0.call < length (calls_of (plan_of scripts.now) calls.0.proc.number)) }
+    ensures y_there { IfOk result (λ calls. calls.1.call < length (calls_of (plan_of scripts.now) calls.1.proc.number)) }
+    ensures err { IfErr result (λ e. (e ≡ Memory) ⊎ Asks scripts.now (map (λ w. w.now) words.entry) (Err e)) }
 {
     let question = Question {
         proc: words[0],
@@ -31,42 +35,38 @@ fn calls_named(alloc: Global, plan: &Plan, words: [&str; 4]) -> Result<(CallAt, 
         other_proc: words[2],
         other_number: words[3],
     };
-    calls_asked(alloc, plan.scripts(), question)
+    calls_asked(alloc, scripts, question)
 }
 
-/// Writes the order of two calls of a plan.
-fn write_order<W: Sink>(
-    alloc: Global,
-    plan: &Plan,
-    x: CallAt,
-    y: CallAt,
-    writer: &mut W,
-) -> Result<(), Fault>
+/// The text of the order of two calls of a plan.
+fn text_between(alloc: Global, plan: &Plan, x: CallAt, y: CallAt) -> Result<Vec<u8>, Fault>
     requires x_there { x.call < length (calls_of (plan_of plan.now) x.proc.number) }
     requires y_there { y.call < length (calls_of (plan_of plan.now) y.proc.number) }
-    ensures ok { OnOk result ((text : List ℕ) × IsChainText plan.now x y text × Appends (W.written writer.old) (W.written writer.new) text) }
-    ensures quiet { OnOk result (W.failures writer.new ≡ W.failures writer.old) }
-    ensures err { IfErr result (λ e. ((e ≡ Memory) × (writer.new ≡ writer.old))
-        ⊎ ((text : List ℕ) × IsChainText plan.now x y text × WritesFront (W.written writer.old) (W.written writer.new) text e × (W.failures writer.new ≡ one_more (W.failures writer.old)))) }
+    ensures ok { IfOk result (λ text. IsChainText plan.now x y text.items) }
+    ensures err { IfErr result (λ e. e ≡ Memory) }
 {
     let marks = Marks::of(alloc, plan)?;
-    write_chain(alloc, plan, &marks, x, y, writer)
+    chain_text(alloc, plan, &marks, x, y)
 }
 
-/// Writes the answer to a question about a plan.
-fn write_answer<W: Sink>(
-    alloc: Global,
-    plan: &Plan,
-    words: [&str; 4],
-    writer: &mut W,
-) -> Result<(), Fault>
-    ensures ok { OnOk result ((text : List ℕ) × Answers plan.now (map (λ w. w.now) words.entry) text × Appends (W.written writer.old) (W.written writer.new) text) }
-    ensures quiet { OnOk result (W.failures writer.new ≡ W.failures writer.old) }
-    ensures err { IfErr result (λ e. (((e ≡ Memory) ⊎ Asks plan.now (map (λ w. w.now) words.entry) (Err e)) × (writer.new ≡ writer.old))
-        ⊎ ((text : List ℕ) × Answers plan.now (map (λ w. w.now) words.entry) text × WritesFront (W.written writer.old) (W.written writer.new) text e × (W.failures writer.new ≡ one_more (W.failures writer.old)))) }
+/// The text of the order of two calls of scripts.
+fn order_text(alloc: Global, scripts: Scripts, x: CallAt, y: CallAt) -> Result<Vec<u8>, Fault>
+    requires x_there { x.call < length (calls_of (plan_of scripts) x.proc.number) }
+    requires y_there { y.call < length (calls_of (plan_of scripts) y.proc.number) }
+    ensures ok { IfOk result (λ text. IsChainText scripts x y text.items) }
+    ensures err { IfErr result (λ e. e ≡ Memory) }
 {
-    let (x, y) = calls_named(alloc, plan, words)?;
-    write_order(alloc, plan, x, y, writer)
+    let plan = Plan::build(alloc, scripts)?;
+    text_between(alloc, &plan, x, y)
+}
+
+/// The text of the answer to a question about scripts.
+fn answer_text(alloc: Global, scripts: Scripts, words: [&str; 4]) -> Result<Vec<u8>, Fault>
+    ensures ok { IfOk result (λ text. Answers scripts (map (λ w. w.now) words.entry) text.items) }
+    ensures err { IfErr result (λ e. (e ≡ Memory) ⊎ Asks scripts (map (λ w. w.now) words.entry) (Err e)) }
+{
+    let (x, y) = calls_named(alloc, &scripts, words)?;
+    order_text(alloc, scripts, x, y)
 }
 
 /// Answers whether a chain of events leads from one call of a file of scripts to another: reads the file to
@@ -96,6 +96,7 @@ pub fn why<R: Source, W: Sink>(
     ensures read_failed { result ≡ Err Read → R.failures reader.new ≡ one_more (R.failures reader.old) }
     ensures unfailed { IfErr result (λ e. e ≢ Memory → e ≢ Read → R.failures reader.new ≡ R.failures reader.old) }
 {
-    let plan = read_plan(alloc, reader)?;
-    write_answer(alloc, &plan, words, writer)
+    let scripts = read_scripts(alloc, reader)?;
+    let text = answer_text(alloc, scripts, words)?;
+    write_text(writer, text.as_slice())
 }

@@ -1,35 +1,34 @@
 //! The replay of a file of scripts by one thread.
 
 ghost use Rattle.std.specs.Prelude.{◌≡◌, ◌≢◌, ◌⊎◌, ℕ, Err, OnOk, OnErr, IfOk, IfErr};
-ghost use Rattle.std.specs.Io.KnownBytes.{Appends};
 ghost use Rattle.wire_types.specs.declared.Fault.TheVariants.{Memory, Read, Write};
 ghost use Rattle.wire_types.specs.Counting.{one_more};
-ghost use Rattle.wire_types.specs.Front.{WritesFront};
 ghost use Rattle.wire_types.specs.Outcome.{ends_of};
 ghost use Rattle.wire_up.specs.Replay.{plain_ends, plain_report, ReadAs, WritesReport, Refuses, BreaksOff};
 
 use crate::reading::read_up_to;
+use crate::writing::write_text;
 use std::alloc::Global;
 use wire_core::Core;
 use wire_plan::Plan;
-use wire_report::write_report;
+use wire_rehearsal::Scripts;
+use wire_report::report_text;
 use wire_script::read;
 use wire_types::{Fault, Outcome, Sink, Source};
 
 /// One byte more than a file may have, so that a longer one is seen to be too long.
 const FILE_BYTES_AND_ONE: usize = 4_194_305;
 
-/// The plan of a file that is read to its end.
-pub(crate) fn read_plan<R: Source>(alloc: Global, reader: &mut R) -> Result<Plan, Fault>
-    ensures ok { IfOk result (λ plan. ReadAs (R.coming reader.old) plan) }
+/// The scripts of a file that is read to its end.
+pub(crate) fn read_scripts<R: Source>(alloc: Global, reader: &mut R) -> Result<Scripts, Fault>
+    ensures ok { IfOk result (λ scripts. ReadAs (R.coming reader.old) scripts) }
     ensures quiet { OnOk result (R.failures reader.new ≡ R.failures reader.old) }
     ensures err { IfErr result (λ e. (e ≡ Memory) ⊎ (e ≡ Read) ⊎ Refuses (R.coming reader.old) e) }
     ensures read { result ≡ Err Read → R.failures reader.new ≡ one_more (R.failures reader.old) }
     ensures unfailed { IfErr result (λ e. e ≢ Memory → e ≢ Read → R.failures reader.new ≡ R.failures reader.old) }
 {
     let bytes = read_up_to(alloc, reader, FILE_BYTES_AND_ONE)?;
-    let scripts = read(alloc, bytes.as_slice())?;
-    Plan::build(alloc, scripts)
+    read(alloc, bytes.as_slice())
 }
 
 /// What became of every call in the plain run of a plan.
@@ -42,16 +41,22 @@ fn plain_outcome(alloc: Global, plan: &Plan) -> Result<Outcome, Fault>
     core.outcome(alloc)
 }
 
-/// Writes the report of the plain run of a plan.
-fn write_plain<W: Sink>(alloc: Global, plan: &Plan, writer: &mut W) -> Result<(), Fault>
-    ensures ok { OnOk result (Appends (W.written writer.old) (W.written writer.new) (plain_report plan.now)) }
-    ensures quiet { OnOk result (W.failures writer.new ≡ W.failures writer.old) }
-    ensures memory { result ≡ Err Memory → writer.new ≡ writer.old }
-    ensures err { IfErr result (λ e. (e ≡ Memory) ⊎ WritesFront (W.written writer.old) (W.written writer.new) (plain_report plan.now) e) }
-    ensures failed { IfErr result (λ e. e ≢ Memory → W.failures writer.new ≡ one_more (W.failures writer.old)) }
+/// The report of the plain run of a plan.
+fn report_of(alloc: Global, plan: &Plan) -> Result<Vec<u8>, Fault>
+    ensures ok { IfOk result (λ text. text.items ≡ plain_report plan.now) }
+    ensures err { IfErr result (λ e. e ≡ Memory) }
 {
     let outcome = plain_outcome(alloc, plan)?;
-    write_report(alloc, plan.scripts(), &outcome, writer)
+    report_text(alloc, plan.scripts(), &outcome)
+}
+
+/// The report of the plain run of scripts.
+fn plain_text(alloc: Global, scripts: Scripts) -> Result<Vec<u8>, Fault>
+    ensures ok { IfOk result (λ text. text.items ≡ plain_report scripts) }
+    ensures err { IfErr result (λ e. e ≡ Memory) }
+{
+    let plan = Plan::build(alloc, scripts)?;
+    report_of(alloc, &plan)
 }
 
 /// Replays a file of scripts: reads it to its end, runs its plan, where always the lowest process that
@@ -72,6 +77,7 @@ pub fn plain<R: Source, W: Sink>(alloc: Global, reader: &mut R, writer: &mut W) 
     ensures write_failed { (n : ℕ) → result ≡ Err (Write n) → W.failures writer.new ≡ one_more (W.failures writer.old) }
     ensures untouched { OnErr result (((n : ℕ) → result ≢ Err (Write n)) → writer.new ≡ writer.old) }
 {
-    let plan = read_plan(alloc, reader)?;
-    write_plain(alloc, &plan, writer)
+    let scripts = read_scripts(alloc, reader)?;
+    let text = plain_text(alloc, scripts)?;
+    write_text(writer, text.as_slice())
 }

@@ -1,0 +1,39 @@
+-- Marks tell which events are live, and which are before which.
+use Rattle.std.proofs.Common.{◌≡◌, ◌⊎◌, inl, inr, ap, sym, Bool, true, false, ltb-true, lt-ltb}
+use Rattle.std.specs.Prelude.{◌↔◌, nat_lt}
+use Rattle.std.proofs.lemmas.Bool.{cases_eq, true≢false}
+use Rattle.wire_types.specs.Plan.{Plan, Place}
+use Rattle.wire_plan.specs.Order.{Before}
+use Rattle.wire_plan.specs.Laws.{Marks}
+use Rattle.wire_marks.specs.Clocks.{Clocks, marked_count, clock_of, AreMarks}
+use Rattle.wire_marks.proofs.Growing.{before_iff, never_self}
+
+one_or_two : (x y : Place) → (x ≡ y) ⊎ (x ≡ y → ⊥)
+one_or_two x y = elim (cases_eq x.proc y.proc) [
+  | inl p ↦ elim (cases_eq x.at y.at) [
+    | inl at ↦ inl (λ t. record { proc = p t; at = at t })
+    | inr other ↦ inr (λ e. other (ap (λ (z : Place). z.at) e))
+  ]
+  | inr other ↦ inr (λ e. other (ap (λ (z : Place). z.proc) e))
+]
+
+abbrev is_before : (clocks : Clocks) (x y : Place) → (x ≡ y) ⊎ (x ≡ y → ⊥) → Bool
+is_before clocks x y (inl e) = false
+is_before clocks x y (inr other) = nat_lt x.at (clock_of clocks y x.proc)
+
+tells : (plan : Plan) (clocks : Clocks) → AreMarks plan clocks → (x y : Place) (same : (x ≡ y) ⊎ (x ≡ y → ⊥)) → (is_before clocks x y same ≡ true) ↔ Before plan x y
+tells plan clocks m x y (inl e) = ((λ t. absurd (true≢false (sym t))), (λ b. absurd (never_self plan x y e b)))
+tells plan clocks m x y (inr other) =
+    let iff = before_iff plan clocks x y m other in
+    ((λ t. iff.0 (ltb-true x.at (clock_of clocks y x.proc) t)), (λ b. lt-ltb x.at (clock_of clocks y x.proc) (iff.1 b)))
+
+pub marks_of : (plan : Plan) (clocks : Clocks) → AreMarks plan clocks → Marks plan
+marks_of plan clocks m = record {
+  alive = λ y. nat_lt y.at (marked_count clocks y.proc);
+  before = λ x y. is_before clocks x y (one_or_two x y);
+  tells_live = λ y. (
+    (λ t. (m.live y).0 (ltb-true y.at (marked_count clocks y.proc) t)),
+    (λ l. lt-ltb y.at (marked_count clocks y.proc) ((m.live y).1 l)),
+  );
+  tells_before = λ x y. tells plan clocks m x y (one_or_two x y);
+}

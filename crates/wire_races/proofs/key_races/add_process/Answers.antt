@@ -1,0 +1,10 @@
+use Rattle.std.proofs.Common.{◌+◌, arith}
+use Rattle.wire_rehearsal.specs.Planned.{plan_of}
+use Rattle.wire_races.specs.Racing.{IsKeyRaceBy}
+use Rattle.wire_races.proofs.Growing.{one_event}
+use Rattle.wire_races.proofs.key_races.add_process.Goals as goal
+
+pub loop-at-preserved : goal.loop-at-preserved
+loop-at-preserved c =
+    let plan = plan_of c.args.plan.now in
+    one_event plan (IsKeyRaceBy plan) c.args.found.now c.loop-at.found c.add_event.new.found c.args.proc.number c.loop-at.at (c.loop-at.at + 1) (omega arith) c.loop-at.invariant c.in_ok-add_event.ensures

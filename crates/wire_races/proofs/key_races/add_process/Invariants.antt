@@ -1,0 +1,7 @@
+use Rattle.wire_rehearsal.specs.Planned.{plan_of}
+use Rattle.wire_races.specs.Adding.{Adds, ToldIn}
+use Rattle.wire_races.specs.Racing.{IsKeyRaceBy}
+use Rattle.wire_races.proofs.key_races.add_process.Given as goal
+
+abbrev pub invariant-loop-at : goal.invariant-loop-at
+invariant-loop-at l = Adds (plan_of l.plan) l.initial.found l.found (ToldIn (IsKeyRaceBy (plan_of l.plan)) l.proc.number l.at)

@@ -1,0 +1,5 @@
+use Rattle.wire_races.proofs.OneTold.{one_told}
+use Rattle.wire_races.proofs.laws.one_list.Goals as goal
+
+pub returns : goal.returns
+returns c = one_told

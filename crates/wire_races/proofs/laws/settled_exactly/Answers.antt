@@ -1,0 +1,5 @@
+use Rattle.wire_races.proofs.OneTold.{none_told}
+use Rattle.wire_races.proofs.laws.settled_exactly.Goals as goal
+
+pub returns : goal.returns
+returns c = none_told

@@ -1,0 +1,8 @@
+use Rattle.wire_rehearsal.specs.Planned.{plan_of}
+use Rattle.wire_races.proofs.AllKinds.{all_kinds}
+use Rattle.wire_races.proofs.list.all_findings.Goals as goal
+
+pub returns : goal.returns
+returns g c =
+    all_kinds (plan_of c.args.plan.now) c.new-found.result c.add_rewrites.new.found c.add_key_races.new.found c.add_name_races.new.found c.in_ok-list.list.items
+    c.in_ok-add_rewrites.ensures.all c.in_ok-add_key_races.ensures.all c.in_ok-add_name_races.ensures.all c.in_ok-add_name_races.ensures.found c.in_ok-list.ensures.shown c.in_ok-list.ensures.sorted

@@ -1,0 +1,39 @@
+use Rattle.std.proofs.Common.{◌∙◌, ◌+◌, ◌-◌, ◌/◌, ◌<◌, map, length, sym, arith}
+use Rattle.std.proofs.lemmas.Bool.{true≢false}
+use Rattle.wire_types.specs.Plan.{place_of}
+use Rattle.wire_races.proofs.Lists.{place_at}
+use Rattle.wire_races.proofs.Racing.{low_rises, high_falls, narrowed_cut}
+use Rattle.wire_races.proofs.name_races.count_below.Goals as goal
+
+pub bisection-preserved-then-is_below : goal.bisection-preserved-then-is_below
+bisection-preserved-then-is_below c =
+    let low = c.bisection.low in
+    let high = c.bisection.high in
+    let lt = c.bisection-test.true in
+    let within = c.bisection.invariant.within in
+    let fits : low + (high - low) / 2 < length c.args.run.now = omega (arith, lt, within) in
+    record {
+      order = omega (arith, lt);
+      within = within;
+      narrowed = λ plan name p marks are one.
+          low_rises plan (place_of c.args.x) c.args.border name p (map place_of c.args.run.now) are one low high _ _ (place_at c.args.run.now (low + (high - low) / 2) _ fits)
+          ((c.is_below.ensures plan marks).0 c.if-is_below.true) (c.bisection.invariant.narrowed plan name p marks are one);
+    }
+
+pub bisection-preserved : goal.bisection-preserved
+bisection-preserved c =
+    let low = c.bisection.low in
+    let high = c.bisection.high in
+    let lt = c.bisection-test.true in
+    let within = c.bisection.invariant.within in
+    let fits : low + (high - low) / 2 < length c.args.run.now = omega (arith, lt, within) in
+    record {
+      order = omega arith;
+      within = omega (arith, fits);
+      narrowed = λ plan name p marks are one.
+          high_falls plan (place_of c.args.x) c.args.border name p (map place_of c.args.run.now) are one low high _ _ (place_at c.args.run.now (low + (high - low) / 2) _ fits)
+          (λ h. true≢false (sym ((c.is_below.ensures plan marks).1 h) ∙ c.if-is_below.false)) (c.bisection.invariant.narrowed plan name p marks are one);
+    }
+
+pub returns-clause-cut : goal.returns-clause-cut
+returns-clause-cut c = λ plan name p marks are one. narrowed_cut _ _ c.bisection.low c.bisection.high c.bisection-test.false (c.bisection.invariant.narrowed plan name p marks are one)

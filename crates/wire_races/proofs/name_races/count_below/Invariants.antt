@@ -1,0 +1,16 @@
+use Rattle.std.proofs.Common.{◌-◌, ◌≤◌, ℕ, length, map}
+use Rattle.wire_types.specs.Plan.{Plan, place_of}
+use Rattle.wire_marks.specs.Clocks.{AreMarks}
+use Rattle.wire_races.specs.NameRaces.{AreCallsOn, AreOf, IsBelow}
+use Rattle.wire_races.proofs.Racing.{IsNarrowed}
+use Rattle.wire_races.proofs.name_races.count_below.Given as goal
+
+abbrev pub invariant-bisection : goal.invariant-bisection
+invariant-bisection l = record {
+  order : l.low ≤ l.high;
+  within : l.high ≤ length l.run;
+  narrowed : (plan : Plan) (name p : ℕ) → AreMarks plan l.marks → AreCallsOn plan name (map place_of l.run) → AreOf p (map place_of l.run) → IsNarrowed (IsBelow plan (place_of l.x) l.border) (map place_of l.run) l.low l.high;
+}
+
+abbrev pub decreases-bisection : goal.decreases-bisection
+decreases-bisection l = l.high - l.low

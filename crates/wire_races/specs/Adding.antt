@@ -1,0 +1,24 @@
+-- How the list of findings grows: for the contracts of private functions.
+use Rattle.std.specs.Prelude.{◌≡◌, ◌⊎◌, ◌<◌, ℕ, List}
+use Rattle.wire_types.specs.Plan.{Plan, Place}
+use Rattle.wire_plan.specs.Findings.{Finding, IsFound, Has}
+use Rattle.wire_races.specs.Collected.{AreFound}
+
+-- those are added, and nothing else
+pub record Adds (plan : Plan) (old new : List Finding) (those : Finding → Type 0) : Type 0 where
+  pub found : AreFound plan new
+  pub kept : (f : Finding) → Has old f → Has new f
+  pub all : (f : Finding) → those f → Has new f
+  pub only : (f : Finding) → Has new f → Has old f ⊎ those f
+
+-- all findings of a kind
+abbrev pub OfKind : Plan → (Finding → Type 0) → Finding → Type 0
+OfKind plan kind f = kind f × IsFound plan f
+
+-- those that one of p's first n events tells
+abbrev pub ToldIn : (Place → Finding → Type 0) → ℕ → ℕ → Finding → Type 0
+ToldIn tells p n f = (y : Place) × tells y f × (y.proc ≡ p) × (y.at < n)
+
+-- those that an event of one of the first n processes tells
+abbrev pub ToldBelow : (Place → Finding → Type 0) → ℕ → Finding → Type 0
+ToldBelow tells n f = (y : Place) × tells y f × (y.proc < n)

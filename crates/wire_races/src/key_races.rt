@@ -1,0 +1,396 @@
+//! Races on keys: a get that is answered at once, and the commit or the fence that brings the key.
+
+ghost use Rattle.std.specs.Prelude.{◌≡◌, ◌<◌, ℕ, List, suc, Some, OnOk, IsTrue, MatchOption, IfOk, ◌↔◌, true, false, map};
+ghost use Rattle.wire_types.specs.Plan.{Plan as ThePlan, Place, GetNow, Leave, place_of, process_count, event_count, event as event_in, node_of, same_node};
+ghost use Rattle.wire_rehearsal.specs.Planned.{plan_of};
+ghost use Rattle.wire_plan.specs.Places.{IsLower};
+ghost use Rattle.wire_plan.specs.Order.{IsArrival, Live};
+ghost use Rattle.wire_plan.specs.Races.{IsUnordered, IsPutOnce, ComesSurely};
+ghost use Rattle.wire_plan.specs.Findings.{IsKeyRace};
+ghost use Rattle.wire_plan.specs.Index.{AreArrivals, IsDelivering};
+ghost use Rattle.wire_marks.specs.Clocks.{AreMarks};
+ghost use Rattle.wire_races.specs.Shown.{shown};
+ghost use Rattle.wire_races.specs.Collected.{AreFound};
+ghost use Rattle.wire_races.specs.Kinds.{IsOfKey, AllAdded};
+ghost use Rattle.wire_races.specs.Adding.{Adds, ToldIn};
+ghost use Rattle.wire_races.specs.Pieces.{IsPiece, ArePieces};
+ghost use Rattle.wire_races.specs.Racing.{IsRaceOf, IsKeyRaceBy, IsKeyRaceOf, IsOpen, Arrives, IsSure, IsLate, IsLateBy, AreLateBelow, AllLive, NoneAfter, IsFirstLate, IsUnsure, IsNextArrival};
+
+use crate::finding::Finding;
+use crate::found::Found;
+use crate::pieces::add_pieces;
+use rayon::prelude::*;
+use std::alloc::{AllocError, Global};
+use std::thread::Threads;
+use wire_marks::Marks;
+use wire_plan::{Kind, Plan};
+use wire_types::{Event, Proc};
+
+/// Whether an event stands before another in process order, or earlier in the same process.
+fn is_lower(x: Event, y: Event) -> bool
+    ensures { IsTrue result ↔ IsLower (place_of x) (place_of y) }
+{
+    x.proc.number < y.proc.number || (x.proc.number == y.proc.number && x.at < y.at)
+}
+
+/// Whether two events are live and neither is before the other.
+fn are_unordered(marks: &Marks, x: Event, y: Event) -> bool
+    ensures { (plan : ThePlan) → AreMarks plan marks.now → (IsTrue result ↔ IsUnordered plan (place_of x) (place_of y)) }
+{
+    marks.live(x) && marks.live(y) && !marks.before(x, y) && !marks.before(y, x)
+}
+
+/// The race of a get with an event, the lower call first.
+fn race_of(plan: &Plan, source: Event, look: Event, owner: Proc, key: u32) -> Finding
+    requires { IsKeyRace (plan_of plan.now) (place_of source) (place_of look) owner.number key }
+    ensures { IsRaceOf (place_of source) (place_of look) owner.number key (shown (plan_of plan.now) result) }
+{
+    let first = plan.call_of(source);
+    let second = plan.call_of(look);
+    if is_lower(source, look) {
+        Finding::KeyRace(first, second, owner, key)
+    } else {
+        Finding::KeyRace(second, first, owner, key)
+    }
+}
+
+/// Adds the race of a get with an event.
+fn add_race(
+    plan: &Plan,
+    found: &mut Found,
+    source: Event,
+    look: Event,
+    owner: Proc,
+    key: u32,
+) -> Result<(), AllocError>
+    requires race { IsKeyRace (plan_of plan.now) (place_of source) (place_of look) owner.number key }
+    requires found { AreFound (plan_of plan.now) found.old }
+    ensures { OnOk result (Adds (plan_of plan.now) found.old found.new (IsRaceOf (place_of source) (place_of look) owner.number key)) }
+{
+    found.add(plan, race_of(plan, source, look, owner, key))
+}
+
+/// Adds the race of a get with the commit that stores its key on the same node, if they race.
+fn add_node_race(
+    plan: &Plan,
+    marks: &Marks,
+    found: &mut Found,
+    look: Event,
+    owner: Proc,
+    key: u32,
+) -> Result<(), AllocError>
+    requires marks { AreMarks (plan_of plan.now) marks.now }
+    requires found { AreFound (plan_of plan.now) found.old }
+    requires get { IsOpen (plan_of plan.now) (place_of look) owner.number key }
+    requires node { same_node (plan_of plan.now) owner.number look.proc.number ≡ true }
+    ensures { OnOk result (Adds (plan_of plan.now) found.old found.new (IsKeyRaceBy (plan_of plan.now) (place_of look))) }
+{
+    let Some(commit) = plan.store_of(owner, key) else {
+        return Ok(());
+    };
+    if are_unordered(marks, commit, look) {
+        add_race(plan, found, commit, look, owner, key)
+    } else {
+        Ok(())
+    }
+}
+
+/// The end of the fence at which an event of the plan arrives: the next event of its process.
+fn end_of(plan: &Plan, arrival: Event) -> Event
+    requires { Arrives (plan_of plan.now) (place_of arrival) }
+    ensures proc { result.proc ≡ arrival.proc }
+    ensures next { result.at ≡ suc arrival.at }
+    ensures leave { (members : List ℕ) (j : ℕ) → IsArrival (plan_of plan.now) members j (place_of arrival) → event_in (plan_of plan.now) (place_of result) ≡ Some (Leave members) }
+{
+    // Scripts are sound, so the numbers of their events fit.
+    let _ = plan.scripts();
+    Event {
+        proc: arrival.proc,
+        at: arrival.at + 1,
+    }
+}
+
+/// The arrivals at the fence of an arrival, in process order.
+fn all_arrivals(plan: &Plan, arrival: Event) -> &[Event]
+    requires { Arrives (plan_of plan.now) (place_of arrival) }
+    ensures { (members : List ℕ) (j : ℕ) → IsArrival (plan_of plan.now) members j (place_of arrival) → AreArrivals (plan_of plan.now) members j (map place_of result.now) }
+{
+    plan.sources(end_of(plan, arrival)).arrivals
+}
+
+/// Whether each of these events is live.
+fn all_live(marks: &Marks, events: &[Event]) -> bool
+    ensures { (plan : ThePlan) → AreMarks plan marks.now → (IsTrue result ↔ AllLive plan (map place_of events.now)) }
+{
+    for x in events {
+        if !marks.live(*x) {
+            return false;
+        }
+    }
+    true
+}
+
+/// Whether a get is before none of these events.
+fn is_before_none(marks: &Marks, look: Event, events: &[Event]) -> bool
+    ensures { (plan : ThePlan) → AreMarks plan marks.now → (IsTrue result ↔ NoneAfter plan (place_of look) (map place_of events.now)) }
+{
+    for x in events {
+        if marks.before(look, *x) {
+            return false;
+        }
+    }
+    true
+}
+
+/// The first of these events that isn't before a get.
+fn first_not_before(marks: &Marks, events: &[Event], look: Event) -> Option<Event>
+    ensures { (plan : ThePlan) → AreMarks plan marks.now → IsFirstLate plan (place_of look) (map place_of events.now) result }
+{
+    for x in events {
+        if !marks.before(*x, look) {
+            return Some(*x);
+        }
+    }
+    None
+}
+
+/// Whether all arrivals at the fence of an arrival are live and before a get.
+fn is_sure(plan: &Plan, marks: &Marks, look: Event, arrival: Event) -> bool
+    requires marks { AreMarks (plan_of plan.now) marks.now }
+    requires fence { Arrives (plan_of plan.now) (place_of arrival) }
+    ensures { IsTrue result ↔ IsSure (plan_of plan.now) (place_of look) (place_of arrival) }
+{
+    let arrivals = all_arrivals(plan, arrival);
+    all_live(marks, arrivals) && first_not_before(marks, arrivals, look).is_none()
+}
+
+/// The first arrival, in process order, at the fence of an arrival that isn't before a get, where
+/// all arrivals there are live and the get is before none of them.
+fn late_source(plan: &Plan, marks: &Marks, look: Event, arrival: Event) -> Option<Event>
+    requires marks { AreMarks (plan_of plan.now) marks.now }
+    requires fence { Arrives (plan_of plan.now) (place_of arrival) }
+    ensures { MatchOption result ((x : Place) → IsLate (plan_of plan.now) (place_of look) (place_of arrival) x → ⊥) (λ x. IsLate (plan_of plan.now) (place_of look) (place_of arrival) (place_of x)) }
+{
+    let arrivals = all_arrivals(plan, arrival);
+    if !all_live(marks, arrivals) {
+        return None;
+    }
+    if !is_before_none(marks, look, arrivals) {
+        return None;
+    }
+    first_not_before(marks, arrivals, look)
+}
+
+/// The next arrival of a process, from its event of this number on, that brings its key to a node.
+fn next_arrival(plan: &Plan, owner: Proc, key: u32, node: u32, from: u32) -> Option<Event>
+    requires { IsPutOnce (plan_of plan.now) owner.number key }
+    ensures { IsNextArrival (plan_of plan.now) owner.number key node from result }
+{
+    plan.next_delivery(owner, key, node, from)
+}
+
+/// Whether a delivery of a key to a node comes before a get in every run.
+fn comes_surely(plan: &Plan, marks: &Marks, look: Event, owner: Proc, key: u32, node: u32) -> bool
+    requires marks { AreMarks (plan_of plan.now) marks.now }
+    requires once { IsPutOnce (plan_of plan.now) owner.number key }
+    ensures { IsTrue result ↔ ComesSurely (plan_of plan.now) owner.number key node (place_of look) }
+{
+    let count = plan.event_count(owner);
+    let mut from = 0;
+    'deliveries: while from < count {
+        let Some(arrival) = next_arrival(plan, owner, key, node, from) else {
+            return false;
+        };
+        if is_sure(plan, marks, look, arrival) {
+            return true;
+        }
+        from = arrival.at + 1;
+    }
+    false
+}
+
+/// Adds the race of a get with the delivery of an arrival, if they race.
+fn add_late(
+    plan: &Plan,
+    marks: &Marks,
+    found: &mut Found,
+    look: Event,
+    owner: Proc,
+    key: u32,
+    arrival: Event,
+) -> Result<(), AllocError>
+    requires marks { AreMarks (plan_of plan.now) marks.now }
+    requires found { AreFound (plan_of plan.now) found.old }
+    requires late { IsUnsure (plan_of plan.now) (place_of look) owner.number key }
+    requires proc { arrival.proc ≡ owner }
+    requires delivers { IsDelivering (plan_of plan.now) owner.number key (node_of (plan_of plan.now) look.proc.number) arrival.at }
+    ensures { OnOk result (Adds (plan_of plan.now) found.old found.new (IsLateBy (plan_of plan.now) (place_of look) owner.number key (node_of (plan_of plan.now) look.proc.number) arrival.at)) }
+{
+    match late_source(plan, marks, look, arrival) {
+        Some(source) => add_race(plan, found, source, look, owner, key),
+        None => Ok(()),
+    }
+}
+
+/// Adds the races of a get with the deliveries of its key, none of which comes surely before it.
+fn add_all_late(
+    plan: &Plan,
+    marks: &Marks,
+    found: &mut Found,
+    look: Event,
+    owner: Proc,
+    key: u32,
+    node: u32,
+) -> Result<(), AllocError>
+    requires marks { AreMarks (plan_of plan.now) marks.now }
+    requires found { AreFound (plan_of plan.now) found.old }
+    requires late { IsUnsure (plan_of plan.now) (place_of look) owner.number key }
+    requires node { node ≡ node_of (plan_of plan.now) look.proc.number }
+    ensures { OnOk result (Adds (plan_of plan.now) found.old found.new (AreLateBelow (plan_of plan.now) (place_of look) owner.number key (node_of (plan_of plan.now) look.proc.number) (event_count (plan_of plan.now) owner.number))) }
+{
+    let count = plan.event_count(owner);
+    let mut from = 0;
+    'deliveries: while from < count {
+        let Some(arrival) = next_arrival(plan, owner, key, node, from) else {
+            return Ok(());
+        };
+        add_late(plan, marks, found, look, owner, key, arrival)?;
+        from = arrival.at + 1;
+    }
+    Ok(())
+}
+
+/// Adds the races of a get with the deliveries of its key from another node.
+fn add_delivery_races(
+    plan: &Plan,
+    marks: &Marks,
+    found: &mut Found,
+    look: Event,
+    owner: Proc,
+    key: u32,
+) -> Result<(), AllocError>
+    requires marks { AreMarks (plan_of plan.now) marks.now }
+    requires found { AreFound (plan_of plan.now) found.old }
+    requires get { IsOpen (plan_of plan.now) (place_of look) owner.number key }
+    requires node { same_node (plan_of plan.now) owner.number look.proc.number ≡ false }
+    ensures { OnOk result (Adds (plan_of plan.now) found.old found.new (IsKeyRaceBy (plan_of plan.now) (place_of look))) }
+{
+    let node = plan.node_of(look.proc);
+    if comes_surely(plan, marks, look, owner, key, node) {
+        return Ok(());
+    }
+    add_all_late(plan, marks, found, look, owner, key, node)
+}
+
+/// Whether a get that is answered at once is live, and of a key that another process puts once.
+fn is_open(plan: &Plan, marks: &Marks, look: Event, owner: Proc, key: u32) -> bool
+    requires marks { AreMarks (plan_of plan.now) marks.now }
+    requires get { event_in (plan_of plan.now) (place_of look) ≡ Some (GetNow owner.number key) }
+    ensures { IsTrue result ↔ IsOpen (plan_of plan.now) (place_of look) owner.number key }
+{
+    look.proc.number != owner.number && plan.put_count(owner, key) == 1 && marks.live(look)
+}
+
+/// Adds the races of a get that is answered at once.
+fn add_look(
+    plan: &Plan,
+    marks: &Marks,
+    found: &mut Found,
+    look: Event,
+    owner: Proc,
+    key: u32,
+) -> Result<(), AllocError>
+    requires marks { AreMarks (plan_of plan.now) marks.now }
+    requires found { AreFound (plan_of plan.now) found.old }
+    requires get { event_in (plan_of plan.now) (place_of look) ≡ Some (GetNow owner.number key) }
+    ensures { OnOk result (Adds (plan_of plan.now) found.old found.new (IsKeyRaceBy (plan_of plan.now) (place_of look))) }
+{
+    if !is_open(plan, marks, look, owner, key) {
+        return Ok(());
+    }
+    let home = plan.node_of(owner);
+    let away = plan.node_of(look.proc);
+    if home == away {
+        add_node_race(plan, marks, found, look, owner, key)
+    } else {
+        add_delivery_races(plan, marks, found, look, owner, key)
+    }
+}
+
+/// Adds the races of an event of the plan, where it is a get that is answered at once.
+fn add_event(plan: &Plan, marks: &Marks, found: &mut Found, event: Event) -> Result<(), AllocError>
+    requires marks { AreMarks (plan_of plan.now) marks.now }
+    requires found { AreFound (plan_of plan.now) found.old }
+    requires there { event.at < event_count (plan_of plan.now) event.proc.number }
+    ensures { OnOk result (Adds (plan_of plan.now) found.old found.new (IsKeyRaceBy (plan_of plan.now) (place_of event))) }
+{
+    match plan.kind(event) {
+        Kind::GetNow { owner, key } => add_look(plan, marks, found, event, owner, key),
+        _ => Ok(()),
+    }
+}
+
+/// Adds the races of the gets of a process.
+fn add_process(plan: &Plan, marks: &Marks, found: &mut Found, proc: Proc) -> Result<(), AllocError>
+    requires marks { AreMarks (plan_of plan.now) marks.now }
+    requires found { AreFound (plan_of plan.now) found.old }
+    ensures { OnOk result (Adds (plan_of plan.now) found.old found.new (ToldIn (IsKeyRaceBy (plan_of plan.now)) proc.number (event_count (plan_of plan.now) proc.number))) }
+{
+    for at in 0..plan.event_count(proc) {
+        add_event(plan, marks, found, Event { proc, at })?;
+    }
+    Ok(())
+}
+
+/// The races of the gets of a process: a piece of the search.
+fn piece(alloc: Global, plan: &Plan, marks: &Marks, proc: Proc) -> Result<Vec<Finding>, AllocError>
+    requires { AreMarks (plan_of plan.now) marks.now }
+    ensures { IfOk result (IsPiece (plan_of plan.now) (IsKeyRaceOf (plan_of plan.now) proc.number)) }
+{
+    let mut found = Found::new(alloc);
+    add_process(plan, marks, &mut found, proc)?;
+    let list = found.into_list(alloc, plan)?;
+    Ok(list)
+}
+
+/// A piece for each process, in their order, made by several threads.
+fn pieces(
+    rt: &(impl Threads + Sync),
+    alloc: Global,
+    plan: &Plan,
+    marks: &Marks,
+) -> Result<Vec<Vec<Finding>>, AllocError>
+    requires { AreMarks (plan_of plan.now) marks.now }
+    ensures { IfOk result (λ pieces. ArePieces (plan_of plan.now) (process_count (plan_of plan.now)) (IsKeyRaceOf (plan_of plan.now)) pieces.items) }
+{
+    (0..plan.process_count())
+        .into_par_iter()
+        .with_min_len(1)
+        .map(
+            |number: u32| -> Result<Vec<Finding>, AllocError>
+                requires { AreMarks (plan_of plan.now) marks.now }
+                ensures { IfOk result (IsPiece (plan_of plan.entry.now) (IsKeyRaceOf (plan_of plan.entry.now) number)) }
+            { piece(alloc, plan, marks, Proc { number }) },
+        )
+        .collect::<Result<Vec<_>, AllocError>>(rt, alloc)?
+}
+
+/// Adds all races on keys: of each get that is answered at once, with the commit that stores the
+/// key on its node, or with the fences that bring it to its node (PMIx Standard 5.0, PMIx_Get with
+/// PMIX_IMMEDIATE, PMIx_Commit, and PMIx_Fence with PMIX_COLLECT_DATA). The marks are those of the
+/// plan. The one error is that memory ran out.
+pub(crate) fn add_key_races(
+    rt: &(impl Threads + Sync),
+    alloc: Global,
+    plan: &Plan,
+    marks: &Marks,
+    found: &mut Found,
+) -> Result<(), AllocError>
+    requires marks { AreMarks (plan_of plan.now) marks.now }
+    requires found { AreFound (plan_of plan.now) found.old }
+    ensures found { OnOk result (AreFound (plan_of plan.now) found.new) }
+    ensures all { OnOk result (AllAdded (plan_of plan.now) IsOfKey found.old found.new) }
+{
+    let pieces = pieces(rt, alloc, plan, marks)?;
+    add_pieces(plan, found, pieces.as_slice())
+}

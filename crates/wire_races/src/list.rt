@@ -1,0 +1,52 @@
+//! The list of the findings.
+
+ghost use Rattle.std.specs.Prelude.{IfOk, IsOkUnless};
+ghost use Rattle.wire_rehearsal.specs.Planned.{plan_of};
+ghost use Rattle.wire_marks.specs.Clocks.{AreMarks};
+ghost use Rattle.wire_races.specs.Shown.{AreFindings};
+
+use crate::finding::Finding;
+use crate::found::Found;
+use crate::key_races::add_key_races;
+use crate::name_races::add_name_races;
+use crate::rewrites::add_rewrites;
+use std::alloc::{AllocError, Global};
+use std::thread::Threads;
+use wire_marks::Marks;
+use wire_plan::Plan;
+use wire_types::Fault;
+
+// All findings of a plan, in their order.
+fn all_findings(
+    rt: &(impl Threads + Sync),
+    alloc: Global,
+    plan: &Plan,
+    marks: &Marks,
+) -> Result<Vec<Finding>, AllocError>
+    requires { AreMarks (plan_of plan.now) marks.now }
+    ensures { IfOk result (λ found. AreFindings (plan_of plan.now) found.items) }
+{
+    let mut found = Found::new(alloc);
+    add_rewrites(plan, &mut found)?;
+    add_key_races(rt, alloc, plan, marks, &mut found)?;
+    add_name_races(rt, alloc, plan, marks, &mut found)?;
+    let list = found.into_list(alloc, plan)?;
+    Ok(list)
+}
+
+/// The findings of a plan, each once: the rewrites by the later put, then the races by the lower place
+/// and the higher one. Several threads look for the races, and the list is the same whatever pieces they
+/// take. The caller ensures that the marks are those of the plan. The one fault is `Fault::Memory`.
+pub fn findings(
+    rt: &(impl Threads + Sync),
+    alloc: Global,
+    plan: &Plan,
+    marks: &Marks,
+) -> Result<Vec<Finding>, Fault>
+    requires { AreMarks (plan_of plan.now) marks.now }
+    ensures ok { IfOk result (λ found. AreFindings (plan_of plan.now) found.items) }
+    ensures memory { IsOkUnless result Fault.Memory }
+{
+    let found = all_findings(rt, alloc, plan, marks)?;
+    Ok(found)
+}

@@ -1,0 +1,36 @@
+-- The text of the findings, as bytes: a line for each of them, and last how many they are.
+use Rattle.std.specs.Prelude.{ℕ, ◌+◌, List, [], ◌++◌, Option, Some, codes, decimal, length, slice_get}
+use Rattle.std.specs.List.{flat_map}
+use Rattle.wire_types.specs.declared.Call.{Call}
+use Rattle.wire_types.specs.declared.Call.TheVariants.{Put}
+use Rattle.wire_types.specs.declared.CallAt.{CallAt}
+use Rattle.wire_rehearsal.specs.Scripts.{Scripts, call_at, text_at}
+use Rattle.wire_races.specs.declared.finding.Finding.{Finding}
+use Rattle.wire_races.specs.declared.finding.Finding.TheVariants.{Rewrite, KeyRace, NameRace}
+use Rattle.wire_report.specs.Chain.{proc_text_in, call_text}
+
+-- the text of the key that a call puts, empty where it puts none
+abbrev pub put_key_text : Scripts → Option Call → List ℕ
+put_key_text scripts (Some (Put scope key value)) = text_at scripts.keys key
+put_key_text scripts _ = []
+
+-- the first put of a key by its place, a later put by its number, and the key
+abbrev pub rewrite_text : Scripts → CallAt → CallAt → List ℕ
+rewrite_text scripts first later =
+    call_text scripts first ++ codes " " ++ decimal (later.call + 1) ++ codes " " ++ put_key_text scripts (call_at scripts.processes later.proc.number later.call)
+
+-- two calls, the lower place first
+abbrev pub pair_text : Scripts → CallAt → CallAt → List ℕ
+pair_text scripts lower higher = call_text scripts lower ++ codes " " ++ call_text scripts higher
+
+-- the line of a finding: a race says besides what it is on, a key with its owner, or a name
+abbrev pub finding_line : Scripts → Finding → List ℕ
+finding_line scripts (Rewrite first later) = codes "rewrite " ++ rewrite_text scripts first later ++ codes "\n"
+finding_line scripts (KeyRace lower higher owner key) =
+    codes "race " ++ pair_text scripts lower higher ++ codes " key " ++ proc_text_in scripts (slice_get scripts.processes owner.number) ++ codes " " ++ text_at scripts.keys key ++ codes "\n"
+finding_line scripts (NameRace lower higher name) =
+    codes "race " ++ pair_text scripts lower higher ++ codes " name " ++ text_at scripts.names name ++ codes "\n"
+
+-- all lines, and last how many findings there are
+abbrev pub findings_report : Scripts → List Finding → List ℕ
+findings_report scripts found = flat_map (finding_line scripts) found ++ codes "findings " ++ decimal (length found) ++ codes "\n"

@@ -1,0 +1,132 @@
+//! The text of what the checker finds.
+
+ghost use Rattle.std.specs.Prelude.{◌≡◌, ◌≢◌, ◌⊎◌, ◌++◌, Err, codes, OnOk, IfOk, IfErr};
+ghost use Rattle.std.specs.Io.KnownBytes.{Appends};
+ghost use Rattle.std.specs.List.{flat_map};
+ghost use Rattle.wire_types.specs.declared.Fault.TheVariants.{Memory};
+ghost use Rattle.wire_types.specs.Counting.{one_more};
+ghost use Rattle.wire_types.specs.Front.{WritesFront};
+ghost use Rattle.wire_rehearsal.specs.Scripts.{call_at};
+ghost use Rattle.wire_report.specs.Findings as spec;
+
+use crate::steps::{push_call, push_proc};
+use crate::words::{find_call, push_number};
+use std::alloc::{AllocError, Global};
+use wire_races::Finding;
+use wire_rehearsal::Scripts;
+use wire_types::{Call, CallAt, Fault, Sink, write_out};
+
+/// The text of findings: a line for each, and last how many they are. A rewrite names the first put of
+/// the key, the later put by its number and the key; a race its two calls, and the key with its owner,
+/// or the name. The one fault is `Fault::Memory`.
+pub fn findings_text(
+    alloc: Global,
+    scripts: &Scripts,
+    findings: &[Finding],
+) -> Result<Vec<u8>, Fault>
+    ensures ok { IfOk result (λ text. text.items ≡ spec.findings_report scripts.now findings.now) }
+    ensures err { IfErr result (λ e. e ≡ Memory) }
+{
+    let mut text = Vec::new(alloc);
+    push_findings(&mut text, scripts, findings)?;
+    text.extend_from_slice(b"findings ")?;
+    push_number(&mut text, findings.len() as u64)?;
+    text.extend_from_slice(b"\n")?;
+    Ok(text)
+}
+
+/// Writes the text of findings to the sink, once all of it is made: where memory runs out, nothing is
+/// written.
+pub fn write_findings<S: Sink>(
+    alloc: Global,
+    scripts: &Scripts,
+    findings: &[Finding],
+    sink: &mut S,
+) -> Result<(), Fault>
+    ensures ok { OnOk result (Appends (S.written sink.old) (S.written sink.new) (spec.findings_report scripts.now findings.now)) }
+    ensures quiet { OnOk result (S.failures sink.new ≡ S.failures sink.old) }
+    ensures memory { result ≡ Err Memory → sink.new ≡ sink.old }
+    ensures err { IfErr result (λ e. (e ≡ Memory) ⊎ WritesFront (S.written sink.old) (S.written sink.new) (spec.findings_report scripts.now findings.now) e) }
+    ensures failed { IfErr result (λ e. e ≢ Memory → S.failures sink.new ≡ one_more (S.failures sink.old)) }
+{
+    let text = findings_text(alloc, scripts, findings)?;
+    write_out(sink, text.as_slice()).map_err(Fault::Write)
+}
+
+/// Appends the lines of these findings.
+fn push_findings(
+    out: &mut Vec<u8>,
+    scripts: &Scripts,
+    findings: &[Finding],
+) -> Result<(), AllocError>
+    ensures { OnOk result (out.new.items ≡ out.old.items ++ flat_map (spec.finding_line scripts.now) findings.now) }
+{
+    for finding in findings {
+        push_finding(out, scripts, *finding)?;
+    }
+    Ok(())
+}
+
+/// Appends the line of a finding.
+fn push_finding(out: &mut Vec<u8>, scripts: &Scripts, finding: Finding) -> Result<(), AllocError>
+    ensures { OnOk result (out.new.items ≡ out.old.items ++ spec.finding_line scripts.now finding) }
+{
+    match finding {
+        Finding::Rewrite(first, later) => push_rewrite(out, scripts, first, later)?,
+        Finding::KeyRace(lower, higher, owner, key) => {
+            push_race(out, scripts, lower, higher)?;
+            out.extend_from_slice(b" key ")?;
+            push_proc(out, scripts, owner)?;
+            out.extend_from_slice(b" ")?;
+            out.extend_from_slice(scripts.keys().text(key))?;
+        }
+        Finding::NameRace(lower, higher, name) => {
+            push_race(out, scripts, lower, higher)?;
+            out.extend_from_slice(b" name ")?;
+            out.extend_from_slice(scripts.names().text(name))?;
+        }
+    }
+    out.extend_from_slice(b"\n")
+}
+
+/// Appends a rewrite, but for the end of its line.
+fn push_rewrite(
+    out: &mut Vec<u8>,
+    scripts: &Scripts,
+    first: CallAt,
+    later: CallAt,
+) -> Result<(), AllocError>
+    ensures { OnOk result (out.new.items ≡ out.old.items ++ codes "rewrite " ++ spec.rewrite_text scripts.now first later) }
+{
+    out.extend_from_slice(b"rewrite ")?;
+    push_call(out, scripts, first)?;
+    out.extend_from_slice(b" ")?;
+    push_number(out, u64::from(later.call) + 1)?;
+    out.extend_from_slice(b" ")?;
+    out.extend_from_slice(put_key(scripts, later))
+}
+
+/// Appends the calls of a race, the lower place first.
+fn push_race(
+    out: &mut Vec<u8>,
+    scripts: &Scripts,
+    lower: CallAt,
+    higher: CallAt,
+) -> Result<(), AllocError>
+    ensures { OnOk result (out.new.items ≡ out.old.items ++ codes "race " ++ spec.pair_text scripts.now lower higher) }
+{
+    out.extend_from_slice(b"race ")?;
+    push_call(out, scripts, lower)?;
+    out.extend_from_slice(b" ")?;
+    push_call(out, scripts, higher)
+}
+
+/// The key that the call at a place puts, empty where it puts none.
+fn put_key(scripts: &Scripts, place: CallAt) -> &[u8]
+    ensures { result.now ≡ spec.put_key_text scripts.now (call_at scripts.now.processes place.proc.number place.call) }
+{
+    match find_call(scripts, place) {
+        Some(Call::Put { key, .. }) => scripts.keys().text(*key),
+        _ => b"".as_slice(),
+    }
+}

@@ -1,0 +1,108 @@
+//! The findings of a file of scripts.
+
+ghost use Rattle.std.specs.Prelude.{◌≡◌, ◌≢◌, ◌⊎◌, ℕ, Err, OnOk, IfOk, IfErr};
+ghost use Rattle.wire_types.specs.declared.Fault.TheVariants.{Memory, Read};
+ghost use Rattle.wire_types.specs.Counting.{one_more};
+ghost use Rattle.wire_up.specs.Check as spec;
+ghost use Rattle.wire_up.specs.Check.{IsVerdict, WritesFindings, BreaksOffFindings, StopsBeforeFindings};
+
+use crate::replay::read_scripts;
+use crate::writing::write_text;
+use std::alloc::Global;
+use std::thread::Threads;
+use wire_marks::Marks;
+use wire_plan::Plan;
+use wire_races::laws::settled_exactly;
+use wire_races::{Finding, findings};
+use wire_rehearsal::Scripts;
+use wire_report::findings_text;
+use wire_types::{Fault, Sink, Source};
+
+/// How a check ended: without findings, or with so many.
+#[derive(Clone, Copy, Debug, PartialEq, Eq)]
+pub enum Ended {
+    Clean,
+    Found(u64),
+}
+
+impl Ended {
+    /// The exit status: 0 without findings, 1 with findings.
+    pub fn status(self) -> u8
+        ensures { result ≡ spec.status_of self }
+    {
+        match self {
+            Ended::Clean => 0,
+            Ended::Found(_) => 1,
+        }
+    }
+
+    /// How a check ends that has these findings.
+    fn with(findings: &[Finding]) -> Ended
+        ensures { result ≡ spec.ended_with findings.now }
+    {
+        match findings.len() {
+            0 => Ended::Clean,
+            count => Ended::Found(count as u64),
+        }
+    }
+}
+
+/// How a check of a plan ends, and the text of all findings.
+fn judged(
+    rt: &(impl Threads + Sync),
+    alloc: Global,
+    plan: &Plan,
+) -> Result<(Ended, Vec<u8>), Fault>
+    ensures ok { IfOk result (λ v. IsVerdict plan.now v.0 v.1.items) }
+    ensures err { IfErr result (λ e. e ≡ Memory) }
+{
+    let marks = Marks::of(alloc, plan)?;
+    let found = findings(rt, alloc, plan, &marks)?;
+    let text = findings_text(alloc, plan.scripts(), found.as_slice())?;
+    settled_exactly();
+    Ok((Ended::with(found.as_slice()), text))
+}
+
+/// How a check of scripts ends, and the text of all findings.
+fn verdict(
+    rt: &(impl Threads + Sync),
+    alloc: Global,
+    scripts: Scripts,
+) -> Result<(Ended, Vec<u8>), Fault>
+    ensures ok { IfOk result (λ v. IsVerdict scripts v.0 v.1.items) }
+    ensures err { IfErr result (λ e. e ≡ Memory) }
+{
+    let plan = Plan::build(alloc, scripts)?;
+    judged(rt, alloc, &plan)
+}
+
+/// Checks a file of scripts: reads it to its end, and writes all that the checker finds in its plan: each put
+/// of a key that its process has put before, and each pair of calls that race, on a key or on a name. It
+/// answers `Clean` exactly where the plan is settled; then every run that goes on until nobody can ends
+/// with the same replies and the same processes waiting, by the law `one_end`.
+///
+/// The fault of a file is the first that it has. After the fault `Write` the front of the text that it
+/// counts is written, after any other fault nothing. `Memory` may come in place of any other answer. What is
+/// said of bytes is said where the reader and the writer tell theirs.
+pub fn check<R: Source, W: Sink>(
+    rt: &(impl Threads + Sync),
+    alloc: Global,
+    reader: &mut R,
+    writer: &mut W,
+) -> Result<Ended, Fault>
+    ensures ok { IfOk result (λ ended. WritesFindings (R.coming reader.old) ended (W.written writer.old) (W.written writer.new)) }
+    ensures quiet { OnOk result ((R.failures reader.new ≡ R.failures reader.old) × (W.failures writer.new ≡ W.failures writer.old)) }
+
+    // Either nothing was written, or the front of the findings that the fault counts.
+    ensures err { IfErr result (λ e. (StopsBeforeFindings (R.coming reader.old) e × (writer.new ≡ writer.old))
+        ⊎ (BreaksOffFindings (R.coming reader.old) (W.written writer.old) (W.written writer.new) e × (W.failures writer.new ≡ one_more (W.failures writer.old)))) }
+
+    // A failed read is answered only where the reader failed.
+    ensures read_failed { result ≡ Err Read → R.failures reader.new ≡ one_more (R.failures reader.old) }
+    ensures unfailed { IfErr result (λ e. e ≢ Memory → e ≢ Read → R.failures reader.new ≡ R.failures reader.old) }
+{
+    let scripts = read_scripts(alloc, reader)?;
+    let (ended, text) = verdict(rt, alloc, scripts)?;
+    write_text(writer, text.as_slice())?;
+    Ok(ended)
+}
