@@ -13,6 +13,7 @@ import tempfile
 
 TOP = os.path.dirname(os.path.dirname(os.path.abspath(__file__)))
 EXAMPLE, ITS_REPORT = "examples/business-card.plan", "examples/business-card.report"
+NOTHING = b"findings 0\n"
 SECONDS = 60
 
 # What is run, and what must come of it: the status, and what standard output and standard error hold, each all of it
@@ -64,6 +65,9 @@ def runs(room):
     usage = (b"Usage: wire_up",)
     for it in examples(".plan"):
         yield Run(f"{it}.plan", ["replay", f"examples/{it}.plan"], wrote=text_of(f"examples/{it}.report"))
+    for it in examples(".plan"):
+        findings = text_of(f"examples/{it}.findings")
+        yield Run(f"{it}.findings", ["check", f"examples/{it}.plan"], status=int(findings != NOTHING), wrote=findings)
     for it in examples(".order"):
         words = ["follow", f"examples/{it}.order", f"examples/{it}.plan"]
         yield Run(f"{it}.order", words, wrote=text_of(f"examples/{it}.followed"))
@@ -162,6 +166,30 @@ def questions(room):
     yield Run("why with a number that is read as an option", ["why", "app:0", "-1", *words[3:]], given=plan, status=5, said=usage)
 
 
+def checks(room):
+    """The runs of `check`."""
+    plan, usage = text_of(EXAMPLE), (b"Usage: wire_up",)
+    example, odd = os.path.join(TOP, EXAMPLE), written(room, "odd.plan", plan + b"getaway app:0 k\n")
+    racy, races = "examples/early-get.plan", text_of("examples/early-get.findings")
+    names = b"".join(b"publish x%d 1\n" % n for n in range(4096))
+    twice = written(room, "twice.plan", b"rehearsal 1\nnode n0\njob app\n" + (b"rank n0\n" + names) * 2)
+    lines = [b"race app:0 %d app:1 %d name x%d\n" % (n + 1, n + 1, n) for n in range(4096)]
+    rank = b"rank n0\n" + b"fence all\n" * 64
+    fences = written(room, "fences.plan", b"rehearsal 1\nnode n0\njob app\n" + rank * 256)
+    read, full, memory = b"wire_up: fault 10 Read\n", b"wire_up: fault 11 Write 0\n", b"wire_up: fault 1 Memory\n"
+    yield Run("a check of standard input", ["check"], given=plan, wrote=NOTHING)
+    yield Run("findings of standard input", ["check"], given=text_of(racy), status=1, wrote=races)
+    yield Run("a check of many fences", ["check", fences], wrote=NOTHING)
+    yield Run("a check of names published twice", ["check", twice], status=1, wrote=b"".join([*lines, b"findings 4096\n"]))
+    yield Run("help on check", ["check", "--help"], wrote=(b"Usage: wire_up check",))
+    yield Run("a check of a file that is refused", ["check", odd], status=2, said=b"wire_up: fault 4 BadLine 10\n")
+    yield Run("too little memory for a check", ["check", fences], status=3, said=memory, set_up=with_little_memory)
+    yield Run("no such file to check", ["check", os.path.join(room, "none")], status=4, said=read)
+    yield Run("a check, and a full device", ["check", racy], status=4, said=full, set_up=onto("/dev/full", 1))
+    yield Run("a check of two files", ["check", example, example], status=5, said=usage)
+    yield Run("check with an unknown option", ["check", "--loud", example], status=5, said=usage)
+
+
 def start(program, run, **streams):
     how = {"cwd": TOP, "preexec_fn": run.set_up, "stderr": subprocess.PIPE, "timeout": SECONDS}
     return subprocess.run([program, *run.words], input=run.given, **how, **streams)
@@ -211,7 +239,7 @@ def tell(name, what):
 def all_runs(program):
     """Runs all, and answers how many went well and how many didn't."""
     with tempfile.TemporaryDirectory(prefix="wire-up-") as room:
-        well = [went_well(program, run) for run in (*runs(room), *follows(room), *questions(room))]
+        well = [went_well(program, run) for run in (*runs(room), *checks(room), *follows(room), *questions(room))]
         well += [breaks_off(program, room, size) for size in (1, 20, len(text_of(ITS_REPORT)) - 1)]
     for kept, shown in ((EXAMPLE, "crates/program/data/business-card.plan"), (ITS_REPORT, "crates/program/stdout")):
         well.append(text_of(kept) == text_of(shown) or tell(shown, f"is run on another text than {kept}"))

@@ -1,5 +1,5 @@
 //! The program `wire_up`: hands its words, its file and the standard streams to the library, and ends
-//! with a status: 0 done, 2 refused, 3 memory, 4 reading or writing, 5 usage.
+//! with a status: 0 done without findings, 1 findings, 2 refused, 3 memory, 4 reading or writing, 5 usage.
 #![tactic(auto)]
 
 use clap::error::ErrorKind;
@@ -8,9 +8,10 @@ use std::alloc::{AllocError, Global};
 use std::fs::File;
 use std::process::ExitCode;
 use std::rt::{Env, Files};
+use std::thread::Threads;
 use std::{env, io};
 use wire_types::{Fault, FromRead, ToWrite, write_out};
-use wire_up::{follow, plain, why};
+use wire_up::{Ended, check, follow, plain, why};
 
 /// The exit status of a command line that says nothing that the program does.
 const USAGE: u8 = 5;
@@ -39,6 +40,12 @@ impl From<AllocError> for Failure {
 /// The file of scripts, which may be left out.
 fn file_argument<'a>(alloc: Global) -> Arg<'a> {
     Arg::new(alloc, "FILE").help("The file of scripts, standard input if not given")
+}
+
+fn check_command<'a>(alloc: Global) -> Result<Command<'a>, AllocError> {
+    Command::new(alloc, "check")
+        .about("Finds every race between the scripts, and every key that is put twice")
+        .arg(file_argument(alloc))
 }
 
 fn replay_command<'a>(alloc: Global) -> Result<Command<'a>, AllocError> {
@@ -81,6 +88,7 @@ fn command_line<'a>(alloc: Global) -> Result<Command<'a>, AllocError> {
     Command::new(alloc, "wire_up")
         .about("Rehearses the wire-up of a PMIx job")
         .subcommand_required(true)
+        .subcommand(check_command(alloc)?)?
         .subcommand(replay_command(alloc)?)?
         .subcommand(follow_command(alloc)?)?
         .subcommand(why_command(alloc)?)
@@ -109,35 +117,47 @@ fn words<'a>(alloc: Global, arguments: &'a [String]) -> Result<Vec<&'a str>, All
     Ok(words)
 }
 
-/// Does what the words ask for.
+/// Does what the words ask for, and tells how that ended.
 fn obey<'a>(
-    rt: &(impl Files + Input + Print + Eprint + AllocGlobal),
+    rt: &(impl Files + Input + Print + Eprint + AllocGlobal + Threads + Sync),
     words: &'a [&'a str],
-) -> Result<(), Failure> {
+) -> Result<Ended, Failure> {
     match command_line(rt.alloc())?.try_get_matches_from(words) {
         Ok(matches) => {
-            if let Some(replay) = matches.subcommand_matches("replay") {
-                return Ok(replay_file(rt, replay.get_str("FILE"))?);
+            if let Some(checking) = matches.subcommand_matches("check") {
+                return Ok(check_file(rt, checking.get_str("FILE"))?);
             }
-            if let Some(asking) = matches.subcommand_matches("why") {
-                let words = [
-                    word_of(asking, "P"),
-                    word_of(asking, "N"),
-                    word_of(asking, "Q"),
-                    word_of(asking, "M"),
-                ];
-                return Ok(why_file(rt, words, asking.get_str("FILE"))?);
-            }
-            let Some(following) = matches.subcommand_matches("follow") else {
-                return Err(Failure::Usage);
-            };
-            let Some(order) = following.get_str("ORDER") else {
-                return Err(Failure::Usage);
-            };
-            Ok(follow_file(rt, order, following.get_str("FILE"))?)
+            show(rt, &matches)?;
         }
-        Err(error) => tell(rt, &error),
+        Err(error) => tell(rt, &error)?,
     }
+    Ok(Ended::Clean)
+}
+
+/// Shows a run, or the order of two calls.
+fn show(
+    rt: &(impl Files + Input + Print + AllocGlobal),
+    matches: &ArgMatches<'_>,
+) -> Result<(), Failure> {
+    if let Some(replay) = matches.subcommand_matches("replay") {
+        return Ok(replay_file(rt, replay.get_str("FILE"))?);
+    }
+    if let Some(asking) = matches.subcommand_matches("why") {
+        let words = [
+            word_of(asking, "P"),
+            word_of(asking, "N"),
+            word_of(asking, "Q"),
+            word_of(asking, "M"),
+        ];
+        return Ok(why_file(rt, words, asking.get_str("FILE"))?);
+    }
+    let Some(following) = matches.subcommand_matches("follow") else {
+        return Err(Failure::Usage);
+    };
+    let Some(order) = following.get_str("ORDER") else {
+        return Err(Failure::Usage);
+    };
+    Ok(follow_file(rt, order, following.get_str("FILE"))?)
 }
 
 /// A word of a question. `clap` lets no question pass without its four words.
@@ -157,6 +177,26 @@ fn tell(rt: &(impl Print + Eprint + AllocGlobal), error: &Error) -> Result<(), F
     let help = error.to_string(rt.alloc())?;
     write_out(&mut ToWrite::new(io::writer(rt)), help.as_bytes()).map_err(Fault::Write)?;
     Ok(())
+}
+
+/// Checks a file, or standard input where none is named.
+fn check_file(
+    rt: &(impl Files + Input + Print + AllocGlobal + Threads + Sync),
+    file: Option<&str>,
+) -> Result<Ended, Fault> {
+    let mut writer = ToWrite::new(io::writer(rt));
+    match file {
+        Some(path) => {
+            let file = File::open(rt, path).map_err(|_| Fault::Read)?;
+            check(rt, rt.alloc(), &mut FromRead::new(file), &mut writer)
+        }
+        None => check(
+            rt,
+            rt.alloc(),
+            &mut FromRead::new(rt.reader()),
+            &mut writer,
+        ),
+    }
 }
 
 /// Replays a file, or standard input where none is named.
@@ -226,7 +266,9 @@ fn why_file(
     }
 }
 
-fn run(rt: &(impl Env + Files + Input + Print + Eprint + AllocGlobal)) -> Result<(), Failure> {
+fn run(
+    rt: &(impl Env + Files + Input + Print + Eprint + AllocGlobal + Threads + Sync),
+) -> Result<Ended, Failure> {
     let arguments = arguments(rt)?;
     let words = words(rt.alloc(), arguments.as_slice())?;
     obey(rt, words.as_slice())
@@ -234,7 +276,7 @@ fn run(rt: &(impl Env + Files + Input + Print + Eprint + AllocGlobal)) -> Result
 
 fn main(rt: HostRuntime) -> ExitCode {
     match run(&rt) {
-        Ok(()) => ExitCode::SUCCESS,
+        Ok(ended) => ExitCode::from(ended.status()),
         Err(Failure::Usage) => ExitCode::from(USAGE),
         Err(Failure::Fault(fault)) => {
             let _ = fault.write_line(&mut ToWrite::new(rt.stderr()));

@@ -1,6 +1,6 @@
 //! Plans with fences, and the report of each.
 
-use crate::reports::Reported;
+use crate::reports::{NOTHING, Reported};
 
 pub static FENCES: [Reported; 13] = [
     Reported {
@@ -26,6 +26,7 @@ app:1 1 fence PMIX_SUCCESS
 app:1 2 get-now PMIX_ERR_NOT_FOUND
 waiting 0
 ",
+        findings: NOTHING,
     },
     Reported {
         name: "a fence with collect brings the value",
@@ -50,6 +51,7 @@ app:1 1 fence PMIX_SUCCESS
 app:1 2 get-now PMIX_SUCCESS v
 waiting 0
 ",
+        findings: NOTHING,
     },
     Reported {
         name: "a fence collects only where every call says so",
@@ -74,6 +76,7 @@ app:1 1 fence PMIX_SUCCESS
 app:1 2 get-now PMIX_ERR_NOT_FOUND
 waiting 0
 ",
+        findings: NOTHING,
     },
     Reported {
         name: "a fence collects only where every call says so, the other way round",
@@ -98,6 +101,7 @@ app:1 1 fence PMIX_SUCCESS
 app:1 2 get-now PMIX_ERR_NOT_FOUND
 waiting 0
 ",
+        findings: NOTHING,
     },
     Reported {
         name: "a second fence waits",
@@ -118,6 +122,7 @@ app:0 2 fence waiting
 app:1 1 fence PMIX_SUCCESS
 waiting 1
 ",
+        findings: NOTHING,
     },
     Reported {
         name: "of two fences that collect the first brings the value",
@@ -147,6 +152,7 @@ app:1 2 get-now PMIX_SUCCESS v
 app:2 1 fence PMIX_SUCCESS
 waiting 0
 ",
+        findings: NOTHING,
     },
     Reported {
         name: "a get-now before every arrival",
@@ -176,6 +182,7 @@ app:2 1 fence PMIX_SUCCESS
 app:2 2 fence PMIX_SUCCESS
 waiting 0
 ",
+        findings: NOTHING,
     },
     Reported {
         name: "what is committed after the arrival isn't brought",
@@ -200,6 +207,7 @@ app:1 1 fence PMIX_SUCCESS
 app:1 2 get-now PMIX_ERR_NOT_FOUND
 waiting 0
 ",
+        findings: NOTHING,
     },
     Reported {
         name: "a local key isn't brought",
@@ -228,6 +236,7 @@ app:1 2 get-now PMIX_ERR_NOT_FOUND
 app:1 3 get-now PMIX_SUCCESS w
 waiting 0
 ",
+        findings: NOTHING,
     },
     Reported {
         name: "a second fence over the same set brings what came after the first",
@@ -262,6 +271,7 @@ app:1 3 fence PMIX_SUCCESS
 app:1 4 get-now PMIX_SUCCESS w
 waiting 0
 ",
+        findings: NOTHING,
     },
     Reported {
         name: "a fence over two jobs, one named whole and one by its rank",
@@ -293,6 +303,10 @@ b:0 2 get-now PMIX_SUCCESS v
 b:1 1 get-now PMIX_SUCCESS v
 waiting 0
 ",
+        findings: "\
+race a:0 3 b:1 1 key a:0 k
+findings 1
+",
     },
     Reported {
         name: "a job named all",
@@ -314,6 +328,7 @@ all:1 1 fence PMIX_SUCCESS
 all:1 2 fence PMIX_SUCCESS
 waiting 0
 ",
+        findings: NOTHING,
     },
     Reported {
         name: "a fence of a set with a job that has no processes",
@@ -330,5 +345,6 @@ rank n0
 app:0 1 fence PMIX_SUCCESS
 waiting 0
 ",
+        findings: NOTHING,
     },
 ];

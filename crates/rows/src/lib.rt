@@ -4,6 +4,8 @@
 #[cfg(test)]
 mod fences;
 #[cfg(test)]
+mod findings;
+#[cfg(test)]
 mod follows;
 #[cfg(test)]
 mod limits;

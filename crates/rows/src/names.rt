@@ -1,6 +1,6 @@
 //! Plans with names that are published, and the report of each.
 
-use crate::reports::Reported;
+use crate::reports::{NOTHING, Reported};
 
 pub static NAMES: [Reported; 9] = [
     Reported {
@@ -20,6 +20,7 @@ app:0 1 publish PMIX_SUCCESS
 app:1 1 lookup-wait PMIX_SUCCESS 7
 waiting 0
 ",
+        findings: NOTHING,
     },
     Reported {
         name: "a lookup-wait before the publish, in the file's order",
@@ -38,6 +39,7 @@ app:0 1 lookup-wait PMIX_SUCCESS 7
 app:1 1 publish PMIX_SUCCESS
 waiting 0
 ",
+        findings: NOTHING,
     },
     Reported {
         name: "a lookup-wait after an unpublish",
@@ -62,6 +64,7 @@ app:1 1 fence PMIX_SUCCESS
 app:1 2 lookup-wait waiting
 waiting 1
 ",
+        findings: NOTHING,
     },
     Reported {
         name: "a second publish is refused",
@@ -84,6 +87,7 @@ app:1 1 fence PMIX_SUCCESS
 app:1 2 publish PMIX_ERR_DUPLICATE_KEY
 waiting 0
 ",
+        findings: NOTHING,
     },
     Reported {
         name: "an unpublish of another's name changes nothing",
@@ -108,6 +112,7 @@ app:1 2 unpublish PMIX_ERR_NOT_FOUND
 app:1 3 lookup PMIX_SUCCESS 1
 waiting 0
 ",
+        findings: NOTHING,
     },
     Reported {
         name: "a name that is published again after an unpublish",
@@ -138,6 +143,7 @@ app:0 8 lookup-wait PMIX_SUCCESS 2
 app:0 9 publish PMIX_ERR_DUPLICATE_KEY
 waiting 0
 ",
+        findings: NOTHING,
     },
     Reported {
         name: "a name and a key of the same spelling",
@@ -158,6 +164,7 @@ app:0 3 get PMIX_SUCCESS 2
 app:0 4 lookup PMIX_SUCCESS 1
 waiting 0
 ",
+        findings: NOTHING,
     },
     Reported {
         name: "reserved names",
@@ -178,6 +185,7 @@ app:0 3 lookup-wait PMIX_ERR_BAD_PARAM
 app:0 4 unpublish PMIX_ERR_BAD_PARAM
 waiting 0
 ",
+        findings: NOTHING,
     },
     Reported {
         name: "business cards by a fence, a get and a name",
@@ -215,5 +223,6 @@ app:2 2 get-now PMIX_SUCCESS v
 app:2 3 lookup-wait PMIX_SUCCESS 7
 waiting 0
 ",
+        findings: NOTHING,
     },
 ];

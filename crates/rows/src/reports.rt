@@ -1,11 +1,15 @@
 //! Plans of puts, commits and gets, and the report of each.
 
-/// A plan that is read, and the report of its plain run.
+/// A plan that is read, the report of its plain run, and its findings.
 pub struct Reported {
     pub name: &'static str,
     pub plan: &'static [u8],
     pub report: &'static str,
+    pub findings: &'static str,
 }
+
+/// The findings of a plan in which there is nothing to find.
+pub const NOTHING: &str = "findings 0\n";
 
 pub static REPORTS: [Reported; 23] = [
     Reported {
@@ -27,6 +31,7 @@ app:0 2 commit PMIX_SUCCESS
 app:1 1 get PMIX_SUCCESS v
 waiting 0
 ",
+        findings: NOTHING,
     },
     Reported {
         name: "gets in a row across ranks",
@@ -60,6 +65,7 @@ app:3 1 commit PMIX_SUCCESS
 app:4 1 commit PMIX_SUCCESS
 waiting 0
 ",
+        findings: NOTHING,
     },
     Reported {
         name: "a get of a key that is never committed",
@@ -78,6 +84,7 @@ app:0 1 put PMIX_SUCCESS
 app:1 1 get waiting
 waiting 1
 ",
+        findings: NOTHING,
     },
     Reported {
         name: "two gets wait for each other",
@@ -104,6 +111,7 @@ app:1 2 put unreached
 app:1 3 commit unreached
 waiting 2
 ",
+        findings: NOTHING,
     },
     Reported {
         name: "one rank without calls",
@@ -117,6 +125,7 @@ rank n0
         report: "\
 waiting 0
 ",
+        findings: NOTHING,
     },
     Reported {
         name: "a header alone, without a line feed",
@@ -125,6 +134,7 @@ rehearsal 1",
         report: "\
 waiting 0
 ",
+        findings: NOTHING,
     },
     Reported {
         name: "a comment and a blank line first",
@@ -136,6 +146,7 @@ rehearsal 1
         report: "\
 waiting 0
 ",
+        findings: NOTHING,
     },
     Reported {
         name: "lines ended by a carriage return and a line feed",
@@ -156,6 +167,7 @@ app:0 2 commit PMIX_SUCCESS
 app:1 1 get PMIX_SUCCESS v
 waiting 0
 ",
+        findings: NOTHING,
     },
     Reported {
         name: "a foreign byte in a comment",
@@ -177,6 +189,7 @@ app:0 2 commit PMIX_SUCCESS
 app:1 1 get PMIX_SUCCESS v
 waiting 0
 ",
+        findings: NOTHING,
     },
     Reported {
         name: "a key put twice",
@@ -198,6 +211,10 @@ app:0 3 commit PMIX_SUCCESS
 app:1 1 get PMIX_SUCCESS b
 waiting 0
 ",
+        findings: "\
+rewrite app:0 1 2 k
+findings 1
+",
     },
     Reported {
         name: "a get of a key of its own, before any commit",
@@ -218,6 +235,7 @@ app:0 3 get waiting
 app:0 4 commit unreached
 waiting 1
 ",
+        findings: NOTHING,
     },
     Reported {
         name: "a get of a rank of a job that is declared later",
@@ -238,6 +256,7 @@ b:0 1 put PMIX_SUCCESS
 b:0 2 commit PMIX_SUCCESS
 waiting 0
 ",
+        findings: NOTHING,
     },
     Reported {
         name: "a get of a local key from another node",
@@ -258,6 +277,7 @@ app:0 2 commit PMIX_SUCCESS
 app:1 1 get PMIX_ERR_EXISTS_OUTSIDE_SCOPE
 waiting 0
 ",
+        findings: NOTHING,
     },
     Reported {
         name: "each scope, asked for on its node and on another",
@@ -293,6 +313,7 @@ app:2 2 get PMIX_SUCCESS 2
 app:2 3 get PMIX_SUCCESS 3
 waiting 0
 ",
+        findings: NOTHING,
     },
     Reported {
         name: "a get-now of a remote key on the owner's node",
@@ -316,6 +337,7 @@ app:1 1 get PMIX_SUCCESS w
 app:1 2 get-now PMIX_ERR_EXISTS_OUTSIDE_SCOPE
 waiting 0
 ",
+        findings: NOTHING,
     },
     Reported {
         name: "a get-now after a get of what the same commit stored",
@@ -339,6 +361,7 @@ app:1 1 get PMIX_SUCCESS w
 app:1 2 get-now PMIX_SUCCESS v
 waiting 0
 ",
+        findings: NOTHING,
     },
     Reported {
         name: "a get-now that a commit races, in the plain run",
@@ -357,6 +380,10 @@ app:0 1 put PMIX_SUCCESS
 app:0 2 commit PMIX_SUCCESS
 app:1 1 get-now PMIX_SUCCESS v
 waiting 0
+",
+        findings: "\
+race app:0 2 app:1 1 key app:0 k
+findings 1
 ",
     },
     Reported {
@@ -383,6 +410,7 @@ app:1 2 get-now PMIX_SUCCESS v
 app:1 3 get-now PMIX_ERR_NOT_FOUND
 waiting 0
 ",
+        findings: NOTHING,
     },
     Reported {
         name: "a get-now of a process on another node, without a fence",
@@ -405,6 +433,7 @@ app:1 1 get PMIX_SUCCESS v
 app:1 2 get-now PMIX_ERR_NOT_FOUND
 waiting 0
 ",
+        findings: NOTHING,
     },
     Reported {
         name: "a put of its own, read whatever its scope",
@@ -423,6 +452,7 @@ app:0 2 get PMIX_SUCCESS v
 app:0 3 get-now PMIX_ERR_NOT_FOUND
 waiting 0
 ",
+        findings: NOTHING,
     },
     Reported {
         name: "a key put again with another scope",
@@ -452,6 +482,10 @@ app:0 6 commit PMIX_SUCCESS
 app:1 1 get PMIX_SUCCESS w
 app:1 2 get PMIX_ERR_EXISTS_OUTSIDE_SCOPE
 waiting 0
+",
+        findings: "\
+rewrite app:0 1 3 k
+findings 1
 ",
     },
     Reported {
@@ -485,6 +519,7 @@ b:0 7 put PMIX_ERR_BAD_PARAM
 b:0 8 lookup-wait PMIX_ERR_BAD_PARAM
 waiting 0
 ",
+        findings: NOTHING,
     },
     Reported {
         name: "reserved keys of one's own, and keys that only look so",
@@ -513,5 +548,6 @@ app:0 7 get PMIX_SUCCESS 2
 app:0 8 get PMIX_SUCCESS 3
 waiting 0
 ",
+        findings: NOTHING,
     },
 ];

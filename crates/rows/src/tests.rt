@@ -1,6 +1,7 @@
 //! The rows, and readers and writers that give or take little, or fail.
 
 use crate::fences::FENCES;
+use crate::findings::FINDINGS;
 use crate::follows::FOLLOWS;
 use crate::limits::LIMITS;
 use crate::names::NAMES;
@@ -9,13 +10,15 @@ use crate::refusals::REFUSALS;
 use crate::reports::{REPORTS, Reported};
 use crate::texts::TEXTS;
 use std::alloc::Global;
+use std::fmt::Write;
 use std::process::Abort;
 use std::test::Fail;
+use std::thread::Threads;
 use wire_marks::Marks;
 use wire_plan::Plan;
 use wire_script::read;
 use wire_types::{EndlessSource, Event, Fault, MemorySink, MemorySource, Proc};
-use wire_up::{follow, plain, why};
+use wire_up::{Ended, check, follow, plain, why};
 
 /// A reader of these bytes, which gives at most so many a call.
 fn reader(bytes: &[u8], per_call: usize) -> MemorySource<'_> {
@@ -296,13 +299,35 @@ fn clocks(rt: HostRuntime) -> Result<(), Fail> {
         proc: Proc::new(proc),
         at,
     };
-    let fenced =
-        b"rehearsal 1\nnode n0\nnode n1\njob app\nrank n0\npublish x 1\nfence all\nrank n1\nfence all\npublish x 2\n";
+    let fenced = b"\
+rehearsal 1
+node n0
+node n1
+job app
+rank n0
+publish x 1
+fence all
+rank n1
+fence all
+publish x 2
+";
     let marks = marks_of(alloc, fenced.as_slice())?;
     assert_eq!(rt; marks.clock(at(1, 2), Proc::new(0)), 2);
     assert_eq!(rt; marks.clock(at(1, 2), Proc::new(1)), 3);
-    let stuck =
-        b"rehearsal 1\nnode n0\nnode n1\njob app\nrank n0\nget app:1 b\nput global a 1\ncommit\nrank n1\nget app:0 a\nput global b 2\ncommit\n";
+    let stuck = b"\
+rehearsal 1
+node n0
+node n1
+job app
+rank n0
+get app:1 b
+put global a 1
+commit
+rank n1
+get app:0 a
+put global b 2
+commit
+";
     let marks = marks_of(alloc, stuck.as_slice())?;
     for number in 0..6 {
         for proc in 0..2 {
@@ -328,5 +353,102 @@ fn answers_cut(rt: HostRuntime) -> Result<(), Fail> {
             assert_eq!(rt; to.bytes.as_slice(), &text.as_bytes()[..room]);
         }
     }
+    Ok(())
+}
+
+/// Asserts that a plan has these findings, and that the check ends with their number.
+fn check_findings(
+    rt: &(impl Abort + Threads + Sync),
+    alloc: Global,
+    name: &str,
+    plan: &[u8],
+    findings: &str,
+) {
+    let lines = findings.lines().count() as u64;
+    let ended = match lines {
+        1 => Ended::Clean,
+        lines => Ended::Found(lines.saturating_sub(1)),
+    };
+    for per_call in [1, usize::MAX] {
+        let mut to = writer(alloc, per_call);
+        let answer = check(rt, alloc, &mut reader(plan, per_call), &mut to);
+        assert_eq!(rt; answer, Ok(ended), "{}", name);
+        assert_eq!(rt; to.bytes.as_slice(), findings.as_bytes(), "{}", name);
+    }
+}
+
+/// Each plan that is read has its findings, one that is refused its fault and then nothing is written.
+#[test]
+fn findings(rt: HostRuntime) -> Result<(), Fail> {
+    let alloc = rt.alloc();
+    for rows in [REPORTS.as_slice(), FENCES.as_slice(), NAMES.as_slice()] {
+        for row in rows {
+            check_findings(&rt, alloc, row.name, row.plan, row.findings);
+        }
+    }
+    for row in &FINDINGS {
+        check_findings(&rt, alloc, row.name, row.plan, row.findings);
+    }
+    for row in &REFUSALS {
+        let mut to = writer(alloc, usize::MAX);
+        let answer = check(&rt, alloc, &mut reader(row.plan, 7), &mut to);
+        assert_eq!(rt; answer, Err(row.fault), "{}", row.name);
+        assert!(rt; to.bytes.is_empty(), "{}", row.name);
+    }
+    Ok(())
+}
+
+/// Of 4,096 names that two ranks publish, each in the same order, each is a race of its own.
+#[test]
+fn names_published_twice(rt: HostRuntime) -> Result<(), Fail> {
+    let alloc = rt.alloc();
+    let mut plan = String::from_str(alloc, "rehearsal 1\nnode n0\njob app\n")?;
+    for _ in 0..2 {
+        plan.push_str("rank n0\n")?;
+        for name in 0..4_096 {
+            writeln!(plan, "publish x{name} 1")?;
+        }
+    }
+    let mut findings = String::new(alloc);
+    for name in 0..4_096u32 {
+        let call = name.wrapping_add(1);
+        writeln!(findings, "race app:0 {call} app:1 {call} name x{name}")?;
+    }
+    findings.push_str("findings 4096\n")?;
+    let mut to = writer(alloc, usize::MAX);
+    let answer = check(
+        &rt,
+        alloc,
+        &mut reader(plan.as_bytes(), usize::MAX),
+        &mut to,
+    );
+    assert_eq!(rt; answer, Ok(Ended::Found(4_096)));
+    assert_eq!(rt; to.bytes.as_slice(), findings.as_bytes());
+    Ok(())
+}
+
+/// Of findings that can't be written whole the front is written, and the fault counts it; a failed read is
+/// told as such.
+#[test]
+fn findings_cut(rt: HostRuntime) -> Result<(), Fail> {
+    let alloc = rt.alloc();
+    let row = &FINDINGS[0];
+    let text = row.findings.as_bytes();
+    for room in 0..text.len() {
+        for takes_nothing in [false, true] {
+            let mut to = brief_writer(alloc, room, takes_nothing);
+            let answer = check(&rt, alloc, &mut reader(row.plan, 7), &mut to);
+            assert_eq!(rt; answer, Err(Fault::Write(room as u64)));
+            assert_eq!(rt; to.bytes.as_slice(), &text[..room]);
+        }
+    }
+    let mut from = MemorySource {
+        fails_at: 3,
+        ..reader(row.plan, 7)
+    };
+    let mut to = writer(alloc, usize::MAX);
+    let answer = check(&rt, alloc, &mut from, &mut to);
+    assert_eq!(rt; answer, Err(Fault::Read));
+    assert!(rt; to.bytes.is_empty());
     Ok(())
 }
