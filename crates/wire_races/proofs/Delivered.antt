@@ -1,5 +1,5 @@
 -- The races of a get with the deliveries of its key from another node.
-use Rattle.std.proofs.Common.{◌≡◌, ◌∙◌, ap, sym, subst, ℕ, suc, ◌<◌, ◌≤◌, List, true, false, Option, Some, None, arith, inl, inr}
+use Rattle.std.proofs.Common.{◌≡◌, ◌∙◌, ap, sym, subst, ℕ, suc, ◌<◌, ◌≤◌, List, true, Option, Some, None, arith, inl, inr}
 use Rattle.std.specs.Prelude.{IfSome, option_map}
 use Rattle.std.proofs.lemmas.Bool.{true≢false, cases_lt, cases_eq}
 use Rattle.wire_types.specs.Plan.{Plan, Place, event_count, process_count, node_of, same_node}
@@ -13,7 +13,7 @@ use Rattle.wire_plan.proofs.Basics.{event_within, process_within}
 use Rattle.wire_races.specs.Collected.{AreFound}
 use Rattle.wire_races.specs.Kinds.{IsOfKey}
 use Rattle.wire_races.specs.Adding.{Adds, OfKind}
-use Rattle.wire_races.specs.Racing.{IsRaceOf, IsKeyRaceBy, IsOpen, Arrives, IsSure, IsLate, IsLateBy, AreLateBelow, IsUnsure, IsNextArrival}
+use Rattle.wire_races.specs.Racing.{IsRaceOf, IsKeyRaceBy, Arrives, IsSure, IsLate, IsLateBy, AreLateBelow, IsUnsure, IsNextArrival}
 use Rattle.wire_races.proofs.Growing.{adds_none, adds_same, adds_both}
 use Rattle.wire_races.proofs.Arriving.{arrival_of, late_once}
 use Rattle.wire_races.proofs.Looking.{race_with, race_open, race_found, get_there}
@@ -133,15 +133,6 @@ module _ (plan : Plan) (get : Place) (owner key : ℕ) (n : IsUnsure plan get ow
       (λ f t. let w = race_late f t in (w.0, delivering_within plan owner key _ w.0 w.1.delivers, w.1))
       h
 
--- a delivery that comes surely: no race
-pub no_late : (plan : Plan) (found : List Finding) (get : Place) (owner key : ℕ) → IsOpen plan get owner key → same_node plan owner get.proc ≡ false → ComesSurely plan owner key (node_of plan get.proc) get → AreFound plan found → Adds plan found found (IsKeyRaceBy plan get)
-no_late plan found get owner key o other sure are =
-    adds_none plan found (IsKeyRaceBy plan get) are (λ f t. let w = race_with plan get owner key f o.is t in go w.source w.race)
-  where
-    go : (x : Place) → IsKeyRace plan x get owner key → ⊥
-    go x (inl r) = true≢false (sym (subst (λ q. same_node plan q get.proc ≡ true) r.0 r.1.node) ∙ other)
-    go x (inr r) = r.not_sure sure
-
 module _ (plan : Plan) (get : Place) (owner key node : ℕ) where
   -- one arrival is looked at
   pub one_late : (old new : List Finding) (at : ℕ) (x : Place) → IsDelivering plan owner key node at → IsLate plan get (here owner at) x → Adds plan old new (IsRaceOf x get owner key) → Adds plan old new (IsLateBy plan get owner key node at)
@@ -153,9 +144,6 @@ module _ (plan : Plan) (get : Place) (owner key node : ℕ) where
 
   pub not_late : (found : List Finding) (at : ℕ) → ((x : Place) → IsLate plan get (here owner at) x → ⊥) → AreFound plan found → Adds plan found found (IsLateBy plan get owner key node at)
   not_late found at never are = adds_none plan found (IsLateBy plan get owner key node at) are (λ f t. never t.source t.late)
-
-  pub none_late : (found : List Finding) → AreFound plan found → Adds plan found found (AreLateBelow plan get owner key node 0)
-  none_late found are = adds_none plan found (AreLateBelow plan get owner key node 0) are (λ f t. let lt = t.1 in omega (arith, lt))
 
   pub late_more : (old mid new : List Finding) (from at next : ℕ) → from ≤ at → next ≡ suc at → ((k : ℕ) → from ≤ k → k < at → IsDelivering plan owner key node k → ⊥) → Adds plan old mid (AreLateBelow plan get owner key node from) → Adds plan mid new (IsLateBy plan get owner key node at) → Adds plan old new (AreLateBelow plan get owner key node next)
   late_more old mid new from at next le one others first second =

@@ -1,8 +1,7 @@
 -- Rewrites, told by first puts.
-use Rattle.std.proofs.Common.{◌≡◌, ◌∙◌, ap, sym, subst, ℕ, suc, ◌<◌, ◌≤◌, List, Some, arith, is_some, inl, inr}
-use Rattle.std.proofs.lemmas.Bool.{true≢false, cases_lt, lt-ltb}
-use Rattle.std.proofs.lemmas.Option.{same_Some}
-use Rattle.wire_types.specs.Plan.{Plan, Place, Event, Put, Leave, event, event_at, event_count, process_count}
+use Rattle.std.proofs.Common.{◌≡◌, ◌∙◌, ap, sym, subst, ℕ, suc, ◌<◌, ◌≤◌, List, Some, arith, is_some}
+use Rattle.std.proofs.lemmas.Bool.{true≢false}
+use Rattle.wire_types.specs.Plan.{Plan, Place, Put, event, event_at, event_count, process_count}
 use Rattle.wire_types.specs.Puts.{put_count}
 use Rattle.wire_types.specs.declared.Scope.{Scope}
 use Rattle.wire_types.specs.declared.CallAt.{CallAt}
@@ -12,39 +11,19 @@ use Rattle.wire_plan.specs.Ends.{call_of, first_event}
 use Rattle.wire_plan.specs.Index.{IsFirstPut}
 use Rattle.wire_plan.specs.Races.{IsRewrite}
 use Rattle.wire_plan.proofs.Basics.{event_within, process_within}
-use Rattle.wire_plan.proofs.KeyFacts.{never_put, put_exactly}
+use Rattle.wire_plan.proofs.KeyFacts.{never_put}
 use Rattle.wire_plan.proofs.KeyRows.{own_here}
 use Rattle.wire_races.specs.Collected.{AreFound, IsAdded}
 use Rattle.wire_races.specs.Kinds.{IsOfRewrite}
 use Rattle.wire_races.specs.Adding.{Adds, OfKind}
 use Rattle.wire_races.specs.Rewriting.{IsRewriteBy}
 use Rattle.wire_races.proofs.Growing.{adds_one, adds_none}
-use Rattle.wire_races.proofs.First.{first_of_call}
-
--- the key that an event puts
-abbrev key_in : Event → ℕ
-key_in (Put key scope) = key
-key_in _ = 0
-
-same_key : (plan : Plan) (y : Place) (a b : ℕ) (s t : Scope) → event plan y ≡ Some (Put a s) → event plan y ≡ Some (Put b t) → a ≡ b
-same_key plan y a b s t first second = ap key_in (same_Some _ _ (sym first ∙ second))
-
--- a process puts a key first once
-not_later : (plan : Plan) (p key a b : ℕ) → IsFirstPut plan (record { proc = p; at = a }) key → IsFirstPut plan (record { proc = p; at = b }) key → a < b → ⊥
-not_later plan p key a b x y lt = true≢false (sym (put_exactly plan p key a b x ∙ lt-ltb a b lt) ∙ ap is_some y.first)
+use Rattle.wire_races.proofs.Starting.{low_starts, high_starts, starts_back}
+use Rattle.wire_races.proofs.Told.{put_key, first_once, one_first}
 
 first_of : (plan : Plan) (x y : Place) (p : ℕ) (r : IsRewrite plan x y) → x.proc ≡ p → IsFirstPut plan (record { proc = p; at = x.at }) r.key
 first_of plan x y p r same =
     subst (λ q. IsFirstPut plan (record { proc = q; at = x.at }) r.key) same (record { scope = r.first_scope; is = r.first_is; first = r.first })
-
-first_same : (plan : Plan) (p key a b : ℕ) → IsFirstPut plan (record { proc = p; at = a }) key → IsFirstPut plan (record { proc = p; at = b }) key → a ≡ b
-first_same plan p key a b x y = elim (cases_lt a b) [
-  | inl lt ↦ absurd (not_later plan p key a b x y lt)
-  | inr ge ↦ elim (cases_lt b a) [
-    | inl gt ↦ absurd (not_later plan p key b a y x gt)
-    | inr le ↦ omega (arith, ge, le)
-  ]
-]
 
 module _ (plan : Plan) (y : Place) (key : ℕ) (scope : Scope) (is : event plan y ≡ Some (Put key scope)) where
   -- its key is put
@@ -55,28 +34,17 @@ module _ (plan : Plan) (y : Place) (key : ℕ) (scope : Scope) (is : event plan 
   -- the first put isn't before it
   pub is_first : (first : ℕ) → IsFirstPut plan (record { proc = y.proc; at = first }) key → y.at ≤ first → (x : Place) → IsRewrite plan x y → ⊥
   is_first first f le x r =
-      let k : r.key ≡ key = same_key plan y r.key key r.later_scope scope r.later_is is in
-      let same = first_same plan y.proc key x.at first (subst (IsFirstPut plan (record { proc = y.proc; at = x.at })) k (first_of plan x y y.proc r r.same)) f in
+      let k : r.key ≡ key = ap put_key (sym r.later_is ∙ is) in
+      let same = first_once plan y.proc key x.at first (subst (IsFirstPut plan (record { proc = y.proc; at = x.at })) k (first_of plan x y y.proc r r.same)) f in
       let lt = r.later in
       omega (arith, same, lt, le)
 
--- an event is one rewrite at most
-pub one_rewrite : (plan : Plan) (x z y : Place) → IsRewrite plan x y → IsRewrite plan z y → z ≡ x
-one_rewrite plan x z y a b =
-    let k : b.key ≡ a.key = same_key plan y b.key a.key b.later_scope a.later_scope b.later_is a.later_is in
-    let at = first_same plan y.proc a.key z.at x.at (subst (IsFirstPut plan (record { proc = y.proc; at = z.at })) k (first_of plan z y y.proc b b.same)) (first_of plan x y y.proc a a.same) in
-    let p : z.proc ≡ x.proc = b.same ∙ sym a.same in
-    λ i. record { proc = p i; at = at i }
-
-no_leave : (key : ℕ) (scope : Scope) (members : List ℕ) → Put key scope ≡ Leave members → ⊥
-no_leave key scope members e = cc
-
 -- both puts are whole calls
 pub first_stands : (plan : Plan) (x y : Place) → IsRewrite plan x y → first_event plan (call_of plan x) ≡ x
-first_stands plan x y r = first_of_call plan x (Put r.key r.first_scope) r.first_is (no_leave r.key r.first_scope)
+first_stands plan x y r = starts_back plan x (low_starts plan (Rewrite x y) r)
 
 pub later_stands : (plan : Plan) (x y : Place) → IsRewrite plan x y → first_event plan (call_of plan y) ≡ y
-later_stands plan x y r = first_of_call plan y (Put r.key r.later_scope) r.later_is (no_leave r.key r.later_scope)
+later_stands plan x y r = starts_back plan y (high_starts plan (Rewrite x y) r)
 
 -- rewrites stand among the events
 pub rewrite_within : (plan : Plan) (y : Place) (f : Finding) → IsRewriteBy plan y f → y.at < event_count plan y.proc
@@ -95,7 +63,7 @@ rewrite_by plan f k = (k.0.1, (k.0.0, subst (IsFound plan) k.0.2 k.1, k.0.2))
 pub adds_rewrite : (plan : Plan) (old new : List Finding) (x y : Place) (g : Finding) → IsRewrite plan x y → g ≡ Rewrite x y → AreFound plan old → IsAdded old new g → Adds plan old new (IsRewriteBy plan y)
 adds_rewrite plan old new x y g r is are told =
     adds_one plan old new (IsRewriteBy plan y) g are (subst (IsFound plan) (sym is) r) told (x, r, is)
-    (λ f t. t.2 ∙ ap (λ z. Rewrite z y) (one_rewrite plan x t.0 y r t.1) ∙ sym is)
+    (λ f t. t.2 ∙ ap (λ z. Rewrite z y) (one_first plan t.0 x y t.1 r) ∙ sym is)
 
 pub adds_no_rewrite : (plan : Plan) (found : List Finding) (y : Place) → ((x : Place) → IsRewrite plan x y → ⊥) → AreFound plan found → Adds plan found found (IsRewriteBy plan y)
 adds_no_rewrite plan found y never are = adds_none plan found (IsRewriteBy plan y) are (λ f t. never t.0 t.1)

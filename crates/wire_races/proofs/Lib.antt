@@ -10,7 +10,6 @@ pub mod Arriving
 pub mod Looking
 pub mod Delivered
 pub mod Lists
-pub mod CallPlaces
 pub mod Named
 pub mod Racing
 pub mod OneTold

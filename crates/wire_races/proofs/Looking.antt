@@ -155,15 +155,6 @@ race_with plan get owner key f asks t =
     subst (λ k. IsRaceWith plan get owner k f) (ap key_in same) (
     subst (λ p. IsRaceWith plan get p t.key f) (ap owner_in same) (record { source = t.source; race = t.race; is = t.is }))
 
--- a get that is asked for nothing has no race
-pub not_open : (plan : Plan) (found : List Finding) (get : Place) (owner key : ℕ) → event plan get ≡ Some (GetNow owner key) → (IsOpen plan get owner key → ⊥) → AreFound plan found → Adds plan found found (IsKeyRaceBy plan get)
-not_open plan found get owner key asks never are =
-    adds_none plan found (IsKeyRaceBy plan get) are (λ f t. let w = race_with plan get owner key f asks t in never (race_open plan w.source get owner key w.race))
-
-pub no_look : (plan : Plan) (found : List Finding) (get : Place) → ((owner key : ℕ) → event plan get ≡ Some (GetNow owner key) → ⊥) → AreFound plan found → Adds plan found found (IsKeyRaceBy plan get)
-no_look plan found get never are =
-    adds_none plan found (IsKeyRaceBy plan get) are (λ f t. never t.owner t.key (race_open plan t.source get t.owner t.key t.race).is)
-
 -- a process that puts a key is one of the plan's
 pub owner_within : (plan : Plan) (p key : ℕ) → IsPutOnce plan p key → p < process_count plan
 unfolding event_count events
@@ -209,9 +200,6 @@ module _ (plan : Plan) (get : Place) (owner key : ℕ) (o : IsOpen plan get owne
       (λ f i. record { source = commit; owner = owner; key = key; race = node_race commit p s u; is = i })
       (λ f t. let n = only_node f t in subst (λ x. IsRaceOf x get owner key f) (stores_once plan n.source commit key (n.proc ∙ sym p) n.race.stores s) n.is)
       h
-
-  pub no_commit : (found : List Finding) → ((x : Place) → x.proc ≡ owner → Stores plan x key → ⊥) → AreFound plan found → Adds plan found found (IsKeyRaceBy plan get)
-  no_commit found never are = adds_none plan found (IsKeyRaceBy plan get) are (λ f t. let n = only_node f t in never n.source n.proc n.race.stores)
 
   pub ordered_commit : (found : List Finding) (commit : Place) → commit.proc ≡ owner → Stores plan commit key → (IsUnordered plan commit get → ⊥) → AreFound plan found → Adds plan found found (IsKeyRaceBy plan get)
   ordered_commit found commit p s never are =

@@ -1,5 +1,5 @@
 -- The names of calls are those of the scripts.
-use Rattle.std.proofs.Common.{◌≡◌, inl, inr, ℕ, zero, suc, ◌-◌, ◌<◌, List, [], ◌∷◌, Bool, true, Option, Some, None, map, length, refl, sym, ap, ◌∙◌, subst}
+use Rattle.std.proofs.Common.{◌≡◌, inl, inr, ℕ, zero, suc, ◌+◌, ◌-◌, ◌<◌, ◌≤◌, List, [], ◌∷◌, ◌++◌, Bool, true, Option, Some, None, map, length, refl, sym, ap, ◌∙◌, subst, arith}
 use Rattle.std.specs.Prelude.{slice_get, option_map, if◌then◌else◌}
 use Rattle.std.proofs.lemmas.Option.{slice_get-map}
 use Rattle.std.proofs.lemmas.Bool.{true≢false, cases_lt, cond_both, eqb-true}
@@ -12,7 +12,10 @@ use Rattle.wire_rehearsal.specs.Scripts.{Process, Scripts, IsSound, name_in, cal
 use Rattle.wire_rehearsal.specs.Planned.{plan_of, planned_call, planned_process}
 use Rattle.wire_plan.specs.Names.{calls_name}
 use Rattle.wire_plan.proofs.Planning.{events_first}
-use Rattle.wire_races.proofs.CallPlaces.{get_early, get_late}
+use Rattle.wire_races.proofs.Starting.{get_left, get_right}
+
+get_late : {A : Type 0} (xs ys : List A) (k : ℕ) → length xs ≤ k → slice_get (xs ++ ys) k ≡ slice_get ys (k - length xs)
+get_late xs ys k le = let same : k ≡ length xs + (k - length xs) = omega (arith, le) in ap (slice_get (xs ++ ys)) same ∙ get_right xs ys (k - length xs)
 
 module _ (s : Scripts) (name : ℕ) (x : Place) where
   abbrev on_it : Option Event → Bool
@@ -48,7 +51,7 @@ module _ (s : Scripts) (name : ℕ) (x : Place) where
       let first = events_of (planned_call s call ∷ []) in
       let others = events_of (map (planned_call s) calls) in
       elim (cases_lt i (length first)) [
-        | inl lt ↦ (0, call, refl, written_name call i (subst (λ o. on_it o ≡ true) (get_early first others i lt) split))
+        | inl lt ↦ (0, call, refl, written_name call i (subst (λ o. on_it o ≡ true) (get_left first others i lt) split))
         | inr le ↦
             let w = written_call calls (i - length first) (subst (λ o. on_it o ≡ true) (get_late first others i le) split) in
             (suc w.0, w.1, w.2, w.3)

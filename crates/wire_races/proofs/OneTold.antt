@@ -1,5 +1,5 @@
 -- The list of the findings that are told is one, and empty where the plan is settled.
-use Rattle.std.proofs.Common.{◌≡◌, ◌∙◌, ap, refl, sym, subst, ℕ, zero, suc, ◌+◌, ◌<◌, List, [], ◌∷◌, length, length-append, take, Bool, false, inl, inr, arith}
+use Rattle.std.proofs.Common.{◌≡◌, ap, refl, sym, subst, ℕ, zero, suc, ◌<◌, List, [], ◌∷◌, length, take, Bool, false, inl, inr, arith}
 use Rattle.std.specs.Prelude.{◌↔◌}
 use Rattle.std.proofs.lemmas.Bool.{cases_lt, true≢false}
 use Rattle.wire_types.specs.Plan.{Plan, Place, Call, CallPut, CallCommit, CallFence, CallGet, CallGetNow, CallPublish, CallLookup, CallLookupWait, CallUnpublish, CallFixed, events_of}
@@ -8,12 +8,11 @@ use Rattle.wire_plan.specs.Ends.{call_size, calls_of, first_event}
 use Rattle.wire_plan.specs.Races.{IsSettled}
 use Rattle.wire_plan.specs.Findings.{Finding, IsFound, Has, IsFindings}
 use Rattle.wire_plan.specs.Laws.{IsOneWay}
-use Rattle.wire_plan.proofs.Planning.{events_first}
 use Rattle.wire_plan.proofs.Listed.{no_findings, one_list}
 use Rattle.wire_races.specs.Shown.{shown, all_shown, AreFindings}
 use Rattle.wire_races.specs.declared.finding.Finding.{Finding as Told}
 use Rattle.wire_races.specs.declared.finding.Finding.TheVariants as told_as
-use Rattle.wire_races.proofs.Starting.{low_of, high_of}
+use Rattle.wire_races.proofs.Starting.{low_of, high_of, longer}
 use Rattle.wire_races.proofs.Told.{low_call, high_call, shown_low, shown_high}
 
 -- a call is an event at least
@@ -29,20 +28,17 @@ some_event (CallLookupWait name) = omega arith
 some_event (CallUnpublish name) = omega arith
 some_event (CallFixed reply) = omega arith
 
-more_events : (call : Call) (calls : List Call) (n : ℕ) → length (events_of (take (suc n) (call ∷ calls))) ≡ call_size call + length (events_of (take n calls))
-more_events call calls n = ap length (events_first call (take n calls)) ∙ length-append (events_of (call ∷ [])) (events_of (take n calls))
-
 -- a later call starts at a later event
 rising : (calls : List Call) (m n : ℕ) → m < n → m < length calls → length (events_of (take m calls)) < length (events_of (take n calls))
 rising [] m n lt within = absurd (omega (arith, within))
 rising (call ∷ calls) m zero lt within = absurd (omega (arith, lt))
 rising (call ∷ calls) zero (suc n) lt within =
-    let more = more_events call calls n in
+    let more = longer call calls n in
     let some = some_event call in
     omega (arith, more, some)
 rising (call ∷ calls) (suc m) (suc n) lt within =
-    let few = more_events call calls m in
-    let more = more_events call calls n in
+    let few = longer call calls m in
+    let more = longer call calls n in
     let ih = rising calls m n (omega (arith, lt)) (omega (arith, within)) in
     omega (arith, few, more, ih)
 

@@ -19,7 +19,7 @@ use Rattle.wire_races.specs.NameRaces.{name_race, IsRaceOn, IsRaceWith, IsRaceIn
 use Rattle.wire_races.specs.declared.name_races.Border.{Border}
 use Rattle.wire_races.specs.declared.name_races.Border.TheVariants.{FirstNotBefore, FirstAfter}
 use Rattle.wire_races.proofs.Lists.{in_index, index_in, in_left, in_right, in_parts}
-use Rattle.wire_races.proofs.CallPlaces.{writes_calls}
+use Rattle.wire_races.proofs.Starting.{writes_calls}
 use Rattle.wire_races.proofs.Growing.{adds_one, adds_both}
 
 -- of the calls of a process those below a border are the first

@@ -26,12 +26,12 @@ pub record Starts (plan : Plan) (x : Place) : Type 0 where
 nothing : {A : Type 0} (n : ℕ) (e : A) → slice_get [] n ≡ Some e → {B : Type 0} → B
 nothing n e is = let lt = slice_get_within [] n e is in absurd (omega (arith, lt))
 
-get_left : {A : Type 0} (xs ys : List A) (i : ℕ) → i < length xs → slice_get (xs ++ ys) i ≡ slice_get xs i
+pub get_left : {A : Type 0} (xs ys : List A) (i : ℕ) → i < length xs → slice_get (xs ++ ys) i ≡ slice_get xs i
 get_left [] ys i lt = absurd (omega (arith, lt))
 get_left (x ∷ xs) ys zero lt = refl
 get_left (x ∷ xs) ys (suc i) lt = get_left xs ys i (omega (arith, lt))
 
-get_right : {A : Type 0} (xs ys : List A) (i : ℕ) → slice_get (xs ++ ys) (length xs + i) ≡ slice_get ys i
+pub get_right : {A : Type 0} (xs ys : List A) (i : ℕ) → slice_get (xs ++ ys) (length xs + i) ≡ slice_get ys i
 get_right [] ys i = let same : 0 + i ≡ i = omega arith in ap (slice_get ys) same
 get_right (x ∷ xs) ys i =
     let same : length (x ∷ xs) + i ≡ suc (length xs + i) = omega arith in
@@ -44,7 +44,8 @@ one_call (CallFence members collect) (suc zero) e is h = absurd (true≢false (a
 one_call (CallFence members collect) (suc (suc n)) e is h = nothing n e is
 one_call _ (suc n) e is h = nothing n e is
 
-longer : (call : Call) (calls : List Call) (n : ℕ) → length (events_of (take (suc n) (call ∷ calls))) ≡ call_size call + length (events_of (take n calls))
+-- the events of one call more
+pub longer : (call : Call) (calls : List Call) (n : ℕ) → length (events_of (take (suc n) (call ∷ calls))) ≡ call_size call + length (events_of (take n calls))
 longer call calls n = ap length (events_first call (take n calls)) ∙ length-append (events_of (call ∷ [])) (events_of (take n calls))
 
 starts_at : (calls : List Call) (at : ℕ) (e : Event) → slice_get (events_of calls) at ≡ Some e → is_leave e ≡ false → length (events_of (take (call_number calls at) calls)) ≡ at
@@ -78,7 +79,7 @@ in_calls (call ∷ calls) (suc n) e is =
     let ih = in_calls calls n e later in
     omega (arith, ih)
 
-same_events : (o : Option Process) → process_events o ≡ events_of (process_calls o)
+pub same_events : (o : Option Process) → process_events o ≡ events_of (process_calls o)
 same_events None = refl
 same_events (Some process) = refl
 
@@ -143,7 +144,7 @@ named plan name x (Some (LookupWait n)) h = record { what = LookupWait n; is = r
 named plan name x (Some (Unpublish n)) h = record { what = Unpublish n; is = refl; first = refl }
 named plan name x _ h = absurd (true≢false (sym h))
 
-starts_named : (plan : Plan) (name : ℕ) (x : Place) → calls_name plan name x (event plan x) ≡ true → Starts plan x
+pub starts_named : (plan : Plan) (name : ℕ) (x : Place) → calls_name plan name x (event plan x) ≡ true → Starts plan x
 starts_named plan name x h = let n = named plan name x (event plan x) h in record { what = n.what; is = n.is; first = n.first }
 
 abbrev pub low_of : Finding → Place

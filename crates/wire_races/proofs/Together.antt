@@ -20,7 +20,7 @@ use Rattle.wire_races.specs.NameRaces.{IsRaceOn}
 use Rattle.wire_races.specs.Pieces.{IsPiece, ArePieces, IsInSome, AreAllFound}
 use Rattle.wire_races.proofs.Adding.{has_front, has_back, has_either}
 use Rattle.wire_races.proofs.Growing.{adds_one, adds_both, adds_same, all_added}
-use Rattle.wire_races.proofs.CallPlaces.{writes_calls}
+use Rattle.wire_races.proofs.Starting.{writes_calls}
 use Rattle.wire_races.proofs.Named.{named_within}
 use Rattle.wire_races.proofs.Racing.{found_on, on_name, race_on}
 use Rattle.wire_races.proofs.Gathered.{gathered}

@@ -79,7 +79,8 @@ one_race plan x y a b f g = sym (race_told plan x y a f) ∙ race_told plan x y 
 not_sooner : (plan : Plan) (p key i j : ℕ) → IsFirstPut plan (record { proc = p; at = i }) key → IsFirstPut plan (record { proc = p; at = j }) key → i < j → ⊥
 not_sooner plan p key i j a b lt = true≢false (sym (put_exactly plan p key i j a ∙ lt-ltb i j lt) ∙ ap is_some b.first)
 
-first_once : (plan : Plan) (p key i j : ℕ) → IsFirstPut plan (record { proc = p; at = i }) key → IsFirstPut plan (record { proc = p; at = j }) key → i ≡ j
+-- a process puts a key first once
+pub first_once : (plan : Plan) (p key i j : ℕ) → IsFirstPut plan (record { proc = p; at = i }) key → IsFirstPut plan (record { proc = p; at = j }) key → i ≡ j
 first_once plan p key i j a b = elim (cases_lt i j) [
   | inl lt ↦ absurd (not_sooner plan p key i j a b lt)
   | inr ge ↦ elim (cases_lt j i) [

@@ -349,8 +349,7 @@ fn piece(alloc: Global, plan: &Plan, marks: &Marks, proc: Proc) -> Result<Vec<Fi
 {
     let mut found = Found::new(alloc);
     add_process(plan, marks, &mut found, proc)?;
-    let list = found.into_list(alloc, plan)?;
-    Ok(list)
+    found.into_list(alloc, plan)
 }
 
 /// A piece for each process, in their order, made by several threads.

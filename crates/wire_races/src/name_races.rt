@@ -196,12 +196,11 @@ fn piece(alloc: Global, plan: &Plan, marks: &Marks, name: u32) -> Result<Vec<Fin
 {
     let mut found = Found::new(alloc);
     add_races_on(plan, marks, &mut found, name)?;
-    let list = found.into_list(alloc, plan)?;
-    Ok(list)
+    found.into_list(alloc, plan)
 }
 
-// A piece for each name, in their order, made by several threads. Most names
-// have few calls, so that fewer than sixteen of them aren't worth a thread of their own.
+// A piece for each name, in their order, made by several threads. Most names have few calls, so
+// that fewer than sixteen of them aren't worth a thread of their own.
 fn pieces(
     rt: &(impl Threads + Sync),
     alloc: Global,
@@ -227,9 +226,9 @@ fn pieces(
 /// of them a publish or an unpublish, that no chain orders (PMIx Standard 5.0, PMIx_Publish,
 /// PMIx_Lookup, PMIx_Unpublish). The only error is that memory ran out.
 ///
-/// The calls on a name are cut into stretches, those of one process each. Those of a stretch that race with
-/// a call stand between two borders, which are found by bisection. Two calls that may both change
-/// the name are met from either side, and found once.
+/// The calls on a name are cut into stretches, those of one process each. Those of a stretch that
+/// race with a call stand between two borders, which are found by bisection. Two calls that may both
+/// change the name are met from either side, and found once.
 pub(crate) fn add_name_races(
     rt: &(impl Threads + Sync),
     alloc: Global,

@@ -1,5 +1,5 @@
-//! The pieces in which threads look for findings. Each piece is looked for by itself, and all are added
-//! one after another, so that what is found is the same whatever pieces the threads take.
+//! The pieces in which threads look for findings. Each piece is looked for by itself, and all are
+//! added one after another, so that what is found is the same whatever pieces the threads take.
 
 ghost use Rattle.std.specs.Prelude.{OnOk};
 ghost use Rattle.wire_rehearsal.specs.Planned.{plan_of};

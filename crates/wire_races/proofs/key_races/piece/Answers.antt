@@ -1,3 +1,4 @@
+use Rattle.std.proofs.lemmas.Result.{IfOk-weaker}
 use Rattle.wire_rehearsal.specs.Planned.{plan_of}
 use Rattle.wire_races.specs.Racing.{IsKeyRaceOf}
 use Rattle.wire_races.proofs.Together.{piece_of}
@@ -6,4 +7,6 @@ use Rattle.wire_races.proofs.key_races.piece.Goals as goal
 pub returns : goal.returns
 returns c =
     let plan = plan_of c.args.plan.now in
-    piece_of plan (IsKeyRaceOf plan c.args.proc.number) c.new-found.result c.add_process.new.found c.in_ok-list.list c.new-found.ensures c.in_ok-add_process.ensures c.in_ok-list.ensures.shown
+    IfOk-weaker c.into_list.result _ _
+    (λ list is. piece_of plan (IsKeyRaceOf plan c.args.proc.number) c.new-found.result c.add_process.new.found list c.new-found.ensures c.in_ok-add_process.ensures is)
+    c.into_list.ensures.shown

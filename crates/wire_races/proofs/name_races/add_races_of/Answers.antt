@@ -4,12 +4,12 @@ use Rattle.wire_types.specs.Plan.{place_of}
 use Rattle.wire_rehearsal.specs.Planned.{plan_of}
 use Rattle.wire_races.proofs.Lists.{in_index}
 use Rattle.wire_races.proofs.Growing.{adds_none}
-use Rattle.wire_races.proofs.CallPlaces.{call_within}
+use Rattle.wire_races.proofs.Starting.{starts_within, starts_named}
 use Rattle.wire_races.proofs.name_races.add_races_of.Goals as goal
 use Rattle.wire_races.proofs.name_races.add_races_of.Goals.{else-x-proc-via-then-x-proc+then-writes+else-live, else-x-proc-via-then-x-proc+else-writes, else-x-proc-via-else-x-proc}
 
 pub writes-requires : goal.writes-requires
-writes-requires c = call_within (plan_of c.args.plan.now) c.args.name (place_of c.args.x) c.requires.x
+writes-requires c = starts_within (plan_of c.args.plan.now) (place_of c.args.x) (starts_named (plan_of c.args.plan.now) c.args.name (place_of c.args.x) c.requires.x)
 
 pub returns-else-x-proc : goal.returns-else-x-proc
 returns-else-x-proc c = adds_none (plan_of c.args.plan.now) c.args.found.now _ c.requires.found (λ f r. elim c.else-x-proc.branch [

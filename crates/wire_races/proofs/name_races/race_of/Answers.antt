@@ -4,14 +4,14 @@ use Rattle.wire_types.specs.Plan.{place_of}
 use Rattle.wire_rehearsal.specs.Planned.{plan_of}
 use Rattle.wire_plan.specs.Ends.{first_event}
 use Rattle.wire_plan.specs.Findings.{NameRace}
-use Rattle.wire_races.proofs.CallPlaces.{call_starts, call_within}
+use Rattle.wire_races.proofs.Starting.{starts_back, starts_within, starts_named}
 use Rattle.wire_races.proofs.name_races.race_of.Goals as goal
 
 pub call_of-first-requires : goal.call_of-first-requires
-call_of-first-requires c = call_within (plan_of c.args.plan.now) c.args.name (place_of c.args.x) c.requires.x
+call_of-first-requires c = starts_within (plan_of c.args.plan.now) (place_of c.args.x) (starts_named (plan_of c.args.plan.now) c.args.name (place_of c.args.x) c.requires.x)
 
 pub call_of-second-requires : goal.call_of-second-requires
-call_of-second-requires c = call_within (plan_of c.args.plan.now) c.args.name (place_of c.args.y) c.requires.y
+call_of-second-requires c = starts_within (plan_of c.args.plan.now) (place_of c.args.y) (starts_named (plan_of c.args.plan.now) c.args.name (place_of c.args.y) c.requires.y)
 
 pub returns-then-x-y : goal.returns-then-x-y
 returns-then-x-y c =
@@ -19,8 +19,8 @@ returns-then-x-y c =
     let x = place_of c.args.x in
     let y = place_of c.args.y in
     let n = c.args.name in
-    let first = ap (first_event plan) c.call_of-first.ensures ∙ call_starts plan n x c.requires.x in
-    let second = ap (first_event plan) c.call_of-second.ensures ∙ call_starts plan n y c.requires.y in
+    let first = ap (first_event plan) c.call_of-first.ensures ∙ starts_back plan x (starts_named plan n x c.requires.x) in
+    let second = ap (first_event plan) c.call_of-second.ensures ∙ starts_back plan y (starts_named plan n y c.requires.y) in
     ap (λ v. NameRace v (first_event plan c.call_of-second.result) n) first ∙ ap (λ v. NameRace x v n) second
     ∙ cond_below x.proc y.proc (NameRace x y n) (NameRace y x n) c.if-x-y.true
 
@@ -30,7 +30,7 @@ returns-else-x-y c =
     let x = place_of c.args.x in
     let y = place_of c.args.y in
     let n = c.args.name in
-    let first = ap (first_event plan) c.call_of-first.ensures ∙ call_starts plan n x c.requires.x in
-    let second = ap (first_event plan) c.call_of-second.ensures ∙ call_starts plan n y c.requires.y in
+    let first = ap (first_event plan) c.call_of-first.ensures ∙ starts_back plan x (starts_named plan n x c.requires.x) in
+    let second = ap (first_event plan) c.call_of-second.ensures ∙ starts_back plan y (starts_named plan n y c.requires.y) in
     ap (λ v. NameRace v (first_event plan c.call_of-first.result) n) second ∙ ap (λ v. NameRace y v n) first
     ∙ cond_above x.proc y.proc (NameRace x y n) (NameRace y x n) (NameRace y x n) c.if-x-y.false refl
