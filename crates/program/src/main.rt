@@ -190,12 +190,7 @@ fn check_file(
             let file = File::open(rt, path).map_err(|_| Fault::Read)?;
             check(rt, rt.alloc(), &mut FromRead::new(file), &mut writer)
         }
-        None => check(
-            rt,
-            rt.alloc(),
-            &mut FromRead::new(rt.reader()),
-            &mut writer,
-        ),
+        None => check(rt, rt.alloc(), &mut FromRead::new(rt.reader()), &mut writer),
     }
 }
 

@@ -48,11 +48,7 @@ impl Ended {
 }
 
 /// How a check of a plan ends, and the text of all findings.
-fn judged(
-    rt: &(impl Threads + Sync),
-    alloc: Global,
-    plan: &Plan,
-) -> Result<(Ended, Vec<u8>), Fault>
+fn judged(rt: &(impl Threads + Sync), alloc: Global, plan: &Plan) -> Result<(Ended, Vec<u8>), Fault>
     ensures ok { IfOk result (λ v. IsVerdict plan.now v.0 v.1.items) }
     ensures err { IfErr result (λ e. e ≡ Memory) }
 {
