@@ -1,14 +1,14 @@
 -- What fences have brought of a process's data to a node.
 use Rattle.std.proofs.Common.{◌≡◌, ◌∙◌, ap, sym, refl, ℕ, zero, suc, ◌≤◌, List, Bool, true, false, cond, ◌&&◌, Option, Some, inl, inr, arith}
 use Rattle.std.proofs.lemmas.Bool.{false_from_ne_true, cases_lt, leb-true, and_parts}
-use Rattle.wire_types.specs.Plan.{Plan, Event, Arrive, event_at}
-use Rattle.wire_types.specs.Puts.{stored}
-use Rattle.wire_types.specs.Fences.{arrivals, is_complete, is_collecting, has_node}
+use Rattle.wire_runs.specs.Plan.{Plan, Event, Arrive, event_at}
+use Rattle.wire_runs.specs.Puts.{stored}
+use Rattle.wire_runs.specs.Fences.{arrivals, is_complete, is_collecting, has_node}
 use Rattle.wire_rehearsal.specs.Scripts.{Scripts, set_at}
 use Rattle.wire_rehearsal.specs.Planned.{plan_of}
 use Rattle.wire_fence.specs.Fences.{FenceTable, AreFencesOf, fence_at, collects_in, reaches_in}
-use Rattle.wire_plan.specs.Sight.{brings, delivered, delivered_with, stored_at_with}
-use Rattle.wire_plan.proofs.Basics.{arrivals_step, arrivals_rise, list_all_at_member}
+use Rattle.wire_runs.specs.Sight.{brings, delivered, delivered_with, stored_at_with}
+use Rattle.wire_runs.proofs.Basics.{arrivals_step, arrivals_rise, list_all_at_member}
 use Rattle.wire_plan.specs.Meetings.{members_of, IsMet}
 use Rattle.wire_core.specs.Met.{brings_with, brings_at}
 

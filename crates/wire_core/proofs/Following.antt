@@ -3,12 +3,12 @@ use Rattle.std.proofs.Common.{◌≡◌, ◌∙◌, ap, sym, subst, ℕ, zero, s
 use Rattle.std.specs.Prelude.{slice_get}
 use Rattle.std.proofs.lemmas.Option.{slice_get_within, same_Some}
 use Rattle.std.proofs.lemmas.List.{append-nil}
-use Rattle.wire_types.specs.Plan.{Plan}
-use Rattle.wire_plan.specs.State.{State, start}
-use Rattle.wire_plan.specs.Machine.{is_enabled, step, IsInterleaving, run, run_from, IsEnd}
-use Rattle.wire_plan.specs.Plain.{plain_run}
-use Rattle.wire_plan.specs.Races.{IsSettled}
-use Rattle.wire_plan.proofs.PlainRun.{plain_runs}
+use Rattle.wire_runs.specs.Plan.{Plan}
+use Rattle.wire_runs.specs.State.{State, start}
+use Rattle.wire_runs.specs.Step.{is_enabled, step, IsInterleaving, run, run_from, IsEnd}
+use Rattle.wire_runs.specs.PlainRun.{plain_run}
+use Rattle.wire_runs.specs.Races.{IsSettled}
+use Rattle.wire_runs.proofs.PlainRun.{plain_runs}
 use Rattle.wire_core.specs.Course.{Course, plan_in, state_of}
 use Rattle.wire_core.specs.Stops.{Follows}
 use Rattle.wire_core.proofs.Steps.{legal_push, run_append}

@@ -3,21 +3,21 @@ use Rattle.std.proofs.Common.{◌≡◌, ◌∙◌, ap, sym, refl, ℕ, ◌≤�
 use Rattle.std.specs.Prelude.{option_map, slice_get, is_some, not, IsTrue, ◌↔◌, ◌==◌}
 use Rattle.std.proofs.lemmas.Bool.{true≢false, false_from_ne_true}
 use Rattle.std.proofs.lemmas.Option.{slice_get_past}
-use Rattle.wire_types.specs.Plan.{Plan, admits, events, process_events, event_count, process_count, event_at, node_of, same_node}
-use Rattle.wire_types.specs.Puts.{own, stored, scope_of}
+use Rattle.wire_runs.specs.Plan.{Plan, admits, events, process_events, event_count, process_count, event_at, node_of, same_node}
+use Rattle.wire_runs.specs.Puts.{own, stored, scope_of}
 use Rattle.wire_types.specs.declared.CallAt.{CallAt}
 use Rattle.wire_store.specs.declared.Seen.{Seen}
 use Rattle.wire_store.specs.declared.Seen.TheVariants as seen
 use Rattle.wire_store.specs.Kept.{last_put, last_stored, last_stored_before, seen as store_shows}
 use Rattle.wire_store.specs.Told.{seen_put}
 use Rattle.wire_store.proofs.Told.{store_tells}
-use Rattle.wire_plan.specs.State.{State, start}
-use Rattle.wire_plan.specs.Sight.{Outside, Shown, held, served, for_others, delivered, brought, get_now_sees}
-use Rattle.wire_plan.specs.Machine.{IsInterleaving, run}
-use Rattle.wire_plan.specs.Machine.{IsEnd}
-use Rattle.wire_plan.specs.Plain.{lowest}
-use Rattle.wire_plan.proofs.Due.{reachable_sound}
-use Rattle.wire_plan.proofs.PlainRun.{enabled_within, lowest_enabled, none_enabled}
+use Rattle.wire_runs.specs.State.{State, start}
+use Rattle.wire_runs.specs.Sight.{Outside, Shown, held, served, for_others, delivered, brought, get_now_sees}
+use Rattle.wire_runs.specs.Step.{IsInterleaving, run}
+use Rattle.wire_runs.specs.Step.{IsEnd}
+use Rattle.wire_runs.specs.PlainRun.{lowest}
+use Rattle.wire_runs.proofs.Due.{reachable_sound}
+use Rattle.wire_runs.proofs.PlainRun.{enabled_within, lowest_enabled, none_enabled}
 use Rattle.wire_types.specs.declared.Proc.{Proc}
 use Rattle.wire_core.specs.Ranks.{calls_at, IsRankOf}
 use Rattle.wire_core.specs.Shown.{seen_as, brought_of}

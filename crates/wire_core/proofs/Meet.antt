@@ -1,9 +1,9 @@
 -- When the end of a fence may happen.
 use Rattle.std.proofs.Common.{◌≡◌, ◌∙◌, ap, sym, ℕ, suc, List, Bool, Some}
-use Rattle.wire_types.specs.Plan.{Plan, Leave, Place, event}
-use Rattle.wire_types.specs.Fences.{arrivals, arrivals_with, is_complete}
-use Rattle.wire_plan.specs.State.{State, next_place, next_event}
-use Rattle.wire_plan.specs.Machine.{is_enabled, may_do}
+use Rattle.wire_runs.specs.Plan.{Plan, Leave, Place, event}
+use Rattle.wire_runs.specs.Fences.{arrivals, arrivals_with, is_complete}
+use Rattle.wire_runs.specs.State.{State, next_place, next_event}
+use Rattle.wire_runs.specs.Step.{is_enabled, may_do}
 use Rattle.wire_plan.specs.Meetings.{members_of}
 
 -- whether the fence that the event at x is part of is complete

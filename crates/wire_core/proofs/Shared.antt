@@ -1,7 +1,7 @@
 -- What is kept of all processes together follows each step.
 use Rattle.std.proofs.Common.{◌≡◌, ◌∙◌, ap, sym, refl, ℕ, zero, suc, ◌<◌, List, length, Bool, true, false, cond, Option, Some, None, inl, inr, arith}
 use Rattle.std.specs.Prelude.{option_map, is_some, ◌==◌, replicate, IfSome}
-use Rattle.wire_types.specs.Plan.{Plan, Event, Put, Commit, Arrive, Leave, Get, GetNow, Publish, Lookup, LookupWait, Unpublish, Fixed, Place, event_at}
+use Rattle.wire_runs.specs.Plan.{Plan, Event, Put, Commit, Arrive, Leave, Get, GetNow, Publish, Lookup, LookupWait, Unpublish, Fixed, Place, event_at}
 use Rattle.wire_types.specs.declared.CallAt.{CallAt}
 use Rattle.wire_rehearsal.specs.Scripts.{Scripts, IsSound}
 use Rattle.wire_rehearsal.specs.Planned.{plan_of}
@@ -12,9 +12,9 @@ use Rattle.wire_fence.proofs.Missing.{other_events_keep, arrival_counts, arrivin
 use Rattle.wire_names.specs.Names.{published, after_publish, after_unpublish}
 use Rattle.wire_names.specs.Law.{names_after, standing_after, HasName}
 use Rattle.wire_names.proofs.Follows.{names_follow}
-use Rattle.wire_plan.specs.State.{State, start, next_place}
-use Rattle.wire_plan.specs.Machine.{step, name_after, is_publisher}
-use Rattle.wire_plan.specs.Ends.{call_of}
+use Rattle.wire_runs.specs.State.{State, start, next_place}
+use Rattle.wire_runs.specs.Step.{step, name_after, is_publisher}
+use Rattle.wire_runs.specs.Ends.{call_of}
 use Rattle.wire_plan.specs.Meetings.{members_of}
 use Rattle.wire_core.specs.Met.{IsArrival, after_arrival}
 use Rattle.wire_core.specs.Ranks.{AreNamesOf, IsShared}

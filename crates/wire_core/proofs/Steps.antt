@@ -6,7 +6,7 @@ use Rattle.std.proofs.lemmas.List.{length-map, length-set, length-append}
 use Rattle.std.proofs.lemmas.List.Sums.{sum_by-cons}
 use Rattle.std.proofs.lemmas.List.Concat.{flat_map-append}
 use Rattle.std.proofs.Math.Seq.{drop-cons}
-use Rattle.wire_types.specs.Plan.{Plan, process_count, Event, events, event_at, event_count}
+use Rattle.wire_runs.specs.Plan.{Plan, process_count, Event, events, event_at, event_count}
 use Rattle.wire_types.specs.declared.CallAt.{CallAt}
 use Rattle.wire_types.specs.declared.Reply.{Reply}
 use Rattle.wire_rehearsal.specs.Scripts.{Scripts}
@@ -16,15 +16,15 @@ use Rattle.wire_plan.specs.declared.Kind.{Kind}
 use Rattle.wire_plan.specs.declared.Kind.TheVariants as kind
 use Rattle.wire_names.specs.Law.{HasName}
 use Rattle.wire_plan.specs.Kinds.{event_of}
-use Rattle.wire_plan.specs.State.{State, start, next_place}
-use Rattle.wire_plan.specs.Machine.{is_enabled, step, reply, IsInterleaving, run, run_from}
-use Rattle.wire_plan.specs.Ends.{given, replies_of}
-use Rattle.wire_plan.specs.Laws.{event_total}
-use Rattle.wire_plan.specs.Plain.{lowest, go_on, plain_from}
-use Rattle.wire_plan.proofs.Basics.{event_within}
-use Rattle.wire_plan.proofs.Length.{runs_end}
-use Rattle.wire_plan.proofs.Due.{done_same, done_other}
-use Rattle.wire_plan.proofs.Known.{replies_same, replies_other}
+use Rattle.wire_runs.specs.State.{State, start, next_place}
+use Rattle.wire_runs.specs.Step.{is_enabled, step, reply, IsInterleaving, run, run_from}
+use Rattle.wire_runs.specs.Ends.{given, replies_of}
+use Rattle.wire_runs.specs.Laws.{event_total}
+use Rattle.wire_runs.specs.PlainRun.{lowest, go_on, plain_from}
+use Rattle.wire_runs.proofs.Basics.{event_within}
+use Rattle.wire_runs.proofs.Length.{runs_end}
+use Rattle.wire_runs.proofs.Due.{done_same, done_other}
+use Rattle.wire_runs.proofs.Known.{replies_same, replies_other}
 use Rattle.wire_core.specs.Puts.{is_put}
 use Rattle.wire_core.specs.Ranks.{puts_left, calls_at, IsRankOf, AreRanksOf, IsCourse}
 use Rattle.wire_core.specs.Shown.{replies_in}

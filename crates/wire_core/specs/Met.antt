@@ -1,13 +1,13 @@
 -- What an event of a fence does.
 use Rattle.std.specs.Prelude.{◌≡◌, ℕ, suc, List, Bool, false, Option, Some, None}
-use Rattle.wire_types.specs.Plan.{Plan, Event, Arrive, Place, event, event_at}
-use Rattle.wire_types.specs.Puts.{stored}
-use Rattle.wire_types.specs.Fences.{arrivals}
+use Rattle.wire_runs.specs.Plan.{Plan, Event, Arrive, Place, event, event_at}
+use Rattle.wire_runs.specs.Puts.{stored}
+use Rattle.wire_runs.specs.Fences.{arrivals}
 use Rattle.wire_rehearsal.specs.Scripts.{Scripts}
 use Rattle.wire_rehearsal.specs.Planned.{plan_of}
 use Rattle.wire_fence.specs.Fences.{FenceTable}
 use Rattle.wire_fence.specs.Arrivals.{one_arrived}
-use Rattle.wire_plan.specs.Sight.{brings}
+use Rattle.wire_runs.specs.Sight.{brings}
 use Rattle.wire_plan.specs.Meetings.{IsMet}
 
 -- the number, if there is one, is that of the fence at which the event at x arrives

@@ -1,6 +1,6 @@
 -- Puts among events.
 use Rattle.std.specs.Prelude.{Bool, true, false}
-use Rattle.wire_types.specs.Plan.{Event, Put}
+use Rattle.wire_runs.specs.Plan.{Event, Put}
 
 abbrev pub is_put : Event → Bool
 is_put (Put key scope) = true

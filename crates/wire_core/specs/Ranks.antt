@@ -1,6 +1,6 @@
 -- What a core keeps, against the state that its history leads to.
 use Rattle.std.specs.Prelude.{◌≡◌, ℕ, ◌+◌, ◌-◌, ◌≤◌, List, Option, Some, count_by, length, drop, option_map, slice_get, vec_capacity}
-use Rattle.wire_types.specs.Plan.{Plan, events, event_at, event_count, process_count}
+use Rattle.wire_runs.specs.Plan.{Plan, events, event_at, event_count, process_count}
 use Rattle.wire_types.specs.declared.CallAt.{CallAt}
 use Rattle.wire_rehearsal.specs.Scripts.{Scripts, IsSound}
 use Rattle.wire_rehearsal.specs.Planned.{plan_of}
@@ -8,9 +8,9 @@ use Rattle.wire_store.specs.Kept.{kept_after}
 use Rattle.wire_fence.specs.Fences.{FenceTable, AreFencesOf}
 use Rattle.wire_fence.specs.Arrivals.{TellsMissing}
 use Rattle.wire_names.specs.Names.{published}
-use Rattle.wire_plan.specs.State.{State, start}
-use Rattle.wire_plan.specs.Machine.{IsInterleaving, run}
-use Rattle.wire_plan.specs.Ends.{call_of, replies_of}
+use Rattle.wire_runs.specs.State.{State, start}
+use Rattle.wire_runs.specs.Step.{IsInterleaving, run}
+use Rattle.wire_runs.specs.Ends.{call_of, replies_of}
 use Rattle.wire_core.specs.Puts.{is_put}
 use Rattle.wire_core.specs.declared.rank.Rank.{Rank}
 

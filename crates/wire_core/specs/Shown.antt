@@ -1,15 +1,15 @@
 -- What a get sees, and the reply to it, in the words of the code.
 use Rattle.std.specs.Prelude.{ℕ, List, [], ◌∷◌, Bool, true, false, Option, Some, None}
-use Rattle.wire_types.specs.Plan.{Plan}
+use Rattle.wire_runs.specs.Plan.{Plan}
 use Rattle.wire_types.specs.declared.CallAt.{CallAt}
 use Rattle.wire_types.specs.declared.Reply.{Reply}
 use Rattle.wire_types.specs.declared.Status.TheVariants as status
 use Rattle.wire_types.specs.declared.Value.TheVariants as value
 use Rattle.wire_store.specs.declared.Seen.{Seen}
 use Rattle.wire_store.specs.declared.Seen.TheVariants as seen
-use Rattle.wire_plan.specs.Sight.{Sight, Nothing, Outside, Shown}
+use Rattle.wire_runs.specs.Sight.{Sight, Nothing, Outside, Shown}
 use Rattle.wire_types.specs.Replies.{bare, success_with}
-use Rattle.wire_plan.specs.Ends.{call_of}
+use Rattle.wire_runs.specs.Ends.{call_of}
 
 -- a sight of a key of this owner
 abbrev pub seen_as : Plan → ℕ → Sight → Seen

@@ -2,7 +2,7 @@
 use Rattle.std.specs.Prelude.{◌≡◌, ℕ, suc, List, ◌++◌, take, Some, false, slice_get}
 use Rattle.wire_types.specs.declared.Fault.{Fault}
 use Rattle.wire_types.specs.declared.Fault.TheVariants.{NotReady}
-use Rattle.wire_plan.specs.Machine.{is_enabled, IsInterleaving}
+use Rattle.wire_runs.specs.Step.{is_enabled, IsInterleaving}
 use Rattle.wire_core.specs.Course.{Course, plan_in, state_of}
 
 -- each step of the order was enabled when it came, and all of them were taken

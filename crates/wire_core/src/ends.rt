@@ -2,7 +2,7 @@
 
 ghost use Rattle.std.specs.Prelude.{◌≡◌, ◌++◌, map, replicate, OnOk, IfOk};
 ghost use Rattle.wire_types.specs.declared.CallEnd.TheVariants.{Replied, Unreached};
-ghost use Rattle.wire_plan.specs.Ends.{standing, unanswered};
+ghost use Rattle.wire_runs.specs.Ends.{standing, unanswered};
 
 use std::alloc::{AllocError, Global};
 use wire_types::{CallEnd, Reply};

@@ -1,13 +1,13 @@
 //! The fences that events are part of.
 
 ghost use Rattle.std.specs.Prelude.{◌≡◌, ◌<◌, ◌≤◌, ℕ, suc, true, false, Some, length, option_map, IfSome, IfNone, OnSome};
-ghost use Rattle.wire_types.specs.Plan.{Arrive, place_of, event_at, event_count, event as event_in};
-ghost use Rattle.wire_types.specs.Fences.{arrivals as arrivals_of, is_complete as all_arrived};
+ghost use Rattle.wire_runs.specs.Plan.{Arrive, place_of, event_at, event_count, event as event_in};
+ghost use Rattle.wire_runs.specs.Fences.{arrivals as arrivals_of, is_complete as all_arrived};
 ghost use Rattle.wire_rehearsal.specs.Planned.{plan_of};
 ghost use Rattle.wire_fence.specs.Fences.{AreFencesOf};
 ghost use Rattle.wire_fence.specs.Arrivals.{TellsMissing, missing_at};
 ghost use Rattle.wire_plan.specs.Kinds.{event_of};
-ghost use Rattle.wire_plan.specs.Sight.{delivered};
+ghost use Rattle.wire_runs.specs.Sight.{delivered};
 ghost use Rattle.wire_plan.specs.Meetings.{is_of_fence, members_of};
 ghost use Rattle.wire_core.specs.Met.{brings_at, stored_at, after_arrival, IsArrival};
 

@@ -1,16 +1,16 @@
 //! A plan with the history of its steps.
 
 ghost use Rattle.std.specs.Prelude.{◌≡◌, ◌+◌, ◌<◌, ◌^◌, ◌∷◌, ◌++◌, [], true, Some, None, ℕ, List, length, map, option_map, slice_get, IsTrue, ◌↔◌, IfOk, IfErr, OnOk, OnSome};
-ghost use Rattle.wire_types.specs.Plan.{place_of, process_count};
+ghost use Rattle.wire_runs.specs.Plan.{place_of, process_count};
 ghost use Rattle.wire_types.specs.Outcome.{ends_of};
 ghost use Rattle.wire_rehearsal.specs.Planned.{plan_of};
 ghost use Rattle.wire_plan.specs.Kinds.{event_of};
-ghost use Rattle.wire_plan.specs.State.{start, next_place, next_event};
-ghost use Rattle.wire_plan.specs.Machine.{is_enabled, run, IsInterleaving, IsEnd, reply as answer};
-ghost use Rattle.wire_plan.specs.Plain.{lowest, plain_from, plain_run};
-ghost use Rattle.wire_plan.specs.Races.{IsSettled};
-ghost use Rattle.wire_plan.specs.Laws.{event_total};
-ghost use Rattle.wire_plan.specs.Ends.{given, is_waiting, outcome, row};
+ghost use Rattle.wire_runs.specs.State.{start, next_place, next_event};
+ghost use Rattle.wire_runs.specs.Step.{is_enabled, run, IsInterleaving, IsEnd, reply as answer};
+ghost use Rattle.wire_runs.specs.PlainRun.{lowest, plain_from, plain_run};
+ghost use Rattle.wire_runs.specs.Races.{IsSettled};
+ghost use Rattle.wire_runs.specs.Laws.{event_total};
+ghost use Rattle.wire_runs.specs.Ends.{given, is_waiting, outcome, row};
 ghost use Rattle.wire_core.specs.Course.{plan_in, state_of};
 ghost use Rattle.wire_core.specs.Shown.{replies_in};
 ghost use Rattle.wire_core.specs.Ranks.{AreRanksOf};
@@ -44,9 +44,9 @@ pub struct Core<'a> {
 impl<'a> Model for Core<'a> {
     ghost use Rattle.std.specs.Prelude.{◌≤◌, map, vec_capacity};
     ghost use Rattle.wire_rehearsal.specs.Planned.{plan_of};
-    ghost use Rattle.wire_plan.specs.Laws.{event_total};
+    ghost use Rattle.wire_runs.specs.Laws.{event_total};
     ghost use Rattle.wire_core.specs.Course.{Course};
-    ghost use Rattle.wire_plan.specs.Machine.{run};
+    ghost use Rattle.wire_runs.specs.Step.{run};
     ghost use Rattle.wire_core.specs.Ranks.{IsCourse, IsShared};
 
     ghost Value = { Course };

@@ -1,10 +1,10 @@
 //! What gets see.
 
 ghost use Rattle.std.specs.Prelude.{◌≡◌, ◌<◌};
-ghost use Rattle.wire_types.specs.Plan.{process_count, same_node};
-ghost use Rattle.wire_types.specs.Puts.{own, stored};
+ghost use Rattle.wire_runs.specs.Plan.{process_count, same_node};
+ghost use Rattle.wire_runs.specs.Puts.{own, stored};
 ghost use Rattle.wire_rehearsal.specs.Planned.{plan_of};
-ghost use Rattle.wire_plan.specs.Sight.{held, served, get_sees, get_now_sees, brought};
+ghost use Rattle.wire_runs.specs.Sight.{held, served, get_sees, get_now_sees, brought};
 ghost use Rattle.wire_core.specs.Course.{plan_in, state_of};
 ghost use Rattle.wire_core.specs.Shown.{seen_as};
 

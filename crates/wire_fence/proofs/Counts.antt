@@ -4,8 +4,8 @@ use Rattle.std.specs.Prelude.{⊤}
 use Rattle.std.specs.List.{list_all}
 use Rattle.std.proofs.lemmas.Bool.{cases_Bool, cases_eq, true≢false, eqb-true, eq-eqb, ne_eqb, ltb-true, ltb-false, eqb-false, and_parts, cond_both}
 use Rattle.std.proofs.lemmas.List.Sums.{sum_by-cons, count_by-le-length}
-use Rattle.wire_types.specs.Plan.{with_member, set_of}
-use Rattle.wire_types.specs.Fences.{is_member}
+use Rattle.wire_runs.specs.Plan.{with_member, set_of}
+use Rattle.wire_runs.specs.Fences.{is_member}
 
 pub count-cons : {X : Type 0} (test : X → Bool) (x : X) (xs : List X) → count_by test (x ∷ xs) ≡ cond (test x) 1 0 + count_by test xs
 count-cons test x xs = sum_by-cons (λ y. cond (test y) 1 0) x xs

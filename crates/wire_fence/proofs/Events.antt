@@ -7,9 +7,9 @@ use Rattle.std.proofs.lemmas.Bool.{cases_eq, cond_both, eq-eqb, ne_eqb, false_fr
 use Rattle.std.proofs.lemmas.Option.{none-some, same_Some, slice_get-map, slice_get-get_or}
 use Rattle.std.proofs.lemmas.List.{map-append}
 use Rattle.std.proofs.lemmas.List.Sums.{sum_by_push}
-use Rattle.wire_types.specs.Plan.{Plan, Event, Put, Commit, Arrive, Leave, Get, GetNow, Publish, Lookup, LookupWait, Unpublish, Fixed, CallPut, CallCommit, CallFence, CallGet, CallGetNow, CallPublish, CallLookup, CallLookupWait, CallUnpublish, CallFixed, set_of, events_of, process_events, events, event_at, event_count}
-use Rattle.wire_types.specs.Plan as plan
-use Rattle.wire_types.specs.Fences.{arrivals_with, arrivals, collects_with, collects}
+use Rattle.wire_runs.specs.Plan.{Plan, Event, Put, Commit, Arrive, Leave, Get, GetNow, Publish, Lookup, LookupWait, Unpublish, Fixed, CallPut, CallCommit, CallFence, CallGet, CallGetNow, CallPublish, CallLookup, CallLookupWait, CallUnpublish, CallFixed, set_of, events_of, process_events, events, event_at, event_count}
+use Rattle.wire_runs.specs.Plan as plan
+use Rattle.wire_runs.specs.Fences.{arrivals_with, arrivals, collects_with, collects}
 use Rattle.wire_types.specs.declared.Call.{Call}
 use Rattle.wire_types.specs.declared.Call.TheVariants as call
 use Rattle.wire_types.specs.declared.Reply.{Reply}

@@ -5,8 +5,8 @@ use Rattle.std.specs.Cmp.Lexicographic.{bytes_decides}
 use Rattle.std.proofs.lemmas.Bool.{cases_Bool, cases_eq, cases_lt, eq-eqb, ne_eqb, le-leb, lt-leb}
 use Rattle.std.proofs.lemmas.Option.{same_Some, slice_get_within, slice_get-map, get_or_from_slice_get}
 use Rattle.std.proofs.lemmas.List.{length-map, length-set, get_or-set_same, get_or-set_other}
-use Rattle.wire_types.specs.Plan.{Event, Arrive, event_at, update}
-use Rattle.wire_types.specs.Fences.{arrivals_with, arrivals, is_complete}
+use Rattle.wire_runs.specs.Plan.{Event, Arrive, event_at, update}
+use Rattle.wire_runs.specs.Fences.{arrivals_with, arrivals, is_complete}
 use Rattle.wire_rehearsal.specs.Scripts.{Scripts, IsSound, set_at}
 use Rattle.wire_rehearsal.specs.Planned.{plan_of}
 use Rattle.wire_fence.specs.Fences.{FenceInfo, FenceTable, IsFence, AreFencesOf, fence_at, fence_over}

@@ -2,8 +2,8 @@
 use Rattle.std.proofs.Common.{◌≡◌, ◌∙◌, ℕ, ◌+◌, ◌<◌, List, take, length, Bool, ◌||◌, ◌==◌, Option, Some, None, option_map, slice_get, get_or, refl, sym, ap}
 use Rattle.std.proofs.lemmas.Option.{slice_get-map}
 use Rattle.std.proofs.lemmas.List.Folds.{list_any_more}
-use Rattle.wire_types.specs.Plan.{node_of, process_node}
-use Rattle.wire_types.specs.Fences.{has_node}
+use Rattle.wire_runs.specs.Plan.{node_of, process_node}
+use Rattle.wire_runs.specs.Fences.{has_node}
 use Rattle.wire_rehearsal.specs.Scripts.{Process, Scripts}
 use Rattle.wire_rehearsal.specs.Planned.{planned_process, plan_of}
 use Rattle.wire_rehearsal.specs.Map.{node_in, node_at}

@@ -5,7 +5,7 @@ use Rattle.std.proofs.lemmas.Option.{none-some, slice_get-get_or}
 use Rattle.std.proofs.lemmas.List.{get_or-set_same, get_or-set_other, length-set, get_or_append_left, get_or_push, length_push, get_or_past, get_or-replicate, length-replicate}
 use Rattle.std.proofs.lemmas.List.Sums.{sum_by_push, count_by-le-length}
 use Rattle.std.proofs.Math.ListN.{set}
-use Rattle.wire_types.specs.Plan.{update}
+use Rattle.wire_runs.specs.Plan.{update}
 use Rattle.wire_types.specs.declared.Call.{Call}
 use Rattle.wire_types.specs.declared.Call.TheVariants.{Fence}
 use Rattle.wire_rehearsal.specs.Scripts.{Process, Scripts, IsSound, set_at, calls_in, call_count}

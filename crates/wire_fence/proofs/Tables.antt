@@ -4,8 +4,8 @@ use Rattle.std.specs.List.{list_all}
 use Rattle.std.proofs.lemmas.Bool.{cases_eq, cases_lt, eq-eqb, ne_eqb, lt-ltb, le-ltb, ltb-true, and_parts}
 use Rattle.std.proofs.lemmas.Option.{none-some, same_Some, slice_get-map, slice_get-get_or, slice_get_within, slice_get_past}
 use Rattle.std.proofs.lemmas.List.{get_or_past}
-use Rattle.wire_types.specs.Plan.{event_count}
-use Rattle.wire_types.specs.Fences.{arrivals, collects, is_full, is_collecting, has_node}
+use Rattle.wire_runs.specs.Plan.{event_count}
+use Rattle.wire_runs.specs.Fences.{arrivals, collects, is_full, is_collecting, has_node}
 use Rattle.wire_types.specs.declared.Call.{Call}
 use Rattle.wire_types.specs.declared.Call.TheVariants.{Fence}
 use Rattle.wire_rehearsal.specs.Scripts.{Scripts, IsSound, calls_in, call_at, set_at}

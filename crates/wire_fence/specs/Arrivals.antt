@@ -1,7 +1,7 @@
 -- Who has arrived at the fences, in a cut: so many events of each process are done.
 use Rattle.std.specs.Prelude.{◌≡◌, ℕ, suc, ◌+◌, ◌-◌, List, Bool, true, Some, length, count_by, nat_le, set, slice_index_or}
-use Rattle.wire_types.specs.Plan.{Arrive, event_at}
-use Rattle.wire_types.specs.Fences.{arrivals, is_member}
+use Rattle.wire_runs.specs.Plan.{Arrive, event_at}
+use Rattle.wire_runs.specs.Fences.{arrivals, is_member}
 use Rattle.wire_rehearsal.specs.Scripts.{Scripts}
 use Rattle.wire_rehearsal.specs.Planned.{plan_of}
 use Rattle.wire_fence.specs.Fences.{FenceInfo, FenceTable, fence_at}

@@ -1,7 +1,7 @@
 -- The fences of scripts (PMIx Standard 5.0, PMIx_Fence).
 -- A fence is a set of processes and a number j: it is the j-th fence call of each member over that set.
 use Rattle.std.specs.Prelude.{◌≡◌, ℕ, suc, ◌<◌, List, [], Bool, false, Option, Some, None, length, take, count_by, slice_get, slice_index_or, ◌==◌}
-use Rattle.wire_types.specs.Fences.{is_full, is_collecting, has_node}
+use Rattle.wire_runs.specs.Fences.{is_full, is_collecting, has_node}
 use Rattle.wire_types.specs.declared.Call.{Call}
 use Rattle.wire_types.specs.declared.Call.TheVariants.{Fence}
 use Rattle.wire_rehearsal.specs.Scripts.{Scripts, IsSound, calls_in, call_at, set_at}

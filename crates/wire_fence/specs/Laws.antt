@@ -1,7 +1,7 @@
 -- What holds of the counts of missing members.
 use Rattle.std.specs.Prelude.{◌≡◌, ℕ, suc, ◌<◌, List, Bool, true, false, Some, length, map, take, nat_le}
-use Rattle.wire_types.specs.Plan.{Arrive, event_at, events_of, update}
-use Rattle.wire_types.specs.Fences.{arrivals, is_member}
+use Rattle.wire_runs.specs.Plan.{Arrive, event_at, events_of, update}
+use Rattle.wire_runs.specs.Fences.{arrivals, is_member}
 use Rattle.wire_rehearsal.specs.Scripts.{Scripts, IsSound, set_at}
 use Rattle.wire_rehearsal.specs.Planned.{planned_call, plan_of}
 use Rattle.wire_fence.specs.Fences.{FenceInfo, FenceTable, AreFencesOf, fence_at, fence_count, calls_of}

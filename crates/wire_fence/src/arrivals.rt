@@ -1,8 +1,8 @@
 //! Who has arrived at the fences.
 
 ghost use Rattle.std.specs.Prelude.{◌≡◌, ◌<◌, ◌==◌, ℕ, suc, Some, length, map, IfOk, IsOkUnless};
-ghost use Rattle.wire_types.specs.Plan.{update};
-ghost use Rattle.wire_types.specs.Fences.{is_complete};
+ghost use Rattle.wire_runs.specs.Plan.{update};
+ghost use Rattle.wire_runs.specs.Fences.{is_complete};
 ghost use Rattle.wire_rehearsal.specs.Scripts.{Scripts as TheScripts};
 ghost use Rattle.wire_rehearsal.specs.Planned.{plan_of};
 ghost use Rattle.wire_fence.specs.Fences.{FenceInfo, FenceTable, AreFencesOf, fence_at};

@@ -2,7 +2,7 @@
 
 ghost use Rattle.std.specs.Prelude.{◌≡◌, ◌+◌, ◌<◌, ◌≤◌, ◌^◌, [], ℕ, map, length, slice_get, slice_index_or, OnOk, IfOk, Some};
 ghost use Rattle.wire_types.specs.declared.Call.TheVariants.{Fence as TheFence};
-ghost use Rattle.wire_types.specs.Plan.{update};
+ghost use Rattle.wire_runs.specs.Plan.{update};
 ghost use Rattle.wire_rehearsal.specs.Scripts.{Scripts, IsSound, IsCounted, numbers_of, call_at, set_at};
 ghost use Rattle.wire_fence.specs.Fences.{calls_of};
 ghost use Rattle.wire_fence.specs.Rows.{IsKeyed, HasRow, IsCalled, IsAfter, AreNumbers, AreAllNumbers, AreRead, read_to, called};

@@ -2,7 +2,7 @@
 
 ghost use Rattle.std.specs.Prelude.{◌≡◌, ◌<◌, ◌||◌, ◌==◌, ℕ, Some, false, is_some, true, [], length, map as map_list, slice_index_or, IfOk, OnOk, IsOkUnless};
 ghost use Rattle.std.specs.List.{list_all};
-ghost use Rattle.wire_types.specs.Fences.{has_node};
+ghost use Rattle.wire_runs.specs.Fences.{has_node};
 ghost use Rattle.wire_rehearsal.specs.Scripts.{Scripts as TheScripts, numbers_of, set_at};
 ghost use Rattle.wire_rehearsal.specs.Planned.{plan_of};
 ghost use Rattle.wire_procmap.specs.Map.{map_of, process_count};

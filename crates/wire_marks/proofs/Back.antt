@@ -3,10 +3,10 @@ use Rattle.std.proofs.Common.{◌≡◌, ◌⊎◌, inl, inr, ⊎_elim, ℕ, zer
 use Rattle.std.specs.Prelude.{IsSome, slice_get, option_map}
 use Rattle.std.proofs.lemmas.Option.{slice_get_within, same_Some}
 use Rattle.std.proofs.lemmas.List.{map-append, reverse-append}
-use Rattle.wire_types.specs.Plan.{Plan, Place, place_of}
+use Rattle.wire_runs.specs.Plan.{Plan, Place, place_of}
 use Rattle.wire_types.specs.declared.place.Event.{Event}
-use Rattle.wire_plan.specs.Order.{Before}
-use Rattle.wire_plan.specs.Fate.{IsIn}
+use Rattle.wire_runs.specs.Order.{Before}
+use Rattle.wire_runs.specs.Fate.{IsIn}
 use Rattle.wire_plan.specs.Index.{AreSources}
 use Rattle.wire_marks.specs.Clocks.{LeadsTo}
 use Rattle.wire_marks.specs.Shown.{AtMost, IsStepBack, IsShown, begins, goes_on, IsLowest, Lowest}

@@ -1,20 +1,19 @@
 -- One more event is marked.
-use Rattle.std.proofs.Common.{◌≡◌, ◌⊎◌, ◌↔◌, inl, inr, get_or, ℕ, zero, suc, ◌-◌, ◌<◌, ◌≤◌, List, [], ◌∷◌, ◌++◌, Vec, true, Option, Some, None, length, slice_index, slice_set, refl, sym, ap, ◌∙◌, subst, arith, length-append, length-set}
+use Rattle.std.proofs.Common.{◌≡◌, ◌⊎◌, ◌↔◌, inl, inr, ℕ, zero, suc, ◌-◌, ◌^◌, ◌<◌, ◌≤◌, [], ◌∷◌, true, max, Option, Some, None, length, slice_index, refl, sym, ap, ◌∙◌, subst, arith, length-append}
 use Rattle.std.specs.Prelude.{slice_get}
-use Rattle.std.specs.declared.alloc.Global.{Global}
 use Rattle.std.proofs.lemmas.Bool.{cases_eq, cases_lt, true≢false}
-use Rattle.std.proofs.lemmas.Option.{slice_get_past, slice_get_read}
-use Rattle.wire_types.specs.Plan.{Place}
-use Rattle.wire_types.specs.Plan.{Plan, Event, event, event_count, process_count, events, process_events}
-use Rattle.wire_plan.specs.Order.{Edge, may_come, Live, Before, edge, further}
-use Rattle.wire_plan.proofs.Basics.{event_within}
-use Rattle.wire_plan.proofs.Due.{live_source, live_may, place_path}
-use Rattle.wire_plan.proofs.Histories.{no_cycle, before_live}
-use Rattle.wire_marks.specs.Clocks.{items_in, items_at}
-use Rattle.wire_marks.specs.Clocks.{Clocks, marked_count, clock_at, clock_of, IsClock, AreMarks}
-use Rattle.wire_marks.specs.Marking.{IsReady, IsStuck, AreClocks, next_of, IsStuckAt, IsNextClock, sum_to, left, Adds}
+use Rattle.std.proofs.lemmas.Option.{slice_get_past, slice_get_within, same_Some}
+use Rattle.wire_runs.specs.Plan.{Place}
+use Rattle.wire_runs.specs.Plan.{Plan, Event, event, event_count, process_count, events, process_events}
+use Rattle.wire_runs.specs.Order.{Edge, may_come, Live, Before, edge, further}
+use Rattle.wire_runs.proofs.Basics.{event_within}
+use Rattle.wire_runs.proofs.Due.{live_source, live_may, place_path}
+use Rattle.wire_runs.proofs.Histories.{no_cycle, before_live}
+use Rattle.wire_marks.specs.Clocks.{items_at}
+use Rattle.wire_marks.specs.Clocks.{Clocks, marked_count, number_at, base_at, own_of, clock_over, clock_of, IsClock, AreMarks}
+use Rattle.wire_marks.specs.Marking.{IsReady, IsStuck, AreBased, AreClocks, next_of, IsStuckAt, IsNextBase, sum_to, left, IsGrown, Adds}
 use Rattle.wire_marks.proofs.Marking.{ready_live, live_marked, clock_step, leads_on}
-use Rattle.wire_marks.proofs.Tables.{slice_get-set_same, slice_get-set_other, slice_get-append_left, slice_get-append_last}
+use Rattle.wire_marks.proofs.Tables.{slice_get-append_left, slice_get-append_last}
 
 -- what may come is an event of the plan
 come_event : (plan : Plan) (y : Place) (o : Option Event) → may_come plan y o ≡ true → (e : Event) × (o ≡ Some e)
@@ -31,9 +30,57 @@ event_process plan p i lt = elim (cases_lt p (process_count plan)) [
   | inr ge ↦ absurd (let past = slice_get_past plan.processes p ge in let e : length (process_events (slice_get plan.processes p)) ≡ 0 = rw past refl in omega (arith, lt, e))
 ]
 
-module _ (plan : Plan) (old new : Clocks) (p : ℕ) (clock : List ℕ) (there : p < process_count plan) (sound : AreClocks plan old) (next : IsNextClock plan old p clock) (adds : Adds old new p clock) where
+-- a process with a next event is one of the plan's
+pub next_there : (plan : Plan) (clocks : Clocks) (p n : ℕ) → IsNextBase plan clocks p n → p < process_count plan
+next_there plan clocks p n next = event_process plan p (marked_count clocks p) (come_within plan (next_of clocks p) next.ready.comes)
+
+-- the same clock
+pub same_clock : (plan : Plan) (y : Place) (c d : ℕ → ℕ) → ((q : ℕ) → d q ≡ c q) → IsClock plan y c → IsClock plan y d
+same_clock plan y c d same h = record {
+  only = λ x lt. h.only x (let e = same x.proc in omega (arith, lt, e));
+  all = λ x l. let e = same x.proc in let lt = h.all x l in omega (arith, lt, e);
+}
+
+-- what is marked keeps its clock, and a base its numbers
+pub record Keeps (old new : Clocks) : Type 0 where
+  pub marked : (y : Place) → y.at < marked_count old y.proc → y.at < marked_count new y.proc
+  pub clocks : (y : Place) → y.at < marked_count old y.proc → (q : ℕ) → clock_of new y q ≡ clock_of old y q
+  pub more : length old.bases.items ≤ length new.bases.items
+  pub bases : (n : ℕ) → n < length old.bases.items → items_at new.bases.items n ≡ items_at old.bases.items n
+
+module _ (old new : Clocks) (based : AreBased old) (grown : IsGrown old new) where
+  pub count_grown : (p : ℕ) → marked_count new p ≡ marked_count old p
+  count_grown p = ap (λ ns. length (items_at ns p)) grown.numbers
+
+  number_grown : (y : Place) → number_at new y ≡ number_at old y
+  number_grown y = ap (λ ns. slice_get (items_at ns y.proc) y.at) grown.numbers
+
+  over_grown : (y : Place) (q : ℕ) (o : Option ℕ) → number_at old y ≡ o → clock_over new y o q ≡ clock_over old y o q
+  over_grown y q None e = refl
+  over_grown y q (Some n) e = ap (λ b. max (slice_index b q) (own_of y q)) (grown.bases n (based.there y n e))
+
+  pub clock_grown : (y : Place) (q : ℕ) → clock_of new y q ≡ clock_of old y q
+  clock_grown y q = ap (λ o. clock_over new y o q) (number_grown y) ∙ over_grown y q (number_at old y) refl
+
+  pub grown_keeps : Keeps old new
+  grown_keeps = record {
+    marked = λ y lt. let e = count_grown y.proc in omega (arith, lt, e);
+    clocks = λ y lt q. clock_grown y q;
+    more = grown.more;
+    bases = grown.bases;
+  }
+
+  pub sound_grown : (plan : Plan) → AreClocks plan old → AreBased new → AreClocks plan new
+  sound_grown plan sound still = record {
+    processes = ap length grown.numbers ∙ sound.processes;
+    based = still;
+    live = λ y lt. sound.live y (let e = count_grown y.proc in omega (arith, lt, e));
+    told = λ y lt. same_clock plan y (clock_of old y) (clock_of new y) (λ q. clock_grown y q) (sound.told y (let e = count_grown y.proc in omega (arith, lt, e)));
+  }
+
+module _ (plan : Plan) (old new : Clocks) (p n : ℕ) (there : p < process_count plan) (sound : AreClocks plan old) (next : IsNextBase plan old p n) (adds : Adds old new p n) where
   count_here : marked_count new p ≡ suc (marked_count old p)
-  count_here = rw adds.here.2 (omega (arith, length-append (items_at old p) (adds.here.0 ∷ [])))
+  count_here = rw adds.here (omega (arith, length-append (items_at old.numbers.items p) (n ∷ [])))
 
   count_other : (q : ℕ) → (q ≡ p → ⊥) → marked_count new q ≡ marked_count old q
   count_other q ne = ap length (adds.others q ne)
@@ -50,7 +97,7 @@ module _ (plan : Plan) (old new : Clocks) (p : ℕ) (clock : List ℕ) (there : 
     | inr ne ↦ let c = count_other y.proc ne in inl (omega (arith, c, lt))
   ]
 
-  pub marked_up : (y : Place) → y.at < marked_count old y.proc → y.at < marked_count new y.proc
+  marked_up : (y : Place) → y.at < marked_count old y.proc → y.at < marked_count new y.proc
   marked_up y lt = elim (cases_eq y.proc p) [
     | inl e ↦
         let now : marked_count new y.proc ≡ suc (marked_count old p) = rw e count_here in
@@ -59,39 +106,69 @@ module _ (plan : Plan) (old new : Clocks) (p : ℕ) (clock : List ℕ) (there : 
     | inr ne ↦ let c = count_other y.proc ne in omega (arith, c, lt)
   ]
 
-  clock_here : clock_at new (next_of old p) ≡ clock
-  clock_here = ap (λ cs. items_in (slice_get cs (marked_count old p))) adds.here.2 ∙ (ap items_in (slice_get-append_last (items_at old p) adds.here.0 (marked_count old p) refl) ∙ adds.here.1)
+  number_here : number_at new (next_of old p) ≡ Some n
+  number_here = ap (λ ns. slice_get ns (marked_count old p)) adds.here ∙ slice_get-append_last (items_at old.numbers.items p) n (marked_count old p) refl
 
-  pub clock_kept : (y : Place) → y.at < marked_count old y.proc → clock_at new y ≡ clock_at old y
-  clock_kept y lt = elim (cases_eq y.proc p) [
+  number_kept : (y : Place) → y.at < marked_count old y.proc → number_at new y ≡ number_at old y
+  number_kept y lt = elim (cases_eq y.proc p) [
     | inl e ↦
         let lt' : y.at < marked_count old p = subst (λ q. y.at < marked_count old q) e lt in
-        subst (λ q. items_at (items_at new q) y.at ≡ items_at (items_at old q) y.at) (sym e)
-        (ap (λ cs. items_at cs y.at) adds.here.2 ∙ ap items_in (slice_get-append_left (items_at old p) (adds.here.0 ∷ []) y.at lt'))
-    | inr ne ↦ ap (λ cs. items_at cs y.at) (adds.others y.proc ne)
+        subst (λ q. slice_get (items_at new.numbers.items q) y.at ≡ slice_get (items_at old.numbers.items q) y.at) (sym e)
+        (ap (λ ns. slice_get ns y.at) adds.here ∙ slice_get-append_left (items_at old.numbers.items p) (n ∷ []) y.at lt')
+    | inr ne ↦ ap (λ ns. slice_get ns y.at) (adds.others y.proc ne)
   ]
+
+  over_kept : (y : Place) (q : ℕ) (o : Option ℕ) → clock_over new y o q ≡ clock_over old y o q
+  over_kept y q None = refl
+  over_kept y q (Some m) = ap (λ bases. max (slice_index (items_at bases m) q) (own_of y q)) adds.bases
+
+  clock_kept : (y : Place) → y.at < marked_count old y.proc → (q : ℕ) → clock_of new y q ≡ clock_of old y q
+  clock_kept y lt q = ap (λ o. clock_over new y o q) (number_kept y lt) ∙ over_kept y q (number_at old y)
+
+  clock_here : (q : ℕ) → clock_of new (next_of old p) q ≡ max (base_at old n q) (own_of (next_of old p) q)
+  clock_here q = ap (λ o. clock_over new (next_of old p) o q) number_here ∙ over_kept (next_of old p) q (Some n)
 
   next_live : Live plan (next_of old p)
   next_live = ready_live plan (marked_count old) (next_of old p) sound.live next.ready
 
-  next_told : IsClock plan (next_of old p) (λ q. slice_index clock q)
-  next_told = clock_step plan (clock_of old) (next_of old p) (λ q. slice_index clock q) next_live (λ z e. sound.told z (next.ready.sources z e)) next.joins
+  next_told : IsClock plan (next_of old p) (λ q. max (base_at old n q) (own_of (next_of old p) q))
+  next_told = clock_step plan (clock_of old) (next_of old p) (base_at old n) next_live (λ z e. sound.told z (next.ready.sources z e)) next.base
+
+  based_added : AreBased new
+  based_added = record {
+    there = λ y m e. subst (λ bases. m < length bases) (sym adds.bases) (elim (was_or_next y (slice_get_within (items_at new.numbers.items y.proc) y.at m e)) [
+      | inl was ↦ sound.based.there y m (sym (number_kept y was) ∙ e)
+      | inr is ↦ let same : n ≡ m = same_Some _ _ (sym number_here ∙ (ap (number_at new) (sym is) ∙ e)) in let lt = next.there in omega (arith, lt, same)
+    ]);
+    widths = λ m. subst (λ bases. length (items_at bases m) ≤ length new.numbers.items) (sym adds.bases) (let w = sound.based.widths m in let same = adds.same in omega (arith, w, same));
+    first = ap (λ bases. items_at bases 0) adds.bases ∙ sound.based.first;
+    some = subst (λ bases. 0 < length bases) (sym adds.bases) sound.based.some;
+    few = λ q. elim (cases_eq q p) [
+      | inl e ↦ subst (λ k. marked_count new k < 2 ^ 32) (sym e) (let here = count_here in let few = next.few in omega (arith, here, few))
+      | inr ne ↦ let c = count_other q ne in let few = sound.based.few q in omega (arith, c, few)
+    ];
+  }
 
   pub sound_added : AreClocks plan new
   sound_added = record {
     processes = adds.same ∙ sound.processes;
+    based = based_added;
     live = λ y lt. elim (was_or_next y lt) [
       | inl was ↦ sound.live y was
       | inr is ↦ subst (λ z. Live plan z) (sym is) next_live
     ];
-    widths = λ y lt. elim (was_or_next y lt) [
-      | inl was ↦ rw (clock_kept y was) (sound.widths y was)
-      | inr is ↦ subst (λ z. length (clock_at new z) ≡ process_count plan) (sym is) (rw clock_here next.width)
-    ];
     told = λ y lt. elim (was_or_next y lt) [
-      | inl was ↦ subst (λ c. IsClock plan y (λ q. slice_index c q)) (sym (clock_kept y was)) (sound.told y was)
-      | inr is ↦ subst (λ z. IsClock plan z (clock_of new z)) (sym is) (subst (λ c. IsClock plan (next_of old p) (λ q. slice_index c q)) (sym clock_here) next_told)
+      | inl was ↦ same_clock plan y (clock_of old y) (clock_of new y) (clock_kept y was) (sound.told y was)
+      | inr is ↦ subst (λ z. IsClock plan z (clock_of new z)) (sym is) (same_clock plan (next_of old p) (λ q. max (base_at old n q) (own_of (next_of old p) q)) (clock_of new (next_of old p)) clock_here next_told)
     ];
+  }
+
+  pub added_keeps : Keeps old new
+  added_keeps = record {
+    marked = marked_up;
+    clocks = clock_kept;
+    more = let e : length new.bases.items ≡ length old.bases.items = ap length adds.bases in omega (arith, e);
+    bases = λ m lt. ap (λ bases. items_at bases m) adds.bases;
   }
 
   sum_same : (n : ℕ) (f g : ℕ → ℕ) → ((q : ℕ) → q < n → g q ≡ f q) → sum_to n g ≡ sum_to n f
@@ -114,6 +191,13 @@ module _ (plan : Plan) (old new : Clocks) (p : ℕ) (clock : List ℕ) (there : 
       let here = count_here in
       sum_falls (process_count plan) _ _ there (omega (arith, within, here)) (λ q ne. ap (λ n. event_count plan q - n) (count_other q ne))
 
+-- what is left is told by what is marked
+pub left_same : (plan : Plan) (old new : Clocks) → new.numbers.items ≡ old.numbers.items → left plan new ≡ left plan old
+left_same plan old new same = ap (λ ns. sum_to (process_count plan) (λ p. event_count plan p - length (items_at ns p))) same
+
+pub stuck_same : (plan : Plan) (old new : Clocks) (p : ℕ) → new.numbers.items ≡ old.numbers.items → IsStuckAt plan old p → IsStuckAt plan new p
+stuck_same plan old new p same stuck = subst (λ ns. IsReady plan (λ q. length (items_at ns q)) (record { proc = p; at = length (items_at ns p) }) → ⊥) (sym same) stuck
+
 -- where no process of the plan has a ready event, the marks are whole
 pub marks_whole : (plan : Plan) (clocks : Clocks) → AreClocks plan clocks → ((p : ℕ) → p < process_count plan → IsStuckAt plan clocks p) → AreMarks plan clocks
 marks_whole plan clocks sound stuck = record { live = λ y. (sound.live y, all_marked y); told = λ y l. sound.told y (all_marked y l) }
@@ -126,12 +210,16 @@ marks_whole plan clocks sound stuck = record { live = λ y. (sound.live y, all_m
     all_marked : (y : Place) → Live plan y → y.at < marked_count clocks y.proc
     all_marked y l = live_marked plan (marked_count clocks) none_ready l
 
+-- an event that isn't marked counts none
+pub clock_past : (clocks : Clocks) (y : Place) (q : ℕ) → marked_count clocks y.proc ≤ y.at → clock_of clocks y q ≡ 0
+clock_past clocks y q ge = ap (λ o. clock_over clocks y o q) (slice_get_past (items_at clocks.numbers.items y.proc) y.at ge)
+
 -- what the clock says, for two places
 pub before_told : (plan : Plan) (clocks : Clocks) (x y : Place) → AreMarks plan clocks → (x ≡ y → ⊥) → x.at < clock_of clocks y x.proc → Before plan x y
 before_told plan clocks x y m ne lt =
     let marked : y.at < marked_count clocks y.proc = elim (cases_lt y.at (marked_count clocks y.proc)) [
       | inl h ↦ h
-      | inr ge ↦ absurd (let past = slice_get_past (items_at clocks y.proc) y.at ge in let e : clock_of clocks y x.proc ≡ 0 = rw past refl in omega (arith, lt, e))
+      | inr ge ↦ absurd (let e = clock_past clocks y x.proc ge in omega (arith, lt, e))
     ] in
     elim ((m.told y ((m.live y).0 marked)).only x lt) [ inl e ↦ absurd (ne e) | inr b ↦ b ]
 
@@ -147,14 +235,6 @@ never_self plan x y e b = no_cycle (before_live b) (subst (λ z. Before plan x z
 
 pub before_iff : (plan : Plan) (clocks : Clocks) (x y : Place) → AreMarks plan clocks → (x ≡ y → ⊥) → (x.at < clock_of clocks y x.proc) ↔ Before plan x y
 before_iff plan clocks x y m ne = (before_told plan clocks x y m ne, λ b. before_tells plan clocks x y m (after_live b) b)
-
--- a clock is pushed
-pub adds_push : (xs : Clocks) (p : ℕ) (was now : Vec (Vec ℕ Global) Global) (clock : Vec ℕ Global) → p < length xs → was ≡ get_or xs p was → now.items ≡ was.items ++ clock ∷ [] → Adds xs (slice_set xs p now) p clock.items
-adds_push xs p was now clock lt is push = record {
-  same = length-set xs p now;
-  here = (clock, refl, ap items_in (slice_get-set_same xs p now lt) ∙ (push ∙ ap (λ cs. cs ++ clock ∷ []) (sym (ap items_in (slice_get_read xs (length xs) p was refl lt is)))));
-  others = λ q ne. ap items_in (slice_get-set_other xs p q now ne);
-}
 
 sum_le : (n : ℕ) (f g : ℕ → ℕ) → ((q : ℕ) → g q ≤ f q) → sum_to n g ≤ sum_to n f
 sum_le zero f g le = omega arith

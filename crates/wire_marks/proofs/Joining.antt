@@ -1,31 +1,32 @@
--- The clock of the next event, from the clocks of its sources, those of a fence's arrivals joined before.
-use Rattle.std.proofs.Common.{◌≡◌, ◌⊎◌, inl, inr, ℕ, zero, suc, ◌+◌, ◌<◌, ◌≤◌, List, [], ◌∷◌, ◌++◌, true, Option, Some, None, length, slice_index, slice_set, max, refl, sym, ap, ◌∙◌, subst, arith, length-set, get_or-set_same, get_or-set_other}
+-- A base of the next event, from its sources: those of a fence's arrivals are joined into one.
+use Rattle.std.proofs.Common.{◌≡◌, ◌⊎◌, inl, inr, ℕ, zero, suc, ◌+◌, ◌<◌, ◌≤◌, ◌^◌, List, [], ◌∷◌, ◌++◌, true, Option, Some, None, length, slice_index, slice_set, max, refl, sym, ap, ◌∙◌, subst, arith}
 use Rattle.std.specs.Prelude.{slice_get, option_to_list}
 use Rattle.std.proofs.lemmas.Bool.{cases_eq, cases_lt}
-use Rattle.std.proofs.lemmas.Option.{slice_get_within, slice_get_past, same_Some}
-use Rattle.wire_types.specs.Plan.{Plan, Place, Leave, event, process_count}
-use Rattle.wire_types.specs.Fences.{arrivals, arrivals_with}
+use Rattle.std.proofs.lemmas.Option.{slice_get_within, same_Some}
+use Rattle.wire_runs.specs.Plan.{Plan, Place, Leave, event, process_count}
+use Rattle.wire_runs.specs.Fences.{arrivals, arrivals_with, is_member}
 use Rattle.wire_rehearsal.specs.Scripts.{Scripts}
 use Rattle.wire_rehearsal.specs.Planned.{plan_of}
 use Rattle.wire_fence.specs.Fences.{FenceInfo, FenceTable, fence_at}
-use Rattle.wire_fence.specs.declared.table.FenceId.{FenceId}
-use Rattle.wire_plan.specs.Order.{Edge, IsArrival, may_come}
-use Rattle.wire_plan.specs.Index.{AreSources, AreArrivals, previous_at, previous_of}
+use Rattle.wire_runs.specs.Order.{Edge, IsArrival, may_come}
+use Rattle.wire_plan.specs.Index.{AreSources, AreArrivals, Stored, Published, Awaits, IsAwaited, previous_at, previous_of}
 use Rattle.wire_plan.specs.Meetings.{members_of}
 use Rattle.wire_marks.specs.declared.joins.Meeting.{Meeting}
-use Rattle.wire_marks.specs.Clocks.{Clocks, items_at, marked_count, clock_at, clock_of}
-use Rattle.wire_marks.specs.Marking.{AreClocks, next_of, IsNextClock, Adds, source_clock}
-use Rattle.wire_marks.specs.Meeting.{AreMarked, IsJoin, IsMeeting, HasJoinedNobody, AreWide, AreMeetings, AreGrowing, AreAdded, AreArrivalsAt, IsEndOf, AreJoined, met_clock}
+use Rattle.wire_marks.specs.Clocks.{Clocks, items_at, marked_count, number_at, base_at, own_of, clock_of, LeadsTo}
+use Rattle.wire_marks.specs.Marking.{AreBased, AreClocks, IsReady, IsBase, next_of, IsNextBase, IsGrown, Adds, number_or_first, number_before, Counts, IsRaised}
+use Rattle.wire_marks.specs.Meeting.{AreMarked, IsJoin, IsJoined, IsMeeting, IsMeetingAt, IsEmpty, AreMeetings, AreGrowing, AreAdded, AreOthersKept, IsEnd}
 use Rattle.wire_marks.proofs.Tables.{slice_get-set_same, slice_get-set_other}
 use Rattle.wire_marks.proofs.Same.{at_head, same_places}
-use Rattle.wire_marks.proofs.Growing.{sound_added, clock_kept, marked_up}
+use Rattle.wire_marks.proofs.Marking.{own_rises, leads_through}
+use Rattle.wire_marks.proofs.Growing.{Keeps, grown_keeps, added_keeps, sound_added, count_grown}
+use Rattle.wire_marks.proofs.Leaving.{leave_after}
 
 -- one more place is joined
-pub join_step : (clocks : Clocks) (places : List Place) (k : ℕ) (x : Place) (old new : List ℕ) → slice_get places k ≡ Some x → IsJoin clocks places k old → ((q : ℕ) → slice_index new q ≡ max (slice_index old q) (clock_of clocks x q)) → IsJoin clocks places (k + 1) new
+pub join_step : (clocks : Clocks) (places : List Place) (k : ℕ) (x : Place) (old new : ℕ → ℕ) → slice_get places k ≡ Some x → IsJoin clocks places k old → ((q : ℕ) → new q ≡ max (old q) (clock_of clocks x q)) → IsJoin clocks places (k + 1) new
 join_step clocks places k x old new at join each = record {
   from = λ q m lt.
       let e = each q in
-      elim (cases_lt m (slice_index old q)) [
+      elim (cases_lt m (old q)) [
         | inl was ↦ let w = join.from q m was in let lk = w.2 in (w.0, w.1, omega (arith, lk), w.3, w.4)
         | inr ge ↦ (k, x, omega arith, at, omega (arith, e, lt, ge))
       ];
@@ -34,77 +35,99 @@ join_step clocks places k x old new at join each = record {
       elim (cases_eq j k) [
         | inl same ↦
             let is : x ≡ z = same_Some _ _ (sym at ∙ subst (λ i. slice_get places i ≡ Some z) same h) in
-            subst (λ y. clock_of clocks y q ≤ slice_index new q) is (omega (arith, e))
+            subst (λ y. clock_of clocks y q ≤ new q) is (omega (arith, e))
         | inr ne ↦ let c = join.covers q j z (omega arith) h in omega (arith, e, c)
       ];
 }
 
-marked_step : (clocks : Clocks) (places : List Place) (k : ℕ) (x : Place) → slice_get places k ≡ Some x → x.at < marked_count clocks x.proc → AreMarked clocks places k → AreMarked clocks places (k + 1)
+pub marked_step : (clocks : Clocks) (places : List Place) (k : ℕ) (x : Place) → slice_get places k ≡ Some x → x.at < marked_count clocks x.proc → AreMarked clocks places k → AreMarked clocks places (k + 1)
 marked_step clocks places k x at there marked = λ j z lt h. elim (cases_eq j k) [
   | inl same ↦ subst (λ v. v.at < marked_count clocks v.proc) (same_Some _ _ (sym at ∙ subst (λ i. slice_get places i ≡ Some z) same h)) there
   | inr ne ↦ marked j z (omega arith) h
 ]
 
--- one more arrival is met
-pub meeting_step : (clocks : Clocks) (places : List Place) (x : Place) (was now : Meeting) → slice_get places was.count ≡ Some x → x.at < marked_count clocks x.proc → now.count ≡ was.count + 1 → ((q : ℕ) → slice_index now.clock.items q ≡ max (slice_index was.clock.items q) (clock_of clocks x q)) → IsMeeting clocks places was → IsMeeting clocks places now
-meeting_step clocks places x was now at there count each h = record {
-  marked = subst (λ n. AreMarked clocks places n) (sym count) (marked_step clocks places was.count x at there h.marked);
-  join = subst (λ n. IsJoin clocks places n now.clock.items) (sym count) (join_step clocks places was.count x was.clock.items now.clock.items at h.join each);
-}
-
-nobody_met : (clocks : Clocks) (places : List Place) (meeting : Meeting) → HasJoinedNobody meeting → IsMeeting clocks places meeting
+-- nobody is met
+pub nobody_met : (clocks : Clocks) (places : List Place) (meeting : Meeting) → IsEmpty meeting → IsMeeting clocks places meeting
 nobody_met clocks places meeting fresh = record {
   marked = λ k z lt h. absurd (let e = fresh.nobody in omega (arith, lt, e));
-  join = record {
-    from = λ q m lt. absurd (let e = fresh.zeros q in omega (arith, lt, e));
-    covers = λ q k z lt h. absurd (let e = fresh.nobody in omega (arith, lt, e));
-  };
+  joined = λ n e. absurd (let none = sym fresh.none ∙ e in cc);
 }
 
-pub still_meetings : (plan : Plan) (table : FenceTable) (clocks : Clocks) (old new : List Meeting) → AreAdded old new → AreMeetings plan table clocks old → AreMeetings plan table clocks new
-still_meetings plan table clocks old new added h = λ n info meeting places f g a. elim (added.each n meeting g) [
-  | inl was ↦ h n info meeting places f was a
-  | inr fresh ↦ nobody_met clocks places meeting fresh
-]
+-- what is kept of a fence stays right
+pub marked_kept : (old new : Clocks) (places : List Place) (n : ℕ) → Keeps old new → AreMarked old places n → AreMarked new places n
+marked_kept old new places n keeps h = λ k z lt e. keeps.marked z (h k z lt e)
 
--- the meeting of one fence has gone on
-pub met_on : (plan : Plan) (table : FenceTable) (clocks : Clocks) (number : ℕ) (info : FenceInfo) (places : List Place) (meetings : List Meeting) (was now : Meeting) → fence_at table number ≡ Some info → AreArrivals plan info.members info.nth places → number < length meetings → slice_get meetings number ≡ Some was → (IsMeeting clocks places was → IsMeeting clocks places now) → AreMeetings plan table clocks meetings → AreMeetings plan table clocks (slice_set meetings number now)
-met_on plan table clocks number info places meetings was now is are there before kept h = λ n other meeting others f g a. elim (cases_eq n number) [
+joined_kept : (old new : Clocks) (places : List Place) (n : ℕ) → Keeps old new → IsJoined old places n → IsJoined new places n
+joined_kept old new places n keeps h = record {
+  there = let lt = h.there in let more = keeps.more in omega (arith, lt, more);
+  marked = marked_kept old new places (length places) keeps h.marked;
+  join = subst (λ b. IsJoin new places (length places) (λ q. slice_index b q)) (sym (keeps.bases n h.there)) (record {
+    from = λ q m lt.
+        let w = h.join.from q m lt in
+        let e = keeps.clocks w.1 (h.marked w.0 w.1 w.2 w.3) q in
+        let at = w.4 in
+        (w.0, w.1, w.2, w.3, omega (arith, at, e));
+    covers = λ q k z lt f.
+        let e = keeps.clocks z (h.marked k z lt f) q in
+        let c = h.join.covers q k z lt f in
+        omega (arith, e, c);
+  });
+}
+
+pub meeting_kept : (old new : Clocks) (places : List Place) (meeting : Meeting) → Keeps old new → IsMeeting old places meeting → IsMeeting new places meeting
+meeting_kept old new places meeting keeps h = record {
+  marked = marked_kept old new places meeting.count keeps h.marked;
+  joined = λ n e. joined_kept old new places n keeps (h.joined n e);
+}
+
+-- all arrivals are joined into a base of their own
+pub joined_new : (old new : Clocks) (places : List Place) (n : ℕ) (base : List ℕ) → Keeps old new → n < length new.bases.items → items_at new.bases.items n ≡ base → AreMarked old places (length places) → IsJoin old places (length places) (λ q. slice_index base q) → IsJoined new places n
+joined_new old new places n base keeps there here marked join = record {
+  there = there;
+  marked = marked_kept old new places (length places) keeps marked;
+  join = subst (λ b. IsJoin new places (length places) (λ q. slice_index b q)) (sym here) (record {
+    from = λ q m lt.
+        let w = join.from q m lt in
+        let e = keeps.clocks w.1 (marked w.0 w.1 w.2 w.3) q in
+        let at = w.4 in
+        (w.0, w.1, w.2, w.3, omega (arith, at, e));
+    covers = λ q k z lt f.
+        let e = keeps.clocks z (marked k z lt f) q in
+        let c = join.covers q k z lt f in
+        omega (arith, e, c);
+  });
+}
+
+-- what is kept of a fence, with the base that was made
+pub meeting_joined : (clocks : Clocks) (places : List Place) (was now : Meeting) (n : ℕ) → now.count ≡ was.count → now.base ≡ Some n → AreMarked clocks places was.count → IsJoined clocks places n → IsMeeting clocks places now
+meeting_joined clocks places was now n count base marked joined = record {
+  marked = subst (λ k. AreMarked clocks places k) (sym count) marked;
+  joined = λ m e. subst (λ k. IsJoined clocks places k) (same_Some _ _ (sym base ∙ e)) joined;
+}
+
+-- the meeting of one fence has gone on, and the others are kept
+pub meetings_on : (plan : Plan) (table : FenceTable) (old new : Clocks) (was now : List Meeting) (number : ℕ) (info : FenceInfo) (places : List Place) → Keeps old new → fence_at table number ≡ Some info → AreArrivals plan info.members info.nth places → IsMeetingAt new now number places → AreOthersKept was now number → AreMeetings plan table old was → AreMeetings plan table new now
+meetings_on plan table old new was now number info places keeps is are here others h = λ n other list f a meeting g. elim (cases_eq n number) [
   | inl e ↦
       let same_info : info ≡ other = same_Some _ _ (sym is ∙ subst (λ k. fence_at table k ≡ Some other) e f) in
-      let same_meeting : now ≡ meeting = same_Some _ _ (sym (slice_get-set_same meetings number now there) ∙ subst (λ k. slice_get (slice_set meetings number now) k ≡ Some meeting) e g) in
-      let same_list : places ≡ others = same_places (IsArrival plan info.members info.nth) places others are (subst (λ i. AreArrivals plan i.members i.nth others) (sym same_info) a) in
-      subst (λ m. IsMeeting clocks others m) same_meeting (subst (λ l. IsMeeting clocks l now) same_list (kept (h number info was places is before are)))
-  | inr ne ↦ h n other meeting others f (sym (slice_get-set_other meetings number n now ne) ∙ g) a
+      let same_list : places ≡ list = same_places (IsArrival plan info.members info.nth) places list are (subst (λ i. AreArrivals plan i.members i.nth list) (sym same_info) a) in
+      subst (λ l. IsMeeting new l meeting) same_list (here meeting (subst (λ k. slice_get now k ≡ Some meeting) e g))
+  | inr ne ↦ elim (others n meeting ne g) [
+    | inl kept ↦ meeting_kept old new list meeting keeps (h n other list f a meeting kept)
+    | inr fresh ↦ nobody_met new list meeting fresh
+  ]
 ]
 
--- what is kept of the fences stays right when an event is marked
-pub growing_added : (plan : Plan) (table : FenceTable) (old new : Clocks) (meetings : List Meeting) (p : ℕ) (clock : List ℕ) → p < process_count plan → AreGrowing plan table old meetings → IsNextClock plan old p clock → Adds old new p clock → AreGrowing plan table new meetings
-growing_added plan table old new meetings p clock there growing next adds = record {
-  marked = sound_added plan old new p clock there growing.marked next adds;
-  wide = subst (λ w. AreWide w meetings) (sym adds.same) growing.wide;
-  kept = λ n info meeting places f g a.
-      let was = growing.kept n info meeting places f g a in
-      record {
-        marked = λ k z lt h. marked_up plan old new p clock there growing.marked next adds z (was.marked k z lt h);
-        join = record {
-          from = λ q m lt.
-              let w = was.join.from q m lt in
-              let kept = clock_kept plan old new p clock there growing.marked next adds w.1 (was.marked w.0 w.1 w.2 w.3) in
-              (w.0, w.1, w.2, w.3, subst (λ c. m < slice_index c q) (sym kept) w.4);
-          covers = λ q k z lt h.
-              let kept = clock_kept plan old new p clock there growing.marked next adds z (was.marked k z lt h) in
-              subst (λ c. slice_index c q ≤ slice_index meeting.clock.items q) (sym kept) (was.join.covers q k z lt h);
-        };
-      };
+-- only the clocks have changed
+pub meetings_kept : (plan : Plan) (table : FenceTable) (old new : Clocks) (meetings : List Meeting) → Keeps old new → AreMeetings plan table old meetings → AreMeetings plan table new meetings
+meetings_kept plan table old new meetings keeps h = λ n info list f a meeting g. meeting_kept old new list meeting keeps (h n info list f a meeting g)
+
+-- what is kept stays right when an event is marked
+pub growing_added : (plan : Plan) (table : FenceTable) (old new : Clocks) (meetings : List Meeting) (p n : ℕ) → p < process_count plan → AreGrowing plan table old meetings → IsNextBase plan old p n → Adds old new p n → AreGrowing plan table new meetings
+growing_added plan table old new meetings p n there growing next adds = record {
+  marked = sound_added plan old new p n there growing.marked next adds;
+  kept = meetings_kept plan table old new meetings (added_keeps plan old new p n there growing.marked next adds) growing.kept;
 }
-
--- no clock is wider than the plan
-pub clock_fits : (plan : Plan) (clocks : Clocks) → AreClocks plan clocks → (y : Place) → length (clock_at clocks y) ≤ length clocks
-clock_fits plan clocks sound y = elim (cases_lt y.at (marked_count clocks y.proc)) [
-  | inl lt ↦ let w = sound.widths y lt in let n = sound.processes in omega (arith, w, n)
-  | inr ge ↦ let past = slice_get_past (items_at clocks y.proc) y.at ge in let e : length (clock_at clocks y) ≡ 0 = rw past refl in omega (arith, e)
-]
 
 -- the three parts of a list of sources
 pub awaited_edge : (plan : Plan) (y : Place) (previous awaited : Option Place) (xs : List Place) → AreSources plan y (option_to_list previous ++ (option_to_list awaited ++ xs)) → (z : Place) → awaited ≡ Some z → Edge plan z y
@@ -146,98 +169,202 @@ previous_is p (suc i) z e = let same = same_Some _ _ e in (ap (λ (v : Place). v
 previous_marked : (clocks : Clocks) (p : ℕ) (z : Place) → previous_at p (marked_count clocks p) ≡ Some z → z.at < marked_count clocks z.proc
 previous_marked clocks p z e = let h = previous_is p _ z e in subst (λ q. z.at < marked_count clocks q) (sym h.0) h.1
 
-above : (clocks : Clocks) (o : Option Place) (q n : ℕ) → n < slice_index (source_clock clocks o) q → (z : Place) × (o ≡ Some z) × (n < clock_of clocks z q)
-above clocks None q n lt = absurd (omega (arith, lt))
-above clocks (Some z) q n lt = (z, refl, lt)
-
-below : (clocks : Clocks) (o : Option Place) (q : ℕ) (z : Place) → o ≡ Some z → clock_of clocks z q ≤ slice_index (source_clock clocks o) q
-below clocks o q z e = rw e (omega arith)
-
--- the clock of the next event
-pub next_clock_is : (plan : Plan) (clocks : Clocks) (p : ℕ) (previous awaited : Option Place) (xs : List Place) (met clock : List ℕ) → AreClocks plan clocks → p < process_count plan → may_come plan (next_of clocks p) (event plan (next_of clocks p)) ≡ true → AreSources plan (next_of clocks p) (option_to_list previous ++ (option_to_list awaited ++ xs)) → previous ≡ previous_of (next_of clocks p) → ((z : Place) → awaited ≡ Some z → z.at < marked_count clocks z.proc) → AreMarked clocks xs (length xs) → IsJoin clocks xs (length xs) met → length clock ≡ process_count plan → ((q : ℕ) → slice_index clock q ≡ max (max (slice_index (source_clock clocks previous) q) (slice_index (source_clock clocks awaited) q)) (slice_index met q)) → IsNextClock plan clocks p (slice_set clock p (marked_count clocks p + 1))
-next_clock_is plan clocks p previous awaited xs met clock sound there may are before awaited_marked marked join width each = record {
-  ready = record {
-    comes = may;
-    sources = λ z e. elim (source_part plan (next_of clocks p) previous awaited xs are z e) [
-      | inl is ↦ previous_marked clocks p z (sym before ∙ is)
-      | inr other ↦ elim other [
-        | inl is ↦ awaited_marked z is
-        | inr w ↦ marked w.0 z (slice_get_within xs w.0 z w.1) w.1
-      ]
-    ];
-  };
-  width = length-set clock p (marked_count clocks p + 1) ∙ width;
-  joins = record {
-    own = let lt : p < length clock = omega arith in get_or-set_same clock p (marked_count clocks p + 1) 0 lt ∙ omega arith;
-    from = λ q n ne lt.
-        let m = each q in
-        let now : n < slice_index clock q = rw (get_or-set_other clock p q (marked_count clocks p + 1) 0 ne) at lt in
-        elim (cases_lt n (slice_index (source_clock clocks previous) q)) [
-          | inl a ↦ (let w = above clocks previous q n a in (w.0, previous_edge plan (next_of clocks p) previous awaited xs are w.0 w.1, w.2))
-          | inr not_a ↦ elim (cases_lt n (slice_index (source_clock clocks awaited) q)) [
-            | inl b ↦ (let w = above clocks awaited q n b in (w.0, awaited_edge plan (next_of clocks p) previous awaited xs are w.0 w.1, w.2))
-            | inr not_b ↦ (let w = join.from q n (omega (arith, now, m, not_a, not_b)) in (w.1, arrival_edge plan (next_of clocks p) previous awaited xs are w.0 w.1 w.3, w.4))
-          ]
-        ];
-    covers = λ q z ne e.
-        let m = each q in
-        rw (get_or-set_other clock p q (marked_count clocks p + 1) 0 ne) (elim (source_part plan (next_of clocks p) previous awaited xs are z e) [
-          | inl is ↦ (let b = below clocks previous q z is in omega (arith, b, m))
-          | inr other ↦ elim other [
-            | inl is ↦ (let b = below clocks awaited q z is in omega (arith, b, m))
-            | inr w ↦ (let b = join.covers q w.0 z (slice_get_within xs w.0 z w.1) w.1 in omega (arith, b, m))
-          ]
-        ]);
-  };
+-- the next event is ready
+pub ready_is : (plan : Plan) (clocks : Clocks) (p : ℕ) (previous awaited : Option Place) (xs : List Place) → may_come plan (next_of clocks p) (event plan (next_of clocks p)) ≡ true → AreSources plan (next_of clocks p) (option_to_list previous ++ (option_to_list awaited ++ xs)) → previous ≡ previous_of (next_of clocks p) → ((z : Place) → awaited ≡ Some z → z.at < marked_count clocks z.proc) → AreMarked clocks xs (length xs) → IsReady plan (marked_count clocks) (next_of clocks p)
+ready_is plan clocks p previous awaited xs may are before awaited_marked marked = record {
+  comes = may;
+  sources = λ z e. elim (source_part plan (next_of clocks p) previous awaited xs are z e) [
+    | inl is ↦ previous_marked clocks p z (sym before ∙ is)
+    | inr other ↦ elim other [
+      | inl is ↦ awaited_marked z is
+      | inr w ↦ marked w.0 z (slice_get_within xs w.0 z w.1) w.1
+    ]
+  ];
 }
 
--- all arrivals are joined
-pub joined_all : (plan : Plan) (table : FenceTable) (clocks : Clocks) (meetings : List Meeting) (fence : Option FenceId) (xs : List Place) → AreMeetings plan table clocks meetings → AreArrivalsAt plan table fence xs → AreJoined meetings fence (length xs) → AreMarked clocks xs (length xs) × IsJoin clocks xs (length xs) (met_clock meetings fence)
-joined_all plan table clocks meetings None xs h are joined = (
-  (λ k z lt e. absurd (let n : length xs ≡ 0 = ap length are in omega (arith, lt, n))),
-  record {
-    from = λ q m lt. absurd (omega (arith, lt));
-    covers = λ q k z lt e. absurd (let n : length xs ≡ 0 = ap length are in omega (arith, lt, n));
-  },
-)
-joined_all plan table clocks meetings (Some fence) xs h are joined =
-    let was = h fence.number are.0 joined.0 xs are.1 joined.1 are.2 in
-    let enough = joined.2 in (
-      (λ k z lt e. was.marked k z (omega (arith, lt, enough)) e),
-      rw joined.1 (record {
-        from = λ q m lt. let w = was.join.from q m lt in (w.0, w.1, slice_get_within xs w.0 w.1 w.3, w.3, w.4);
-        covers = λ q k z lt e. was.join.covers q k z (omega (arith, lt, enough)) e;
-      }),
-    )
+-- the number of the base of what is marked
+number_of : (clocks : Clocks) (z : Place) → z.at < marked_count clocks z.proc → (n : ℕ) × (number_at clocks z ≡ Some n)
+number_of clocks z lt = go (items_at clocks.numbers.items z.proc) z.at lt
+  where
+    go : (xs : List ℕ) (i : ℕ) → i < length xs → (n : ℕ) × (slice_get xs i ≡ Some n)
+    go [] i lt = absurd (omega (arith, lt))
+    go (x ∷ xs) zero lt = (x, refl)
+    go (x ∷ xs) (suc i) lt = go xs i (omega (arith, lt))
 
--- the arrivals that the sources of an event name are those of its fence
-pub arrivals_at_fence : (s : Scripts) (table : FenceTable) (y : Place) (fence : Option FenceId) (xs : List Place) → IsEndOf s table y fence → ((members : List ℕ) → event (plan_of s) y ≡ Some (Leave members) → AreArrivals (plan_of s) members (arrivals (plan_of s) y.proc members y.at) xs) → (((members : List ℕ) → event (plan_of s) y ≡ Some (Leave members) → ⊥) → xs ≡ []) → AreArrivalsAt (plan_of s) table fence xs
-arrivals_at_fence s table y None xs ends leave others = others ends
-arrivals_at_fence s table y (Some fence) xs ends leave others =
+-- what an event counts is counted by each event that counts it
+counted_below : (plan : Plan) (clocks : Clocks) (z w : Place) → AreClocks plan clocks → z.at < marked_count clocks z.proc → w.at < marked_count clocks w.proc → z.at < clock_of clocks w z.proc → (q : ℕ) → clock_of clocks z q ≤ clock_of clocks w q
+counted_below plan clocks z w sound mz mw lt q = elim (cases_lt (clock_of clocks w q) (clock_of clocks z q)) [
+  | inl less ↦ absurd (
+      let x : Place = record { proc = q; at = clock_of clocks w q } in
+      let first : LeadsTo plan x z = (sound.told z mz).only x less in
+      let second : LeadsTo plan z w = (sound.told w mw).only z lt in
+      let more = (sound.told w mw).all x (leads_through first second) in
+      omega (arith, more))
+  | inr ge ↦ ge
+]
+
+pub before_fits : (clocks : Clocks) (previous : Option Place) → AreBased clocks → number_before clocks previous < length clocks.bases.items
+before_fits clocks None based = based.some
+before_fits clocks (Some z) based = go (number_at clocks z) refl
+  where
+    go : (o : Option ℕ) → number_at clocks z ≡ o → number_or_first o < length clocks.bases.items
+    go None e = based.some
+    go (Some n) e = based.there z n e
+
+-- the base of the event before, raised to the clock of what is awaited
+pub raised_here : (clocks : Clocks) (previous : Option Place) (z : Place) (base : ℕ → ℕ) → ((q : ℕ) → base q ≡ max (base_at clocks (number_before clocks previous) q) (clock_of clocks z q)) → IsRaised clocks previous (Some z) base
+raised_here clocks previous z base each = record {
+  from = λ q n lt. elim (cases_lt n (base_at clocks (number_before clocks previous) q)) [
+    | inl was ↦ inl was
+    | inr ge ↦ inr (let e = each q in (z, refl, omega (arith, lt, e, ge)))
+  ];
+  keeps = λ q. let e = each q in omega (arith, e);
+  covers = λ w is. inr (λ q. subst (λ v. clock_of clocks v q ≤ base q) (same_Some _ _ is) (let e = each q in omega (arith, e)));
+}
+
+module _ (plan : Plan) (clocks : Clocks) (p : ℕ) (previous awaited : Option Place) (sound : AreClocks plan clocks) (are : AreSources plan (next_of clocks p) (option_to_list previous ++ (option_to_list awaited ++ []))) (before : previous ≡ previous_of (next_of clocks p)) (awaited_marked : (z : Place) → awaited ≡ Some z → z.at < marked_count clocks z.proc) (base : ℕ → ℕ) (raised : IsRaised clocks previous awaited base) where
+  previous_counted : (z : Place) → previous ≡ Some z → z.at < marked_count clocks z.proc
+  previous_counted z is = previous_marked clocks p z (sym before ∙ is)
+
+  -- the clock of the event before
+  previous_over : (z : Place) → previous ≡ Some z → (q : ℕ) → clock_of clocks z q ≡ max (base_at clocks (number_before clocks previous) q) (own_of z q)
+  previous_over z is q =
+      let m = number_of clocks z (previous_counted z is) in
+      rw (is, m.1) refl
+
+  previous_from : (o : Option Place) → previous ≡ o → (q n : ℕ) → n < base_at clocks (number_before clocks o) q → (z : Place) × Edge plan z (next_of clocks p) × (n < clock_of clocks z q)
+  previous_from None is q n lt = absurd (let none : base_at clocks 0 q ≡ 0 = ap (λ b. slice_index b q) sound.based.first in omega (arith, lt, none))
+  previous_from (Some z) is q n lt =
+      let e = subst (λ o. clock_of clocks z q ≡ max (base_at clocks (number_before clocks o) q) (own_of z q)) is (previous_over z is q) in
+      (z, previous_edge plan (next_of clocks p) previous awaited [] are z is, omega (arith, lt, e))
+
+  previous_below : (z : Place) → previous ≡ Some z → (q : ℕ) → clock_of clocks z q ≤ max (base q) (own_of (next_of clocks p) q)
+  previous_below z is q =
+      let h = previous_is p (marked_count clocks p) z (sym before ∙ is) in
+      let at : z.at < marked_count clocks p = h.1 in
+      let own = own_rises z (next_of clocks p) q h.0 (omega (arith, at)) in
+      let over = previous_over z is q in
+      let keeps = raised.keeps q in
+      omega (arith, own, over, keeps)
+
+  counted_by : (o : Option Place) → previous ≡ o → (z : Place) → awaited ≡ Some z → Counts clocks o z → (q : ℕ) → clock_of clocks z q ≤ max (base q) (own_of (next_of clocks p) q)
+  counted_by None is z w counts q = absurd counts
+  counted_by (Some v) is z w counts q =
+      let a = counted_below plan clocks z v sound (awaited_marked z w) (previous_counted v is) counts q in
+      let b = previous_below v is q in
+      omega (arith, a, b)
+
+  awaited_below : (z : Place) → awaited ≡ Some z → (q : ℕ) → clock_of clocks z q ≤ max (base q) (own_of (next_of clocks p) q)
+  awaited_below z is q = elim (raised.covers z is) [
+    | inl counts ↦ counted_by previous refl z is counts q
+    | inr le ↦ let h = le q in omega (arith, h)
+  ]
+
+  pub raised_base : IsBase plan (clock_of clocks) (next_of clocks p) base
+  raised_base = record {
+    from = λ q n lt. elim (raised.from q n lt) [
+      | inl was ↦ previous_from previous refl q n was
+      | inr w ↦ (w.0, awaited_edge plan (next_of clocks p) previous awaited [] are w.0 w.1, w.2)
+    ];
+    covers = λ q z e. elim (source_part plan (next_of clocks p) previous awaited [] are z e) [
+      | inl is ↦ previous_below z is q
+      | inr other ↦ elim other [
+        | inl is ↦ awaited_below z is q
+        | inr w ↦ absurd (let lt = slice_get_within {A = Place} [] w.0 z w.1 in omega (arith, lt))
+      ]
+    ];
+  }
+
+-- the base that a fence's arrivals are joined into
+pub joined_base : (plan : Plan) (clocks : Clocks) (y : Place) (previous awaited : Option Place) (xs : List Place) (n : ℕ) → AreSources plan y (option_to_list previous ++ (option_to_list awaited ++ xs)) → awaited ≡ None → ((z : Place) → previous ≡ Some z → (k : ℕ) × (slice_get xs k ≡ Some z)) → IsJoined clocks xs n → IsBase plan (clock_of clocks) y (base_at clocks n)
+joined_base plan clocks y previous awaited xs n are none among joined = record {
+  from = λ q m lt. let w = joined.join.from q m lt in (w.1, arrival_edge plan y previous awaited xs are w.0 w.1 w.3, w.4);
+  covers = λ q z e. elim (source_part plan y previous awaited xs are z e) [
+    | inl is ↦ below q z (among z is)
+    | inr other ↦ elim other [
+      | inl is ↦ absurd (let bad = sym none ∙ is in cc)
+      | inr w ↦ below q z w
+    ]
+  ];
+}
+  where
+    below : (q : ℕ) (z : Place) → (k : ℕ) × (slice_get xs k ≡ Some z) → clock_of clocks z q ≤ max (base_at clocks n q) (own_of y q)
+    below q z w = let c = joined.join.covers q w.0 z (slice_get_within xs w.0 z w.1) w.1 in omega (arith, c)
+
+-- the same, once bases are added
+pub next_grown : (plan : Plan) (old new : Clocks) (p n : ℕ) → AreBased old → IsGrown old new → IsReady plan (marked_count old) (next_of old p) → suc (marked_count old p) < 2 ^ 32 → n < length new.bases.items → IsBase plan (clock_of old) (next_of old p) (base_at new n) → IsNextBase plan new p n
+next_grown plan old new p n based grown ready few there base = record {
+  ready = subst (λ ns. IsReady plan (λ q. length (items_at ns q)) (record { proc = p; at = length (items_at ns p) })) (sym grown.numbers) ready;
+  few = let e = count_grown old new based grown p in omega (arith, few, e);
+  there = there;
+  base = subst (λ ns. IsBase plan (clock_of new) (record { proc = p; at = length (items_at ns p) }) (base_at new n)) (sym grown.numbers) (record {
+    from = λ q m lt.
+        let w = base.from q m lt in
+        let e = keeps.clocks w.0 (ready.sources w.0 w.1) q in
+        let at = w.2 in
+        (w.0, w.1, omega (arith, at, e));
+    covers = λ q z f.
+        let e = keeps.clocks z (ready.sources z f) q in
+        let c = base.covers q z f in
+        omega (arith, c, e);
+  });
+}
+  where
+    keeps : Keeps old new
+    keeps = grown_keeps old new based grown
+
+-- the same of a base that is one by the new clocks
+pub next_joined : (plan : Plan) (old new : Clocks) (p n : ℕ) → AreBased old → IsGrown old new → IsReady plan (marked_count old) (next_of old p) → suc (marked_count old p) < 2 ^ 32 → n < length new.bases.items → IsBase plan (clock_of new) (next_of old p) (base_at new n) → IsNextBase plan new p n
+next_joined plan old new p n based grown ready few there base = record {
+  ready = subst (λ ns. IsReady plan (λ q. length (items_at ns q)) (record { proc = p; at = length (items_at ns p) })) (sym grown.numbers) ready;
+  few = let e = count_grown old new based grown p in omega (arith, few, e);
+  there = there;
+  base = subst (λ ns. IsBase plan (clock_of new) (record { proc = p; at = length (items_at ns p) }) (base_at new n)) (sym grown.numbers) base;
+}
+
+-- the arrivals that the sources of the end of a fence name are those of that fence
+pub arrivals_at_fence : (s : Scripts) (table : FenceTable) (y : Place) (number : ℕ) (xs : List Place) → IsEnd s table y number → ((members : List ℕ) → event (plan_of s) y ≡ Some (Leave members) → AreArrivals (plan_of s) members (arrivals (plan_of s) y.proc members y.at) xs) → (info : FenceInfo) × (fence_at table number ≡ Some info) × AreArrivals (plan_of s) info.members info.nth xs
+arrivals_at_fence s table y number xs ends leave =
     let info = ends.met.fence in
     let members : info.members ≡ ends.members = ends.met.members ∙ ap members_of ends.is in
     let count : arrivals (plan_of s) y.proc info.members y.at ≡ info.nth = sym (ap (arrivals_with info.members (arrivals (plan_of s) y.proc info.members y.at)) ends.is) ∙ ends.met.nth in
     let given = subst (λ m. AreArrivals (plan_of s) m (arrivals (plan_of s) y.proc m y.at) xs) (sym members) (leave ends.members ends.is) in
     (info, ends.met.there, subst (λ n. AreArrivals (plan_of s) info.members n xs) count given)
 
--- nothing is marked, and nothing kept
-pub growing_starts : (plan : Plan) (table : FenceTable) (clocks : Clocks) → length clocks ≡ process_count plan → ((p : ℕ) → items_at clocks p ≡ []) → AreGrowing plan table clocks []
-growing_starts plan table clocks count nobody = record {
-  marked = record {
-    processes = count;
-    live = λ y lt. absurd (never y lt);
-    widths = λ y lt. absurd (never y lt);
-    told = λ y lt. absurd (never y lt);
-  };
-  wide = λ n meeting e. absurd (let lt = slice_get_within {A = Meeting} [] n meeting e in omega (arith, lt));
-  kept = λ n info meeting places f g a. absurd (let lt = slice_get_within {A = Meeting} [] n meeting g in omega (arith, lt));
-}
-  where
-    never : (y : Place) → y.at < marked_count clocks y.proc → ⊥
-    never y lt = let e : marked_count clocks y.proc ≡ 0 = ap length (nobody y.proc) in omega (arith, lt, e)
+-- the event before the end of a fence is among them
+pub previous_among : (s : Scripts) (table : FenceTable) (y : Place) (number : ℕ) (xs : List Place) (previous : Option Place) → IsEnd s table y number → ((members : List ℕ) → event (plan_of s) y ≡ Some (Leave members) → AreArrivals (plan_of s) members (arrivals (plan_of s) y.proc members y.at) xs) → previous ≡ previous_of y → (z : Place) → previous ≡ Some z → (k : ℕ) × (slice_get xs k ≡ Some z)
+previous_among s table y number xs previous ends leave before z is =
+    let members : ends.met.fence.members ≡ ends.members = ends.met.members ∙ ap members_of ends.is in
+    let member : is_member ends.members y.proc ≡ true = subst (λ m. is_member m y.proc ≡ true) members ends.met.member in
+    (leave ends.members ends.is).all z (leave_after (plan_of s) y.proc y.at ends.members z ends.is member (sym before ∙ is))
+
+-- the end of a fence awaits nothing else
+no_leave : (plan : Plan) (y z : Place) (members : List ℕ) → event plan y ≡ Some (Leave members) → Awaits plan y z → ⊥
+no_leave plan y z members is (Stored key get other once stores) = let bad = sym is ∙ get in cc
+no_leave plan y z members is (Published name get once) = let bad = sym is ∙ get in cc
+
+pub leave_awaits_none : (plan : Plan) (y : Place) (members : List ℕ) (awaited : Option Place) → event plan y ≡ Some (Leave members) → IsAwaited plan y awaited → awaited ≡ None
+leave_awaits_none plan y members None is h = refl
+leave_awaits_none plan y members (Some z) is h = absurd (no_leave plan y z members is (h.only z refl))
+
+-- a base of the next event that ends no fence
+pub next_unmet : (plan : Plan) (old new : Clocks) (p n : ℕ) (previous awaited : Option Place) → AreClocks plan old → may_come plan (next_of old p) (event plan (next_of old p)) ≡ true → AreSources plan (next_of old p) (option_to_list previous ++ (option_to_list awaited ++ [])) → previous ≡ previous_of (next_of old p) → ((z : Place) → awaited ≡ Some z → z.at < marked_count old z.proc) → suc (marked_count old p) < 2 ^ 32 → IsGrown old new → n < length new.bases.items → IsRaised old previous awaited (base_at new n) → IsNextBase plan new p n
+next_unmet plan old new p n previous awaited sound may are before marked few grown there raised =
+    next_grown plan old new p n sound.based grown
+    (ready_is plan old p previous awaited [] may are before marked (λ k z lt e. absurd (omega (arith, lt))))
+    few there
+    (raised_base plan old p previous awaited sound are before marked (base_at new n) raised)
+
+-- a base of the next event that ends a fence
+pub next_met : (s : Scripts) (table : FenceTable) (old new : Clocks) (p n number : ℕ) (previous awaited : Option Place) (xs : List Place) → AreBased old → may_come (plan_of s) (next_of old p) (event (plan_of s) (next_of old p)) ≡ true → AreSources (plan_of s) (next_of old p) (option_to_list previous ++ (option_to_list awaited ++ xs)) → previous ≡ previous_of (next_of old p) → IsAwaited (plan_of s) (next_of old p) awaited → ((members : List ℕ) → event (plan_of s) (next_of old p) ≡ Some (Leave members) → AreArrivals (plan_of s) members (arrivals (plan_of s) p members (marked_count old p)) xs) → IsEnd s table (next_of old p) number → ((z : Place) → awaited ≡ Some z → z.at < marked_count old z.proc) → suc (marked_count old p) < 2 ^ 32 → IsGrown old new → IsJoined new xs n → IsNextBase (plan_of s) new p n
+next_met s table old new p n number previous awaited xs based may are before waits leave ends marked few grown joined =
+    next_joined (plan_of s) old new p n based grown
+    (ready_is (plan_of s) old p previous awaited xs may are before marked (λ k z lt e. let m = joined.marked k z lt e in let same = count_grown old new based grown z.proc in omega (arith, m, same)))
+    few joined.there
+    (joined_base (plan_of s) new (next_of old p) previous awaited xs n are (leave_awaits_none (plan_of s) (next_of old p) ends.members awaited ends.is waits) (previous_among s table (next_of old p) number xs previous ends leave before) joined)
 
 pub added_none : (meetings : List Meeting) → AreAdded meetings meetings
-added_none meetings = record { each = λ n meeting e. inl e }
+added_none meetings = λ n meeting e. inl e
 
 last_or_old : (xs : List Meeting) (x : Meeting) (n : ℕ) (v : Meeting) → slice_get (xs ++ x ∷ []) n ≡ Some v → (slice_get xs n ≡ Some v) ⊎ (x ≡ v)
 last_or_old [] x zero v e = inr (same_Some _ _ e)
@@ -246,27 +373,21 @@ last_or_old (y ∷ xs) x zero v e = inl e
 last_or_old (y ∷ xs) x (suc n) v e = last_or_old xs x n v e
 
 -- one more meeting is there
-pub wide_push : (width : ℕ) (meetings : List Meeting) (x : Meeting) → length x.clock.items ≡ width → AreWide width meetings → AreWide width (meetings ++ x ∷ [])
-wide_push width meetings x w h = λ n meeting e. elim (last_or_old meetings x n meeting e) [
+pub added_push : (old meetings : List Meeting) (x : Meeting) → IsEmpty x → AreAdded old meetings → AreAdded old (meetings ++ x ∷ [])
+added_push old meetings x fresh h = λ n meeting e. elim (last_or_old meetings x n meeting e) [
   | inl was ↦ h n meeting was
-  | inr same ↦ subst (λ m. length m.clock.items ≡ width) same w
+  | inr same ↦ inr (subst (λ m. IsEmpty m) same fresh)
 ]
 
-pub added_push : (old meetings : List Meeting) (x : Meeting) → HasJoinedNobody x → AreAdded old meetings → AreAdded old (meetings ++ x ∷ [])
-added_push old meetings x fresh h = record {
-  each = λ n meeting e. elim (last_or_old meetings x n meeting e) [
-    | inl was ↦ h.each n meeting was
-    | inr same ↦ inr (subst (λ m. HasJoinedNobody m) same fresh)
-  ];
-}
-
--- one meeting has changed, and not its width
-pub wide_set : (width : ℕ) (meetings : List Meeting) (number : ℕ) (x : Meeting) → number < length meetings → length x.clock.items ≡ width → AreWide width meetings → AreWide width (slice_set meetings number x)
-wide_set width meetings number x there w h = λ n meeting e. elim (cases_eq n number) [
-  | inl is ↦ subst (λ m. length m.clock.items ≡ width) (same_Some _ _ (sym (slice_get-set_same meetings number x there) ∙ subst (λ k. slice_get (slice_set meetings number x) k ≡ Some meeting) is e)) w
-  | inr ne ↦ h n meeting (sym (slice_get-set_other meetings number n x ne) ∙ e)
+-- what stands at the number of a fence is right, once there is something
+pub added_at : (clocks : Clocks) (old new : List Meeting) (number : ℕ) (places : List Place) → AreAdded old new → IsMeetingAt clocks old number places → IsMeetingAt clocks new number places
+added_at clocks old new number places added h = λ meeting e. elim (added number meeting e) [
+  | inl was ↦ h meeting was
+  | inr fresh ↦ nobody_met clocks places meeting fresh
 ]
 
-pub source_fits : (plan : Plan) (clocks : Clocks) → AreClocks plan clocks → (o : Option Place) → length (source_clock clocks o) ≤ length clocks
-source_fits plan clocks sound None = omega arith
-source_fits plan clocks sound (Some z) = clock_fits plan clocks sound z
+pub set_at : (clocks : Clocks) (meetings : List Meeting) (number : ℕ) (places : List Place) (now : Meeting) → number < length meetings → IsMeeting clocks places now → IsMeetingAt clocks (slice_set meetings number now) number places
+set_at clocks meetings number places now there h = λ meeting e. subst (λ m. IsMeeting clocks places m) (same_Some _ _ (sym (slice_get-set_same meetings number now there) ∙ e)) h
+
+pub set_others : (old meetings : List Meeting) (number : ℕ) (now : Meeting) → AreAdded old meetings → AreOthersKept old (slice_set meetings number now) number
+set_others old meetings number now added = λ n meeting ne e. added n meeting (sym (slice_get-set_other meetings number n now ne) ∙ e)

@@ -1,15 +1,15 @@
 -- A set of marks that grows by events whose sources are marked ends as the live events, and its clocks tell what is before what.
-use Rattle.std.proofs.Common.{◌≡◌, inl, inr, ℕ, zero, suc, ◌<◌, ◌≤◌, true, refl, sym, ap, subst, arith, leb-true, le-leb}
-use Rattle.std.specs.Prelude.{nat_lt}
-use Rattle.std.proofs.lemmas.Bool.{cases_eq, cases_lt}
-use Rattle.wire_types.specs.Plan.{Place}
-use Rattle.wire_types.specs.Plan.{Plan, event}
-use Rattle.wire_plan.specs.Order.{Edge, Follows, may_come, Live, live, Before, edge, further}
-use Rattle.wire_plan.proofs.Marks.{live_least}
-use Rattle.wire_plan.proofs.Due.{live_source, place_path}
-use Rattle.wire_plan.proofs.Histories.{no_cycle, before_live, same_process}
-use Rattle.wire_marks.specs.Clocks.{LeadsTo, IsClock}
-use Rattle.wire_marks.specs.Marking.{IsReady, AllLive, IsStuck, Joins}
+use Rattle.std.proofs.Common.{◌≡◌, ◌∙◌, inl, inr, ℕ, zero, suc, ◌<◌, ◌≤◌, true, max, refl, sym, subst, arith, leb-true, le-leb}
+use Rattle.std.specs.Prelude.{nat_lt, ◌==◌}
+use Rattle.std.proofs.lemmas.Bool.{cases_eq, cases_lt, cases_Bool, eqb-true, eq-eqb}
+use Rattle.wire_runs.specs.Plan.{Place}
+use Rattle.wire_runs.specs.Plan.{Plan, event}
+use Rattle.wire_runs.specs.Order.{Edge, Follows, may_come, Live, live, Before, edge, further}
+use Rattle.wire_runs.proofs.Marks.{live_least}
+use Rattle.wire_runs.proofs.Due.{live_source, place_path}
+use Rattle.wire_runs.proofs.Histories.{same_process}
+use Rattle.wire_marks.specs.Clocks.{own_of, LeadsTo, IsClock}
+use Rattle.wire_marks.specs.Marking.{IsReady, AllLive, IsStuck, IsBase}
 
 pub ready_live : (plan : Plan) (count : ℕ → ℕ) (y : Place) → AllLive plan count → IsReady plan count y → Live plan y
 ready_live plan count y all r = live r.comes (λ z e. all z (r.sources z e))
@@ -41,45 +41,61 @@ pub last_source : {plan : Plan} {x y : Place} → Before plan x y → (z : Place
 last_source (edge {x} {y} l e m) = (x, e, inl refl)
 last_source (further {x} {y} {z} b e m) = (y, e, inr b)
 
-join_before : {plan : Plan} {x y z : Place} → Before plan x y → Before plan y z → Before plan x z
+pub join_before : {plan : Plan} {x y z : Place} → Before plan x y → Before plan y z → Before plan x z
 join_before a (edge l e m) = further a e m
 join_before a (further b e m) = further (join_before a b) e m
 
 same_place : (x y : Place) → x.proc ≡ y.proc → x.at ≡ y.at → x ≡ y
 same_place x y a b = place_path x y.proc y.at a b
 
-pub clock_step : (plan : Plan) (clock : Place → ℕ → ℕ) (y : Place) (c : ℕ → ℕ) → Live plan y → ((z : Place) → Edge plan z y → IsClock plan z (clock z)) → Joins plan clock y c → IsClock plan y c
-clock_step plan clock y c l clocks j = record { only = only; all = all }
+pub leads_through : {plan : Plan} {x y z : Place} → LeadsTo plan x y → LeadsTo plan y z → LeadsTo plan x z
+leads_through {plan} {x} {y} {z} (inl e) l = subst (λ v. LeadsTo plan v z) (sym e) l
+leads_through {plan} {x} {y} {z} (inr b) (inl e) = inr (subst (λ v. Before plan x v) e b)
+leads_through (inr b) (inr c) = inr (join_before b c)
+
+-- what an event counts of its own process
+pub own_here : (y : Place) → own_of y y.proc ≡ suc y.at
+own_here y = rw (eq-eqb y.proc y.proc refl) refl
+
+pub own_counts : (y : Place) (q n : ℕ) → n < own_of y q → (q ≡ y.proc) × (n ≤ y.at)
+own_counts y q n lt = elim (cases_Bool (q == y.proc)) [
+  | inl t ↦ let up : n < suc y.at = rw t at lt in (eqb-true q y.proc t, omega (arith, up))
+  | inr f ↦ absurd (let none : n < 0 = rw f at lt in omega (arith, none))
+]
+
+pub own_rises : (z y : Place) (q : ℕ) → z.proc ≡ y.proc → z.at ≤ y.at → own_of z q ≤ own_of y q
+own_rises z y q e le = elim (cases_lt (own_of y q) (own_of z q)) [
+  | inl lt ↦ absurd (
+      let h = own_counts z q (own_of y q) lt in
+      let at : own_of y q ≤ z.at = h.1 in
+      let here : own_of y q ≡ suc y.at = subst (λ p. own_of y p ≡ suc y.at) (sym (h.0 ∙ e)) (own_here y) in
+      omega (arith, at, here, le))
+  | inr ge ↦ ge
+]
+
+-- the clock over a base
+pub clock_step : (plan : Plan) (clock : Place → ℕ → ℕ) (y : Place) (base : ℕ → ℕ) → Live plan y → ((z : Place) → Edge plan z y → IsClock plan z (clock z)) → IsBase plan clock y base → IsClock plan y (λ q. max (base q) (own_of y q))
+clock_step plan clock y base l clocks b = record { only = only; all = all }
   where
-    only : (x : Place) → x.at < c x.proc → LeadsTo plan x y
-    only x lt = elim (cases_eq x.proc y.proc) [
-      | inl e ↦
-          let own = j.own in
-          let le : x.at < suc y.at = rw (← own) (rw (← e) lt) in
-          elim (cases_eq x.at y.at) [
-            | inl same ↦ inl (same_place x y e same)
-            | inr ne ↦ inr (same_process plan x y l e (omega arith))
-          ]
-      | inr ne ↦ let w = j.from x.proc x.at ne lt in inr (leads_on plan x w.0 y (live_source l w.1) ((clocks w.0 w.1).only x w.2) w.1 l)
+    own_leads : (x : Place) → x.at < own_of y x.proc → LeadsTo plan x y
+    own_leads x lt =
+        let h = own_counts y x.proc x.at lt in
+        let le : x.at ≤ y.at = h.1 in
+        elim (cases_eq x.at y.at) [
+          | inl same ↦ inl (same_place x y h.0 same)
+          | inr ne ↦ inr (same_process plan x y l h.0 (omega (arith, le, ne)))
+        ]
+
+    only : (x : Place) → x.at < max (base x.proc) (own_of y x.proc) → LeadsTo plan x y
+    only x lt = elim (cases_lt x.at (base x.proc)) [
+      | inl h ↦ let w = b.from x.proc x.at h in inr (leads_on plan x w.0 y (live_source l w.1) ((clocks w.0 w.1).only x w.2) w.1 l)
+      | inr ge ↦ own_leads x (omega (arith, lt, ge))
     ]
 
-    own_below : (x : Place) → x.proc ≡ y.proc → LeadsTo plan x y → x.at ≤ y.at
-    own_below x e (inl same) = rw same (omega arith)
-    own_below x e (inr b) = elim (cases_lt y.at x.at) [
-      | inl lt ↦ absurd (no_cycle l (join_before (same_process plan y x (before_live b) (sym e) lt) b))
-      | inr ge ↦ ge
-    ]
-
-    through : (x : Place) → (x.proc ≡ y.proc → ⊥) → LeadsTo plan x y → x.at < c x.proc
-    through x ne (inl same) = absurd (ne (ap (λ p. p.proc) same))
-    through x ne (inr b) =
-        let s = last_source b in
+    all : (x : Place) → LeadsTo plan x y → x.at < max (base x.proc) (own_of y x.proc)
+    all x (inl e) = subst (λ (z : Place). z.at < max (base z.proc) (own_of y z.proc)) (sym e) (let own = own_here y in omega (arith, own))
+    all x (inr before) =
+        let s = last_source before in
         let there = (clocks s.0 s.1).all x s.2 in
-        let up = j.covers x.proc s.0 ne s.1 in
+        let up = b.covers x.proc s.0 s.1 in
         omega (arith, there, up)
-
-    all : (x : Place) → LeadsTo plan x y → x.at < c x.proc
-    all x h = elim (cases_eq x.proc y.proc) [
-      | inl e ↦ let le = own_below x e h in let own = j.own in let at : c x.proc ≡ suc y.at = rw e own in omega (arith, le, at)
-      | inr ne ↦ through x ne h
-    ]

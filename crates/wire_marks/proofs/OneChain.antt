@@ -1,8 +1,8 @@
 -- The shown chain is one.
 use Rattle.std.proofs.Common.{◌≡◌, inl, inr, List, [], ◌∷◌, ◌++◌, refl, sym, ap, ◌∙◌, subst, arith}
-use Rattle.wire_types.specs.Plan.{Plan, Place}
-use Rattle.wire_plan.specs.Order.{Edge, Live, edge, further}
-use Rattle.wire_plan.proofs.Histories.{no_cycle, before_live}
+use Rattle.wire_runs.specs.Plan.{Plan, Place}
+use Rattle.wire_runs.specs.Order.{Edge, Live, edge, further}
+use Rattle.wire_runs.proofs.Histories.{no_cycle, before_live}
 use Rattle.wire_marks.specs.Shown.{AtMost, IsStepBack, IsShown, begins, goes_on, OneShown}
 
 at_most_both : (x y : Place) → AtMost x y → AtMost y x → x ≡ y

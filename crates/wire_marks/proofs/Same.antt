@@ -2,8 +2,8 @@
 use Rattle.std.proofs.Common.{◌≡◌, ◌⊎◌, inl, inr, ℕ, zero, suc, List, [], ◌∷◌, Some, refl, sym, ap, ◌∙◌, subst, arith}
 use Rattle.std.specs.Prelude.{slice_get}
 use Rattle.std.proofs.lemmas.Option.{slice_get_within, same_Some}
-use Rattle.wire_types.specs.Plan.{Place}
-use Rattle.wire_plan.specs.Places.{IsLower, AreAll}
+use Rattle.wire_runs.specs.Plan.{Place}
+use Rattle.wire_runs.specs.EventLists.{IsLower, AreAll}
 
 lower_both : (x y : Place) → IsLower x y → IsLower y x → ⊥
 lower_both x y (inl a) (inl b) = omega (arith, a, b)

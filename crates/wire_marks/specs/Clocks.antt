@@ -1,8 +1,9 @@
 -- What the marks of a plan are: how many events of each process are live, and a clock for each of them.
-use Rattle.std.specs.Prelude.{◌≡◌, ◌⊎◌, ◌↔◌, ◌<◌, ℕ, List, [], Option, Some, None, Vec, length, slice_get, slice_index}
+use Rattle.std.specs.Prelude.{◌≡◌, ◌⊎◌, ◌↔◌, ◌<◌, ◌==◌, ℕ, suc, List, [], Option, Some, None, Vec, max, length, slice_get, slice_index, if◌then◌else◌}
 use Rattle.std.specs.declared.alloc.Global.{Global}
-use Rattle.wire_types.specs.Plan.{Plan, Place}
-use Rattle.wire_plan.specs.Order.{Live, Before}
+use Rattle.wire_runs.specs.Plan.{Plan, Place}
+use Rattle.wire_runs.specs.Order.{Live, Before}
+use Rattle.wire_marks.specs.declared.clocks.Clocks.{Clocks as Kept}
 
 -- the list in a vector of a table, and none past its end
 abbrev pub items_in : {A : Type 0} → Option (Vec A Global) → List A
@@ -12,20 +13,34 @@ items_in (Some v) = v.items
 abbrev pub items_at : {A : Type 0} → List (Vec A Global) → ℕ → List A
 items_at xs i = items_in (slice_get xs i)
 
--- a clock for each live event of each process: for each process a number
+-- the number of a base for each live event of each process, and the bases: each has for each process a number
 abbrev pub Clocks : Type 0
-Clocks = List (Vec (Vec ℕ Global) Global)
+Clocks = Kept
 
 -- how many events of the process are marked
 abbrev pub marked_count : Clocks → ℕ → ℕ
-marked_count clocks p = length (items_at clocks p)
+marked_count clocks p = length (items_at clocks.numbers.items p)
 
-abbrev pub clock_at : Clocks → Place → List ℕ
-clock_at clocks y = items_at (items_at clocks y.proc) y.at
+-- the number of the base of y, if y is marked
+abbrev pub number_at : Clocks → Place → Option ℕ
+number_at clocks y = slice_get (items_at clocks.numbers.items y.proc) y.at
+
+-- what a base says of the process q
+abbrev pub base_at : Clocks → ℕ → ℕ → ℕ
+base_at clocks n q = slice_index (items_at clocks.bases.items n) q
+
+-- how many events of the process q are y or stand before y in its process
+abbrev pub own_of : Place → ℕ → ℕ
+own_of y q = if q == y.proc then suc y.at else 0
+
+-- the clock of y over the base of this number
+abbrev pub clock_over : Clocks → Place → Option ℕ → ℕ → ℕ
+clock_over clocks y None q = 0
+clock_over clocks y (Some n) q = max (base_at clocks n q) (own_of y q)
 
 -- what the clock of y says of the process q, 0 where y isn't marked
 abbrev pub clock_of : Clocks → Place → ℕ → ℕ
-clock_of clocks y q = slice_index (clock_at clocks y) q
+clock_of clocks y q = clock_over clocks y (number_at clocks y) q
 
 -- x is y, or before it
 abbrev pub LeadsTo : Plan → Place → Place → Type 0

@@ -1,9 +1,8 @@
 -- How the marks grow: for the contracts of private functions.
-use Rattle.std.specs.Prelude.{Some, None, Option, ◌≡◌, ◌≢◌, ◌<◌, ◌≤◌, ◌+◌, ◌-◌, zero, ◌++◌, ◌∷◌, [], ℕ, suc, List, true, Vec, length, slice_index}
-use Rattle.std.specs.declared.alloc.Global.{Global}
-use Rattle.wire_types.specs.Plan.{Plan, Place, event, event_count, process_count}
-use Rattle.wire_plan.specs.Order.{Edge, may_come, Live}
-use Rattle.wire_marks.specs.Clocks.{items_at, Clocks, marked_count, clock_at, clock_of, IsClock}
+use Rattle.std.specs.Prelude.{Some, None, Option, ◌≡◌, ◌≢◌, ◌⊎◌, ◌<◌, ◌≤◌, ◌+◌, ◌-◌, ◌^◌, zero, ◌++◌, ◌∷◌, [], ℕ, suc, true, max, length}
+use Rattle.wire_runs.specs.Plan.{Plan, Place, event, event_count, process_count}
+use Rattle.wire_runs.specs.Order.{Edge, may_come, Live}
+use Rattle.wire_marks.specs.Clocks.{items_at, Clocks, marked_count, number_at, base_at, own_of, clock_of, IsClock}
 
 -- the event may come, and all its sources are marked
 pub record IsReady (plan : Plan) (count : ℕ → ℕ) (y : Place) : Type 0 where
@@ -18,17 +17,24 @@ AllLive plan count = (y : Place) → y.at < count y.proc → Live plan y
 abbrev pub IsStuck : Plan → (ℕ → ℕ) → Type 0
 IsStuck plan count = (y : Place) → y.at ≡ count y.proc → IsReady plan count y → ⊥
 
--- the clock of an event, from the clocks of its sources
-pub record Joins (plan : Plan) (clock : Place → ℕ → ℕ) (y : Place) (c : ℕ → ℕ) : Type 0 where
-  pub own : c y.proc ≡ suc y.at
-  pub from : (q n : ℕ) → (q ≡ y.proc → ⊥) → n < c q → (z : Place) × Edge plan z y × (n < clock z q)
-  pub covers : (q : ℕ) (z : Place) → (q ≡ y.proc → ⊥) → Edge plan z y → clock z q ≤ c q
+-- the base counts only what the sources of y count, and with y's own process all of that
+pub record IsBase (plan : Plan) (clock : Place → ℕ → ℕ) (y : Place) (base : ℕ → ℕ) : Type 0 where
+  pub from : (q n : ℕ) → n < base q → (z : Place) × Edge plan z y × (n < clock z q)
+  pub covers : (q : ℕ) (z : Place) → Edge plan z y → clock z q ≤ max (base q) (own_of y q)
+
+-- the numbers are those of bases, the first base is empty, and all numbers fit
+pub record AreBased (clocks : Clocks) : Type 0 where
+  pub there : (y : Place) (n : ℕ) → number_at clocks y ≡ Some n → n < length clocks.bases.items
+  pub widths : (n : ℕ) → length (items_at clocks.bases.items n) ≤ length clocks.numbers.items
+  pub first : items_at clocks.bases.items 0 ≡ []
+  pub some : 0 < length clocks.bases.items
+  pub few : (p : ℕ) → marked_count clocks p < 2 ^ 32
 
 -- what holds of the clocks while they grow
 pub record AreClocks (plan : Plan) (clocks : Clocks) : Type 0 where
-  pub processes : length clocks ≡ process_count plan
+  pub processes : length clocks.numbers.items ≡ process_count plan
+  pub based : AreBased clocks
   pub live : AllLive plan (marked_count clocks)
-  pub widths : (y : Place) → y.at < marked_count clocks y.proc → length (clock_at clocks y) ≡ process_count plan
   pub told : (y : Place) → y.at < marked_count clocks y.proc → IsClock plan y (clock_of clocks y)
 
 -- the process's next event
@@ -39,11 +45,12 @@ next_of clocks p = record { proc = p; at = marked_count clocks p }
 abbrev pub IsStuckAt : Plan → Clocks → ℕ → Type 0
 IsStuckAt plan clocks p = IsReady plan (marked_count clocks) (next_of clocks p) → ⊥
 
--- the process's next event is ready, and this is its clock
-pub record IsNextClock (plan : Plan) (clocks : Clocks) (p : ℕ) (clock : List ℕ) : Type 0 where
+-- the process's next event is ready, and the base of this number is one for it
+pub record IsNextBase (plan : Plan) (clocks : Clocks) (p n : ℕ) : Type 0 where
   pub ready : IsReady plan (marked_count clocks) (next_of clocks p)
-  pub width : length clock ≡ process_count plan
-  pub joins : Joins plan (clock_of clocks) (next_of clocks p) (λ q. slice_index clock q)
+  pub few : suc (marked_count clocks p) < 2 ^ 32
+  pub there : n < length clocks.bases.items
+  pub base : IsBase plan (clock_of clocks) (next_of clocks p) (base_at clocks n)
 
 abbrev pub sum_to : ℕ → (ℕ → ℕ) → ℕ
 sum_to zero f = 0
@@ -53,13 +60,35 @@ sum_to (suc n) f = sum_to n f + f n
 abbrev pub left : Plan → Clocks → ℕ
 left plan clocks = sum_to (process_count plan) (λ p. event_count plan p - marked_count clocks p)
 
--- p's next event is marked with this clock
-pub record Adds (old new : Clocks) (p : ℕ) (clock : List ℕ) : Type 0 where
-  pub same : length new ≡ length old
-  pub here : (c : Vec ℕ Global) × (c.items ≡ clock) × (items_at new p ≡ items_at old p ++ c ∷ [])
-  pub others : (q : ℕ) → q ≢ p → items_at new q ≡ items_at old q
+-- no event more is marked, and no base is another
+pub record IsGrown (old new : Clocks) : Type 0 where
+  pub numbers : new.numbers.items ≡ old.numbers.items
+  pub more : length old.bases.items ≤ length new.bases.items
+  pub bases : (n : ℕ) → n < length old.bases.items → items_at new.bases.items n ≡ items_at old.bases.items n
 
--- the clock of a source, if there is one
-abbrev pub source_clock : Clocks → Option Place → List ℕ
-source_clock clocks None = []
-source_clock clocks (Some z) = clock_at clocks z
+-- p's next event is marked, with the base of this number
+pub record Adds (old new : Clocks) (p n : ℕ) : Type 0 where
+  pub bases : new.bases.items ≡ old.bases.items
+  pub same : length new.numbers.items ≡ length old.numbers.items
+  pub here : items_at new.numbers.items p ≡ items_at old.numbers.items p ++ n ∷ []
+  pub others : (q : ℕ) → q ≢ p → items_at new.numbers.items q ≡ items_at old.numbers.items q
+
+abbrev pub number_or_first : Option ℕ → ℕ
+number_or_first None = 0
+number_or_first (Some n) = n
+
+-- the number of the base of the event before, the first one where there is none
+abbrev pub number_before : Clocks → Option Place → ℕ
+number_before clocks None = 0
+number_before clocks (Some z) = number_or_first (number_at clocks z)
+
+-- whether z counts the event x
+abbrev pub Counts : Clocks → Option Place → Place → Type 0
+Counts clocks None x = ⊥
+Counts clocks (Some z) x = x.at < clock_of clocks z x.proc
+
+-- the base of the event before, raised to the clock of what is awaited where that event doesn't count it
+pub record IsRaised (clocks : Clocks) (previous awaited : Option Place) (base : ℕ → ℕ) : Type 0 where
+  pub from : (q n : ℕ) → n < base q → (n < base_at clocks (number_before clocks previous) q) ⊎ ((z : Place) × (awaited ≡ Some z) × (n < clock_of clocks z q))
+  pub keeps : (q : ℕ) → base_at clocks (number_before clocks previous) q ≤ base q
+  pub covers : (z : Place) → awaited ≡ Some z → Counts clocks previous z ⊎ ((q : ℕ) → clock_of clocks z q ≤ base q)

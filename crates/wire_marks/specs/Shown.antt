@@ -1,8 +1,8 @@
 -- The chain that is shown.
 use Rattle.std.specs.Prelude.{◌≡◌, ◌⊎◌, ◌<◌, ◌≤◌, ◌++◌, ◌∷◌, [], List, Option, MatchOption}
-use Rattle.wire_types.specs.Plan.{Plan, Place}
-use Rattle.wire_plan.specs.Order.{Edge, Before}
-use Rattle.wire_plan.specs.Fate.{IsIn}
+use Rattle.wire_runs.specs.Plan.{Plan, Place}
+use Rattle.wire_runs.specs.Order.{Edge, Before}
+use Rattle.wire_runs.specs.Fate.{IsIn}
 use Rattle.wire_marks.specs.Clocks.{LeadsTo}
 
 -- z stands at w or below it, by process and number

@@ -1,50 +1,70 @@
 //! Marking: events are marked one after another, each after its sources, until none is ready.
 
-ghost use Rattle.std.specs.Prelude.{◌≡◌, ◌<◌, ◌≤◌, ℕ, [], IfOk, OnOk, MatchOption, length};
+ghost use Rattle.std.specs.Prelude.{◌≡◌, ◌<◌, ◌≤◌, ◌^◌, ℕ, [], IfOk, OnOk, MatchOption, length};
 ghost use Rattle.std.specs.Bool.{OnTrue, OnFalse};
-ghost use Rattle.wire_types.specs.Plan.{process_count};
+ghost use Rattle.wire_runs.specs.Plan.{process_count};
 ghost use Rattle.wire_rehearsal.specs.Planned.{plan_of};
 ghost use Rattle.wire_fence.specs.Fences.{AreFencesOf};
-ghost use Rattle.wire_marks.specs.Clocks.{items_at, AreMarks};
-ghost use Rattle.wire_marks.specs.Marking.{IsStuckAt, IsNextClock, Adds, left};
+ghost use Rattle.wire_marks.specs.Clocks.{items_at, marked_count, AreMarks};
+ghost use Rattle.wire_marks.specs.Marking.{AreClocks, IsStuckAt, IsNextBase, left};
 ghost use Rattle.wire_marks.specs.Meeting.{AreGrowing};
 
-use crate::joins::{Meeting, are_met, fence_ended, met_clock};
-use crate::table::{is_source_marked, joined, marked, source_clock};
+use crate::clocks::Clocks;
+use crate::joins::{Meeting, fence_ended, meet};
+use crate::way::{Way, waits_for};
 use std::alloc::{AllocError, Global};
 use wire_fence::Fences;
 use wire_plan::Plan;
 use wire_types::{Event, Proc};
 
-// For each process no clock, with room for one for each of its events.
-fn no_clocks(alloc: Global, plan: &Plan) -> Result<Vec<Vec<Vec<u32>>>, AllocError>
+// For each process no number, with room for one for each of its events.
+fn no_numbers(alloc: Global, plan: &Plan) -> Result<Vec<Vec<usize>>, AllocError>
     ensures count { IfOk result (λ v. length v.items ≡ process_count (plan_of plan.now)) }
     ensures none { IfOk result (λ v. (p : ℕ) → items_at v.items p ≡ []) }
 {
-    let mut clocks = Vec::with_capacity(alloc, plan.process_count() as usize)?;
+    let mut numbers = Vec::with_capacity(alloc, plan.process_count() as usize)?;
     for number in 0..plan.process_count() {
         let count = plan.event_count(Proc::new(number));
-        clocks.push(Vec::with_capacity(alloc, count as usize)?)?;
+        numbers.push(Vec::with_capacity(alloc, count as usize)?)?;
     }
-    Ok(clocks)
+    Ok(numbers)
 }
 
-// The clock of the process's next event, if it is ready.
-fn next_clock(
+// One base, an empty one.
+fn first_base(alloc: Global) -> Result<Vec<Vec<u32>>, AllocError>
+    ensures one { IfOk result (λ v. length v.items ≡ 1) }
+    ensures none { IfOk result (λ v. (n : ℕ) → items_at v.items n ≡ []) }
+{
+    let mut bases = Vec::new(alloc);
+    bases.push(Vec::new(alloc))?;
+    Ok(bases)
+}
+
+// No event is marked.
+fn no_clocks(alloc: Global, plan: &Plan) -> Result<Clocks, AllocError>
+    ensures { IfOk result (λ clocks. AreClocks (plan_of plan.now) clocks) }
+{
+    let numbers = no_numbers(alloc, plan)?;
+    let bases = first_base(alloc)?;
+    Ok(Clocks { numbers, bases })
+}
+
+// The number of a base for the process's next event, if it is ready.
+fn next_base(
     alloc: Global,
     plan: &Plan,
     fences: &Fences,
-    clocks: &[Vec<Vec<u32>>],
+    clocks: &mut Clocks,
     meetings: &mut Vec<Meeting>,
     proc: Proc,
-) -> Result<Option<Vec<u32>>, AllocError>
-    requires there { proc.number < process_count (plan_of plan.now) }
+) -> Result<Option<usize>, AllocError>
     requires fences { AreFencesOf plan.now fences.now }
-    requires growing { AreGrowing (plan_of plan.now) fences.now clocks.now meetings.old.items }
-    ensures growing { OnOk result (AreGrowing (plan_of plan.now) fences.now clocks.now meetings.new.items) }
-    ensures next { IfOk result (λ o. MatchOption o (IsStuckAt (plan_of plan.now) clocks.now proc.number) (λ v. IsNextClock (plan_of plan.now) clocks.now proc.number v.items)) }
+    requires growing { AreGrowing (plan_of plan.now) fences.now clocks.old meetings.old.items }
+    ensures growing { OnOk result (AreGrowing (plan_of plan.now) fences.now clocks.new meetings.new.items) }
+    ensures same { OnOk result (clocks.new.numbers.items ≡ clocks.old.numbers.items) }
+    ensures next { IfOk result (λ o. MatchOption o (IsStuckAt (plan_of plan.now) clocks.old proc.number) (λ n. IsNextBase (plan_of plan.now) clocks.new proc.number n)) }
 {
-    let at = marked(clocks, proc);
+    let at = clocks.marked(proc);
     if at >= plan.event_count(proc) as usize {
         return Ok(None);
     }
@@ -56,28 +76,15 @@ fn next_clock(
         return Ok(None);
     }
     let sources = plan.sources(event);
-    if !is_source_marked(clocks, sources.awaited) {
+    if !clocks.is_source_marked(sources.awaited) {
         return Ok(None);
     }
-    let fence = fence_ended(plan, fences, event);
-    if !are_met(alloc, clocks, meetings, fence, sources.arrivals)? {
-        return Ok(None);
-    }
-    let previous = source_clock(clocks, sources.previous);
-    let awaited = source_clock(clocks, sources.awaited);
-    let met = met_clock(meetings, fence);
-    let mut clock = joined(alloc, clocks.len(), previous, awaited, met)?;
-    clock[proc.index()] = event.at + 1;
-    Ok(Some(clock))
-}
-
-// Adds the clock of a process's next event.
-fn add(clocks: &mut Vec<Vec<Vec<u32>>>, proc: Proc, clock: Vec<u32>) -> Result<(), AllocError>
-    requires { proc.number < length clocks.old.items }
-    ensures ok { OnOk result (Adds clocks.old.items clocks.new.items proc.number clock.items) }
-{
-    clocks[proc.number as usize].push(clock)?;
-    Ok(())
+    let Some(fence) = fence_ended(plan, fences, event) else {
+        let number = clocks.base_after(alloc, sources.previous, sources.awaited)?;
+        return Ok(Some(number));
+    };
+    let met = meet(alloc, clocks, meetings, fence, sources.arrivals)?;
+    Ok(met)
 }
 
 // Marks the next event of a process, where it is ready. Whether it was.
@@ -85,22 +92,21 @@ fn mark_next(
     alloc: Global,
     plan: &Plan,
     fences: &Fences,
-    clocks: &mut Vec<Vec<Vec<u32>>>,
+    clocks: &mut Clocks,
     meetings: &mut Vec<Meeting>,
     proc: Proc,
 ) -> Result<bool, AllocError>
-    requires there { proc.number < process_count (plan_of plan.now) }
     requires fences { AreFencesOf plan.now fences.now }
-    requires growing { AreGrowing (plan_of plan.now) fences.now clocks.old.items meetings.old.items }
-    ensures growing { OnOk result (AreGrowing (plan_of plan.now) fences.now clocks.new.items meetings.new.items) }
-    ensures falls { IfOk result (λ b. OnTrue b (left (plan_of plan.now) clocks.new.items < left (plan_of plan.now) clocks.old.items)) }
-    ensures same { IfOk result (λ b. OnFalse b (clocks.new.items ≡ clocks.old.items)) }
-    ensures stuck { IfOk result (λ b. OnFalse b (IsStuckAt (plan_of plan.now) clocks.new.items proc.number)) }
+    requires growing { AreGrowing (plan_of plan.now) fences.now clocks.old meetings.old.items }
+    ensures growing { OnOk result (AreGrowing (plan_of plan.now) fences.now clocks.new meetings.new.items) }
+    ensures falls { IfOk result (λ b. OnTrue b (left (plan_of plan.now) clocks.new < left (plan_of plan.now) clocks.old)) }
+    ensures same { IfOk result (λ b. OnFalse b (clocks.new.numbers.items ≡ clocks.old.numbers.items)) }
+    ensures stuck { IfOk result (λ b. OnFalse b (IsStuckAt (plan_of plan.now) clocks.new proc.number)) }
 {
-    let Some(clock) = next_clock(alloc, plan, fences, clocks, meetings, proc)? else {
+    let Some(number) = next_base(alloc, plan, fences, clocks, meetings, proc)? else {
         return Ok(false);
     };
-    add(clocks, proc, clock)?;
+    clocks.mark(proc, number)?;
     Ok(true)
 }
 
@@ -109,18 +115,17 @@ fn mark_run(
     alloc: Global,
     plan: &Plan,
     fences: &Fences,
-    clocks: &mut Vec<Vec<Vec<u32>>>,
+    clocks: &mut Clocks,
     meetings: &mut Vec<Meeting>,
     proc: Proc,
 ) -> Result<bool, AllocError>
-    requires there { proc.number < process_count (plan_of plan.now) }
     requires fences { AreFencesOf plan.now fences.now }
-    requires growing { AreGrowing (plan_of plan.now) fences.now clocks.old.items meetings.old.items }
-    ensures growing { OnOk result (AreGrowing (plan_of plan.now) fences.now clocks.new.items meetings.new.items) }
-    ensures not_more { OnOk result (left (plan_of plan.now) clocks.new.items ≤ left (plan_of plan.now) clocks.old.items) }
-    ensures falls { IfOk result (λ b. OnTrue b (left (plan_of plan.now) clocks.new.items < left (plan_of plan.now) clocks.old.items)) }
-    ensures same { IfOk result (λ b. OnFalse b (clocks.new.items ≡ clocks.old.items)) }
-    ensures stuck { OnOk result (IsStuckAt (plan_of plan.now) clocks.new.items proc.number) }
+    requires growing { AreGrowing (plan_of plan.now) fences.now clocks.old meetings.old.items }
+    ensures growing { OnOk result (AreGrowing (plan_of plan.now) fences.now clocks.new meetings.new.items) }
+    ensures not_more { OnOk result (left (plan_of plan.now) clocks.new ≤ left (plan_of plan.now) clocks.old) }
+    ensures falls { IfOk result (λ b. OnTrue b (left (plan_of plan.now) clocks.new < left (plan_of plan.now) clocks.old)) }
+    ensures same { IfOk result (λ b. OnFalse b (clocks.new.numbers.items ≡ clocks.old.numbers.items)) }
+    ensures stuck { OnOk result (IsStuckAt (plan_of plan.now) clocks.new proc.number) }
 {
     let mut moved = false;
     'events: while mark_next(alloc, plan, fences, clocks, meetings, proc)? {
@@ -134,15 +139,15 @@ fn pass(
     alloc: Global,
     plan: &Plan,
     fences: &Fences,
-    clocks: &mut Vec<Vec<Vec<u32>>>,
+    clocks: &mut Clocks,
     meetings: &mut Vec<Meeting>,
 ) -> Result<bool, AllocError>
     requires fences { AreFencesOf plan.now fences.now }
-    requires growing { AreGrowing (plan_of plan.now) fences.now clocks.old.items meetings.old.items }
-    ensures growing { OnOk result (AreGrowing (plan_of plan.now) fences.now clocks.new.items meetings.new.items) }
-    ensures not_more { OnOk result (left (plan_of plan.now) clocks.new.items ≤ left (plan_of plan.now) clocks.old.items) }
-    ensures falls { IfOk result (λ b. OnTrue b (left (plan_of plan.now) clocks.new.items < left (plan_of plan.now) clocks.old.items)) }
-    ensures stuck { IfOk result (λ b. OnFalse b ((p : ℕ) → p < process_count (plan_of plan.now) → IsStuckAt (plan_of plan.now) clocks.new.items p)) }
+    requires growing { AreGrowing (plan_of plan.now) fences.now clocks.old meetings.old.items }
+    ensures growing { OnOk result (AreGrowing (plan_of plan.now) fences.now clocks.new meetings.new.items) }
+    ensures not_more { OnOk result (left (plan_of plan.now) clocks.new ≤ left (plan_of plan.now) clocks.old) }
+    ensures falls { IfOk result (λ b. OnTrue b (left (plan_of plan.now) clocks.new < left (plan_of plan.now) clocks.old)) }
+    ensures stuck { IfOk result (λ b. OnFalse b ((p : ℕ) → p < process_count (plan_of plan.now) → IsStuckAt (plan_of plan.now) clocks.new p)) }
 {
     let mut moved = false;
     for number in 0..plan.process_count() {
@@ -153,15 +158,104 @@ fn pass(
     Ok(moved)
 }
 
+// Marks what is ready in the processes of a way, the last one first.
+fn go_back(
+    alloc: Global,
+    plan: &Plan,
+    fences: &Fences,
+    clocks: &mut Clocks,
+    meetings: &mut Vec<Meeting>,
+    way: &[Proc],
+) -> Result<(), AllocError>
+    requires fences { AreFencesOf plan.now fences.now }
+    requires growing { AreGrowing (plan_of plan.now) fences.now clocks.old meetings.old.items }
+    ensures growing { OnOk result (AreGrowing (plan_of plan.now) fences.now clocks.new meetings.new.items) }
+    ensures not_more { OnOk result (left (plan_of plan.now) clocks.new ≤ left (plan_of plan.now) clocks.old) }
+{
+    for k in 0..way.len() {
+        mark_run(
+            alloc,
+            plan,
+            fences,
+            clocks,
+            meetings,
+            way[way.len() - 1 - k],
+        )?;
+    }
+    Ok(())
+}
+
+// Marks what is ready in a process, then in the one that it waits for, and so on, as long as they are new to
+// the way.
+fn go_down(
+    alloc: Global,
+    plan: &Plan,
+    fences: &Fences,
+    clocks: &mut Clocks,
+    meetings: &mut Vec<Meeting>,
+    way: &mut Way,
+    first: Proc,
+) -> Result<(), AllocError>
+    requires fences { AreFencesOf plan.now fences.now }
+    requires growing { AreGrowing (plan_of plan.now) fences.now clocks.old meetings.old.items }
+    ensures growing { OnOk result (AreGrowing (plan_of plan.now) fences.now clocks.new meetings.new.items) }
+    ensures not_more { OnOk result (left (plan_of plan.now) clocks.new ≤ left (plan_of plan.now) clocks.old) }
+{
+    let mut proc = first;
+    for _step in 0..plan.process_count() {
+        if !way.take(proc)? {
+            return Ok(());
+        }
+        mark_run(alloc, plan, fences, clocks, meetings, proc)?;
+        let Some(next) = waits_for(plan, fences, clocks, meetings, proc) else {
+            return Ok(());
+        };
+        proc = next;
+    }
+    Ok(())
+}
+
+// Marks what is ready, each process after the one that it waits for, as far as that goes in one round: the
+// passes are then few.
+fn hurry(
+    alloc: Global,
+    plan: &Plan,
+    fences: &Fences,
+    clocks: &mut Clocks,
+    meetings: &mut Vec<Meeting>,
+) -> Result<(), AllocError>
+    requires fences { AreFencesOf plan.now fences.now }
+    requires growing { AreGrowing (plan_of plan.now) fences.now clocks.old meetings.old.items }
+    ensures growing { OnOk result (AreGrowing (plan_of plan.now) fences.now clocks.new meetings.new.items) }
+    ensures not_more { OnOk result (left (plan_of plan.now) clocks.new ≤ left (plan_of plan.now) clocks.old) }
+{
+    let mut way = Way::new(alloc, plan.process_count() as usize)?;
+    for number in 0..plan.process_count() {
+        go_down(
+            alloc,
+            plan,
+            fences,
+            clocks,
+            meetings,
+            &mut way,
+            Proc::new(number),
+        )?;
+    }
+    go_back(alloc, plan, fences, clocks, meetings, &way.procs)?;
+    Ok(())
+}
+
 /// The clocks of all live events of a plan.
-pub(crate) fn all_clocks(alloc: Global, plan: &Plan) -> Result<Vec<Vec<Vec<u32>>>, AllocError>
-    ensures { IfOk result (λ clocks. AreMarks (plan_of plan.now) clocks.items) }
+pub(crate) fn all_clocks(alloc: Global, plan: &Plan) -> Result<Clocks, AllocError>
+    ensures marks { IfOk result (λ clocks. AreMarks (plan_of plan.now) clocks) }
+    ensures few { IfOk result (λ clocks. (p : ℕ) → marked_count clocks p < 2 ^ 32) }
 {
     let fences = plan.fences();
     let mut clocks = no_clocks(alloc, plan)?;
     let mut meetings = Vec::new(alloc);
     let mut moved = true;
     'passes: while moved {
+        hurry(alloc, plan, fences, &mut clocks, &mut meetings)?;
         moved = pass(alloc, plan, fences, &mut clocks, &mut meetings)?;
     }
     Ok(clocks)

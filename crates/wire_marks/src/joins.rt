@@ -1,26 +1,26 @@
-//! The joined clocks of the arrivals at each fence, kept by the fence's number: each arrival is
-//! joined once.
+//! The joined clocks of the arrivals at each fence, kept by the fence's number: those of a fence are joined
+//! once, into one base.
 
-ghost use Rattle.std.specs.Prelude.{◌≡◌, ◌<◌, ◌≤◌, ℕ, Some, length, map, IfOk, OnOk, slice_get};
+ghost use Rattle.std.specs.Prelude.{◌≡◌, ◌<◌, ◌≤◌, ℕ, Some, length, map, IfOk, IfSome, OnOk, MatchOption, slice_get};
 ghost use Rattle.std.specs.Bool.{OnTrue, OnFalse};
-ghost use Rattle.wire_types.specs.Plan.{Plan as ThePlan, Place, place_of, event_count};
+ghost use Rattle.wire_runs.specs.Plan.{Place, place_of, event_count};
 ghost use Rattle.wire_rehearsal.specs.Planned.{plan_of};
-ghost use Rattle.wire_fence.specs.Fences.{FenceInfo, FenceTable, AreFencesOf, fence_at};
-ghost use Rattle.wire_plan.specs.Index.{AreArrivals};
-ghost use Rattle.wire_marks.specs.Clocks.{clock_at};
-ghost use Rattle.wire_marks.specs.Meeting.{AreMarked, IsMeeting, AreWide, AreMeetings, AreAdded, AreArrivalsAt, IsEndOf, AreJoined, met_clock};
+ghost use Rattle.wire_fence.specs.Fences.{AreFencesOf};
+ghost use Rattle.wire_marks.specs.Marking.{AreBased, IsGrown};
+ghost use Rattle.wire_marks.specs.Meeting.{AreMarked, IsJoined, IsMeeting, IsMeetingAt, AreAdded, AreOthersKept, IsEndOf};
 
-use crate::table::{clock_at, is_marked, no_clock, raise};
+use crate::clocks::Clocks;
 use std::alloc::{AllocError, Global};
 use wire_fence::{FenceId, Fences};
 use wire_plan::{Kind, Plan, fence_of};
-use wire_types::Event;
+use wire_types::{Event, Proc};
 
-/// The joined clocks of the first `count` arrivals at a fence, all of them marked.
+/// How many of the arrivals at a fence, from the first on, are marked; and once all are, the number of the
+/// base that is the join of their clocks.
 #[derive(Drop)]
 pub(crate) struct Meeting {
     pub count: usize,
-    pub clock: Vec<u32>,
+    pub base: Option<usize>,
 }
 
 // The arrival of a number.
@@ -32,101 +32,116 @@ fn arrival_at(arrivals: &[Event], k: usize) -> Event
 }
 
 impl Meeting {
-    // Joins the clocks of further arrivals, as far as they are marked. Whether all of them are.
-    fn join_on(&mut self, clocks: &[Vec<Vec<u32>>], arrivals: &[Event]) -> bool
-        requires { (y : Place) → length (clock_at clocks.now y) ≤ length self.old.clock.items }
-        ensures width { length self.new.clock.items ≡ length self.old.clock.items }
-        ensures kept { IsMeeting clocks.now (map place_of arrivals.now) self.old → IsMeeting clocks.now (map place_of arrivals.now) self.new }
-        ensures all { OnTrue result (length arrivals.now ≤ self.new.count) }
+    // Counts further arrivals, as far as they are marked. Whether all of them are.
+    fn count_on(&mut self, clocks: &Clocks, arrivals: &[Event]) -> bool
+        requires { IsMeeting clocks.now (map place_of arrivals.now) self.old }
+        ensures kept { IsMeeting clocks.now (map place_of arrivals.now) self.new }
+        ensures all { OnTrue result (AreMarked clocks.now (map place_of arrivals.now) (length arrivals.now)) }
         ensures missing { OnFalse result (AreMarked clocks.now (map place_of arrivals.now) (length arrivals.now) → ⊥) }
     {
         'met: while self.count < arrivals.len() {
-            let arrival = arrival_at(arrivals, self.count);
-            if !is_marked(clocks, arrival) {
+            if !clocks.is_marked(arrival_at(arrivals, self.count)) {
                 return false;
             }
-            raise(&mut self.clock, clock_at(clocks, arrival));
             self.count += 1;
         }
         true
     }
+
+    // The number of the join of the clocks of the arrivals, all of them marked.
+    fn joined(
+        &mut self,
+        alloc: Global,
+        clocks: &mut Clocks,
+        arrivals: &[Event],
+    ) -> Result<usize, AllocError>
+        requires based { AreBased clocks.old }
+        requires kept { IsMeeting clocks.old (map place_of arrivals.now) self.old }
+        requires marked { AreMarked clocks.old (map place_of arrivals.now) (length arrivals.now) }
+        ensures based { OnOk result (AreBased clocks.new) }
+        ensures grown { OnOk result (IsGrown clocks.old clocks.new) }
+        ensures kept { OnOk result (IsMeeting clocks.new (map place_of arrivals.now) self.new) }
+        ensures joined { IfOk result (λ n. IsJoined clocks.new (map place_of arrivals.now) n) }
+    {
+        if let Some(number) = self.base {
+            return Ok(number);
+        }
+        let base = clocks.join(alloc, arrivals)?;
+        let number = clocks.add_base(base)?;
+        self.base = Some(number);
+        Ok(number)
+    }
+
+    // Counts further arrivals. The number of the join of their clocks, once all of them are marked.
+    fn meet(
+        &mut self,
+        alloc: Global,
+        clocks: &mut Clocks,
+        arrivals: &[Event],
+    ) -> Result<Option<usize>, AllocError>
+        requires based { AreBased clocks.old }
+        requires kept { IsMeeting clocks.old (map place_of arrivals.now) self.old }
+        ensures based { OnOk result (AreBased clocks.new) }
+        ensures grown { OnOk result (IsGrown clocks.old clocks.new) }
+        ensures kept { OnOk result (IsMeeting clocks.new (map place_of arrivals.now) self.new) }
+        ensures met { IfOk result (λ o. MatchOption o (AreMarked clocks.old (map place_of arrivals.now) (length arrivals.now) → ⊥)
+            (λ n. IsJoined clocks.new (map place_of arrivals.now) n)) }
+    {
+        if !self.count_on(clocks, arrivals) {
+            return Ok(None);
+        }
+        let number = self.joined(alloc, clocks, arrivals)?;
+        Ok(Some(number))
+    }
 }
 
-// Adds meetings up to the one of a fence, where it isn't there: nobody is joined.
-fn add_meetings(
-    alloc: Global,
-    width: usize,
-    meetings: &mut Vec<Meeting>,
-    fence: FenceId,
-) -> Result<(), AllocError>
-    requires { AreWide width meetings.old.items }
-    ensures wide { OnOk result (AreWide width meetings.new.items) }
+// Adds meetings up to the one of a fence, where it isn't there: nobody is met.
+fn add_meetings(meetings: &mut Vec<Meeting>, fence: FenceId) -> Result<(), AllocError>
     ensures there { OnOk result (fence.number < length meetings.new.items) }
     ensures kept { OnOk result (AreAdded meetings.old.items meetings.new.items) }
 {
     'adding: while meetings.len() <= fence.number as usize {
-        let clock = no_clock(alloc, width)?;
-        meetings.push(Meeting { count: 0, clock })?;
+        meetings.push(Meeting {
+            count: 0,
+            base: None,
+        })?;
     }
     Ok(())
 }
 
-// Joins the arrivals at a fence, as far as they are marked. Whether all of them are.
-fn meet(
+/// The number of the join of the clocks of the arrivals at a fence, once all of them are marked.
+pub(crate) fn meet(
     alloc: Global,
-    clocks: &[Vec<Vec<u32>>],
+    clocks: &mut Clocks,
     meetings: &mut Vec<Meeting>,
     fence: FenceId,
     arrivals: &[Event],
-) -> Result<bool, AllocError>
-    requires wide { AreWide (length clocks.now) meetings.old.items }
-    requires widths { (y : Place) → length (clock_at clocks.now y) ≤ length clocks.now }
-    ensures wide { OnOk result (AreWide (length clocks.now) meetings.new.items) }
-    ensures kept { OnOk result ((plan : ThePlan) (table : FenceTable) (info : FenceInfo) → fence_at table fence.number ≡ Some info
-        → AreArrivals plan info.members info.nth (map place_of arrivals.now)
-        → AreMeetings plan table clocks.now meetings.old.items → AreMeetings plan table clocks.now meetings.new.items) }
-    ensures all { IfOk result (λ b. OnTrue b (AreJoined meetings.new.items (Some fence) (length arrivals.now))) }
-    ensures missing { IfOk result (λ b. OnFalse b (AreMarked clocks.now (map place_of arrivals.now) (length arrivals.now) → ⊥)) }
+) -> Result<Option<usize>, AllocError>
+    requires based { AreBased clocks.old }
+    requires kept { IsMeetingAt clocks.old meetings.old.items fence.number (map place_of arrivals.now) }
+    ensures based { OnOk result (AreBased clocks.new) }
+    ensures grown { OnOk result (IsGrown clocks.old clocks.new) }
+    ensures kept { OnOk result (IsMeetingAt clocks.new meetings.new.items fence.number (map place_of arrivals.now)) }
+    ensures others { OnOk result (AreOthersKept meetings.old.items meetings.new.items fence.number) }
+    ensures met { IfOk result (λ o. MatchOption o (AreMarked clocks.old (map place_of arrivals.now) (length arrivals.now) → ⊥)
+        (λ n. IsJoined clocks.new (map place_of arrivals.now) n)) }
 {
-    add_meetings(alloc, clocks.len(), meetings, fence)?;
-    let met = meetings[fence.number as usize].join_on(clocks, arrivals);
+    add_meetings(meetings, fence)?;
+    let met = meetings[fence.number as usize].meet(alloc, clocks, arrivals)?;
     Ok(met)
 }
 
-/// Joins the arrivals at a fence, if there is one, as far as they are marked. Whether all of them
-/// are.
-pub(crate) fn are_met(
-    alloc: Global,
-    clocks: &[Vec<Vec<u32>>],
-    meetings: &mut Vec<Meeting>,
-    fence: Option<FenceId>,
-    arrivals: &[Event],
-) -> Result<bool, AllocError>
-    requires wide { AreWide (length clocks.now) meetings.old.items }
-    requires widths { (y : Place) → length (clock_at clocks.now y) ≤ length clocks.now }
-    ensures wide { OnOk result (AreWide (length clocks.now) meetings.new.items) }
-    ensures kept { OnOk result ((plan : ThePlan) (table : FenceTable) → AreArrivalsAt plan table fence (map place_of arrivals.now)
-        → AreMeetings plan table clocks.now meetings.old.items → AreMeetings plan table clocks.now meetings.new.items) }
-    ensures all { IfOk result (λ b. OnTrue b (AreJoined meetings.new.items fence (length arrivals.now))) }
-    ensures missing { IfOk result (λ b. OnFalse b (AreMarked clocks.now (map place_of arrivals.now) (length arrivals.now) → ⊥)) }
+/// The process of the first arrival at a fence that isn't met, if there is one.
+pub(crate) fn missing_at(meetings: &[Meeting], fence: FenceId, arrivals: &[Event]) -> Option<Proc>
+    ensures { IfSome result (λ p. (k : ℕ) × (z : Place) × (slice_get (map place_of arrivals.now) k ≡ Some z) × (z.proc ≡ p.number)) }
 {
-    match fence {
-        Some(fence) => meet(alloc, clocks, meetings, fence, arrivals),
-        None => Ok(true),
-    }
-}
-
-/// The clock that is kept of a fence, empty where there is none.
-pub(crate) fn met_clock(meetings: &[Meeting], fence: Option<FenceId>) -> &[u32]
-    ensures { result.now ≡ met_clock meetings.now fence }
-{
-    let Some(fence) = fence else {
-        return &[];
+    let Some(meeting) = meetings.get(fence.number as usize) else {
+        return None;
     };
-    match meetings.get(fence.number as usize) {
-        Some(meeting) => meeting.clock.as_slice(),
-        None => &[],
+    if meeting.count >= arrivals.len() {
+        return None;
     }
+    Some(arrival_at(arrivals, meeting.count).proc)
 }
 
 /// The fence whose end an event is, if it is one.

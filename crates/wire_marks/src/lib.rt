@@ -1,12 +1,14 @@
 //! Which events of a plan are live, and which come before which.
 #![tactic(auto)]
 
+mod clocks;
 mod grow;
 mod joins;
 mod law;
 mod marks;
 mod steps;
 mod table;
+mod way;
 
 pub use law::one_shown;
 pub use marks::Marks;

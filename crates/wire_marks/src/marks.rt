@@ -1,15 +1,15 @@
 //! The marks of a plan.
 
 ghost use Rattle.std.specs.Prelude.{◌≡◌, ◌↔◌, IsTrue, IfOk, IsOkUnless, MatchOption, map};
-ghost use Rattle.wire_types.specs.Plan.{Plan as ThePlan, place_of};
+ghost use Rattle.wire_runs.specs.Plan.{Plan as ThePlan, place_of};
 ghost use Rattle.wire_rehearsal.specs.Planned.{plan_of};
-ghost use Rattle.wire_plan.specs.Order.{Live, Before};
-ghost use Rattle.wire_marks.specs.Clocks.{clock_of, AreMarks, IsClockOf};
+ghost use Rattle.wire_runs.specs.Order.{Live, Before};
+ghost use Rattle.wire_marks.specs.Clocks.{AreMarks, IsClockOf};
 ghost use Rattle.wire_marks.specs.Shown.{IsShown};
 
+use crate::clocks::Clocks;
 use crate::grow::all_clocks;
 use crate::steps::{chain_between, is_same};
-use crate::table::{clock_at, is_marked};
 use std::alloc::Global;
 use std::marker::Model;
 use wire_plan::Plan;
@@ -18,15 +18,18 @@ use wire_types::{Event, Fault, Proc};
 /// Which events of a plan are live, and which are before which, by clocks.
 #[derive(Drop)]
 pub struct Marks {
-    clocks: Vec<Vec<Vec<u32>>>,
+    clocks: Clocks,
 }
 
 impl Model for Marks {
-    ghost use Rattle.wire_marks.specs.Clocks.{Clocks};
+    ghost use Rattle.std.specs.Prelude.{ℕ, ◌<◌, ◌^◌};
+    ghost use Rattle.wire_marks.specs.Clocks as spec;
 
-    ghost Value = { Clocks };
+    ghost Value = { spec.Clocks };
 
-    ghost view = { λ m. m.clocks.items };
+    ghost view = { λ m. m.clocks };
+
+    ghost invariant = { λ m. (p : ℕ) → spec.marked_count m.clocks p < 2 ^ 32 };
 }
 
 impl Marks {
@@ -44,29 +47,21 @@ impl Marks {
     pub fn live(&self, event: Event) -> bool
         ensures { (plan : ThePlan) → AreMarks plan self.now → (IsTrue result ↔ Live plan (place_of event)) }
     {
-        is_marked(&self.clocks, event)
-    }
-
-    // What the clock of an event says of a process.
-    fn count(&self, event: Event, proc: Proc) -> u32
-        ensures { result ≡ clock_of self.now (place_of event) proc.number }
-    {
-        let clock = clock_at(&self.clocks, event);
-        clock.get(proc.index()).copied().unwrap_or(0)
+        self.clocks.is_marked(event)
     }
 
     /// Whether there is a chain from x to y, through live events.
     pub fn before(&self, x: Event, y: Event) -> bool
         ensures { (plan : ThePlan) → AreMarks plan self.now → (IsTrue result ↔ Before plan (place_of x) (place_of y)) }
     {
-        !is_same(x, y) && x.at < self.count(y, x.proc)
+        !is_same(x, y) && x.at < self.clocks.count(y, x.proc)
     }
 
     /// How many events of a process are this one or before it, 0 where it isn't live.
     pub fn clock(&self, event: Event, proc: Proc) -> u32
         ensures { (plan : ThePlan) → AreMarks plan self.now → IsClockOf plan (place_of event) proc.number result }
     {
-        self.count(event, proc)
+        self.clocks.count(event, proc)
     }
 
     /// The chain from x to y that is shown, both ends in it, and none where x isn't before y. Each

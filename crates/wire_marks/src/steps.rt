@@ -1,9 +1,9 @@
 //! The steps of the chain that is shown.
 
 ghost use Rattle.std.specs.Prelude.{◌≡◌, ◌⊎◌, ◌↔◌, ◌++◌, ◌∷◌, [], List, Some, IsTrue, IfOk, map, option_map, option_to_list};
-ghost use Rattle.wire_types.specs.Plan.{Plan as ThePlan, Place, place_of};
+ghost use Rattle.wire_runs.specs.Plan.{Plan as ThePlan, Place, place_of};
 ghost use Rattle.wire_rehearsal.specs.Planned.{plan_of};
-ghost use Rattle.wire_plan.specs.Order.{Before};
+ghost use Rattle.wire_runs.specs.Order.{Before};
 ghost use Rattle.wire_marks.specs.Clocks.{AreMarks, LeadsTo};
 ghost use Rattle.wire_marks.specs.Shown.{AtMost, IsStepBack, IsShown, Lowest};
 

@@ -1,60 +1,28 @@
-//! Tables of clocks, by process and event.
+//! One clock: for each process a number.
 
-ghost use Rattle.std.specs.Prelude.{◌≡◌, ◌<◌, ◌≤◌, ◌↔◌, ℕ, Some, IsTrue, IfOk, option_map, length, slice_index, max};
-ghost use Rattle.wire_types.specs.Plan.{place_of, Place};
-ghost use Rattle.wire_marks.specs.Clocks.{marked_count, clock_at};
-ghost use Rattle.wire_marks.specs.Marking.{source_clock};
+ghost use Rattle.std.specs.Prelude.{◌≡◌, ◌<◌, ◌≤◌, ◌+◌, ◌^◌, ℕ, IfOk, length, slice_index, max};
+ghost use Rattle.wire_runs.specs.Plan.{place_of};
+ghost use Rattle.wire_marks.specs.Clocks.{own_of};
 
 use std::alloc::{AllocError, Global};
 use wire_types::{Event, Proc};
 
-/// How many events of a process are marked.
-pub(crate) fn marked(clocks: &[Vec<Vec<u32>>], proc: Proc) -> usize
-    ensures { result ≡ marked_count clocks.now proc.number }
+/// What a clock says of a process, 0 past its end.
+pub(crate) fn entry(clock: &[u32], proc: Proc) -> u32
+    ensures { result ≡ slice_index clock.now proc.number }
 {
-    match clocks.get(proc.index()) {
-        Some(clocks) => clocks.len(),
-        None => 0,
-    }
+    clock.get(proc.index()).copied().unwrap_or(0)
 }
 
-/// The clock of an event, empty where it isn't marked.
-pub(crate) fn clock_at(clocks: &[Vec<Vec<u32>>], event: Event) -> &[u32]
-    ensures { result.now ≡ clock_at clocks.now (place_of event) }
+/// How many events of a process are this one or stand before it in its process.
+pub(crate) fn own(event: Event, proc: Proc) -> u32
+    requires { event.at + 1 < 2 ^ 32 }
+    ensures { result ≡ own_of (place_of event) proc.number }
 {
-    let Some(clocks) = clocks.get(event.proc.index()) else {
-        return &[];
-    };
-    match clocks.get(event.at as usize) {
-        Some(clock) => clock.as_slice(),
-        None => &[],
-    }
-}
-
-/// Whether an event is marked.
-pub(crate) fn is_marked(clocks: &[Vec<Vec<u32>>], event: Event) -> bool
-    ensures { IsTrue result ↔ (event.at < marked_count clocks.now event.proc.number) }
-{
-    (event.at as usize) < marked(clocks, event.proc)
-}
-
-/// Whether a source is marked, if there is one.
-pub(crate) fn is_source_marked(clocks: &[Vec<Vec<u32>>], source: Option<Event>) -> bool
-    ensures { IsTrue result ↔ ((z : Place) → option_map place_of source ≡ Some z → z.at < marked_count clocks.now z.proc) }
-{
-    match source {
-        Some(event) => is_marked(clocks, event),
-        None => true,
-    }
-}
-
-/// The clock of a source, empty where there is none.
-pub(crate) fn source_clock(clocks: &[Vec<Vec<u32>>], source: Option<Event>) -> &[u32]
-    ensures { result.now ≡ source_clock clocks.now (option_map place_of source) }
-{
-    match source {
-        Some(event) => clock_at(clocks, event),
-        None => &[],
+    if proc.number == event.proc.number {
+        event.at + 1
+    } else {
+        0
     }
 }
 
@@ -69,32 +37,22 @@ pub(crate) fn raise(clock: &mut Vec<u32>, other: &[u32])
     }
 }
 
+/// Raises a clock to an event and those before it in its process.
+pub(crate) fn raise_own(clock: &mut Vec<u32>, event: Event)
+    requires there { event.proc.number < length clock.old.items }
+    requires fits { event.at + 1 < 2 ^ 32 }
+    ensures width { length clock.new.items ≡ length clock.old.items }
+    ensures each { (q : ℕ) → slice_index clock.new.items q ≡ max (slice_index clock.old.items q) (own_of (place_of event) q) }
+{
+    let q = event.proc.index();
+    clock[q] = clock[q].max(event.at + 1);
+}
+
 /// A clock of zeros.
 pub(crate) fn no_clock(alloc: Global, width: usize) -> Result<Vec<u32>, AllocError>
     ensures width { IfOk result (λ v. length v.items ≡ width) }
     ensures zeros { IfOk result (λ v. (q : ℕ) → slice_index v.items q ≡ 0) }
 {
     let clock = vec![in alloc; 0; width]?;
-    Ok(clock)
-}
-
-/// The least clock that is not below these.
-pub(crate) fn joined(
-    alloc: Global,
-    width: usize,
-    first: &[u32],
-    second: &[u32],
-    third: &[u32],
-) -> Result<Vec<u32>, AllocError>
-    requires first { length first.now ≤ width }
-    requires second { length second.now ≤ width }
-    requires third { length third.now ≤ width }
-    ensures width { IfOk result (λ v. length v.items ≡ width) }
-    ensures each { IfOk result (λ v. (q : ℕ) → slice_index v.items q ≡ max (max (slice_index first.now q) (slice_index second.now q)) (slice_index third.now q)) }
-{
-    let mut clock = no_clock(alloc, width)?;
-    raise(&mut clock, first);
-    raise(&mut clock, second);
-    raise(&mut clock, third);
     Ok(clock)
 }

@@ -3,7 +3,7 @@ use Rattle.std.proofs.Common.{◌≡◌, ◌∙◌, ℕ, ◌<◌, List, length, 
 use Rattle.std.proofs.lemmas.Bool.{cases_eq, eq-eqb, ne_eqb}
 use Rattle.std.proofs.lemmas.List.{length-set, get_or-set_same, get_or-set_other}
 use Rattle.std.proofs.Math.ListN.{set}
-use Rattle.wire_types.specs.Plan.{Publish, Unpublish}
+use Rattle.wire_runs.specs.Plan.{Publish, Unpublish}
 use Rattle.wire_types.specs.declared.CallAt.{CallAt}
 use Rattle.wire_names.specs.Names.{after_publish, after_unpublish}
 use Rattle.wire_names.specs.Law.{NamesFollow}

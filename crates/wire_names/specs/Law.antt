@@ -1,6 +1,6 @@
 -- What an event does to the names, one name at a time.
 use Rattle.std.specs.Prelude.{◌≡◌, ℕ, ◌<◌, ⊤, List, length, Option, Some, ◌==◌, if◌then◌else◌}
-use Rattle.wire_types.specs.Plan.{Event, Publish, Unpublish}
+use Rattle.wire_runs.specs.Plan.{Event, Publish, Unpublish}
 use Rattle.wire_types.specs.declared.CallAt.{CallAt}
 use Rattle.wire_names.specs.Names.{published, after_publish, after_unpublish, names_after_publish, names_after_unpublish}
 

@@ -3,14 +3,14 @@ use Rattle.std.proofs.Common.{◌≡◌, ◌≢◌, ◌∙◌, ap, sym, subst, r
 use Rattle.std.specs.Prelude.{option_map}
 use Rattle.std.proofs.lemmas.Bool.{true≢false}
 use Rattle.std.proofs.lemmas.Option.{same_Some}
-use Rattle.wire_types.specs.Plan.{Plan, Place, Event, Get, LookupWait, event, place_of}
+use Rattle.wire_runs.specs.Plan.{Plan, Place, Event, Get, LookupWait, event, place_of}
 use Rattle.wire_types.specs.declared.Event.{Event as EventPlace}
 use Rattle.wire_types.specs.declared.Proc.{Proc}
 use Rattle.wire_plan.specs.declared.kind.Kind.{Kind}
 use Rattle.wire_plan.specs.declared.kind.Kind.TheVariants as kind
 use Rattle.wire_plan.specs.Kinds.{event_of}
-use Rattle.wire_plan.specs.Order.{Stores, PublishesOnce}
-use Rattle.wire_plan.specs.Races.{IsPutOnce}
+use Rattle.wire_runs.specs.Order.{Stores, PublishesOnce}
+use Rattle.wire_runs.specs.Races.{IsPutOnce}
 use Rattle.wire_plan.specs.Index.{Awaits, Stored, Published, IsAwaited}
 use Rattle.wire_plan.proofs.KeyFacts.{stores_once}
 

@@ -3,15 +3,15 @@ use Rattle.std.proofs.Common.{ltb, ◌≡◌, ◌∙◌, ap, sym, refl, subst, �
 use Rattle.std.specs.Prelude.{slice_get, option_map}
 use Rattle.std.proofs.lemmas.Bool.{cases_lt, cond_below, cond_above}
 use Rattle.std.proofs.lemmas.Option.{slice_get-map, slice_get_within, same_Some}
-use Rattle.wire_types.specs.Plan.{Plan, Call, CallFixed, Event, Arrive, Leave, Publish, Unpublish, events_of, events, event_at, process_events, set_of}
-use Rattle.wire_types.specs.Plan as plan
+use Rattle.wire_runs.specs.Plan.{Plan, Call, CallFixed, Event, Arrive, Leave, Publish, Unpublish, events_of, events, event_at, process_events, set_of}
+use Rattle.wire_runs.specs.Plan as plan
 use Rattle.wire_types.specs.declared.Call.{Call as Written}
 use Rattle.wire_types.specs.declared.Call.TheVariants as written
 use Rattle.wire_types.specs.declared.Reply.{Reply}
 use Rattle.wire_rehearsal.specs.Scripts.{Process, Scripts, calls_in, call_at, set_at, text_at, name_in}
 use Rattle.wire_rehearsal.specs.Planned.{planned_call, planned_process, plan_of}
 use Rattle.wire_rehearsal.specs.Said.{is_reserved}
-use Rattle.wire_plan.specs.Ends.{call_number, call_size, calls_of, process_calls}
+use Rattle.wire_runs.specs.Ends.{call_number, call_size, calls_of, process_calls}
 use Rattle.wire_plan.proofs.Planning.{events_first}
 use Rattle.wire_plan.specs.Meetings.{is_of_fence}
 

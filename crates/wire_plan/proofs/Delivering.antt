@@ -1,17 +1,17 @@
 -- Which arrivals bring a key to a node.
 use Rattle.std.proofs.Common.{◌≡◌, ◌∙◌, ap, sym, subst, refl, ℕ, suc, ◌<◌, ◌≤◌, List, Bool, true, false, ◌&&◌, Some, arith, inl, inr}
 use Rattle.std.proofs.lemmas.Bool.{true≢false, cases_lt}
-use Rattle.wire_types.specs.Plan.{Plan, Place, Arrive, event_at, event_count}
-use Rattle.wire_types.specs.Fences.{arrivals, is_full, is_collecting, has_node}
-use Rattle.wire_types.specs.Puts.{stored}
+use Rattle.wire_runs.specs.Plan.{Plan, Place, Arrive, event_at, event_count}
+use Rattle.wire_runs.specs.Fences.{arrivals, is_full, is_collecting, has_node}
+use Rattle.wire_runs.specs.Puts.{stored}
 use Rattle.wire_rehearsal.specs.Scripts.{Scripts, set_at}
 use Rattle.wire_rehearsal.specs.Planned.{plan_of}
 use Rattle.wire_fence.specs.Fences.{FenceTable, AreFencesOf, fence_at, fence_over, full_in, collects_in, reaches_in}
-use Rattle.wire_plan.specs.Order.{IsArrival}
+use Rattle.wire_runs.specs.Order.{IsArrival}
 use Rattle.wire_plan.specs.Index.{IsDelivering}
 use Rattle.wire_plan.specs.Keys.{IsSent}
 use Rattle.wire_plan.specs.Meetings.{IsMet, members_of}
-use Rattle.wire_plan.proofs.Basics.{arrivals_step, arrivals_rise}
+use Rattle.wire_runs.proofs.Basics.{arrivals_step, arrivals_rise}
 use Rattle.wire_plan.proofs.KeyFacts.{event_past}
 
 both_true : (a b : Bool) → (a && b) ≡ true → (a ≡ true) × (b ≡ true)

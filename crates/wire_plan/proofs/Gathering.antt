@@ -4,8 +4,8 @@ use Rattle.std.proofs.lemmas.Bool.{cases_eq, eq-eqb, ne_eqb, cond-true, cond-fal
 use Rattle.std.specs.Prelude.{slice_get, option_map, true, false, if◌then◌else◌}
 use Rattle.std.proofs.lemmas.Option.{slice_get-get_or, slice_get-map, get_or_from_slice_get, same_Some, none-some}
 use Rattle.std.proofs.lemmas.List.{map-append, map-set, length-map, get_or-set_same, get_or-set_other}
-use Rattle.wire_types.specs.Plan.{Plan, Event, Arrive, Leave, Place, event, event_at, event_count, process_count, place_of}
-use Rattle.wire_types.specs.Fences.{arrivals, arrivals_with, is_full}
+use Rattle.wire_runs.specs.Plan.{Plan, Event, Arrive, Leave, Place, event, event_at, event_count, process_count, place_of}
+use Rattle.wire_runs.specs.Fences.{arrivals, arrivals_with, is_full}
 use Rattle.wire_types.specs.declared.Event.{Event as EventPlace}
 use Rattle.wire_rehearsal.specs.Scripts.{Scripts, set_at}
 use Rattle.wire_rehearsal.specs.Planned.{plan_of}
@@ -13,12 +13,12 @@ use Rattle.wire_fence.specs.Fences.{FenceInfo, FenceTable, AreFencesOf, fence_at
 use Rattle.wire_plan.specs.declared.kind.Kind.{Kind}
 use Rattle.wire_plan.specs.declared.kind.Kind.TheVariants as kind
 use Rattle.wire_plan.specs.Kinds.{event_of}
-use Rattle.wire_plan.specs.Order.{IsArrival}
-use Rattle.wire_plan.specs.Places.{IsLower, AreAll}
+use Rattle.wire_runs.specs.Order.{IsArrival}
+use Rattle.wire_runs.specs.EventLists.{IsLower, AreAll}
 use Rattle.wire_plan.specs.Index.{AreArrivals}
 use Rattle.wire_plan.specs.Meetings.{members_of, IsMet, arrivals_in, AreMeetings, AreMeetingsTo, IsAdded}
-use Rattle.wire_plan.proofs.Basics.{event_within, process_within}
-use Rattle.wire_plan.proofs.AllPlaces.{all_of_none, all_same, all_and_one}
+use Rattle.wire_runs.proofs.Basics.{event_within, process_within}
+use Rattle.wire_runs.proofs.EventLists.{all_of_none, all_same, all_and_one}
 
 -- the place of an event by its two numbers
 abbrev here : ℕ → ℕ → Place

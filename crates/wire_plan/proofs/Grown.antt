@@ -3,8 +3,8 @@ use Rattle.std.proofs.Common.{◌≡◌, ◌∙◌, ℕ, zero, suc, ◌<◌, Lis
 use Rattle.std.specs.Prelude.{slice_get}
 use Rattle.std.proofs.lemmas.Bool.{cases_eq, cases_lt}
 use Rattle.std.proofs.lemmas.Option.{none-some, same_Some, slice_get_within}
-use Rattle.wire_types.specs.Plan.{Place}
-use Rattle.wire_plan.specs.Places.{IsLower, AreAll}
+use Rattle.wire_runs.specs.Plan.{Place}
+use Rattle.wire_runs.specs.EventLists.{IsLower, AreAll}
 
 -- elements by their numbers
 get_front : {A : Type 0} (xs ys : List A) (i : ℕ) → i < length xs → slice_get (xs ++ ys) i ≡ slice_get xs i

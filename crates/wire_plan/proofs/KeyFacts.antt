@@ -6,15 +6,15 @@ use Rattle.std.proofs.lemmas.Option.{slice_get_past, same_Some}
 use Rattle.wire_types.specs.declared.Scope.{Scope}
 use Rattle.wire_types.specs.declared.Proc.{Proc}
 use Rattle.wire_types.specs.declared.Event.{Event as EventAt}
-use Rattle.wire_types.specs.Plan.{Plan, Place, place_of, Event, Put, Commit, event_at, event_count, events, admits}
-use Rattle.wire_types.specs.Puts.{own_with, own, stored_with, stored, put_count, scope_of}
-use Rattle.wire_plan.specs.Order.{Stores}
-use Rattle.wire_plan.specs.Races.{IsPutOnce}
+use Rattle.wire_runs.specs.Plan.{Plan, Place, place_of, Event, Put, Commit, event_at, event_count, events, admits}
+use Rattle.wire_runs.specs.Puts.{own_with, own, stored_with, stored, put_count, scope_of}
+use Rattle.wire_runs.specs.Order.{Stores}
+use Rattle.wire_runs.specs.Races.{IsPutOnce}
 use Rattle.wire_plan.specs.Index.{IsFirstPut}
 use Rattle.wire_plan.specs.Keys.{IsStore, IsRowOf, IsSent}
 use Rattle.wire_plan.specs.declared.keys.KeyRow.{KeyRow}
-use Rattle.wire_plan.proofs.Basics.{stored_own, stored_stays, event_within}
-use Rattle.wire_plan.proofs.Due.{place_path}
+use Rattle.wire_runs.proofs.Basics.{stored_own, stored_stays, event_within}
+use Rattle.wire_runs.proofs.Due.{place_path}
 use Rattle.wire_plan.proofs.KeyRows.{own_none, own_stays, own_here, counts_rise, count_same, none_or_some}
 
 -- what never comes while a process has events, never comes

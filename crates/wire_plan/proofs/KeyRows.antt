@@ -6,14 +6,14 @@ use Rattle.std.specs.Ordering.{nat_cmp}
 use Rattle.std.proofs.lemmas.Option.{slice_get_past}
 use Rattle.std.proofs.lemmas.Bool.{cond-true, cond-false, cond_both, cases_eq, cases_lt, true≢false}
 use Rattle.wire_types.specs.declared.Scope.{Scope}
-use Rattle.wire_types.specs.Plan.{Plan, Event, Put, Commit, event_at, event_count, events, process_count, process_events}
-use Rattle.wire_types.specs.Puts.{own_with, own_put, stored_with, stored_put, put_count_with, count_puts, put_count, scope_in}
+use Rattle.wire_runs.specs.Plan.{Plan, Event, Put, Commit, event_at, event_count, events, process_count, process_events}
+use Rattle.wire_runs.specs.Puts.{own_with, own_put, stored_with, stored_put, put_count_with, count_puts, put_count, scope_in}
 use Rattle.wire_plan.specs.Kinds.{event_of}
 use Rattle.wire_plan.specs.Keys.{puts_in, row_in, IsStore, IsKeyRow, IsNextCommit, IsRowFrom, AreRowsFrom}
 use Rattle.wire_plan.specs.declared.keys.KeyRow.{KeyRow}
 use Rattle.wire_plan.specs.declared.kind.Kind.{Kind}
 use Rattle.wire_plan.specs.declared.kind.Kind.TheVariants as kind
-use Rattle.wire_plan.proofs.Basics.{kept_on, rises}
+use Rattle.wire_runs.proofs.Basics.{kept_on, rises}
 
 own_none_with : (key n c : ℕ) (o : Option ℕ) (e : Option Event) → (c ≡ 0 → o ≡ None) → put_count_with key c e ≡ 0 → own_with key n o e ≡ None
 own_none_with key n c o (Some (Put k scope)) ih =

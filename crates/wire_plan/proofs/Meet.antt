@@ -3,15 +3,15 @@ use Rattle.std.proofs.Common.{◌≡◌, ◌∙◌, ap, sym, refl, subst, ℕ, s
 use Rattle.std.specs.Prelude.{is_some}
 use Rattle.std.proofs.lemmas.Bool.{true≢false}
 use Rattle.std.proofs.lemmas.Option.{slice_get-get_or, same_Some}
-use Rattle.wire_types.specs.Plan.{Plan, Event, Leave, event_at, event_count, set_of}
-use Rattle.wire_types.specs.Fences.{arrivals, arrivals_with}
+use Rattle.wire_runs.specs.Plan.{Plan, Event, Leave, event_at, event_count, set_of}
+use Rattle.wire_runs.specs.Fences.{arrivals, arrivals_with}
 use Rattle.wire_types.specs.declared.Call.TheVariants as written
 use Rattle.wire_rehearsal.specs.Scripts.{Scripts, call_at, set_at}
 use Rattle.wire_rehearsal.specs.Planned.{plan_of}
 use Rattle.wire_fence.specs.Fences.{FenceTable, AreFencesOf, IsFenceOf, fence_over, fence_count, fence_at, number_at}
 use Rattle.wire_fence.proofs.Events.{calls_are_arrivals}
-use Rattle.wire_plan.specs.Ends.{call_number, calls_of}
-use Rattle.wire_plan.proofs.Basics.{event_within}
+use Rattle.wire_runs.specs.Ends.{call_number, calls_of}
+use Rattle.wire_runs.proofs.Basics.{event_within}
 use Rattle.wire_plan.specs.Meetings.{is_of_fence, members_of, IsMet}
 use Rattle.wire_plan.proofs.Behind.{IsBehind, IsPart, First, Second, Other, part, start_of, start_more, calls_by, event_behind, event_stands, number_behind}
 

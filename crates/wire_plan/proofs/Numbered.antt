@@ -4,16 +4,16 @@ use Rattle.std.specs.declared.alloc.Global.{Global}
 use Rattle.std.proofs.lemmas.Bool.{cases_eq, cases_Bool, true≢false, and_parts, and_from}
 use Rattle.std.proofs.lemmas.List.{map_push}
 use Rattle.std.proofs.lemmas.Option.{none-some, same_Some}
-use Rattle.wire_types.specs.Plan.{Plan, Place, Event as TheEvent, Publish, GetNow, event, event_at, event_count, process_count, place_of}
+use Rattle.wire_runs.specs.Plan.{Plan, Place, Event as TheEvent, Publish, GetNow, event, event_at, event_count, process_count, place_of}
 use Rattle.wire_types.specs.declared.place.Event.{Event}
 use Rattle.wire_plan.specs.declared.by_number.Listing.{Listing}
 use Rattle.wire_plan.specs.declared.by_number.Listing.TheVariants.{NameCalls, Publishes, Takes, Looks}
 use Rattle.wire_plan.specs.Index.{IsLook}
-use Rattle.wire_plan.specs.Order.{PublishesOnce}
-use Rattle.wire_plan.specs.Names.{takes_name}
-use Rattle.wire_plan.specs.Places.{IsLower, AreAll}
+use Rattle.wire_runs.specs.Order.{PublishesOnce}
+use Rattle.wire_runs.specs.Names.{takes_name}
+use Rattle.wire_runs.specs.EventLists.{IsLower, AreAll}
 use Rattle.wire_plan.specs.Tables.{is_listed, is_number, places_at, only_of, AreListed, AreListedTo}
-use Rattle.wire_plan.proofs.Basics.{event_within, process_within}
+use Rattle.wire_runs.proofs.Basics.{event_within, process_within}
 use Rattle.wire_plan.proofs.Grown.{place, Earlier, all_same, one_more, one_other, whole_process, whole_plan}
 
 abbrev pub places_in : Vec Event Global → List Place

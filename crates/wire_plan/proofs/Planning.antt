@@ -5,13 +5,13 @@ use Rattle.std.proofs.lemmas.Option.{slice_get-map, slice_get_cases}
 use Rattle.std.proofs.lemmas.List.{length-map, drop_more}
 use Rattle.std.proofs.lemmas.List.Sums.{sum_by-cons}
 use Rattle.std.proofs.lemmas.Bool.{cases_lt, cond_below, cond_above}
-use Rattle.wire_types.specs.Plan.{Plan, Call, CallPut, CallCommit, CallFence, CallGet, CallGetNow, CallPublish, CallLookup, CallLookupWait, CallUnpublish, CallFixed, Event, events_of, process_events, process_node, events, event_at, event_count, node_of}
-use Rattle.wire_types.specs.Plan as plan
+use Rattle.wire_runs.specs.Plan.{Plan, Call, CallPut, CallCommit, CallFence, CallGet, CallGetNow, CallPublish, CallLookup, CallLookupWait, CallUnpublish, CallFixed, Event, events_of, process_events, process_node, events, event_at, event_count, node_of}
+use Rattle.wire_runs.specs.Plan as plan
 use Rattle.wire_rehearsal.specs.Scripts.{Process, Scripts, call_count}
 use Rattle.wire_rehearsal.specs.Planned.{planned_call, planned_process, plan_of}
 use Rattle.wire_plan.specs.Kinds.{events_planned, calls_from, calls_planned, starts_from, starts_planned}
-use Rattle.wire_plan.specs.Laws.{event_total}
-use Rattle.wire_plan.specs.Ends.{call_number, call_size, calls_of, process_calls}
+use Rattle.wire_runs.specs.Laws.{event_total}
+use Rattle.wire_runs.specs.Ends.{call_number, call_size, calls_of, process_calls}
 
 -- a first call's events, and then those of the others
 pub events_first : (call : Call) (calls : List Call) → events_of (call ∷ calls) ≡ events_of (call ∷ []) ++ events_of calls

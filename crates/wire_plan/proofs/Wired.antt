@@ -2,12 +2,12 @@
 use Rattle.std.proofs.Common.{◌≡◌, ◌∙◌, ap, sym, subst, refl, ℕ, zero, suc, List, [], ◌++◌, Option, Some, None, map, ◌⊎◌, inl, inr, arith}
 use Rattle.std.specs.Prelude.{slice_get, option_map, option_to_list}
 use Rattle.std.proofs.lemmas.Option.{same_Some}
-use Rattle.wire_types.specs.Plan.{Plan, Place, Event, Leave, event, place_of}
+use Rattle.wire_runs.specs.Plan.{Plan, Place, Event, Leave, event, place_of}
 use Rattle.wire_types.specs.declared.Event.{Event as EventPlace}
-use Rattle.wire_types.specs.Fences.{arrivals}
-use Rattle.wire_plan.specs.Order.{Edge, Follows, Meets, Feeds, Announces}
+use Rattle.wire_runs.specs.Fences.{arrivals}
+use Rattle.wire_runs.specs.Order.{Edge, Follows, Meets, Feeds, Announces}
 use Rattle.wire_plan.specs.Index.{AreSources, AreArrivals, Awaits, Stored, Published, IsAwaited, previous_at, previous_of, source_list}
-use Rattle.wire_plan.proofs.Due.{place_path}
+use Rattle.wire_runs.proofs.Due.{place_path}
 
 -- what stands in a list behind an option
 front_or_rest : (a : Option Place) (rest : List Place) (k : ℕ) (z : Place) → slice_get (option_to_list a ++ rest) k ≡ Some z → (a ≡ Some z) ⊎ ((j : ℕ) × (slice_get rest j ≡ Some z))

@@ -1,13 +1,13 @@
 -- What is looked up in a plan: the sources of an event, the puts of a key, the calls on a name, and the fences that bring a key to a node.
 use Rattle.std.specs.Prelude.{◌≡◌, ◌≢◌, ℕ, zero, suc, ◌<◌, ◌≤◌, List, ◌++◌, true, Option, Some, None, map, option_map, option_to_list, slice_get, MatchOption}
-use Rattle.wire_types.specs.Plan.{Plan, Place, Put, Get, GetNow, LookupWait, event, place_of}
+use Rattle.wire_runs.specs.Plan.{Plan, Place, Put, Get, GetNow, LookupWait, event, place_of}
 use Rattle.wire_types.specs.declared.Event.{Event}
 use Rattle.wire_types.specs.declared.Scope.{Scope}
-use Rattle.wire_types.specs.Puts.{own}
-use Rattle.wire_plan.specs.Names.{calls_name}
-use Rattle.wire_plan.specs.Order.{Edge, Stores, IsArrival, PublishesOnce}
-use Rattle.wire_plan.specs.Races.{ByFence, Brings, IsPutOnce}
-use Rattle.wire_plan.specs.Places.{AreAll}
+use Rattle.wire_runs.specs.Puts.{own}
+use Rattle.wire_runs.specs.Names.{calls_name}
+use Rattle.wire_runs.specs.Order.{Edge, Stores, IsArrival, PublishesOnce}
+use Rattle.wire_runs.specs.Races.{ByFence, Brings, IsPutOnce}
+use Rattle.wire_runs.specs.EventLists.{AreAll}
 
 -- these are the sources of the edges into y, and no others
 pub record AreSources (plan : Plan) (y : Place) (sources : List Place) : Type 0 where

@@ -2,9 +2,9 @@
 use Rattle.std.specs.Prelude.{◌≡◌, ℕ, ◌+◌, ◌<◌, ◌≤◌, Option, Some, None, MatchOption, false, true, slice_get}
 use Rattle.std.specs.BTreeMap.{BTreeMap, get}
 use Rattle.std.specs.Ordering.{nat_cmp}
-use Rattle.wire_types.specs.Plan.{Plan, Event, Put, Commit, event_count, admits}
-use Rattle.wire_types.specs.Puts.{count_puts, stored, put_count, scope_of}
-use Rattle.wire_plan.specs.Order.{Stores}
+use Rattle.wire_runs.specs.Plan.{Plan, Event, Put, Commit, event_count, admits}
+use Rattle.wire_runs.specs.Puts.{count_puts, stored, put_count, scope_of}
+use Rattle.wire_runs.specs.Order.{Stores}
 use Rattle.wire_plan.specs.Index.{IsFirstPut}
 use Rattle.wire_plan.specs.declared.keys.KeyRow.{KeyRow}
 use Rattle.wire_plan.specs.declared.keys.KeyTable.{KeyTable}

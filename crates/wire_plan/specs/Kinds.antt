@@ -1,12 +1,12 @@
 -- What the kinds of events are, and the events that scripts plan, each with the number of its call.
 use Rattle.std.specs.Prelude.{◌≡◌, ℕ, suc, ◌+◌, List, [], ◌∷◌, ◌++◌, map, replicate}
-use Rattle.wire_types.specs.Plan.{Event, Call, events_of, set_of}
-use Rattle.wire_types.specs.Plan as plan
+use Rattle.wire_runs.specs.Plan.{Event, Call, events_of, set_of}
+use Rattle.wire_runs.specs.Plan as plan
 use Rattle.wire_types.specs.declared.Call.{Call as Written}
 use Rattle.wire_types.specs.declared.Call.TheVariants.{Fence}
 use Rattle.wire_rehearsal.specs.Scripts.{Scripts, IsSound, set_at}
 use Rattle.wire_rehearsal.specs.Planned.{planned_call}
-use Rattle.wire_plan.specs.Ends.{call_size}
+use Rattle.wire_runs.specs.Ends.{call_size}
 use Rattle.wire_plan.specs.declared.kind.Kind.{Kind}
 use Rattle.wire_plan.specs.declared.kind.Kind.TheVariants.{Put, Commit, Arrive, Leave, Get, GetNow, Publish, Lookup, LookupWait, Unpublish, Fixed}
 

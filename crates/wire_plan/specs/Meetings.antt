@@ -1,13 +1,13 @@
 -- The fences that events are part of, and who arrives at each fence.
 use Rattle.std.specs.Prelude.{◌≡◌, ℕ, suc, List, [], ◌∷◌, ◌++◌, Bool, true, false, Option, Some, map, slice_index_or, ◌==◌, if◌then◌else◌}
-use Rattle.wire_types.specs.Plan.{Event, Arrive, Leave, Place, event, place_of}
-use Rattle.wire_types.specs.Fences.{arrivals, is_member}
+use Rattle.wire_runs.specs.Plan.{Event, Arrive, Leave, Place, event, place_of}
+use Rattle.wire_runs.specs.Fences.{arrivals, is_member}
 use Rattle.wire_types.specs.declared.Event.{Event as EventPlace}
 use Rattle.wire_rehearsal.specs.Scripts.{Scripts}
 use Rattle.wire_rehearsal.specs.Planned.{plan_of}
 use Rattle.wire_fence.specs.Fences.{FenceInfo, FenceTable, fence_at}
-use Rattle.wire_plan.specs.Order.{IsArrival}
-use Rattle.wire_plan.specs.Places.{IsLower, AreAll}
+use Rattle.wire_runs.specs.Order.{IsArrival}
+use Rattle.wire_runs.specs.EventLists.{IsLower, AreAll}
 use Rattle.wire_plan.specs.Index.{AreArrivals}
 
 -- whether the event is one of the two halves of a fence

@@ -1,13 +1,13 @@
 -- The events of a plan, listed by the number of a name or of a key: for the contracts of private functions.
 use Rattle.std.specs.Prelude.{◌≡◌, ℕ, List, [], ◌∷◌, Bool, true, false, not, ◌&&◌, ◌==◌, Option, Some, None, slice_index_or}
-use Rattle.wire_types.specs.Plan.{Plan, Place, Event, Publish, GetNow, event}
+use Rattle.wire_runs.specs.Plan.{Plan, Place, Event, Publish, GetNow, event}
 use Rattle.wire_plan.specs.declared.by_number.Listing.{Listing}
 use Rattle.wire_plan.specs.declared.by_number.Listing.TheVariants.{NameCalls, Publishes, Takes, Looks}
 use Rattle.wire_plan.specs.declared.names.NameTable.{NameTable}
 use Rattle.wire_plan.specs.declared.looks.LookTable.{LookTable}
-use Rattle.wire_plan.specs.Names.{calls_name, takes_name}
+use Rattle.wire_runs.specs.Names.{calls_name, takes_name}
 use Rattle.wire_plan.specs.Index.{AreNameCalls, AreLooks}
-use Rattle.wire_plan.specs.Places.{IsLower, AreAll}
+use Rattle.wire_runs.specs.EventLists.{IsLower, AreAll}
 
 -- whether an event is listed under a number: under a name the calls on it, its publishes, or what may take it away, and under
 -- a key the gets of it that are answered at once and ask another process

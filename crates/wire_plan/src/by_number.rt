@@ -1,7 +1,7 @@
 //! Events listed by the number of a name or of a key.
 
 ghost use Rattle.std.specs.Prelude.{◌≡◌, ◌≢◌, ◌<◌, ◌++◌, ◌∷◌, [], ℕ, suc, List, Some, length, map, OnOk, IfOk};
-ghost use Rattle.wire_types.specs.Plan.{Plan as ThePlan, Place, place_of, event_at};
+ghost use Rattle.wire_runs.specs.Plan.{Plan as ThePlan, Place, place_of, event_at};
 ghost use Rattle.wire_rehearsal.specs.Planned.{plan_of};
 ghost use Rattle.wire_plan.specs.Kinds.{event_of};
 ghost use Rattle.wire_plan.specs.Tables.{is_listed, is_number, places_at, AreListed, AreListedTo};
@@ -96,7 +96,7 @@ pub(crate) struct ByNumber {
 
 impl Model for ByNumber {
     ghost use Rattle.std.specs.Prelude.{List, map};
-    ghost use Rattle.wire_types.specs.Plan.{Place, place_of};
+    ghost use Rattle.wire_runs.specs.Plan.{Place, place_of};
 
     ghost Value = { List (List Place) };
 

@@ -1,13 +1,13 @@
 //! The events of scripts, and what they are made of.
 
 ghost use Rattle.std.specs.Prelude.{◌≡◌, ◌<◌, ◌^◌, Some, length, map, sum_by, vec_len, IfOk, IfErr};
-ghost use Rattle.wire_types.specs.Plan.{place_of, process_count, events, event_at, event_count, node_of};
+ghost use Rattle.wire_runs.specs.Plan.{place_of, process_count, events, event_at, event_count, node_of};
 ghost use Rattle.wire_rehearsal.specs.Scripts.{IsSound};
 ghost use Rattle.wire_rehearsal.specs.Planned.{plan_of};
 ghost use Rattle.wire_procmap.specs.Map.{map_of};
 ghost use Rattle.wire_plan.specs.Kinds.{event_of, events_planned, calls_planned, starts_planned};
-ghost use Rattle.wire_plan.specs.Ends.{call_of, calls_of, first_event};
-ghost use Rattle.wire_plan.specs.Laws.{event_total};
+ghost use Rattle.wire_runs.specs.Ends.{call_of, calls_of, first_event};
+ghost use Rattle.wire_runs.specs.Laws.{event_total};
 
 use crate::kind::Kind;
 use crate::row::{Row, row_of};
@@ -53,6 +53,19 @@ fn all_rows(alloc: Global, scripts: &Scripts, places: &ProcMap) -> Result<Vec<Ro
     Ok(all)
 }
 
+/// The process map of scripts, and the events of each process.
+fn parts_of(alloc: Global, scripts: &Scripts) -> Result<(ProcMap, Vec<Row>), Fault>
+    ensures places { IfOk result (λ parts. parts.0 ≡ map_of scripts.now) }
+    ensures kinds { IfOk result (λ parts. map (λ row. map (event_of scripts.now.sets) row.kinds.items) parts.1.items ≡ events_planned scripts.now) }
+    ensures calls { IfOk result (λ parts. map (λ row. row.calls.items) parts.1.items ≡ calls_planned scripts.now) }
+    ensures starts { IfOk result (λ parts. map (λ row. row.starts.items) parts.1.items ≡ starts_planned scripts.now) }
+    ensures err { IfErr result (λ e. e ≡ Fault.Memory) }
+{
+    let places = ProcMap::new(alloc, scripts)?;
+    let rows = all_rows(alloc, scripts, &places)?;
+    Ok((places, rows))
+}
+
 /// How many events these rows hold.
 fn total_of(rows: &[Row]) -> usize
     requires { sum_by (λ row. vec_len row.kinds) rows.now < 2 ^ 64 }
@@ -67,13 +80,17 @@ impl Events {
         ensures ok { IfOk result (λ events. events ≡ scripts) }
         ensures err { IfErr result (λ e. e ≡ Fault.Memory) }
     {
-        let places = ProcMap::new(alloc, &scripts)?;
-        let rows = all_rows(alloc, &scripts, &places)?;
-        Ok(Events {
-            scripts,
-            places,
-            rows,
-        })
+        match parts_of(alloc, &scripts) {
+            Ok((places, rows)) => Ok(Events {
+                scripts,
+                places,
+                rows,
+            }),
+            Err(fault) => {
+                drop(scripts);
+                Err(fault)
+            }
+        }
     }
 
     /// The scripts that it was made of.

@@ -3,12 +3,12 @@
 ghost use Rattle.std.specs.BTreeMap.{get};
 ghost use Rattle.std.specs.Ordering.{nat_cmp};
 ghost use Rattle.std.specs.Prelude.{◌≡◌, ◌↔◌, ◌||◌, ◌+◌, ◌<◌, ◌^◌, ℕ, List, Option, Some, suc, false, is_some, nat_le, IfOk, OnOk, IsTrue, MatchOption};
-ghost use Rattle.wire_types.specs.Plan.{Plan, Place, Event as Planned, place_of, event_at, event_count, admits};
-ghost use Rattle.wire_types.specs.Puts.{own, stored, put_count};
+ghost use Rattle.wire_runs.specs.Plan.{Plan, Place, Event as Planned, place_of, event_at, event_count, admits};
+ghost use Rattle.wire_runs.specs.Puts.{own, stored, put_count};
 ghost use Rattle.wire_rehearsal.specs.Planned.{plan_of};
 ghost use Rattle.wire_plan.specs.Kinds.{event_of};
-ghost use Rattle.wire_plan.specs.Order.{Stores};
-ghost use Rattle.wire_plan.specs.Races.{IsPutOnce};
+ghost use Rattle.wire_runs.specs.Order.{Stores};
+ghost use Rattle.wire_runs.specs.Races.{IsPutOnce};
 ghost use Rattle.wire_plan.specs.Index.{IsFirstPut};
 ghost use Rattle.wire_plan.specs.Keys.{puts_in, row_at, AreRowsFrom, IsKeyRow, IsStore, IsSent, AreKeysOf};
 

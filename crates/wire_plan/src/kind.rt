@@ -1,7 +1,7 @@
 //! What an event is.
 
 ghost use Rattle.std.specs.Prelude.{◌≡◌, ◌∷◌, [], if◌then◌else◌};
-ghost use Rattle.wire_types.specs.Plan.{events_of};
+ghost use Rattle.wire_runs.specs.Plan.{events_of};
 ghost use Rattle.wire_types.specs.Replies.{bare};
 ghost use Rattle.wire_lines.specs.Said.{is_reserved as is_reserved_text};
 ghost use Rattle.wire_rehearsal.specs.Scripts.{text_at};

@@ -1,7 +1,7 @@
 //! The gets that are answered at once, of each key.
 
 ghost use Rattle.std.specs.Prelude.{map, IfOk};
-ghost use Rattle.wire_types.specs.Plan.{Plan as ThePlan, place_of};
+ghost use Rattle.wire_runs.specs.Plan.{Plan as ThePlan, place_of};
 ghost use Rattle.wire_rehearsal.specs.Planned.{plan_of};
 ghost use Rattle.wire_plan.specs.Index.{AreLooks};
 ghost use Rattle.wire_plan.specs.Tables.{AreLooksOf};

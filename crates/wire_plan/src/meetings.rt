@@ -1,8 +1,8 @@
 //! The fences that events are part of, and who arrives at each fence.
 
 ghost use Rattle.std.specs.Prelude.{◌≡◌, ◌<◌, ◌∷◌, [], ℕ, suc, List, true, Some, length, map as map_list, IfOk, OnOk};
-ghost use Rattle.wire_types.specs.Plan.{Leave, place_of, process_count, event_count, event as event_in};
-ghost use Rattle.wire_types.specs.Fences.{arrivals as arrivals_of, is_full as is_full_fence};
+ghost use Rattle.wire_runs.specs.Plan.{Leave, place_of, process_count, event_count, event as event_in};
+ghost use Rattle.wire_runs.specs.Fences.{arrivals as arrivals_of, is_full as is_full_fence};
 ghost use Rattle.wire_rehearsal.specs.Scripts.{Scripts as TheScripts};
 ghost use Rattle.wire_rehearsal.specs.Planned.{plan_of};
 ghost use Rattle.wire_fence.specs.Fences.{FenceInfo, FenceTable, AreFencesOf, fence_at as the_fence_at};

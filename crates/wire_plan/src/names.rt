@@ -1,9 +1,9 @@
 //! The calls on each name.
 
 ghost use Rattle.std.specs.Prelude.{◌≡◌, map, IfOk, MatchOption};
-ghost use Rattle.wire_types.specs.Plan.{Plan as ThePlan, Place, place_of};
+ghost use Rattle.wire_runs.specs.Plan.{Plan as ThePlan, Place, place_of};
 ghost use Rattle.wire_rehearsal.specs.Planned.{plan_of};
-ghost use Rattle.wire_plan.specs.Order.{PublishesOnce};
+ghost use Rattle.wire_runs.specs.Order.{PublishesOnce};
 ghost use Rattle.wire_plan.specs.Index.{AreNameCalls};
 ghost use Rattle.wire_plan.specs.Tables.{only_of, AreNamesOf};
 

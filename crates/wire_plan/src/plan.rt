@@ -1,19 +1,20 @@
 //! A plan: scripts with the events of each process, and what is looked up of them.
 
 ghost use Rattle.std.specs.Prelude.{◌≡◌, ◌<◌, ◌^◌, ℕ, List, [], true, Some, length, map, option_map, IfOk, IfErr, IfSome, MatchOption};
-ghost use Rattle.wire_types.specs.Plan.{Place, Get, Leave, place_of, process_count, events, event_at, event_count, event as event_in, node_of};
-ghost use Rattle.wire_types.specs.Puts.{put_count};
-ghost use Rattle.wire_types.specs.Fences.{arrivals as arrivals_of};
+ghost use Rattle.wire_runs.specs.Plan.{Place, Get, Leave, place_of, process_count, events, event_at, event_count, event as event_in, node_of};
+ghost use Rattle.wire_runs.specs.Puts.{put_count};
+ghost use Rattle.wire_runs.specs.Fences.{arrivals as arrivals_of};
 ghost use Rattle.wire_rehearsal.specs.Scripts.{IsSound};
 ghost use Rattle.wire_rehearsal.specs.Planned.{plan_of};
 ghost use Rattle.wire_procmap.specs.Map.{map_of};
 ghost use Rattle.wire_fence.specs.Fences.{AreFencesOf};
 ghost use Rattle.wire_plan.specs.Kinds.{event_of};
-ghost use Rattle.wire_plan.specs.Ends.{call_of, calls_of, first_event};
-ghost use Rattle.wire_plan.specs.Laws.{event_total};
-ghost use Rattle.wire_plan.specs.Order.{may_come, Stores, PublishesOnce};
-ghost use Rattle.wire_plan.specs.Races.{IsPutOnce};
+ghost use Rattle.wire_runs.specs.Ends.{call_of, calls_of, first_event};
+ghost use Rattle.wire_runs.specs.Laws.{event_total};
+ghost use Rattle.wire_runs.specs.Order.{may_come, Stores, PublishesOnce};
+ghost use Rattle.wire_runs.specs.Races.{IsPutOnce};
 ghost use Rattle.wire_plan.specs.Index.{AreSources, AreArrivals, AreNameCalls, AreLooks, IsAwaited, IsFirstPut, IsNextDelivery, source_list, previous_of};
+ghost use Rattle.wire_plan.specs.Indexed.{IsIndexed};
 ghost use Rattle.wire_plan.specs.Meetings.{is_of_fence, IsMet};
 
 use crate::deliveries::next_delivery;
@@ -49,6 +50,17 @@ impl Model for Plan {
     ghost invariant = { λ p. AreFencesOf p.events p.fences × IsIndexed p.events p.fences p.index };
 }
 
+/// The fences of these events, and the index of the events.
+fn tables_of(alloc: Global, events: &Events) -> Result<(Fences, Index), Fault>
+    ensures fences { IfOk result (λ tables. AreFencesOf events.now tables.0) }
+    ensures index { IfOk result (λ tables. IsIndexed events.now tables.0 tables.1) }
+    ensures err { IfErr result (λ e. e ≡ Fault.Memory) }
+{
+    let fences = Fences::of(alloc, events.scripts(), events.map())?;
+    let index = Index::of(alloc, events, &fences)?;
+    Ok((fences, index))
+}
+
 impl Plan {
     /// The plan of scripts. The one fault is `Fault::Memory`.
     pub fn build(alloc: Global, scripts: Scripts) -> Result<Plan, Fault>
@@ -56,13 +68,17 @@ impl Plan {
         ensures err { IfErr result (λ e. e ≡ Fault.Memory) }
     {
         let events = Events::of(alloc, scripts)?;
-        let fences = Fences::of(alloc, events.scripts(), events.map())?;
-        let index = Index::of(alloc, &events, &fences)?;
-        Ok(Plan {
-            events,
-            fences,
-            index,
-        })
+        match tables_of(alloc, &events) {
+            Ok((fences, index)) => Ok(Plan {
+                events,
+                fences,
+                index,
+            }),
+            Err(fault) => {
+                drop(events);
+                Err(fault)
+            }
+        }
     }
 
     /// The scripts that it was made of.

@@ -1,7 +1,7 @@
 //! The events of one process.
 
 ghost use Rattle.std.specs.Prelude.{◌≡◌, ◌+◌, ◌<◌, ◌^◌, ◌∷◌, ◌++◌, [], length, map, OnOk, IfOk};
-ghost use Rattle.wire_types.specs.Plan.{events_of};
+ghost use Rattle.wire_runs.specs.Plan.{events_of};
 ghost use Rattle.wire_rehearsal.specs.Planned.{planned_call};
 ghost use Rattle.wire_procmap.specs.Map.{map_of};
 ghost use Rattle.wire_plan.specs.Kinds.{event_of, calls_from, starts_from};

@@ -1,7 +1,7 @@
 //! What an event waits for.
 
 ghost use Rattle.std.specs.Prelude.{◌≡◌, option_map};
-ghost use Rattle.wire_types.specs.Plan.{place_of};
+ghost use Rattle.wire_runs.specs.Plan.{place_of};
 ghost use Rattle.wire_plan.specs.Index.{previous_of};
 
 use wire_types::Event;

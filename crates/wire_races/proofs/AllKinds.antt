@@ -1,7 +1,7 @@
 -- The three kinds are all findings.
 use Rattle.std.proofs.Common.{◌≡◌, sym, refl, subst, ℕ, Bool, List, inl, inr}
-use Rattle.wire_types.specs.Plan.{Plan}
-use Rattle.wire_plan.specs.Findings.{Finding, Rewrite, KeyRace, NameRace, IsFound, Has, IsSorted}
+use Rattle.wire_runs.specs.Plan.{Plan}
+use Rattle.wire_runs.specs.Findings.{Finding, Rewrite, KeyRace, NameRace, IsFound, Has, IsSorted}
 use Rattle.wire_races.specs.Shown.{all_shown, AreFindings}
 use Rattle.wire_races.specs.declared.finding.Finding.{Finding as Told}
 use Rattle.wire_races.specs.Collected.{AreFound}

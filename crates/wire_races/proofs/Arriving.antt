@@ -3,13 +3,13 @@ use Rattle.std.proofs.Common.{◌≡◌, ◌∙◌, ap, refl, sym, subst, ℕ, s
 use Rattle.std.specs.Prelude.{slice_get, option_map, slice_index_or, is_some, not, IsTrue, ◌↔◌, MatchOption}
 use Rattle.std.proofs.lemmas.Bool.{cases_eq, cases_lt, true≢false}
 use Rattle.std.proofs.lemmas.Option.{same_Some, slice_get-map, slice_get-get_or, slice_get_within}
-use Rattle.wire_types.specs.Plan.{Plan, Place, Event, Arrive, Leave, event, place_of}
-use Rattle.wire_types.specs.Fences.{arrivals}
+use Rattle.wire_runs.specs.Plan.{Plan, Place, Event, Arrive, Leave, event, place_of}
+use Rattle.wire_runs.specs.Fences.{arrivals}
 use Rattle.wire_types.specs.declared.place.Event.{Event as EventPlace}
-use Rattle.wire_plan.specs.Order.{IsArrival, Before}
+use Rattle.wire_runs.specs.Order.{IsArrival, Before}
 use Rattle.wire_plan.specs.Index.{AreArrivals}
-use Rattle.wire_plan.proofs.Basics.{arrivals_rise, arrivals_step}
-use Rattle.wire_races.specs.Racing.{Arrives, IsSure, IsLate, AllLive, NoneAfter, AreBefore, IsLateAt, IsFirstLate}
+use Rattle.wire_runs.proofs.Basics.{arrivals_rise, arrivals_step}
+use Rattle.wire_races.specs.Racing.{Arrives, IsSure, MayBeLate, IsLate, AllLive, NoneAfter, AreBefore, IsLateAt, IsFirstLate}
 
 abbrev members_in : Event → List ℕ
 members_in (Arrive members collect) = members
@@ -120,11 +120,18 @@ module _ (plan : Plan) (get arrival : Place) (fence : Arrives plan arrival) (pla
         ]);
   }
 
-  pub late_live : (x : Place) → IsLate plan get arrival x → AllLive plan places
-  late_live x l k z is = l.all_live z ((those l.fence.members l.fence.j l.fence.arrival).only k z is)
+  pub may_there : AllLive plan places → NoneAfter plan get places → MayBeLate plan get arrival
+  may_there alive none_after = record {
+    fence = fence;
+    all_live = λ z h. let i = are.all z h in alive i.0 z i.1;
+    before_none = λ z h. let i = are.all z h in none_after i.0 z i.1;
+  }
 
-  pub late_none_after : (x : Place) → IsLate plan get arrival x → NoneAfter plan get places
-  late_none_after x l k z is = l.before_none z ((those l.fence.members l.fence.j l.fence.arrival).only k z is)
+  pub may_live : MayBeLate plan get arrival → AllLive plan places
+  may_live m k z is = m.all_live z ((those m.fence.members m.fence.j m.fence.arrival).only k z is)
+
+  pub may_none_after : MayBeLate plan get arrival → NoneAfter plan get places
+  may_none_after m k z is = m.before_none z ((those m.fence.members m.fence.j m.fence.arrival).only k z is)
 
   pub late_not_before : (x : Place) → IsLate plan get arrival x → AreBefore plan get places (length places) → ⊥
   late_not_before x l before =

@@ -2,20 +2,22 @@
 use Rattle.std.proofs.Common.{◌≡◌, ◌∙◌, ap, sym, subst, ℕ, suc, ◌<◌, ◌≤◌, List, true, Option, Some, None, arith, inl, inr}
 use Rattle.std.specs.Prelude.{IfSome, option_map}
 use Rattle.std.proofs.lemmas.Bool.{true≢false, cases_lt, cases_eq}
-use Rattle.wire_types.specs.Plan.{Plan, Place, event_count, process_count, node_of, same_node}
+use Rattle.wire_runs.specs.Plan.{Plan, Place, event_count, process_count, node_of, same_node}
 use Rattle.wire_types.specs.declared.Proc.{Proc}
 use Rattle.wire_types.specs.declared.place.Event.{Event as EventPlace}
-use Rattle.wire_plan.specs.Order.{IsArrival, Before}
-use Rattle.wire_plan.specs.Races.{Delivery, ByFence, IsOf, Delivers, ComesSurely}
-use Rattle.wire_plan.specs.Findings.{Finding, IsFound, IsKeyRace}
+use Rattle.wire_runs.specs.Order.{IsArrival, Before}
+use Rattle.wire_runs.specs.Races.{Delivery, ByFence, IsOf, Delivers, ComesSurely}
+use Rattle.wire_runs.specs.Findings.{Finding, IsFound, IsKeyRace}
 use Rattle.wire_plan.specs.Index.{IsDelivering, IsNextDelivery}
-use Rattle.wire_plan.proofs.Basics.{event_within, process_within}
+use Rattle.wire_runs.proofs.Basics.{event_within, process_within}
 use Rattle.wire_races.specs.Collected.{AreFound}
 use Rattle.wire_races.specs.Kinds.{IsOfKey}
 use Rattle.wire_races.specs.Adding.{Adds, OfKind}
-use Rattle.wire_races.specs.Racing.{IsRaceOf, IsKeyRaceBy, Arrives, IsSure, IsLate, IsLateBy, AreLateBelow, IsUnsure, IsNextArrival}
+use Rattle.wire_races.specs.Racing.{IsRaceOf, IsKeyRaceBy, Arrives, IsSure, MayBeLate, IsLate, IsLateBy, AreLateBelow, IsUnsure, IsNextArrival}
 use Rattle.wire_races.proofs.Growing.{adds_none, adds_same, adds_both}
+use Rattle.wire_runs.proofs.Histories.{joined}
 use Rattle.wire_races.proofs.Arriving.{arrival_of, late_once}
+use Rattle.wire_races.proofs.Sooner.{sooner_live, sooner_before}
 use Rattle.wire_races.proofs.Looking.{race_with, race_open, race_found, get_there}
 
 abbrev pub here : ℕ → ℕ → Place
@@ -60,21 +62,30 @@ module _ (plan : Plan) (get : Place) (p key node : ℕ) where
         record { fence = record { members = members; j = j; arrival = d.brings_it.arrival }; all_live = d.all_live; all_before = before },
       )
 
-  -- none of the first arrivals is sure, and the next one comes later
-  pub none_sure : (from at next : ℕ) → next ≡ suc at → ((k : ℕ) → k < from → IsDelivering plan p key node k → IsSure plan get (here p k) → ⊥) → ((k : ℕ) → from ≤ k → k < at → IsDelivering plan p key node k → ⊥) → (IsSure plan get (here p at) → ⊥) → (k : ℕ) → k < next → IsDelivering plan p key node k → IsSure plan get (here p k) → ⊥
-  none_sure from at next one before others never k lt d s = elim (cases_lt k from) [
-    | inl low ↦ before k low d s
-    | inr ge ↦ elim (cases_eq k at) [
-      | inl same ↦ never (subst (λ n. IsSure plan get (here p n)) same s)
-      | inr other ↦ others k ge (omega (arith, lt, one, other)) d
-    ]
-  ]
+  -- where a delivery is sure, an earlier one is
+  sure_sooner : (a b : ℕ) → a < b → IsDelivering plan p key node a → IsSure plan get (here p b) → IsSure plan get (here p a)
+  sure_sooner a b lt d s =
+      let later = s.all_live (here p b) s.fence.arrival in record {
+        fence = record { members = d.members; j = d.j; arrival = d.arrival };
+        all_live = λ z h. sooner_live plan p a b d.members d.j d.arrival lt later z h;
+        all_before = λ z h. joined (sooner_before plan p a b d.members d.j d.arrival lt later z h) (s.all_before (here p b) s.fence.arrival);
+      }
+
+  -- so the first one is
+  pub first_sure : (at : ℕ) → IsDelivering plan p key node at → ((k : ℕ) → 0 ≤ k → k < at → IsDelivering plan p key node k → ⊥) → ComesSurely plan p key node get → IsSure plan get (here p at)
+  first_sure at d others s =
+      let w = sure_at s in
+      elim (cases_lt w.0 at) [
+        | inl lt ↦ absurd (others w.0 (omega arith) lt w.1)
+        | inr ge ↦ elim (cases_eq w.0 at) [
+          | inl same ↦ subst (λ n. IsSure plan get (here p n)) same w.2
+          | inr other ↦ sure_sooner at w.0 (omega (arith, ge, other)) d w.2
+        ]
+      ]
 
   -- none at all
-  pub never_sure : (from : ℕ) → ((k : ℕ) → k < from → IsDelivering plan p key node k → IsSure plan get (here p k) → ⊥) → ((k : ℕ) → from ≤ k → IsDelivering plan p key node k → ⊥) → ComesSurely plan p key node get → ⊥
-  never_sure from before later s =
-      let w = sure_at s in
-      elim (cases_lt w.0 from) [ inl lt ↦ before w.0 lt w.1 w.2 | inr ge ↦ later w.0 ge w.1 ]
+  pub never_sure : ((k : ℕ) → 0 ≤ k → IsDelivering plan p key node k → ⊥) → ComesSurely plan p key node get → ⊥
+  never_sure none s = let w = sure_at s in none w.0 (omega arith) w.1
 
 pub past_all : (plan : Plan) (p key node from count : ℕ) → count ≡ event_count plan p → count ≤ from → (k : ℕ) → from ≤ k → IsDelivering plan p key node k → ⊥
 past_all plan p key node from count is end k ge d = let lt = delivering_within plan p key node k d in omega (arith, lt, is, end, ge)
@@ -158,6 +169,30 @@ module _ (plan : Plan) (get : Place) (owner key node : ℕ) where
         ]
       ])
       first second
+
+  -- where a delivery can't be late, no later one is
+  pub no_later : (from at : ℕ) → ((k : ℕ) → from ≤ k → k < at → IsDelivering plan owner key node k → ⊥) → IsDelivering plan owner key node at → (MayBeLate plan get (here owner at) → ⊥) → (k : ℕ) → from ≤ k → (f : Finding) → IsLateBy plan get owner key node k f → ⊥
+  no_later from at others d never k ge f t = elim (cases_lt k at) [
+    | inl lt ↦ others k ge lt t.delivers
+    | inr le ↦ elim (cases_eq k at) [
+      | inl same ↦ never (subst (λ n. MayBeLate plan get (here owner n)) same (record { fence = t.late.fence; all_live = t.late.all_live; before_none = t.late.before_none }))
+      | inr other ↦ (
+          let lt : at < k = omega (arith, le, other) in
+          let later = t.late.all_live (here owner k) t.late.fence.arrival in
+          never (record {
+            fence = record { members = d.members; j = d.j; arrival = d.arrival };
+            all_live = λ z h. sooner_live plan owner at k d.members d.j d.arrival lt later z h;
+            before_none = λ z h b. t.late.before_none (here owner k) t.late.fence.arrival (joined b (sooner_before plan owner at k d.members d.j d.arrival lt later z h));
+          }))
+    ]
+  ]
+
+  pub late_done : (old new : List Finding) (from count : ℕ) → count ≡ event_count plan owner → ((k : ℕ) → from ≤ k → (f : Finding) → IsLateBy plan get owner key node k f → ⊥) → Adds plan old new (AreLateBelow plan get owner key node from) → Adds plan old new (AreLateBelow plan get owner key node count)
+  late_done old new from count is never h =
+      adds_same plan old new (AreLateBelow plan get owner key node from) (AreLateBelow plan get owner key node count)
+      (λ f t. let lt = delivering_within plan owner key node t.0 t.2.delivers in (t.0, omega (arith, lt, is), t.2))
+      (λ f t. elim (cases_lt t.0 from) [ inl lt ↦ (t.0, lt, t.2) | inr ge ↦ absurd (never t.0 ge f t.2) ])
+      h
 
   pub late_whole : (old new : List Finding) (from count : ℕ) → count ≡ event_count plan owner → ((k : ℕ) → from ≤ k → IsDelivering plan owner key node k → ⊥) → Adds plan old new (AreLateBelow plan get owner key node from) → Adds plan old new (AreLateBelow plan get owner key node count)
   late_whole old new from count is later h =

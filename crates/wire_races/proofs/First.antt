@@ -3,8 +3,8 @@ use Rattle.std.proofs.Common.{◌≡◌, ◌∙◌, ap, refl, sym, ℕ, zero, su
 use Rattle.std.specs.Prelude.{slice_get}
 use Rattle.std.proofs.lemmas.Bool.{true≢false}
 use Rattle.std.proofs.lemmas.Option.{slice_get_within, same_Some}
-use Rattle.wire_types.specs.Plan.{Plan, Place, Call, CallPut, CallCommit, CallFence, CallGet, CallGetNow, CallPublish, CallLookup, CallLookupWait, CallUnpublish, CallFixed, Event, Arrive, Leave, events_of, events, event_at, event}
-use Rattle.wire_plan.specs.Ends.{call_of, process_calls, first_event}
+use Rattle.wire_runs.specs.Plan.{Plan, Place, Call, CallPut, CallCommit, CallFence, CallGet, CallGetNow, CallPublish, CallLookup, CallLookupWait, CallUnpublish, CallFixed, Event, Arrive, Leave, events_of, events, event_at, event}
+use Rattle.wire_runs.specs.Ends.{call_of, process_calls, first_event}
 use Rattle.wire_races.proofs.Starting.{is_leave, same_events, starts_back}
 
 no_end : (e : Event) → ((members : List ℕ) → e ≡ Leave members → ⊥) → is_leave e ≡ false

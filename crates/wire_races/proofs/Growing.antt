@@ -1,8 +1,8 @@
 -- How the list of findings grows, event by event.
 use Rattle.std.proofs.Common.{◌≡◌, ◌⊎◌, inl, inr, ⊎_elim, ℕ, suc, ◌<◌, List, refl, sym, subst, arith}
 use Rattle.std.proofs.lemmas.Bool.{cases_eq}
-use Rattle.wire_types.specs.Plan.{Plan, Place, process_count, event_count}
-use Rattle.wire_plan.specs.Findings.{Finding, IsFound}
+use Rattle.wire_runs.specs.Plan.{Plan, Place, process_count, event_count}
+use Rattle.wire_runs.specs.Findings.{Finding, IsFound}
 use Rattle.wire_races.specs.Collected.{AreFound, IsAdded}
 use Rattle.wire_races.specs.Kinds.{AllAdded}
 use Rattle.wire_races.specs.Adding.{Adds, OfKind, ToldIn, ToldBelow}

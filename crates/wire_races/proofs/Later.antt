@@ -1,16 +1,16 @@
 -- Rewrites, told by first puts.
 use Rattle.std.proofs.Common.{◌≡◌, ◌∙◌, ap, sym, subst, ℕ, suc, ◌<◌, ◌≤◌, List, Some, arith, is_some}
 use Rattle.std.proofs.lemmas.Bool.{true≢false}
-use Rattle.wire_types.specs.Plan.{Plan, Place, Put, event, event_at, event_count, process_count}
-use Rattle.wire_types.specs.Puts.{put_count}
+use Rattle.wire_runs.specs.Plan.{Plan, Place, Put, event, event_at, event_count, process_count}
+use Rattle.wire_runs.specs.Puts.{put_count}
 use Rattle.wire_types.specs.declared.Scope.{Scope}
 use Rattle.wire_types.specs.declared.CallAt.{CallAt}
-use Rattle.wire_plan.specs.Findings.{Finding, Rewrite, KeyRace, NameRace, IsFound, Has}
-use Rattle.wire_plan.specs.Findings as told
-use Rattle.wire_plan.specs.Ends.{call_of, first_event}
+use Rattle.wire_runs.specs.Findings.{Finding, Rewrite, KeyRace, NameRace, IsFound, Has}
+use Rattle.wire_runs.specs.Findings as told
+use Rattle.wire_runs.specs.Ends.{call_of, first_event}
 use Rattle.wire_plan.specs.Index.{IsFirstPut}
-use Rattle.wire_plan.specs.Races.{IsRewrite}
-use Rattle.wire_plan.proofs.Basics.{event_within, process_within}
+use Rattle.wire_runs.specs.Races.{IsRewrite}
+use Rattle.wire_runs.proofs.Basics.{event_within, process_within}
 use Rattle.wire_plan.proofs.KeyFacts.{never_put}
 use Rattle.wire_plan.proofs.KeyRows.{own_here}
 use Rattle.wire_races.specs.Collected.{AreFound, IsAdded}

@@ -7,6 +7,7 @@ pub mod Growing
 pub mod First
 pub mod Later
 pub mod Arriving
+pub mod Sooner
 pub mod Looking
 pub mod Delivered
 pub mod Lists

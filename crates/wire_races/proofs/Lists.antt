@@ -3,10 +3,10 @@ use Rattle.std.proofs.Common.{◌≡◌, ◌⊎◌, inl, inr, ⊎_elim, ℕ, zer
 use Rattle.std.specs.Prelude.{slice_get, slice_index_or, option_map}
 use Rattle.std.proofs.lemmas.Option.{slice_get_within, same_Some, slice_get-map, slice_get-get_or}
 use Rattle.std.proofs.lemmas.List.{map_more, map-append, take-append-drop}
-use Rattle.wire_types.specs.Plan.{Plan, Place, place_of}
+use Rattle.wire_runs.specs.Plan.{Plan, Place, place_of}
 use Rattle.wire_types.specs.declared.place.Event.{Event as EventPlace}
-use Rattle.wire_plan.specs.Fate.{IsIn}
-use Rattle.wire_plan.proofs.AllPlaces.{in_either}
+use Rattle.wire_runs.specs.Fate.{IsIn}
+use Rattle.wire_runs.proofs.EventLists.{in_either}
 use Rattle.wire_races.specs.NameRaces.{AreCallsOn, AreOf}
 
 pub in_index : (xs : List Place) (z : Place) → IsIn z xs → (k : ℕ) × (slice_get xs k ≡ Some z)

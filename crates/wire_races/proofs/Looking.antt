@@ -2,15 +2,15 @@
 use Rattle.std.proofs.Common.{◌≡◌, ◌⊎◌, ◌∙◌, ap, refl, sym, subst, ℕ, ◌<◌, List, length, true, Option, Some, arith, is_some, inl, inr, eq-eqb}
 use Rattle.std.proofs.lemmas.Bool.{true≢false, cases_lt, cases_eq}
 use Rattle.std.proofs.lemmas.Option.{same_Some, slice_get_past}
-use Rattle.wire_types.specs.Plan.{Plan, Place, Event, Commit, Arrive, Leave, GetNow, event, events, event_count, process_count, process_events, node_of, same_node}
-use Rattle.wire_types.specs.Puts.{stored, stored_with, own, put_count}
+use Rattle.wire_runs.specs.Plan.{Plan, Place, Event, Commit, Arrive, Leave, GetNow, event, events, event_count, process_count, process_events, node_of, same_node}
+use Rattle.wire_runs.specs.Puts.{stored, stored_with, own, put_count}
 use Rattle.wire_types.specs.declared.CallAt.{CallAt}
-use Rattle.wire_plan.specs.Order.{Stores, IsArrival}
-use Rattle.wire_plan.specs.Places.{IsLower}
-use Rattle.wire_plan.specs.Ends.{call_of, first_event}
-use Rattle.wire_plan.specs.Races.{IsUnordered, IsNodeRace, IsPutOnce, Delivery, ByFence, IsOf}
-use Rattle.wire_plan.specs.Findings.{Finding, KeyRace, IsFound, IsKeyRace}
-use Rattle.wire_plan.proofs.Basics.{event_within}
+use Rattle.wire_runs.specs.Order.{Stores, IsArrival}
+use Rattle.wire_runs.specs.EventLists.{IsLower}
+use Rattle.wire_runs.specs.Ends.{call_of, first_event}
+use Rattle.wire_runs.specs.Races.{IsUnordered, IsNodeRace, IsPutOnce, Delivery, ByFence, IsOf}
+use Rattle.wire_runs.specs.Findings.{Finding, KeyRace, IsFound, IsKeyRace}
+use Rattle.wire_runs.proofs.Basics.{event_within}
 use Rattle.wire_plan.proofs.KeyFacts.{stores_once}
 use Rattle.wire_races.specs.Collected.{AreFound, IsAdded}
 use Rattle.wire_races.specs.Adding.{Adds}

@@ -2,9 +2,9 @@
 use Rattle.std.proofs.Common.{◌≡◌, ◌⊎◌, inl, inr, ap, sym, Bool, true, false, ltb-true, lt-ltb}
 use Rattle.std.specs.Prelude.{◌↔◌, nat_lt}
 use Rattle.std.proofs.lemmas.Bool.{cases_eq, true≢false}
-use Rattle.wire_types.specs.Plan.{Plan, Place}
-use Rattle.wire_plan.specs.Order.{Before}
-use Rattle.wire_plan.specs.Laws.{Marks}
+use Rattle.wire_runs.specs.Plan.{Plan, Place}
+use Rattle.wire_runs.specs.Order.{Before}
+use Rattle.wire_runs.specs.Laws.{Marks}
 use Rattle.wire_marks.specs.Clocks.{Clocks, marked_count, clock_of, AreMarks}
 use Rattle.wire_marks.proofs.Growing.{before_iff, never_self}
 

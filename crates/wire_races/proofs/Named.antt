@@ -3,14 +3,14 @@ use Rattle.std.proofs.Common.{◌≡◌, inl, inr, ℕ, zero, suc, ◌+◌, ◌-
 use Rattle.std.specs.Prelude.{slice_get, option_map, if◌then◌else◌}
 use Rattle.std.proofs.lemmas.Option.{slice_get-map}
 use Rattle.std.proofs.lemmas.Bool.{true≢false, cases_lt, cond_both, eqb-true}
-use Rattle.wire_types.specs.Plan.{Plan, Place, Event, Call, events_of, set_of, event, event_at, events, process_events, CallPut, CallGet, CallGetNow, CallPublish, CallLookup, CallLookupWait, CallUnpublish, CallFixed}
-use Rattle.wire_types.specs.Plan as plan
+use Rattle.wire_runs.specs.Plan.{Plan, Place, Event, Call, events_of, set_of, event, event_at, events, process_events, CallPut, CallGet, CallGetNow, CallPublish, CallLookup, CallLookupWait, CallUnpublish, CallFixed}
+use Rattle.wire_runs.specs.Plan as plan
 use Rattle.wire_types.specs.declared.Call.{Call as Written}
 use Rattle.wire_types.specs.declared.Call.TheVariants.{Put, Commit, Fence, Get, GetNow, Publish, Lookup, LookupWait, Unpublish}
 use Rattle.wire_types.specs.declared.Reply.{Reply}
 use Rattle.wire_rehearsal.specs.Scripts.{Process, Scripts, IsSound, name_in, calls_in, set_at}
 use Rattle.wire_rehearsal.specs.Planned.{plan_of, planned_call, planned_process}
-use Rattle.wire_plan.specs.Names.{calls_name}
+use Rattle.wire_runs.specs.Names.{calls_name}
 use Rattle.wire_plan.proofs.Planning.{events_first}
 use Rattle.wire_races.proofs.Starting.{get_left, get_right}
 

@@ -2,13 +2,13 @@
 use Rattle.std.proofs.Common.{◌≡◌, ap, refl, sym, subst, ℕ, zero, suc, ◌<◌, List, [], ◌∷◌, length, take, Bool, false, inl, inr, arith}
 use Rattle.std.specs.Prelude.{◌↔◌}
 use Rattle.std.proofs.lemmas.Bool.{cases_lt, true≢false}
-use Rattle.wire_types.specs.Plan.{Plan, Place, Call, CallPut, CallCommit, CallFence, CallGet, CallGetNow, CallPublish, CallLookup, CallLookupWait, CallUnpublish, CallFixed, events_of}
+use Rattle.wire_runs.specs.Plan.{Plan, Place, Call, CallPut, CallCommit, CallFence, CallGet, CallGetNow, CallPublish, CallLookup, CallLookupWait, CallUnpublish, CallFixed, events_of}
 use Rattle.wire_types.specs.declared.CallAt.{CallAt}
-use Rattle.wire_plan.specs.Ends.{call_size, calls_of, first_event}
-use Rattle.wire_plan.specs.Races.{IsSettled}
-use Rattle.wire_plan.specs.Findings.{Finding, IsFound, Has, IsFindings}
-use Rattle.wire_plan.specs.Laws.{IsOneWay}
-use Rattle.wire_plan.proofs.Listed.{no_findings, one_list}
+use Rattle.wire_runs.specs.Ends.{call_size, calls_of, first_event}
+use Rattle.wire_runs.specs.Races.{IsSettled}
+use Rattle.wire_runs.specs.Findings.{Finding, IsFound, Has, IsFindings}
+use Rattle.wire_runs.specs.Laws.{IsOneWay}
+use Rattle.wire_runs.proofs.Findings.{no_findings, one_list}
 use Rattle.wire_races.specs.Shown.{shown, all_shown, AreFindings}
 use Rattle.wire_races.specs.declared.finding.Finding.{Finding as Told}
 use Rattle.wire_races.specs.declared.finding.Finding.TheVariants as told_as

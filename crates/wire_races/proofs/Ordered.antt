@@ -8,10 +8,10 @@ use Rattle.std.specs.Map.{keys_of}
 use Rattle.std.specs.declared.cmp.Ordering.{Ordering}
 use Rattle.std.specs.declared.cmp.Ordering.TheVariants.{Less, Equal, Greater}
 use Rattle.std.specs.Ordering.{ordering_then, ordering_index, nat_cmp}
-use Rattle.wire_types.specs.Plan.{Plan, Place, place_of}
+use Rattle.wire_runs.specs.Plan.{Plan, Place, place_of}
 use Rattle.wire_types.specs.declared.place.Event.{Event}
-use Rattle.wire_plan.specs.Places.{IsLower}
-use Rattle.wire_plan.specs.Findings.{Finding, Rewrite, IsPairBefore, IsSooner, IsFound, Has, IsSorted}
+use Rattle.wire_runs.specs.EventLists.{IsLower}
+use Rattle.wire_runs.specs.Findings.{Finding, Rewrite, IsPairBefore, IsSooner, IsFound, Has, IsSorted}
 use Rattle.wire_races.specs.Collected.{rewrite_of, race_between, race_of, listed, AreFound, IsAdded}
 use Rattle.wire_races.specs.declared.found.Race.{Race}
 use Rattle.wire_races.specs.declared.found.Race.TheVariants.{OnKey, OnName}

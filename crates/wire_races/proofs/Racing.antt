@@ -3,15 +3,15 @@ use Rattle.std.proofs.Common.{◌≡◌, ◌≢◌, ◌⊎◌, ◌↔◌, inl, i
 use Rattle.std.specs.Prelude.{slice_get}
 use Rattle.std.proofs.lemmas.Option.{same_Some}
 use Rattle.std.proofs.lemmas.Bool.{cases_eq, cases_lt, cond_both, cond_below, cond_above, ltb-true, ltb-false}
-use Rattle.wire_types.specs.Plan.{Plan, Place, event}
-use Rattle.wire_plan.specs.Names.{writes_name, calls_name}
-use Rattle.wire_plan.specs.Order.{Live, edge, Announces}
-use Rattle.wire_plan.specs.Places.{IsLower}
-use Rattle.wire_plan.specs.Fate.{IsIn}
-use Rattle.wire_plan.specs.Races.{IsNameRace}
-use Rattle.wire_plan.specs.Findings.{Finding, NameRace, Has, IsFound}
+use Rattle.wire_runs.specs.Plan.{Plan, Place, event}
+use Rattle.wire_runs.specs.Names.{writes_name, calls_name}
+use Rattle.wire_runs.specs.Order.{Live, edge, Announces}
+use Rattle.wire_runs.specs.EventLists.{IsLower}
+use Rattle.wire_runs.specs.Fate.{IsIn}
+use Rattle.wire_runs.specs.Races.{IsNameRace}
+use Rattle.wire_runs.specs.Findings.{Finding, NameRace, Has, IsFound}
 use Rattle.wire_plan.specs.Index.{AreNameCalls}
-use Rattle.wire_plan.proofs.Histories.{before_live, joined, same_process}
+use Rattle.wire_runs.proofs.Histories.{before_live, joined, same_process}
 use Rattle.wire_races.specs.Collected.{IsAdded}
 use Rattle.wire_races.specs.Kinds.{IsOfName}
 use Rattle.wire_races.specs.Adding.{Adds}

@@ -3,14 +3,14 @@ use Rattle.std.proofs.Common.{◌≡◌, ◌∙◌, ap, sym, refl, ℕ, zero, su
 use Rattle.std.specs.Prelude.{slice_get, is_some}
 use Rattle.std.proofs.lemmas.Bool.{cases_lt, cond_below, cond_above, true≢false}
 use Rattle.std.proofs.lemmas.Option.{slice_get_within, same_Some}
-use Rattle.wire_types.specs.Plan.{Plan, Place, Process, Call, CallFence, Event, Put, Commit, Arrive, Leave, GetNow, Publish, Lookup, LookupWait, Unpublish, events_of, events, event_at, event, event_count, process_events}
-use Rattle.wire_types.specs.Puts.{own, stored, stored_with}
+use Rattle.wire_runs.specs.Plan.{Plan, Place, Process, Call, CallFence, Event, Put, Commit, Arrive, Leave, GetNow, Publish, Lookup, LookupWait, Unpublish, events_of, events, event_at, event, event_count, process_events}
+use Rattle.wire_runs.specs.Puts.{own, stored, stored_with}
 use Rattle.wire_types.specs.declared.CallAt.{CallAt}
-use Rattle.wire_plan.specs.Names.{writes_name, calls_name}
-use Rattle.wire_plan.specs.Order.{Stores}
-use Rattle.wire_plan.specs.Races.{IsNodeRace, IsDeliveryRace, Delivery, ByFence, IsOf}
-use Rattle.wire_plan.specs.Findings.{Finding, Rewrite, KeyRace, NameRace, IsFound}
-use Rattle.wire_plan.specs.Ends.{call_number, call_size, calls_of, process_calls, call_of, first_event}
+use Rattle.wire_runs.specs.Names.{writes_name, calls_name}
+use Rattle.wire_runs.specs.Order.{Stores}
+use Rattle.wire_runs.specs.Races.{IsNodeRace, IsDeliveryRace, Delivery, ByFence, IsOf}
+use Rattle.wire_runs.specs.Findings.{Finding, Rewrite, KeyRace, NameRace, IsFound}
+use Rattle.wire_runs.specs.Ends.{call_number, call_size, calls_of, process_calls, call_of, first_event}
 use Rattle.wire_plan.proofs.Planning.{events_first}
 
 abbrev pub is_leave : Event → Bool

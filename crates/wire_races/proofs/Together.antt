@@ -6,10 +6,10 @@ use Rattle.std.specs.List.{AllZip, Contains, range_with_len}
 use Rattle.std.specs.declared.alloc.AllocError.{AllocError}
 use Rattle.std.proofs.lemmas.Bool.{cases_eq}
 use Rattle.std.proofs.lemmas.Option.{slice_get_within, slice_get_cases, same_Some}
-use Rattle.wire_types.specs.Plan.{Plan, event, process_count}
+use Rattle.wire_runs.specs.Plan.{Plan, event, process_count}
 use Rattle.wire_rehearsal.specs.Scripts.{Scripts, IsSound}
 use Rattle.wire_rehearsal.specs.Planned.{plan_of}
-use Rattle.wire_plan.specs.Findings.{Finding, IsFound, Has}
+use Rattle.wire_runs.specs.Findings.{Finding, IsFound, Has}
 use Rattle.wire_races.specs.declared.finding.Finding.{Finding as Told}
 use Rattle.wire_races.specs.Shown.{shown, all_shown}
 use Rattle.wire_races.specs.Collected.{AreFound, IsAdded}

@@ -2,13 +2,13 @@
 use Rattle.std.proofs.Common.{◌≡◌, ◌∙◌, ap, sym, refl, subst, ℕ, ◌<◌, true, Option, Some, length, arith, inl, inr, eqb-true, lt-ltb}
 use Rattle.std.specs.Prelude.{is_some}
 use Rattle.std.proofs.lemmas.Bool.{cases_lt, true≢false}
-use Rattle.wire_types.specs.Plan.{Plan, Place, Event, Put, GetNow, Publish, Lookup, LookupWait, Unpublish, event}
+use Rattle.wire_runs.specs.Plan.{Plan, Place, Event, Put, GetNow, Publish, Lookup, LookupWait, Unpublish, event}
 use Rattle.wire_types.specs.declared.CallAt.{CallAt}
-use Rattle.wire_plan.specs.Names.{calls_name}
-use Rattle.wire_plan.specs.Races.{IsRewrite}
+use Rattle.wire_runs.specs.Names.{calls_name}
+use Rattle.wire_runs.specs.Races.{IsRewrite}
 use Rattle.wire_plan.specs.Index.{IsFirstPut}
-use Rattle.wire_plan.specs.Findings.{Finding, KeyRace, NameRace, IsFound}
-use Rattle.wire_plan.specs.Ends.{call_of, calls_of, first_event}
+use Rattle.wire_runs.specs.Findings.{Finding, KeyRace, NameRace, IsFound}
+use Rattle.wire_runs.specs.Ends.{call_of, calls_of, first_event}
 use Rattle.wire_plan.proofs.KeyFacts.{put_exactly}
 use Rattle.wire_races.specs.Shown.{shown}
 use Rattle.wire_races.specs.Collected.{race_between}

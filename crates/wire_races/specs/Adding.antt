@@ -1,7 +1,7 @@
 -- How the list of findings grows: for the contracts of private functions.
 use Rattle.std.specs.Prelude.{◌≡◌, ◌⊎◌, ◌<◌, ℕ, List}
-use Rattle.wire_types.specs.Plan.{Plan, Place}
-use Rattle.wire_plan.specs.Findings.{Finding, IsFound, Has}
+use Rattle.wire_runs.specs.Plan.{Plan, Place}
+use Rattle.wire_runs.specs.Findings.{Finding, IsFound, Has}
 use Rattle.wire_races.specs.Collected.{AreFound}
 
 -- those are added, and nothing else

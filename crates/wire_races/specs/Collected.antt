@@ -1,8 +1,8 @@
 -- What is found so far, and the list that it comes to: for the contracts of private functions.
 use Rattle.std.specs.Prelude.{◌≡◌, ◌⊎◌, ◌↔◌, ◌++◌, List, map}
-use Rattle.wire_types.specs.Plan.{Plan, Place, place_of}
+use Rattle.wire_runs.specs.Plan.{Plan, Place, place_of}
 use Rattle.wire_types.specs.declared.place.Event.{Event}
-use Rattle.wire_plan.specs.Findings.{Finding, Rewrite, KeyRace, NameRace, IsFound, Has}
+use Rattle.wire_runs.specs.Findings.{Finding, Rewrite, KeyRace, NameRace, IsFound, Has}
 use Rattle.wire_races.specs.declared.found.Race.{Race}
 use Rattle.wire_races.specs.declared.found.Race.TheVariants.{OnKey, OnName}
 

@@ -1,7 +1,7 @@
 -- The kinds of findings, each found by itself: for the contracts of private functions.
 use Rattle.std.specs.Prelude.{◌≡◌, ◌⊎◌, ◌↔◌, ℕ, List}
-use Rattle.wire_types.specs.Plan.{Plan, Place}
-use Rattle.wire_plan.specs.Findings.{Finding, Rewrite, KeyRace, NameRace, IsFound, Has}
+use Rattle.wire_runs.specs.Plan.{Plan, Place}
+use Rattle.wire_runs.specs.Findings.{Finding, Rewrite, KeyRace, NameRace, IsFound, Has}
 
 abbrev pub IsOfRewrite : Finding → Type 0
 IsOfRewrite f = (x : Place) × (y : Place) × (f ≡ Rewrite x y)

@@ -1,12 +1,12 @@
 -- The findings on names, and where the calls stand that race with one call: for the contracts of private functions.
 use Rattle.std.specs.Prelude.{◌≡◌, ◌<◌, ◌≤◌, ℕ, List, Some, true, nat_lt, slice_get, if◌then◌else◌}
-use Rattle.wire_types.specs.Plan.{Plan, Place, event}
-use Rattle.wire_plan.specs.Names.{calls_name}
-use Rattle.wire_plan.specs.Order.{Live, Before}
-use Rattle.wire_plan.specs.Places.{IsLower}
-use Rattle.wire_plan.specs.Fate.{IsIn}
-use Rattle.wire_plan.specs.Races.{IsNameRace}
-use Rattle.wire_plan.specs.Findings.{Finding, NameRace}
+use Rattle.wire_runs.specs.Plan.{Plan, Place, event}
+use Rattle.wire_runs.specs.Names.{calls_name}
+use Rattle.wire_runs.specs.Order.{Live, Before}
+use Rattle.wire_runs.specs.EventLists.{IsLower}
+use Rattle.wire_runs.specs.Fate.{IsIn}
+use Rattle.wire_runs.specs.Races.{IsNameRace}
+use Rattle.wire_runs.specs.Findings.{Finding, NameRace}
 use Rattle.wire_races.specs.declared.name_races.Border.{Border}
 use Rattle.wire_races.specs.declared.name_races.Border.TheVariants.{FirstNotBefore, FirstAfter}
 

@@ -1,8 +1,8 @@
 -- What the pieces of the search tell, whatever pieces the threads take: for the contracts of private functions.
 use Rattle.std.specs.Prelude.{◌≡◌, ◌↔◌, ℕ, List, length, slice_get, Some, Vec}
 use Rattle.std.specs.declared.alloc.Global.{Global}
-use Rattle.wire_types.specs.Plan.{Plan}
-use Rattle.wire_plan.specs.Findings.{Finding, Has}
+use Rattle.wire_runs.specs.Plan.{Plan}
+use Rattle.wire_runs.specs.Findings.{Finding, Has}
 use Rattle.wire_races.specs.declared.finding.Finding.{Finding as Told}
 use Rattle.wire_races.specs.Shown.{all_shown}
 use Rattle.wire_races.specs.Collected.{AreFound}

@@ -1,12 +1,12 @@
 -- The races of a get that is answered at once: for the contracts of private functions.
 use Rattle.std.specs.Prelude.{◌≡◌, ◌≢◌, ◌⊎◌, ◌<◌, ◌≤◌, ℕ, List, false, Option, Some, MatchOption, length, slice_get}
-use Rattle.wire_types.specs.Plan.{Plan, Place, GetNow, event, event_count, node_of, same_node, place_of}
+use Rattle.wire_runs.specs.Plan.{Plan, Place, GetNow, event, event_count, node_of, same_node, place_of}
 use Rattle.wire_types.specs.declared.place.Event.{Event}
-use Rattle.wire_plan.specs.Order.{IsArrival, Live, Before}
-use Rattle.wire_plan.specs.Races.{IsPutOnce, ComesSurely}
-use Rattle.wire_plan.specs.Places.{IsLower}
+use Rattle.wire_runs.specs.Order.{IsArrival, Live, Before}
+use Rattle.wire_runs.specs.Races.{IsPutOnce, ComesSurely}
+use Rattle.wire_runs.specs.EventLists.{IsLower}
 use Rattle.wire_plan.specs.Index.{IsDelivering}
-use Rattle.wire_plan.specs.Findings.{Finding, KeyRace, IsKeyRace}
+use Rattle.wire_runs.specs.Findings.{Finding, KeyRace, IsKeyRace}
 use Rattle.wire_races.specs.Adding.{ToldIn}
 
 -- the race of two events, the lower of them first
@@ -43,6 +43,12 @@ pub record IsSure (plan : Plan) (get arrival : Place) : Type 0 where
   pub fence : Arrives plan arrival
   pub all_live : (z : Place) → IsArrival plan fence.members fence.j z → Live plan z
   pub all_before : (z : Place) → IsArrival plan fence.members fence.j z → Before plan z get
+
+-- all arrivals at the fence of this arrival are live, and the get is before none of them
+pub record MayBeLate (plan : Plan) (get arrival : Place) : Type 0 where
+  pub fence : Arrives plan arrival
+  pub all_live : (z : Place) → IsArrival plan fence.members fence.j z → Live plan z
+  pub before_none : (z : Place) → IsArrival plan fence.members fence.j z → ¬ (Before plan get z)
 
 -- all arrivals at the fence of this arrival are live, the get is before none of them, and the source is the first that isn't before the get
 pub record IsLate (plan : Plan) (get arrival source : Place) : Type 0 where

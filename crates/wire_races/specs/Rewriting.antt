@@ -1,8 +1,8 @@
 -- The rewrite that an event is: for the contracts of private functions.
 use Rattle.std.specs.Prelude.{◌≡◌}
-use Rattle.wire_types.specs.Plan.{Plan, Place}
-use Rattle.wire_plan.specs.Findings.{Finding, Rewrite}
-use Rattle.wire_plan.specs.Races.{IsRewrite}
+use Rattle.wire_runs.specs.Plan.{Plan, Place}
+use Rattle.wire_runs.specs.Findings.{Finding, Rewrite}
+use Rattle.wire_runs.specs.Races.{IsRewrite}
 
 -- the finding that y is a rewrite
 abbrev pub IsRewriteBy : Plan → Place → Finding → Type 0

@@ -1,8 +1,8 @@
 -- What a finding of the code tells.
 use Rattle.std.specs.Prelude.{ℕ, Bool, List, map}
-use Rattle.wire_types.specs.Plan.{Plan}
-use Rattle.wire_plan.specs.Ends.{first_event}
-use Rattle.wire_plan.specs.Findings.{Finding, Rewrite, KeyRace, NameRace, IsFindings}
+use Rattle.wire_runs.specs.Plan.{Plan}
+use Rattle.wire_runs.specs.Ends.{first_event}
+use Rattle.wire_runs.specs.Findings.{Finding, Rewrite, KeyRace, NameRace, IsFindings}
 use Rattle.wire_races.specs.declared.finding.Finding.{Finding as Told}
 use Rattle.wire_races.specs.declared.finding.Finding.TheVariants as told
 

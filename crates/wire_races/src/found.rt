@@ -1,9 +1,9 @@
 //! The findings so far, each once and in their order.
 
 ghost use Rattle.std.specs.Prelude.{◌≡◌, ◌++◌, ℕ, Bool, [], map, IfOk, OnOk};
-ghost use Rattle.wire_types.specs.Plan.{Place, place_of};
+ghost use Rattle.wire_runs.specs.Plan.{Place, place_of};
 ghost use Rattle.wire_rehearsal.specs.Planned.{plan_of};
-ghost use Rattle.wire_plan.specs.Findings.{Rewrite, KeyRace, NameRace, IsFound, Has, IsSorted};
+ghost use Rattle.wire_runs.specs.Findings.{Rewrite, KeyRace, NameRace, IsFound, Has, IsSorted};
 ghost use Rattle.wire_races.specs.Shown.{shown, all_shown};
 ghost use Rattle.wire_races.specs.Collected.{rewrite_of, race_between, race_of, AreFound, IsAdded};
 
@@ -31,7 +31,7 @@ pub(crate) struct Found {
 
 impl Model for Found {
     ghost use Rattle.std.specs.Prelude.{List};
-    ghost use Rattle.wire_plan.specs.Findings.{Finding};
+    ghost use Rattle.wire_runs.specs.Findings.{Finding};
     ghost use Rattle.wire_races.specs.Collected.{listed};
 
     ghost Value = { List Finding };

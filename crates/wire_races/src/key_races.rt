@@ -1,12 +1,12 @@
 //! Races on keys: a get that is answered at once, and the commit or the fence that brings the key.
 
 ghost use Rattle.std.specs.Prelude.{◌≡◌, ◌<◌, ℕ, List, suc, Some, OnOk, IsTrue, MatchOption, IfOk, ◌↔◌, true, false, map};
-ghost use Rattle.wire_types.specs.Plan.{Plan as ThePlan, Place, GetNow, Leave, place_of, process_count, event_count, event as event_in, node_of, same_node};
+ghost use Rattle.wire_runs.specs.Plan.{Plan as ThePlan, Place, GetNow, Leave, place_of, process_count, event_count, event as event_in, node_of, same_node};
 ghost use Rattle.wire_rehearsal.specs.Planned.{plan_of};
-ghost use Rattle.wire_plan.specs.Places.{IsLower};
-ghost use Rattle.wire_plan.specs.Order.{IsArrival, Live};
-ghost use Rattle.wire_plan.specs.Races.{IsUnordered, IsPutOnce, ComesSurely};
-ghost use Rattle.wire_plan.specs.Findings.{IsKeyRace};
+ghost use Rattle.wire_runs.specs.EventLists.{IsLower};
+ghost use Rattle.wire_runs.specs.Order.{IsArrival, Live};
+ghost use Rattle.wire_runs.specs.Races.{IsUnordered, IsPutOnce, ComesSurely};
+ghost use Rattle.wire_runs.specs.Findings.{IsKeyRace};
 ghost use Rattle.wire_plan.specs.Index.{AreArrivals, IsDelivering};
 ghost use Rattle.wire_marks.specs.Clocks.{AreMarks};
 ghost use Rattle.wire_races.specs.Shown.{shown};
@@ -14,7 +14,7 @@ ghost use Rattle.wire_races.specs.Collected.{AreFound};
 ghost use Rattle.wire_races.specs.Kinds.{IsOfKey, AllAdded};
 ghost use Rattle.wire_races.specs.Adding.{Adds, ToldIn};
 ghost use Rattle.wire_races.specs.Pieces.{IsPiece, ArePieces};
-ghost use Rattle.wire_races.specs.Racing.{IsRaceOf, IsKeyRaceBy, IsKeyRaceOf, IsOpen, Arrives, IsSure, IsLate, IsLateBy, AreLateBelow, AllLive, NoneAfter, IsFirstLate, IsUnsure, IsNextArrival};
+ghost use Rattle.wire_races.specs.Racing.{IsRaceOf, IsKeyRaceBy, IsKeyRaceOf, IsOpen, Arrives, IsSure, MayBeLate, IsLate, IsLateBy, AreLateBelow, AllLive, NoneAfter, IsFirstLate, IsUnsure, IsNextArrival};
 
 use crate::finding::Finding;
 use crate::found::Found;
@@ -164,21 +164,24 @@ fn is_sure(plan: &Plan, marks: &Marks, look: Event, arrival: Event) -> bool
     all_live(marks, arrivals) && first_not_before(marks, arrivals, look).is_none()
 }
 
-/// The first arrival, in process order, at the fence of an arrival that isn't before a get, where
-/// all arrivals there are live and the get is before none of them.
-fn late_source(plan: &Plan, marks: &Marks, look: Event, arrival: Event) -> Option<Event>
+/// Whether all arrivals at the fence of an arrival are live, and a get is before none of them.
+fn may_be_late(plan: &Plan, marks: &Marks, look: Event, arrival: Event) -> bool
     requires marks { AreMarks (plan_of plan.now) marks.now }
     requires fence { Arrives (plan_of plan.now) (place_of arrival) }
-    ensures { MatchOption result ((x : Place) → IsLate (plan_of plan.now) (place_of look) (place_of arrival) x → ⊥) (λ x. IsLate (plan_of plan.now) (place_of look) (place_of arrival) (place_of x)) }
+    ensures { IsTrue result ↔ MayBeLate (plan_of plan.now) (place_of look) (place_of arrival) }
 {
     let arrivals = all_arrivals(plan, arrival);
-    if !all_live(marks, arrivals) {
-        return None;
-    }
-    if !is_before_none(marks, look, arrivals) {
-        return None;
-    }
-    first_not_before(marks, arrivals, look)
+    all_live(marks, arrivals) && is_before_none(marks, look, arrivals)
+}
+
+/// The first arrival, in process order, at the fence of an arrival that isn't before a get. All
+/// arrivals there are live, and the get is before none of them.
+fn late_source(plan: &Plan, marks: &Marks, look: Event, arrival: Event) -> Option<Event>
+    requires marks { AreMarks (plan_of plan.now) marks.now }
+    requires may { MayBeLate (plan_of plan.now) (place_of look) (place_of arrival) }
+    ensures { MatchOption result ((x : Place) → IsLate (plan_of plan.now) (place_of look) (place_of arrival) x → ⊥) (λ x. IsLate (plan_of plan.now) (place_of look) (place_of arrival) (place_of x)) }
+{
+    first_not_before(marks, all_arrivals(plan, arrival), look)
 }
 
 /// The next arrival of a process, from its event of this number on, that brings its key to a node.
@@ -189,24 +192,17 @@ fn next_arrival(plan: &Plan, owner: Proc, key: u32, node: u32, from: u32) -> Opt
     plan.next_delivery(owner, key, node, from)
 }
 
-/// Whether a delivery of a key to a node comes before a get in every run.
+/// Whether a delivery of a key to a node comes before a get in every run. If any does, the first one
+/// does: all arrivals at its fence are before each later arrival of the owner.
 fn comes_surely(plan: &Plan, marks: &Marks, look: Event, owner: Proc, key: u32, node: u32) -> bool
     requires marks { AreMarks (plan_of plan.now) marks.now }
     requires once { IsPutOnce (plan_of plan.now) owner.number key }
     ensures { IsTrue result ↔ ComesSurely (plan_of plan.now) owner.number key node (place_of look) }
 {
-    let count = plan.event_count(owner);
-    let mut from = 0;
-    'deliveries: while from < count {
-        let Some(arrival) = next_arrival(plan, owner, key, node, from) else {
-            return false;
-        };
-        if is_sure(plan, marks, look, arrival) {
-            return true;
-        }
-        from = arrival.at + 1;
+    match next_arrival(plan, owner, key, node, 0) {
+        Some(first) => is_sure(plan, marks, look, first),
+        None => false,
     }
-    false
 }
 
 /// Adds the race of a get with the delivery of an arrival, if they race.
@@ -222,6 +218,7 @@ fn add_late(
     requires marks { AreMarks (plan_of plan.now) marks.now }
     requires found { AreFound (plan_of plan.now) found.old }
     requires late { IsUnsure (plan_of plan.now) (place_of look) owner.number key }
+    requires may { MayBeLate (plan_of plan.now) (place_of look) (place_of arrival) }
     requires proc { arrival.proc ≡ owner }
     requires delivers { IsDelivering (plan_of plan.now) owner.number key (node_of (plan_of plan.now) look.proc.number) arrival.at }
     ensures { OnOk result (Adds (plan_of plan.now) found.old found.new (IsLateBy (plan_of plan.now) (place_of look) owner.number key (node_of (plan_of plan.now) look.proc.number) arrival.at)) }
@@ -232,7 +229,9 @@ fn add_late(
     }
 }
 
-/// Adds the races of a get with the deliveries of its key, none of which comes surely before it.
+/// Adds the races of a get with the deliveries of its key, none of which comes surely before it. Where
+/// one can't come late, since the get is before an arrival at its fence or one of these isn't live, no
+/// later one can.
 fn add_all_late(
     plan: &Plan,
     marks: &Marks,
@@ -254,6 +253,9 @@ fn add_all_late(
         let Some(arrival) = next_arrival(plan, owner, key, node, from) else {
             return Ok(());
         };
+        if !may_be_late(plan, marks, look, arrival) {
+            return Ok(());
+        }
         add_late(plan, marks, found, look, owner, key, arrival)?;
         from = arrival.at + 1;
     }

@@ -1,8 +1,8 @@
 //! The laws of the list of findings. Each is the contract of a function that does nothing.
 
 ghost use Rattle.std.specs.Prelude.{◌≡◌, ◌↔◌, List, []};
-ghost use Rattle.wire_types.specs.Plan.{Plan};
-ghost use Rattle.wire_plan.specs.Races.{IsSettled};
+ghost use Rattle.wire_runs.specs.Plan.{Plan};
+ghost use Rattle.wire_runs.specs.Races.{IsSettled};
 ghost use Rattle.wire_races.specs.declared.finding.Finding.{Finding as Told};
 ghost use Rattle.wire_races.specs.Shown.{AreFindings};
 

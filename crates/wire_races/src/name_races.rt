@@ -1,10 +1,10 @@
 //! Races on names.
 
 ghost use Rattle.std.specs.Prelude.{◌≡◌, ◌≢◌, ◌<◌, ◌≤◌, ◌↔◌, ℕ, Some, true, IsTrue, IfOk, OnOk, length, map, take, slice_get};
-ghost use Rattle.wire_types.specs.Plan.{Plan as ThePlan, Place, place_of, event as event_in, event_count};
+ghost use Rattle.wire_runs.specs.Plan.{Plan as ThePlan, Place, place_of, event as event_in, event_count};
 ghost use Rattle.wire_rehearsal.specs.Planned.{plan_of};
-ghost use Rattle.wire_plan.specs.Names.{calls_name, writes_name};
-ghost use Rattle.wire_plan.specs.Order.{Live};
+ghost use Rattle.wire_runs.specs.Names.{calls_name, writes_name};
+ghost use Rattle.wire_runs.specs.Order.{Live};
 ghost use Rattle.wire_marks.specs.Clocks.{AreMarks};
 ghost use Rattle.wire_races.specs.Shown.{shown};
 ghost use Rattle.wire_races.specs.Kinds.{IsOfName, AllAdded};

@@ -3,7 +3,7 @@
 
 ghost use Rattle.std.specs.Prelude.{OnOk};
 ghost use Rattle.wire_rehearsal.specs.Planned.{plan_of};
-ghost use Rattle.wire_plan.specs.Findings.{Has};
+ghost use Rattle.wire_runs.specs.Findings.{Has};
 ghost use Rattle.wire_races.specs.Shown.{all_shown};
 ghost use Rattle.wire_races.specs.Collected.{AreFound};
 ghost use Rattle.wire_races.specs.Adding.{Adds};

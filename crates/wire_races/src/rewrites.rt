@@ -1,9 +1,9 @@
 //! Rewrites: puts of a key that its process has put before.
 
 ghost use Rattle.std.specs.Prelude.{◌≡◌, ◌<◌, OnOk, MatchOption};
-ghost use Rattle.wire_types.specs.Plan.{Place, place_of, event_count};
+ghost use Rattle.wire_runs.specs.Plan.{Place, place_of, event_count};
 ghost use Rattle.wire_rehearsal.specs.Planned.{plan_of};
-ghost use Rattle.wire_plan.specs.Races.{IsRewrite};
+ghost use Rattle.wire_runs.specs.Races.{IsRewrite};
 ghost use Rattle.wire_races.specs.Collected.{AreFound};
 ghost use Rattle.wire_races.specs.Kinds.{IsOfRewrite, AllAdded};
 ghost use Rattle.wire_races.specs.Adding.{Adds, ToldIn};

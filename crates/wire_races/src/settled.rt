@@ -1,14 +1,14 @@
 //! Plans in which nothing is found.
 
 ghost use Rattle.std.specs.Prelude.{◌≡◌, ◌≢◌, ◌↔◌, ℕ, List, [], true, IfOk, IfErr, IsOk};
-ghost use Rattle.wire_types.specs.Plan.{Place};
+ghost use Rattle.wire_runs.specs.Plan.{Place};
 ghost use Rattle.wire_rehearsal.specs.Planned.{plan_of};
-ghost use Rattle.wire_plan.specs.State.{State, start};
-ghost use Rattle.wire_plan.specs.Machine.{is_enabled, IsInterleaving, run, IsEnd, IsReachable};
-ghost use Rattle.wire_plan.specs.Plain.{plain_run};
-ghost use Rattle.wire_plan.specs.Fate.{Fate, HasFate};
-ghost use Rattle.wire_plan.specs.Laws.{Commute, FatesHold};
-ghost use Rattle.wire_plan.specs.Races.{IsSettled};
+ghost use Rattle.wire_runs.specs.State.{State, start};
+ghost use Rattle.wire_runs.specs.Step.{is_enabled, IsInterleaving, run, IsEnd, IsReachable};
+ghost use Rattle.wire_runs.specs.PlainRun.{plain_run};
+ghost use Rattle.wire_runs.specs.Fate.{Fate, HasFate};
+ghost use Rattle.wire_runs.specs.Laws.{Commute, FatesHold};
+ghost use Rattle.wire_runs.specs.Races.{IsSettled};
 ghost use Rattle.wire_marks.specs.Clocks.{AreMarks};
 ghost use Rattle.wire_races.specs.Shown.{AreFindings};
 
@@ -27,7 +27,7 @@ pub struct Settled {
 impl Model for Settled {
     ghost use Rattle.wire_rehearsal.specs.Scripts as spec;
     ghost use Rattle.wire_rehearsal.specs.Planned.{plan_of};
-    ghost use Rattle.wire_plan.specs.Races.{IsSettled};
+    ghost use Rattle.wire_runs.specs.Races.{IsSettled};
     ghost use Rattle.wire_marks.specs.Clocks.{AreMarks};
 
     ghost Value = { spec.Scripts };

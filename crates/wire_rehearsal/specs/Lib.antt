@@ -1,5 +1,5 @@
-pub use Rattle.wire_types.specs.Plan
-pub use Rattle.wire_types.specs.Fences
+pub use Rattle.wire_runs.specs.Plan
+pub use Rattle.wire_runs.specs.Fences
 pub use Rattle.wire_lines.specs.Said
 pub mod Scripts
 pub mod Tabled

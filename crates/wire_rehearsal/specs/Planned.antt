@@ -1,7 +1,7 @@
 -- The plan that scripts are: a process on a node, with its calls. A call of a reserved key has a fixed reply.
 use Rattle.std.specs.Prelude.{List, ℕ, map, length, nat_lt, if◌then◌else◌}
-use Rattle.wire_types.specs.Plan.{Plan, CallPut, CallCommit, CallFence, CallGet, CallGetNow, CallPublish, CallLookup, CallLookupWait, CallUnpublish, CallFixed}
-use Rattle.wire_types.specs.Plan as plan
+use Rattle.wire_runs.specs.Plan.{Plan, CallPut, CallCommit, CallFence, CallGet, CallGetNow, CallPublish, CallLookup, CallLookupWait, CallUnpublish, CallFixed}
+use Rattle.wire_runs.specs.Plan as plan
 use Rattle.wire_types.specs.Replies.{bare}
 use Rattle.wire_types.specs.declared.Call.{Call}
 use Rattle.wire_types.specs.declared.Call.TheVariants.{Put, Commit, Fence, Get, GetNow, Publish, Lookup, LookupWait, Unpublish}

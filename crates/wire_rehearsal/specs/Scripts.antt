@@ -2,8 +2,8 @@
 -- seen, and processes as they stand.
 use Rattle.std.specs.Prelude.{◌≡◌, ℕ, ◌<◌, ◌^◌, Bool, true, List, [], length, map, sum_by, nat_lt, Option, Some, None, slice_get, slice_index_or}
 use Rattle.std.specs.List.{list_all}
-use Rattle.wire_types.specs.Plan.{set_of}
-use Rattle.wire_types.specs.Fences.{is_member}
+use Rattle.wire_runs.specs.Plan.{set_of}
+use Rattle.wire_runs.specs.Fences.{is_member}
 use Rattle.wire_types.specs.declared.Call.{Call}
 use Rattle.wire_types.specs.declared.Call.TheVariants.{Fence, Publish, Lookup, LookupWait, Unpublish}
 use Rattle.wire_types.specs.declared.Proc.{Proc}

@@ -4,7 +4,7 @@ ghost use Rattle.std.specs.Prelude.{◌≡◌, ℕ, ◌<◌, ◌==◌, ◌++◌,
 ghost use Rattle.std.specs.Prelude.{OnOk, IfOk};
 ghost use Rattle.std.specs.List.{list_any};
 ghost use Rattle.std.specs.Str.{bytes_eq as same_members};
-ghost use Rattle.wire_types.specs.Fences.{is_member};
+ghost use Rattle.wire_runs.specs.Fences.{is_member};
 ghost use Rattle.wire_lines.specs.Said as said;
 ghost use Rattle.wire_lines.specs.Said.{spelled_set};
 ghost use Rattle.wire_rehearsal.specs.Scripts.{numbers_of, set_at};

@@ -2,18 +2,18 @@
 use Rattle.std.proofs.Common.{◌≡◌, ◌∙◌, ap, sym, refl, subst, ℕ, zero, suc, ◌<◌, List, [], ◌∷◌, ◌++◌, map, Option, Some, None, Result, Ok, Err, append_assoc, ◌⊎◌, inl, inr, arith, codes}
 use Rattle.std.specs.Prelude.{slice_get, option_map, IfOk, OnOk, IfErr, MatchOption}
 use Rattle.std.proofs.lemmas.Option.{slice_get-map, slice_get_within, same_Some}
-use Rattle.wire_types.specs.Plan.{Plan, Place, place_of, event_count}
+use Rattle.wire_runs.specs.Plan.{Plan, Place, place_of, event_count}
 use Rattle.wire_types.specs.declared.CallAt.{CallAt}
 use Rattle.wire_types.specs.declared.Event.{Event}
 use Rattle.wire_rehearsal.specs.Scripts.{Scripts}
 use Rattle.wire_rehearsal.specs.Planned.{plan_of}
-use Rattle.wire_plan.specs.Order.{Live, Before, edge, further}
-use Rattle.wire_plan.proofs.Basics.{event_within}
-use Rattle.wire_plan.proofs.Fates.{live_event}
-use Rattle.wire_plan.proofs.Histories.{before_live}
+use Rattle.wire_runs.specs.Order.{Live, Before, edge, further}
+use Rattle.wire_runs.proofs.Basics.{event_within}
+use Rattle.wire_runs.proofs.Fates.{live_event}
+use Rattle.wire_runs.proofs.Histories.{before_live}
 use Rattle.wire_marks.specs.Clocks.{LeadsTo}
 use Rattle.wire_marks.specs.Shown.{IsShown, begins, goes_on, OneShown}
-use Rattle.wire_plan.specs.Ends.{first_event}
+use Rattle.wire_runs.specs.Ends.{first_event}
 use Rattle.wire_report.specs.Chain.{event_lines, IsCallBefore, IsDeadLine, Dead, Alive, AreDeadLines, OfOne, OfTwo, IsCallChain, IsChainText, TellsBefore, TellsAfter, TellsUnordered, OneChainText}
 use Rattle.wire_report.specs.There.{AreThere}
 

@@ -3,11 +3,11 @@ use Rattle.std.specs.Prelude.{◌≡◌, ℕ, ◌+◌, List, [], ◌++◌, Optio
 use Rattle.std.specs.List.{flat_map}
 use Rattle.wire_types.specs.declared.Call.{Call}
 use Rattle.wire_types.specs.declared.CallAt.{CallAt}
-use Rattle.wire_types.specs.Plan.{Plan, Place, Event, Arrive, Leave, event}
+use Rattle.wire_runs.specs.Plan.{Plan, Place, Event, Arrive, Leave, event}
 use Rattle.wire_rehearsal.specs.Scripts.{Scripts, Process, call_at}
 use Rattle.wire_rehearsal.specs.Planned.{plan_of}
-use Rattle.wire_plan.specs.Order.{Live, Before}
-use Rattle.wire_plan.specs.Ends.{call_of, first_event}
+use Rattle.wire_runs.specs.Order.{Live, Before}
+use Rattle.wire_runs.specs.Ends.{call_of, first_event}
 use Rattle.wire_marks.specs.Shown.{IsShown}
 use Rattle.wire_report.specs.Report.{proc_text, verb_of}
 

@@ -1,6 +1,6 @@
 -- Events that are the plan's: for the contracts of private functions.
 use Rattle.std.specs.Prelude.{◌≡◌, ℕ, ◌<◌, List, Some, slice_get}
-use Rattle.wire_types.specs.Plan.{Plan, event_count}
+use Rattle.wire_runs.specs.Plan.{Plan, event_count}
 use Rattle.wire_types.specs.declared.Event.{Event}
 
 -- each of these is an event of the plan

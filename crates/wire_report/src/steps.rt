@@ -2,10 +2,10 @@
 
 ghost use Rattle.std.specs.Prelude.{◌≡◌, ◌<◌, ◌↔◌, ◌++◌, ℕ, List, Some, codes, length, map, slice_get, IsTrue, IfOk, OnOk, IfErr};
 ghost use Rattle.wire_types.specs.declared.Fault.TheVariants.{Memory};
-ghost use Rattle.wire_types.specs.Plan.{event_count, place_of};
+ghost use Rattle.wire_runs.specs.Plan.{event_count, place_of};
 ghost use Rattle.wire_rehearsal.specs.Scripts.{call_at};
 ghost use Rattle.wire_rehearsal.specs.Planned.{plan_of};
-ghost use Rattle.wire_plan.specs.Ends.{calls_of};
+ghost use Rattle.wire_runs.specs.Ends.{calls_of};
 ghost use Rattle.wire_plan.specs.Kinds.{event_of};
 ghost use Rattle.wire_marks.specs.Clocks.{AreMarks};
 ghost use Rattle.wire_report.specs.Chain as spec;

@@ -4,8 +4,8 @@ use Rattle.std.specs.Prelude.{nat_lt, ◌==◌, ◌||◌, slice_get}
 use Rattle.std.specs.List.{list_all}
 use Rattle.std.proofs.lemmas.Bool.{lt-ltb}
 use borrow.Author.Tests.{eq-eqb}
-use Rattle.wire_types.specs.Plan.{with_member, set_of}
-use Rattle.wire_types.specs.Fences.{is_member}
+use Rattle.wire_runs.specs.Plan.{with_member, set_of}
+use Rattle.wire_runs.specs.Fences.{is_member}
 use Rattle.wire_script.specs.FirstPass.{Started}
 use Rattle.wire_script.specs.Reads.{places_from}
 

@@ -7,7 +7,7 @@ use Rattle.std.proofs.lemmas.Slice.Eq.{bytes_eq-Decides}
 use Rattle.std.proofs.lemmas.Bool.{lt-ltb}
 use Rattle.std.proofs.lemmas.List.Folds.{list_any-append}
 use borrow.Author.Tests.{eqb-true, eq-eqb, ne_eqb}
-use Rattle.wire_types.specs.Fences.{is_member}
+use Rattle.wire_runs.specs.Fences.{is_member}
 use Rattle.wire_lines.specs.Said.{Item, One, Every, Set, Own, Listed, AreLawful, IsLawfulSet, is_name}
 use Rattle.wire_lines.proofs.Colon.{and_left, and_right}
 use Rattle.wire_rehearsal.specs.Scripts.{Process, Scripts, text_at}

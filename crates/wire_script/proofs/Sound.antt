@@ -6,8 +6,8 @@ use Rattle.std.specs.Str.{bytes_eq}
 use Rattle.std.proofs.lemmas.List.{length-map}
 use Rattle.std.proofs.lemmas.Option.{slice_get-map}
 use Rattle.std.proofs.lemmas.Slice.Eq.{bytes_eq-Decides}
-use Rattle.wire_types.specs.Plan.{set_of}
-use Rattle.wire_types.specs.Fences.{is_member}
+use Rattle.wire_runs.specs.Plan.{set_of}
+use Rattle.wire_runs.specs.Fences.{is_member}
 use Rattle.wire_types.specs.declared.Fault.{Fault}
 use Rattle.wire_types.specs.declared.Fault.TheVariants.{Memory, UnknownName, NotMember}
 use Rattle.wire_types.specs.declared.Call.{Call}

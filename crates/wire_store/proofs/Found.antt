@@ -3,7 +3,7 @@ use Rattle.std.proofs.Common.{◌≡◌, ◌∙◌, ℕ, zero, suc, ◌<◌, ◌
 use Rattle.std.proofs.lemmas.Bool.{cases_Bool, cases_eq, le-ltb, lt-ltb}
 use Rattle.std.proofs.lemmas.Option.{slice_get-map, slice_get-get_or}
 use Rattle.std.proofs.lemmas.List.{reverse-append, length-map, take_all}
-use Rattle.wire_types.specs.Plan.{admits}
+use Rattle.wire_runs.specs.Plan.{admits}
 use Rattle.wire_store.specs.declared.chain.Slot.{Slot}
 use Rattle.wire_store.specs.declared.seen.Seen.TheVariants.{Value, Outside}
 use Rattle.wire_store.specs.Kept.{KeptPut, last_put, last_stored, seen}

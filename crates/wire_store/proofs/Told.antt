@@ -3,8 +3,8 @@ use Rattle.std.proofs.Common.{◌≡◌, ◌∙◌, ℕ, zero, suc, ◌≤◌, B
 use Rattle.std.specs.Prelude.{⊤}
 use Rattle.std.proofs.lemmas.Bool.{cases_Bool, cases_eq, ltb-true, lt-ltb, le-ltb}
 use Rattle.std.proofs.lemmas.List.{reverse-append, map-append}
-use Rattle.wire_types.specs.Plan.{Event, Put, Commit, admits}
-use Rattle.wire_types.specs.Puts.{own_with, own_put, stored_with, stored_put, scope_in}
+use Rattle.wire_runs.specs.Plan.{Event, Put, Commit, admits}
+use Rattle.wire_runs.specs.Puts.{own_with, own_put, stored_with, stored_put, scope_in}
 use Rattle.wire_types.specs.declared.Scope.{Scope}
 use Rattle.wire_types.specs.declared.CallAt.{CallAt}
 use Rattle.wire_store.specs.declared.seen.Seen.{Seen}

@@ -1,7 +1,7 @@
 -- What a store tells, against the puts and commits that it was told of.
 use Rattle.std.specs.Prelude.{◌≡◌, ℕ, ◌≤◌, Bool, false, Option, Some, None, option_map, if◌then◌else◌}
-use Rattle.wire_types.specs.Plan.{Event, admits}
-use Rattle.wire_types.specs.Puts.{own_put, stored_put, scope_in}
+use Rattle.wire_runs.specs.Plan.{Event, admits}
+use Rattle.wire_runs.specs.Puts.{own_put, stored_put, scope_in}
 use Rattle.wire_types.specs.declared.CallAt.{CallAt}
 use Rattle.wire_store.specs.declared.seen.Seen.{Seen}
 use Rattle.wire_store.specs.declared.seen.Seen.TheVariants.{Value, Outside, Nothing}

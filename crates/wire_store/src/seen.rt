@@ -1,7 +1,7 @@
 //! What a process shows to others.
 
 ghost use Rattle.std.specs.Prelude.{◌≡◌};
-ghost use Rattle.wire_types.specs.Plan.{admits as is_for};
+ghost use Rattle.wire_runs.specs.Plan.{admits as is_for};
 
 use wire_types::{CallAt, Scope};
 

@@ -3,6 +3,3 @@ pub mod Fault
 pub mod Front
 pub mod Outcome
 pub mod Replies
-pub mod Plan
-pub mod Puts
-pub mod Fences

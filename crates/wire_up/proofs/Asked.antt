@@ -11,7 +11,7 @@ use Rattle.wire_types.specs.Front.{WritesFront}
 use Rattle.wire_rehearsal.specs.Scripts.{Scripts, Process, calls_in}
 use Rattle.wire_rehearsal.specs.Planned.{plan_of, planned_call, planned_process}
 use Rattle.wire_order.specs.Question.{QuestionReads, Asks as AsksBoth, First, Second, Third, Fourth, IsCallNamed, calls_made}
-use Rattle.wire_plan.specs.Ends.{calls_of, process_calls}
+use Rattle.wire_runs.specs.Ends.{calls_of, process_calls}
 use Rattle.wire_report.specs.Chain.{IsChainText}
 use Rattle.wire_up.specs.Replay.{ReadAs, Refuses}
 use Rattle.wire_up.specs.Why.{Asks, Answers, WritesAnswer, BreaksOffAnswer, StopsBeforeAnswer}
@@ -54,6 +54,19 @@ all_there s words (Err e) asks = tt
 pub answered : (s : Scripts) (words : List (List ℕ)) (x y : CallAt) (r : Result (Vec ℕ Global) Fault) → Asks s words (Ok (x, y)) → IfOk r (λ text. IsChainText s x y text.items) → IfOk r (λ text. Answers s words text.items)
 answered s words x y (Ok text) asks tells = record { x = x; y = y; asks = asks; tells = tells }
 answered s words x y (Err e) asks tells = tt
+
+-- the plan of scripts is asked what they are asked, and answers the same
+pub asked_too : (shown s : Scripts) (words : List (List ℕ)) (calls : CallAt × CallAt) → shown ≡ s → Asks shown words (Ok calls) → Asks s words (Ok calls)
+asked_too shown s words calls is asks = subst (λ t. Asks t words (Ok calls)) is asks
+
+pub refused_too : (shown s : Scripts) (words : List (List ℕ)) (e : Fault) → shown ≡ s → (e ≡ Memory) ⊎ Asks shown words (Err e) → (e ≡ Memory) ⊎ Asks s words (Err e)
+refused_too shown s words e is refuses = subst (λ t. (e ≡ Memory) ⊎ Asks t words (Err e)) is refuses
+
+pub answers_too : (s plan : Scripts) (words : List (List ℕ)) (r : Result (Vec ℕ Global) Fault) → plan ≡ s → IfOk r (λ text. Answers plan words text.items) → IfOk r (λ text. Answers s words text.items)
+answers_too s plan words r is answers = subst (λ t. IfOk r (λ text. Answers t words text.items)) is answers
+
+pub refuses_too : (s plan : Scripts) (words : List (List ℕ)) (r : Result (Vec ℕ Global) Fault) → plan ≡ s → IfErr r (λ e. (e ≡ Memory) ⊎ Asks plan words (Err e)) → IfErr r (λ e. (e ≡ Memory) ⊎ Asks s words (Err e))
+refuses_too s plan words r is refuses = subst (λ t. IfErr r (λ e. (e ≡ Memory) ⊎ Asks t words (Err e))) is refuses
 
 -- all of the answer goes out
 pub answer_ok : (coming : Option (List ℕ)) (words : List (List ℕ)) (old new : Option (List ℕ)) (s : Scripts) (text out : List ℕ) (r : Result (Unit {0}) Fault) → ReadAs coming s → Answers s words text → out ≡ text → OnOk r (Appends old new out) → OnOk r (WritesAnswer coming words old new)

@@ -1,16 +1,15 @@
 -- The texts of the plan of scripts are those of the scripts.
-use Rattle.std.proofs.Common.{◌≡◌, ◌∙◌, subst, sym, ℕ, ◌<◌, List, length, ◌⊎◌, Result, Ok, Err, IfOk, IfErr, Vec, Global}
+use Rattle.std.proofs.Common.{◌≡◌, ◌∙◌, subst, ℕ, ◌<◌, List, length, ◌⊎◌, Result, Ok, Err, IfOk, IfErr, Vec, Global}
 use Rattle.wire_types.specs.declared.CallAt.{CallAt}
 use Rattle.wire_types.specs.declared.Fault.{Fault}
 use Rattle.wire_types.specs.declared.Fault.TheVariants.{Memory}
 use Rattle.wire_types.specs.Outcome.{Ends}
 use Rattle.wire_rehearsal.specs.Scripts.{Scripts}
 use Rattle.wire_rehearsal.specs.Planned.{plan_of}
-use Rattle.wire_plan.specs.State.{start}
-use Rattle.wire_plan.specs.Machine.{run, IsInterleaving}
-use Rattle.wire_plan.specs.Ends.{outcome, calls_of}
+use Rattle.wire_runs.specs.State.{start}
+use Rattle.wire_runs.specs.Step.{run, IsInterleaving}
+use Rattle.wire_runs.specs.Ends.{outcome, calls_of}
 use Rattle.wire_report.specs.Report.{report}
-use Rattle.wire_report.specs.Chain.{IsChainText}
 use Rattle.wire_up.specs.Replay.{plain_ends, plain_report}
 use Rattle.wire_up.specs.Follow.{StopsAfter, report_after}
 
@@ -40,9 +39,6 @@ leads_too s plan steps r is told = subst (λ t. IfOk r (λ text. LeadsTo t steps
 pub stops_too : (s plan : Scripts) (steps : List ℕ) (r : Result (Vec ℕ Global) Fault) → plan ≡ s → IfErr r (λ e. (e ≡ Memory) ⊎ StopsAfter plan steps e) → IfErr r (λ e. (e ≡ Memory) ⊎ StopsAfter s steps e)
 stops_too s plan steps r is told = subst (λ t. IfErr r (λ e. (e ≡ Memory) ⊎ StopsAfter t steps e)) is told
 
--- a call of the scripts, and the order of two
-pub there_too : (s plan : Scripts) (x : CallAt) → plan ≡ s → x.call < length (calls_of (plan_of s) x.proc.number) → x.call < length (calls_of (plan_of plan) x.proc.number)
-there_too s plan x is there = subst (λ t. x.call < length (calls_of (plan_of t) x.proc.number)) (sym is) there
-
-pub tells_too : (s plan : Scripts) (x y : CallAt) (r : Result (Vec ℕ Global) Fault) → plan ≡ s → IfOk r (λ text. IsChainText plan x y text.items) → IfOk r (λ text. IsChainText s x y text.items)
-tells_too s plan x y r is told = subst (λ t. IfOk r (λ text. IsChainText t x y text.items)) is told
+-- a call of the scripts
+pub there_too : (shown s : Scripts) (x : CallAt) → shown ≡ s → x.call < length (calls_of (plan_of shown) x.proc.number) → x.call < length (calls_of (plan_of s) x.proc.number)
+there_too shown s x is there = subst (λ t. x.call < length (calls_of (plan_of t) x.proc.number)) is there

@@ -7,9 +7,9 @@ use Rattle.wire_types.specs.declared.Fault.TheVariants.{Memory, Read, NotReady}
 use Rattle.wire_rehearsal.specs.Scripts.{Scripts}
 use Rattle.wire_rehearsal.specs.Planned.{plan_of}
 use Rattle.wire_order.specs.Order.{order_read}
-use Rattle.wire_plan.specs.State.{start}
-use Rattle.wire_plan.specs.Machine.{is_enabled, run, IsInterleaving}
-use Rattle.wire_plan.specs.Ends.{outcome}
+use Rattle.wire_runs.specs.State.{start}
+use Rattle.wire_runs.specs.Step.{is_enabled, run, IsInterleaving}
+use Rattle.wire_runs.specs.Ends.{outcome}
 use Rattle.wire_report.specs.Report.{report}
 use Rattle.wire_up.specs.Replay.{WereComing, ReadAs, Refuses}
 

@@ -6,9 +6,9 @@ use Rattle.wire_types.specs.declared.Fault.{Fault}
 use Rattle.wire_rehearsal.specs.Scripts.{Scripts}
 use Rattle.wire_rehearsal.specs.Planned.{plan_of}
 use Rattle.wire_script.specs.Reads.{Reads}
-use Rattle.wire_plan.specs.Machine.{run}
-use Rattle.wire_plan.specs.Plain.{plain_run}
-use Rattle.wire_plan.specs.Ends.{outcome}
+use Rattle.wire_runs.specs.Step.{run}
+use Rattle.wire_runs.specs.PlainRun.{plain_run}
+use Rattle.wire_runs.specs.Ends.{outcome}
 use Rattle.wire_report.specs.Report.{report}
 
 -- what became of every call where the plain run can't go on

@@ -69,7 +69,9 @@ fn verdict(
     ensures err { IfErr result (λ e. e ≡ Memory) }
 {
     let plan = Plan::build(alloc, scripts)?;
-    judged(rt, alloc, &plan)
+    let judged = judged(rt, alloc, &plan);
+    drop(plan);
+    judged
 }
 
 /// Checks a file of scripts: reads it to its end, and writes all that the checker finds in its plan: each put

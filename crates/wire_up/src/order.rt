@@ -6,9 +6,9 @@ ghost use Rattle.wire_types.specs.Counting.{one_more};
 ghost use Rattle.wire_types.specs.Outcome.{ends_of};
 ghost use Rattle.wire_rehearsal.specs.Scripts.{Scripts, numbers_of};
 ghost use Rattle.wire_rehearsal.specs.Planned.{plan_of};
-ghost use Rattle.wire_plan.specs.State.{start};
-ghost use Rattle.wire_plan.specs.Machine.{run, IsInterleaving};
-ghost use Rattle.wire_plan.specs.Ends.{outcome};
+ghost use Rattle.wire_runs.specs.State.{start};
+ghost use Rattle.wire_runs.specs.Step.{run, IsInterleaving};
+ghost use Rattle.wire_runs.specs.Ends.{outcome};
 ghost use Rattle.wire_up.specs.Replay.{ReadAs};
 ghost use Rattle.wire_up.specs.Follow.{WritesFollowed, BreaksOffFollowed, StopsBefore, OrdersAs, RefusesSteps, StopsAfter, report_after};
 
@@ -67,7 +67,9 @@ fn followed_text(alloc: Global, scripts: Scripts, order: &[Proc]) -> Result<Vec<
     ensures err { IfErr result (λ e. (e ≡ Memory) ⊎ StopsAfter scripts (numbers_of order.now) e) }
 {
     let plan = Plan::build(alloc, scripts)?;
-    report_of(alloc, &plan, order)
+    let text = report_of(alloc, &plan, order);
+    drop(plan);
+    text
 }
 
 /// Runs the steps of an order: reads the file of scripts and then the order, each to its end, takes the
@@ -97,7 +99,13 @@ pub fn follow<R: Source, O: Source, W: Sink>(
     ensures unfailed { IfErr result (λ e. e ≢ Memory → e ≢ Read → (R.failures reader.new ≡ R.failures reader.old) × (O.failures order_reader.new ≡ O.failures order_reader.old)) }
 {
     let scripts = read_scripts(alloc, reader)?;
-    let order = read_steps(alloc, &scripts, order_reader)?;
+    let order = match read_steps(alloc, &scripts, order_reader) {
+        Ok(order) => order,
+        Err(fault) => {
+            drop(scripts);
+            return Err(fault);
+        }
+    };
     let text = followed_text(alloc, scripts, order.as_slice())?;
     write_text(writer, text.as_slice())
 }

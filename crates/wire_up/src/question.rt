@@ -4,7 +4,7 @@ ghost use Rattle.std.specs.Prelude.{◌≡◌, ◌≢◌, ◌<◌, ◌⊎◌, �
 ghost use Rattle.wire_types.specs.declared.Fault.TheVariants.{Memory, Read};
 ghost use Rattle.wire_types.specs.Counting.{one_more};
 ghost use Rattle.wire_rehearsal.specs.Planned.{plan_of};
-ghost use Rattle.wire_plan.specs.Ends.{calls_of};
+ghost use Rattle.wire_runs.specs.Ends.{calls_of};
 ghost use Rattle.wire_report.specs.Chain.{IsChainText};
 ghost use Rattle.wire_up.specs.Why.{Asks, Answers, WritesAnswer, BreaksOffAnswer, StopsBeforeAnswer};
 
@@ -49,15 +49,13 @@ fn text_between(alloc: Global, plan: &Plan, x: CallAt, y: CallAt) -> Result<Vec<
     chain_text(alloc, plan, &marks, x, y)
 }
 
-/// The text of the order of two calls of scripts.
-fn order_text(alloc: Global, scripts: Scripts, x: CallAt, y: CallAt) -> Result<Vec<u8>, Fault>
-    requires x_there { x.call < length (calls_of (plan_of scripts) x.proc.number) }
-    requires y_there { y.call < length (calls_of (plan_of scripts) y.proc.number) }
-    ensures ok { IfOk result (λ text. IsChainText scripts x y text.items) }
-    ensures err { IfErr result (λ e. e ≡ Memory) }
+/// The text of the answer to a question about a plan.
+fn answer_of(alloc: Global, plan: &Plan, words: [&str; 4]) -> Result<Vec<u8>, Fault>
+    ensures ok { IfOk result (λ text. Answers plan.now (map (λ w. w.now) words.entry) text.items) }
+    ensures err { IfErr result (λ e. (e ≡ Memory) ⊎ Asks plan.now (map (λ w. w.now) words.entry) (Err e)) }
 {
-    let plan = Plan::build(alloc, scripts)?;
-    text_between(alloc, &plan, x, y)
+    let (x, y) = calls_named(alloc, plan.scripts(), words)?;
+    text_between(alloc, plan, x, y)
 }
 
 /// The text of the answer to a question about scripts.
@@ -65,8 +63,10 @@ fn answer_text(alloc: Global, scripts: Scripts, words: [&str; 4]) -> Result<Vec<
     ensures ok { IfOk result (λ text. Answers scripts (map (λ w. w.now) words.entry) text.items) }
     ensures err { IfErr result (λ e. (e ≡ Memory) ⊎ Asks scripts (map (λ w. w.now) words.entry) (Err e)) }
 {
-    let (x, y) = calls_named(alloc, &scripts, words)?;
-    order_text(alloc, scripts, x, y)
+    let plan = Plan::build(alloc, scripts)?;
+    let text = answer_of(alloc, &plan, words);
+    drop(plan);
+    text
 }
 
 /// Answers whether a chain of events leads from one call of a file of scripts to another: reads the file to

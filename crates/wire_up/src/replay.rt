@@ -56,7 +56,9 @@ fn plain_text(alloc: Global, scripts: Scripts) -> Result<Vec<u8>, Fault>
     ensures err { IfErr result (λ e. e ≡ Memory) }
 {
     let plan = Plan::build(alloc, scripts)?;
-    report_of(alloc, &plan)
+    let text = report_of(alloc, &plan);
+    drop(plan);
+    text
 }
 
 /// Replays a file of scripts: reads it to its end, runs its plan, where always the lowest process that

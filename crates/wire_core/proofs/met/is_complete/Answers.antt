@@ -1,5 +1,5 @@
 use Rattle.std.proofs.Common.{◌∙◌, ap, sym, suc}
-use Rattle.wire_types.specs.Fences.{is_complete, arrivals}
+use Rattle.wire_runs.specs.Fences.{is_complete, arrivals}
 use Rattle.wire_rehearsal.specs.Planned.{plan_of}
 use Rattle.wire_core.proofs.met.is_complete.Goals as goal
 

@@ -1,8 +1,8 @@
 use Rattle.std.proofs.Common.{◌≡◌, ◌∙◌, ◌≤◌, ◌-◌, ap, sym, suc, cond, arith}
-use Rattle.wire_types.specs.Plan.{event_count}
-use Rattle.wire_types.specs.Puts.{stored}
+use Rattle.wire_runs.specs.Plan.{event_count}
+use Rattle.wire_runs.specs.Puts.{stored}
 use Rattle.wire_rehearsal.specs.Planned.{plan_of}
-use Rattle.wire_plan.specs.Sight.{delivered}
+use Rattle.wire_runs.specs.Sight.{delivered}
 use Rattle.wire_core.proofs.Bring.{delivered_more, delivered_done}
 use Rattle.wire_core.proofs.met.last_bringing.Goals as goal
 

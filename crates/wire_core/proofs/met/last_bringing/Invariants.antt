@@ -1,8 +1,8 @@
 use Rattle.std.proofs.Common.{◌≡◌, ◌≤◌, ℕ}
-use Rattle.wire_types.specs.Plan.{event_count}
+use Rattle.wire_runs.specs.Plan.{event_count}
 use Rattle.wire_rehearsal.specs.Planned.{plan_of}
 use Rattle.wire_fence.specs.Arrivals.{TellsMissing}
-use Rattle.wire_plan.specs.Sight.{delivered}
+use Rattle.wire_runs.specs.Sight.{delivered}
 use Rattle.wire_core.proofs.met.last_bringing.Given as goal
 
 abbrev pub invariant-events : goal.invariant-events

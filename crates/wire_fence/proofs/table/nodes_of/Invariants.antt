@@ -1,5 +1,5 @@
 use Rattle.std.proofs.Common.{◌≡◌, ℕ, take, false, get_or}
-use Rattle.wire_types.specs.Fences.{has_node}
+use Rattle.wire_runs.specs.Fences.{has_node}
 use Rattle.wire_rehearsal.specs.Scripts.{Scripts, numbers_of}
 use Rattle.wire_rehearsal.specs.Planned.{plan_of}
 use Rattle.wire_procmap.specs.Map.{map_of}

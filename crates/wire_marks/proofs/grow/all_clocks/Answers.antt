@@ -3,4 +3,7 @@ use Rattle.wire_marks.proofs.Growing.{marks_whole}
 use Rattle.wire_marks.proofs.grow.all_clocks.Goals as goal
 
 pub returns : goal.returns
-returns c = marks_whole (plan_of c.args.plan.now) c.passes.clocks.items c.passes.invariant.growing.marked (c.passes.invariant.stuck c.passes-test.false)
+returns c = record {
+  marks = marks_whole (plan_of c.args.plan.now) c.passes.clocks c.passes.invariant.growing.marked (c.passes.invariant.stuck c.passes-test.false);
+  few = c.passes.invariant.growing.marked.based.few;
+}

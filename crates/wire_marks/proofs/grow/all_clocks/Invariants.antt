@@ -1,5 +1,5 @@
 use Rattle.std.proofs.Common.{◌≡◌, ◌<◌, ◌+◌, false, ℕ, if◌then◌else◌}
-use Rattle.wire_types.specs.Plan.{process_count}
+use Rattle.wire_runs.specs.Plan.{process_count}
 use Rattle.wire_rehearsal.specs.Planned.{plan_of}
 use Rattle.wire_marks.specs.Marking.{IsStuckAt, left}
 use Rattle.wire_marks.specs.Meeting.{AreGrowing}
@@ -7,9 +7,9 @@ use Rattle.wire_marks.proofs.grow.all_clocks.Given as goal
 
 abbrev pub invariant-passes : goal.invariant-passes
 invariant-passes l = record {
-  growing : AreGrowing (plan_of l.plan) l.fences l.clocks.items l.meetings.items;
-  stuck : l.moved ≡ false → (p : ℕ) → p < process_count (plan_of l.plan) → IsStuckAt (plan_of l.plan) l.clocks.items p;
+  growing : AreGrowing (plan_of l.plan) l.fences l.clocks l.meetings.items;
+  stuck : l.moved ≡ false → (p : ℕ) → p < process_count (plan_of l.plan) → IsStuckAt (plan_of l.plan) l.clocks p;
 }
 
 abbrev pub decreases-passes : goal.decreases-passes
-decreases-passes l = left (plan_of l.plan) l.clocks.items + (if l.moved then 1 else 0)
+decreases-passes l = left (plan_of l.plan) l.clocks + (if l.moved then 1 else 0)

@@ -1,18 +1,27 @@
+use Rattle.std.proofs.Common.{◌<◌, subst, arith}
 use Rattle.wire_rehearsal.specs.Planned.{plan_of}
-use Rattle.wire_marks.proofs.Growing.{left_falls}
+use Rattle.wire_marks.proofs.Growing.{left_falls, left_same, next_there, stuck_same}
 use Rattle.wire_marks.proofs.Joining.{growing_added}
+use Rattle.wire_marks.specs.Marking.{left}
 use Rattle.wire_marks.proofs.grow.mark_next.Goals as goal
 
 pub returns-clause-growing : goal.returns-clause-growing
 returns-clause-growing c =
-    let growing = rw c.deref.ensures.value at c.in_ok-clock.ensures.growing in
-    let told = rw c.deref.ensures.value at c.in_ok-clock.ensures.next in
-    let next = rw c.in-Some.is at told in
-    growing_added (plan_of c.args.plan.now) c.args.fences.now c.args.clocks.now.items c.add.new.clocks.items c.next_clock.new.meetings.items c.args.proc.number c.in-Some.clock.items c.requires.there growing next c.in_ok-add.ensures.ok
+    let next = rw c.in-Some.is at c.in_ok-number.ensures.next in
+    growing_added (plan_of c.args.plan.now) c.args.fences.now c.next_base.new.clocks c.mark.new.self c.next_base.new.meetings.items c.args.proc.number c.in-Some.number (next_there (plan_of c.args.plan.now) c.next_base.new.clocks c.args.proc.number c.in-Some.number next) c.in_ok-number.ensures.growing next c.in_ok-mark.ensures
 
 pub returns-clause-falls : goal.returns-clause-falls
 returns-clause-falls c =
-    let growing = rw c.deref.ensures.value at c.in_ok-clock.ensures.growing in
-    let told = rw c.deref.ensures.value at c.in_ok-clock.ensures.next in
-    let next = rw c.in-Some.is at told in
-    left_falls (plan_of c.args.plan.now) c.args.clocks.now.items c.add.new.clocks.items c.args.proc.number c.in-Some.clock.items c.requires.there growing.marked next c.in_ok-add.ensures.ok
+    let next = rw c.in-Some.is at c.in_ok-number.ensures.next in
+    subst (λ n. left (plan_of c.args.plan.now) c.mark.new.self < n) (left_same (plan_of c.args.plan.now) c.args.clocks.now c.next_base.new.clocks c.in_ok-number.ensures.same)
+    (left_falls (plan_of c.args.plan.now) c.next_base.new.clocks c.mark.new.self c.args.proc.number c.in-Some.number (next_there (plan_of c.args.plan.now) c.next_base.new.clocks c.args.proc.number c.in-Some.number next) c.in_ok-number.ensures.growing.marked next c.in_ok-mark.ensures)
+
+pub returns-in_default-clause-stuck : goal.returns-in_default-clause-stuck
+returns-in_default-clause-stuck c = stuck_same (plan_of c.args.plan.now) c.args.clocks.now c.next_base.new.clocks c.args.proc.number c.in_ok-number.ensures.same (rw c.in_default.is at c.in_ok-number.ensures.next)
+
+pub mark-requires : goal.mark-requires
+mark-requires c =
+    let next = rw c.in-Some.is at c.in_ok-number.ensures.next in
+    let there = next_there (plan_of c.args.plan.now) c.next_base.new.clocks c.args.proc.number c.in-Some.number next in
+    let processes = c.in_ok-number.ensures.growing.marked.processes in
+    omega (arith, there, processes)

@@ -6,11 +6,11 @@ use Rattle.wire_marks.proofs.grow.mark_run.Given as goal
 
 abbrev pub invariant-events : goal.invariant-events
 invariant-events l = record {
-  growing : AreGrowing (plan_of l.plan) l.fences l.clocks.items l.meetings.items;
-  not_more : left (plan_of l.plan) l.clocks.items ≤ left (plan_of l.plan) l.initial.clocks.items;
-  falls : l.moved ≡ true → left (plan_of l.plan) l.clocks.items < left (plan_of l.plan) l.initial.clocks.items;
-  same : l.moved ≡ false → l.clocks.items ≡ l.initial.clocks.items;
+  growing : AreGrowing (plan_of l.plan) l.fences l.clocks l.meetings.items;
+  not_more : left (plan_of l.plan) l.clocks ≤ left (plan_of l.plan) l.initial.clocks;
+  falls : l.moved ≡ true → left (plan_of l.plan) l.clocks < left (plan_of l.plan) l.initial.clocks;
+  same : l.moved ≡ false → l.clocks.numbers.items ≡ l.initial.clocks.numbers.items;
 }
 
 abbrev pub decreases-events : goal.decreases-events
-decreases-events l = left (plan_of l.plan) l.clocks.items
+decreases-events l = left (plan_of l.plan) l.clocks

@@ -6,8 +6,8 @@ use Rattle.wire_marks.proofs.grow.pass.Given as goal
 
 abbrev pub invariant-loop-number : goal.invariant-loop-number
 invariant-loop-number l = record {
-  growing : AreGrowing (plan_of l.plan) l.fences l.clocks.items l.meetings.items;
-  not_more : left (plan_of l.plan) l.clocks.items ≤ left (plan_of l.plan) l.initial.clocks.items;
-  falls : l.moved ≡ true → left (plan_of l.plan) l.clocks.items < left (plan_of l.plan) l.initial.clocks.items;
-  stuck : l.moved ≡ false → (p : ℕ) → p < l.number → IsStuckAt (plan_of l.plan) l.clocks.items p;
+  growing : AreGrowing (plan_of l.plan) l.fences l.clocks l.meetings.items;
+  not_more : left (plan_of l.plan) l.clocks ≤ left (plan_of l.plan) l.initial.clocks;
+  falls : l.moved ≡ true → left (plan_of l.plan) l.clocks < left (plan_of l.plan) l.initial.clocks;
+  stuck : l.moved ≡ false → (p : ℕ) → p < l.number → IsStuckAt (plan_of l.plan) l.clocks p;
 }

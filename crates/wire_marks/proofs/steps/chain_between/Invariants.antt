@@ -1,5 +1,5 @@
 use Rattle.std.proofs.Common.{List, map, reverse, ◌++◌}
-use Rattle.wire_types.specs.Plan.{Place, place_of, process_count}
+use Rattle.wire_runs.specs.Plan.{Place, place_of, process_count}
 use Rattle.wire_rehearsal.specs.Planned.{plan_of}
 use Rattle.wire_marks.specs.Clocks.{LeadsTo, clock_of}
 use Rattle.wire_marks.specs.Shown.{IsShown}

@@ -1,7 +1,7 @@
 use Rattle.std.proofs.Common.{◌≡◌, ◌∙◌, ◌++◌, ◌∷◌, [], map, take, ap, sym, subst, arith, append_assoc}
 use Rattle.std.specs.Prelude.{option_map}
 use Rattle.std.proofs.lemmas.List.{append-nil, map_more, take_all}
-use Rattle.wire_types.specs.Plan.{place_of}
+use Rattle.wire_runs.specs.Plan.{place_of}
 use Rattle.wire_marks.specs.Shown.{Lowest}
 use Rattle.wire_marks.proofs.steps.lowest_among.Goals as goal
 

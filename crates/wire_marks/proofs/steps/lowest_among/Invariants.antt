@@ -1,6 +1,6 @@
 use Rattle.std.proofs.Common.{◌++◌, List, map, take}
 use Rattle.std.specs.Prelude.{option_map}
-use Rattle.wire_types.specs.Plan.{Plan, Place, place_of}
+use Rattle.wire_runs.specs.Plan.{Plan, Place, place_of}
 use Rattle.wire_marks.specs.Clocks.{AreMarks}
 use Rattle.wire_marks.specs.Shown.{Lowest}
 use Rattle.wire_marks.proofs.steps.lowest_among.Given as goal

@@ -1,5 +1,5 @@
 use Rattle.std.proofs.Common.{◌≡◌, ◌∙◌, ap, sym, Some}
-use Rattle.wire_types.specs.Plan.{Arrive, set_of, event_at}
+use Rattle.wire_runs.specs.Plan.{Arrive, set_of, event_at}
 use Rattle.wire_rehearsal.specs.Scripts.{set_at}
 use Rattle.wire_rehearsal.specs.Planned.{plan_of}
 use Rattle.wire_plan.specs.Kinds.{event_of}

@@ -1,6 +1,6 @@
 use Rattle.std.proofs.Common.{ℕ, ◌≤◌, ◌<◌}
 use Rattle.wire_rehearsal.specs.Planned.{plan_of}
-use Rattle.wire_plan.specs.Races.{IsPutOnce}
+use Rattle.wire_runs.specs.Races.{IsPutOnce}
 use Rattle.wire_plan.specs.Index.{IsDelivering}
 use Rattle.wire_plan.proofs.deliveries.next_delivery.Given as goal
 

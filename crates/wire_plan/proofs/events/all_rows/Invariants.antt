@@ -1,5 +1,5 @@
 use Rattle.std.proofs.Common.{◌≡◌, ◌++◌, map, drop}
-use Rattle.wire_types.specs.Plan.{events_of}
+use Rattle.wire_runs.specs.Plan.{events_of}
 use Rattle.wire_rehearsal.specs.Planned.{planned_call}
 use Rattle.wire_plan.specs.Kinds.{event_of, events_planned, calls_planned, calls_from, starts_planned, starts_from}
 use Rattle.wire_plan.proofs.events.all_rows.Given as goal

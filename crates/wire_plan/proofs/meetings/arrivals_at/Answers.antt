@@ -1,5 +1,5 @@
 use Rattle.std.proofs.Common.{map}
-use Rattle.wire_types.specs.Plan.{place_of}
+use Rattle.wire_runs.specs.Plan.{place_of}
 use Rattle.wire_plan.proofs.Gathering.{arrivals_met}
 use Rattle.wire_plan.proofs.meetings.arrivals_at.Goals as goal
 

@@ -1,5 +1,5 @@
 use Rattle.std.proofs.Common.{◌≡◌, ◌++◌, length, map, drop}
-use Rattle.wire_types.specs.Plan.{events_of}
+use Rattle.wire_runs.specs.Plan.{events_of}
 use Rattle.wire_rehearsal.specs.Planned.{planned_call}
 use Rattle.wire_plan.specs.Kinds.{event_of, calls_from, starts_from}
 use Rattle.wire_plan.proofs.row.row_of.Given as goal

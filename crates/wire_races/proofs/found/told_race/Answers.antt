@@ -1,4 +1,4 @@
-use Rattle.wire_types.specs.Plan.{place_of}
+use Rattle.wire_runs.specs.Plan.{place_of}
 use Rattle.wire_rehearsal.specs.Planned.{plan_of}
 use Rattle.wire_races.specs.declared.found.Race.TheVariants.{OnKey, OnName}
 use Rattle.wire_races.proofs.Told.{race_low_starts, race_high_starts, race_back}

@@ -1,8 +1,8 @@
 use Rattle.std.proofs.Common.{◌∙◌, ap}
-use Rattle.wire_types.specs.Plan.{Place, place_of}
+use Rattle.wire_runs.specs.Plan.{Place, place_of}
 use Rattle.wire_rehearsal.specs.Planned.{plan_of}
-use Rattle.wire_plan.specs.Ends.{first_event}
-use Rattle.wire_plan.specs.Findings.{Rewrite}
+use Rattle.wire_runs.specs.Ends.{first_event}
+use Rattle.wire_runs.specs.Findings.{Rewrite}
 use Rattle.wire_races.proofs.Starting.{starts_back, starts_within, low_starts, high_starts}
 use Rattle.wire_races.proofs.found.told_rewrite.Goals as goal
 

@@ -1,8 +1,10 @@
-use Rattle.std.proofs.Common.{ℕ, ◌≤◌, ◌<◌, ◌+◌, subst, refl, arith}
-use Rattle.wire_types.specs.Plan.{place_of, node_of, event_count}
+use Rattle.std.proofs.Common.{ℕ, ◌≤◌, ◌<◌, ◌+◌, ◌∙◌, sym, subst, refl, arith}
+use Rattle.std.proofs.lemmas.Bool.{true≢false}
+use Rattle.wire_runs.specs.Plan.{place_of, node_of, event_count}
 use Rattle.wire_rehearsal.specs.Planned.{plan_of}
 use Rattle.wire_plan.specs.Index.{IsDelivering}
-use Rattle.wire_races.proofs.Delivered.{late_more, late_whole, past_all}
+use Rattle.wire_races.specs.Racing.{MayBeLate}
+use Rattle.wire_races.proofs.Delivered.{late_more, late_whole, past_all, no_later, late_done}
 use Rattle.wire_races.proofs.key_races.add_all_late.Goals as goal
 
 pub returns-in_default : goal.returns-in_default
@@ -28,3 +30,18 @@ returns c =
     let end = c.deliveries-test.false in
     late_whole plan (place_of c.args.look) p c.args.key node c.args.found.now c.deliveries.found c.deliveries.from (event_count plan p) refl
     (past_all plan p c.args.key node c.deliveries.from c.event_count-count.result c.event_count-count.ensures (omega (arith, end))) c.deliveries.invariant
+
+pub returns-then-not-may_be_late : goal.returns-then-not-may_be_late
+returns-then-not-may_be_late c =
+    let plan = plan_of c.args.plan.now in
+    let p = c.args.owner.number in
+    let node = node_of plan c.args.look.proc.number in
+    let get = place_of c.args.look in
+    let at = c.in-Some.arrival.at in
+    let others = subst (λ n. (k : ℕ) → c.deliveries.from ≤ k → k < at → IsDelivering plan p c.args.key n k → ⊥) c.requires.node c.in-Some.ensures.others in
+    let delivers = subst (λ n. IsDelivering plan p c.args.key n at) c.requires.node c.in-Some.ensures.delivers in
+    let never : MayBeLate plan get (record { proc = p; at = at }) → ⊥ = λ m. true≢false (sym (c.may_be_late.ensures.1 (subst (λ q. MayBeLate plan get (record { proc = q; at = at })) (sym c.in-Some.ensures.proc) m)) ∙ c.if-not-may_be_late.true) in
+    late_done plan get p c.args.key node c.args.found.now c.deliveries.found c.deliveries.from (event_count plan p) refl (no_later plan get p c.args.key node c.deliveries.from at others delivers never) c.deliveries.invariant
+
+pub add_late-requires-clause-may : goal.add_late-requires-clause-may
+add_late-requires-clause-may c = c.may_be_late.ensures.0 c.if-not-may_be_late.false

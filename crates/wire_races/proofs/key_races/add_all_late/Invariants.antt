@@ -1,5 +1,5 @@
 use Rattle.std.proofs.Common.{◌-◌}
-use Rattle.wire_types.specs.Plan.{place_of, node_of}
+use Rattle.wire_runs.specs.Plan.{place_of, node_of}
 use Rattle.wire_rehearsal.specs.Planned.{plan_of}
 use Rattle.wire_races.specs.Adding.{Adds}
 use Rattle.wire_races.specs.Racing.{AreLateBelow}

@@ -1,10 +1,10 @@
 use Rattle.std.proofs.Common.{◌∙◌, sym, subst}
 use Rattle.std.proofs.lemmas.Bool.{true≢false}
 use Rattle.std.proofs.lemmas.Result.{on_ok_weaker}
-use Rattle.wire_types.specs.Plan.{place_of}
+use Rattle.wire_runs.specs.Plan.{place_of}
 use Rattle.wire_rehearsal.specs.Planned.{plan_of}
-use Rattle.wire_plan.specs.Races.{ComesSurely}
-use Rattle.wire_plan.proofs.Basics.{process_within}
+use Rattle.wire_runs.specs.Races.{ComesSurely}
+use Rattle.wire_runs.proofs.Basics.{process_within}
 use Rattle.wire_races.proofs.Delivered.{adds_late}
 use Rattle.wire_races.proofs.key_races.add_delivery_races.Goals as goal
 

@@ -1,6 +1,6 @@
 use Rattle.std.proofs.Common.{sym, subst}
 use Rattle.std.proofs.lemmas.Result.{on_ok_weaker}
-use Rattle.wire_types.specs.Plan.{place_of, node_of}
+use Rattle.wire_runs.specs.Plan.{place_of, node_of}
 use Rattle.wire_rehearsal.specs.Planned.{plan_of}
 use Rattle.wire_races.specs.Racing.{IsLate}
 use Rattle.wire_races.proofs.Delivered.{late_race, one_late, not_late}

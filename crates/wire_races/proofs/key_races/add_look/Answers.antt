@@ -1,5 +1,5 @@
 use Rattle.wire_rehearsal.specs.Planned.{plan_of}
-use Rattle.wire_plan.proofs.Basics.{process_within}
+use Rattle.wire_runs.proofs.Basics.{process_within}
 use Rattle.wire_races.proofs.Looking.{owner_within}
 use Rattle.wire_races.proofs.key_races.add_look.Goals as goal
 

@@ -1,5 +1,5 @@
 use Rattle.std.proofs.lemmas.Result.{on_ok_weaker}
-use Rattle.wire_types.specs.Plan.{place_of}
+use Rattle.wire_runs.specs.Plan.{place_of}
 use Rattle.wire_rehearsal.specs.Planned.{plan_of}
 use Rattle.wire_races.proofs.Looking.{adds_race}
 use Rattle.wire_races.proofs.key_races.add_race.Goals as goal

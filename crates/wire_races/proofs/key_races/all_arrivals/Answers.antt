@@ -1,8 +1,8 @@
 use Rattle.std.proofs.Common.{ap, subst, map}
-use Rattle.wire_types.specs.Plan.{place_of}
+use Rattle.wire_runs.specs.Plan.{place_of}
 use Rattle.wire_rehearsal.specs.Planned.{plan_of}
 use Rattle.wire_plan.specs.Index.{AreArrivals}
-use Rattle.wire_plan.proofs.Basics.{event_within}
+use Rattle.wire_runs.proofs.Basics.{event_within}
 use Rattle.wire_races.proofs.Arriving.{ended}
 use Rattle.wire_races.proofs.key_races.all_arrivals.Goals as goal
 

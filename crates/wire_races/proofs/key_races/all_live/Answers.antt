@@ -1,8 +1,8 @@
 use Rattle.std.proofs.Common.{◌+◌, ◌∙◌, sym, refl, map, arith}
 use Rattle.std.proofs.lemmas.List.{length-map}
 use Rattle.std.proofs.lemmas.Bool.{true≢false}
-use Rattle.wire_types.specs.Plan.{place_of}
-use Rattle.wire_plan.specs.Order.{Live}
+use Rattle.wire_runs.specs.Plan.{place_of}
+use Rattle.wire_runs.specs.Order.{Live}
 use Rattle.wire_races.proofs.Arriving.{item, one_more, all_places}
 use Rattle.wire_races.proofs.key_races.all_live.Goals as goal
 

@@ -1,7 +1,7 @@
 use Rattle.std.proofs.Common.{◌≡◌, ◌<◌, ℕ, Some, map}
 use Rattle.std.specs.Prelude.{slice_get}
-use Rattle.wire_types.specs.Plan.{Plan, Place, place_of}
-use Rattle.wire_plan.specs.Order.{Live}
+use Rattle.wire_runs.specs.Plan.{Plan, Place, place_of}
+use Rattle.wire_runs.specs.Order.{Live}
 use Rattle.wire_marks.specs.Clocks.{AreMarks}
 use Rattle.wire_races.proofs.key_races.all_live.Given as goal
 

@@ -1,6 +1,6 @@
 use Rattle.std.proofs.Common.{◌+◌, map, arith}
-use Rattle.wire_types.specs.Plan.{place_of}
-use Rattle.wire_plan.specs.Order.{Before}
+use Rattle.wire_runs.specs.Plan.{place_of}
+use Rattle.wire_runs.specs.Order.{Before}
 use Rattle.wire_races.proofs.Arriving.{item, one_more}
 use Rattle.wire_races.proofs.key_races.first_not_before.Goals as goal
 

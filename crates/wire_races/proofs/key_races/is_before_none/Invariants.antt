@@ -1,7 +1,7 @@
 use Rattle.std.proofs.Common.{◌≡◌, ◌<◌, ℕ, Some, map}
 use Rattle.std.specs.Prelude.{slice_get}
-use Rattle.wire_types.specs.Plan.{Plan, Place, place_of}
-use Rattle.wire_plan.specs.Order.{Before}
+use Rattle.wire_runs.specs.Plan.{Plan, Place, place_of}
+use Rattle.wire_runs.specs.Order.{Before}
 use Rattle.wire_marks.specs.Clocks.{AreMarks}
 use Rattle.wire_races.proofs.key_races.is_before_none.Given as goal
 

@@ -1,7 +1,7 @@
 use Rattle.std.proofs.Common.{◌<◌, ◌≤◌, map, length, sym, subst, arith}
-use Rattle.wire_types.specs.Plan.{place_of}
+use Rattle.wire_runs.specs.Plan.{place_of}
 use Rattle.wire_rehearsal.specs.Planned.{plan_of}
-use Rattle.wire_plan.specs.Findings.{IsFound}
+use Rattle.wire_runs.specs.Findings.{IsFound}
 use Rattle.wire_races.specs.Collected.{IsAdded}
 use Rattle.wire_races.proofs.Lists.{place_at}
 use Rattle.wire_races.proofs.Growing.{adds_none, adds_same}

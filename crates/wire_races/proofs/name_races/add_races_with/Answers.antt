@@ -1,8 +1,8 @@
 use Rattle.std.proofs.Common.{◌≡◌, map, take, sym, subst, arith}
 use Rattle.std.proofs.lemmas.List.{map_more, take_all}
-use Rattle.wire_types.specs.Plan.{place_of}
+use Rattle.wire_runs.specs.Plan.{place_of}
 use Rattle.wire_rehearsal.specs.Planned.{plan_of}
-use Rattle.wire_plan.specs.Fate.{IsIn}
+use Rattle.wire_runs.specs.Fate.{IsIn}
 use Rattle.wire_races.specs.Adding.{Adds}
 use Rattle.wire_races.proofs.Lists.{place_at}
 use Rattle.wire_races.proofs.Growing.{adds_none, adds_same}

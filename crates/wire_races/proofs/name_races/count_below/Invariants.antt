@@ -1,5 +1,5 @@
 use Rattle.std.proofs.Common.{◌-◌, ◌≤◌, ℕ, length, map}
-use Rattle.wire_types.specs.Plan.{Plan, place_of}
+use Rattle.wire_runs.specs.Plan.{Plan, place_of}
 use Rattle.wire_marks.specs.Clocks.{AreMarks}
 use Rattle.wire_races.specs.NameRaces.{AreCallsOn, AreOf, IsBelow}
 use Rattle.wire_races.proofs.Racing.{IsNarrowed}

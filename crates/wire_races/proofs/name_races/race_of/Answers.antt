@@ -1,9 +1,9 @@
 use Rattle.std.proofs.Common.{◌∙◌, ap, refl}
 use Rattle.std.proofs.lemmas.Bool.{cond_below, cond_above}
-use Rattle.wire_types.specs.Plan.{place_of}
+use Rattle.wire_runs.specs.Plan.{place_of}
 use Rattle.wire_rehearsal.specs.Planned.{plan_of}
-use Rattle.wire_plan.specs.Ends.{first_event}
-use Rattle.wire_plan.specs.Findings.{NameRace}
+use Rattle.wire_runs.specs.Ends.{first_event}
+use Rattle.wire_runs.specs.Findings.{NameRace}
 use Rattle.wire_races.proofs.Starting.{starts_back, starts_within, starts_named}
 use Rattle.wire_races.proofs.name_races.race_of.Goals as goal
 

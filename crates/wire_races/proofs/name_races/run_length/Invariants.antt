@@ -1,5 +1,5 @@
 use Rattle.std.proofs.Common.{◌-◌, ◌≤◌, length, map, take}
-use Rattle.wire_types.specs.Plan.{place_of}
+use Rattle.wire_runs.specs.Plan.{place_of}
 use Rattle.wire_races.specs.NameRaces.{AreOf}
 use Rattle.wire_races.proofs.name_races.run_length.Given as goal
 

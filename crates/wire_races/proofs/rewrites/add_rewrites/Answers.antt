@@ -1,5 +1,5 @@
 use Rattle.std.proofs.Common.{◌≡◌, ◌∙◌, ◌+◌, arith}
-use Rattle.wire_types.specs.Plan.{process_count}
+use Rattle.wire_runs.specs.Plan.{process_count}
 use Rattle.wire_rehearsal.specs.Planned.{plan_of}
 use Rattle.wire_races.specs.Kinds.{IsOfRewrite}
 use Rattle.wire_races.specs.Rewriting.{IsRewriteBy}

@@ -1,7 +1,7 @@
 use Rattle.std.proofs.Common.{◌≡◌, ◌==◌, ℕ, not, drop}
 use Rattle.std.specs.Prelude.{◌||◌}
 use Rattle.std.specs.List.{list_any, list_all}
-use Rattle.wire_types.specs.Fences.{is_member}
+use Rattle.wire_runs.specs.Fences.{is_member}
 use Rattle.wire_rehearsal.specs.Scripts.{numbers_of}
 use Rattle.wire_rehearsal.specs.Canonical.{members_from, is_whole}
 use Rattle.wire_rehearsal.proofs.set_word.broken_jobs.Given as goal

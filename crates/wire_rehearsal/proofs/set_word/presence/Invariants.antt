@@ -1,6 +1,6 @@
 use Rattle.std.proofs.Common.{◌≡◌, ℕ, ◌<◌, false, length, drop, slice_index_or}
 use Rattle.std.specs.Prelude.{◌||◌}
-use Rattle.wire_types.specs.Fences.{is_member}
+use Rattle.wire_runs.specs.Fences.{is_member}
 use Rattle.wire_rehearsal.specs.Scripts.{numbers_of}
 use Rattle.wire_rehearsal.proofs.set_word.presence.Given as goal
 

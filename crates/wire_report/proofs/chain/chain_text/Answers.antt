@@ -1,5 +1,5 @@
 use Rattle.std.proofs.Common.{◌∙◌, ◌++◌, sym, subst, map, List}
-use Rattle.wire_types.specs.Plan.{place_of}
+use Rattle.wire_runs.specs.Plan.{place_of}
 use Rattle.wire_types.specs.declared.Event.{Event}
 use Rattle.wire_rehearsal.specs.Planned.{plan_of}
 use Rattle.wire_report.specs.Chain.{event_lines}

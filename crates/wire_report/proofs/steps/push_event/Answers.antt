@@ -1,5 +1,5 @@
 use Rattle.std.proofs.Common.{◌≡◌, ◌∙◌, ◌++◌, ap, sym, subst, OnOk, List, ℕ}
-use Rattle.wire_types.specs.Plan.{event, place_of}
+use Rattle.wire_runs.specs.Plan.{event, place_of}
 use Rattle.wire_rehearsal.specs.Planned.{plan_of}
 use Rattle.wire_report.specs.Chain.{half_text, line_of, event_line}
 use Rattle.wire_report.proofs.steps.push_event.Goals as goal

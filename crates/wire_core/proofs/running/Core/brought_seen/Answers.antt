@@ -1,9 +1,9 @@
 use Rattle.std.proofs.Common.{map, ◌∙◌, ◌≤◌, ap, sym, refl, arith, length}
 use Rattle.std.proofs.lemmas.Option.{slice_get_read}
 use Rattle.wire_rehearsal.specs.Planned.{plan_of}
-use Rattle.wire_plan.specs.Sight.{held, for_others}
-use Rattle.wire_plan.specs.Machine.{run}
-use Rattle.wire_plan.proofs.Due.{reachable_sound}
+use Rattle.wire_runs.specs.Sight.{held, for_others}
+use Rattle.wire_runs.specs.Step.{run}
+use Rattle.wire_runs.proofs.Due.{reachable_sound}
 use Rattle.wire_core.specs.Shown.{seen_as, brought_of}
 use Rattle.wire_core.proofs.Looks.{before_shown}
 use Rattle.wire_core.proofs.running.Core.brought_seen.Goals as goal

@@ -1,9 +1,9 @@
 use Rattle.std.proofs.Common.{◌≡◌, Some, suc, ap, sym, refl, arith, true}
-use Rattle.wire_types.specs.Plan.{process_count}
+use Rattle.wire_runs.specs.Plan.{process_count}
 use Rattle.wire_rehearsal.specs.Planned.{plan_of}
-use Rattle.wire_plan.specs.Machine.{is_enabled}
-use Rattle.wire_plan.specs.Plain.{lowest}
-use Rattle.wire_plan.proofs.PlainRun.{lowest_stays}
+use Rattle.wire_runs.specs.Step.{is_enabled}
+use Rattle.wire_runs.specs.PlainRun.{lowest}
+use Rattle.wire_runs.proofs.PlainRun.{lowest_stays}
 use Rattle.wire_core.specs.Course.{state_of}
 use Rattle.wire_core.proofs.running.Core.lowest_ready.Goals as goal
 

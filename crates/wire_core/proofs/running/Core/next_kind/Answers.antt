@@ -1,5 +1,5 @@
 use Rattle.std.proofs.Common.{◌≤◌, ap, sym, arith}
-use Rattle.wire_types.specs.Plan.{event_count}
+use Rattle.wire_runs.specs.Plan.{event_count}
 use Rattle.wire_rehearsal.specs.Planned.{plan_of}
 use Rattle.wire_core.specs.Course.{state_of}
 use Rattle.wire_core.proofs.Looks.{event_past}

@@ -1,10 +1,10 @@
 use Rattle.std.proofs.Common.{map, ◌∙◌, ap, ◌≤◌, sym, refl, arith, length}
 use Rattle.std.proofs.lemmas.Option.{slice_get_read}
-use Rattle.wire_types.specs.Plan.{process_count}
-use Rattle.wire_types.specs.Puts.{own}
+use Rattle.wire_runs.specs.Plan.{process_count}
+use Rattle.wire_runs.specs.Puts.{own}
 use Rattle.wire_rehearsal.specs.Planned.{plan_of}
-use Rattle.wire_plan.specs.Sight.{held}
-use Rattle.wire_plan.specs.Machine.{run}
+use Rattle.wire_runs.specs.Sight.{held}
+use Rattle.wire_runs.specs.Step.{run}
 use Rattle.wire_core.specs.Shown.{seen_as}
 use Rattle.wire_core.proofs.Looks.{done_past, own_found, own_shown}
 use Rattle.wire_core.proofs.running.Core.own_seen.Goals as goal

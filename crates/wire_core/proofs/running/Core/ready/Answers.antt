@@ -1,10 +1,10 @@
 use Rattle.std.proofs.Common.{◌≡◌, ◌∙◌, ap, sym, subst, map, Some}
 use Rattle.wire_rehearsal.specs.Planned.{plan_of}
 use Rattle.wire_plan.specs.Kinds.{event_of}
-use Rattle.wire_plan.proofs.Basics.{process_within}
+use Rattle.wire_runs.proofs.Basics.{process_within}
 use Rattle.wire_plan.specs.declared.Kind.TheVariants as kind
-use Rattle.wire_plan.specs.State.{next_event}
-use Rattle.wire_plan.specs.Machine.{run}
+use Rattle.wire_runs.specs.State.{next_event}
+use Rattle.wire_runs.specs.Step.{run}
 use Rattle.wire_core.specs.Course.{state_of}
 use Rattle.wire_core.proofs.Meet.{complete_at, leave_enabled}
 use Rattle.wire_core.proofs.running.Core.ready.Goals as goal

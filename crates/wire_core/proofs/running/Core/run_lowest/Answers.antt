@@ -1,10 +1,10 @@
 use Rattle.std.proofs.Common.{◌≡◌, ◌-◌, ap, sym, refl, arith, suc, ◌∷◌, [], ◌++◌, length}
-use Rattle.wire_types.specs.Plan.{process_count}
+use Rattle.wire_runs.specs.Plan.{process_count}
 use Rattle.wire_rehearsal.specs.Planned.{plan_of}
-use Rattle.wire_plan.specs.State.{start}
-use Rattle.wire_plan.specs.Plain.{plain_from}
-use Rattle.wire_plan.specs.Laws.{event_total}
-use Rattle.wire_plan.proofs.PlainRun.{lowest_enabled}
+use Rattle.wire_runs.specs.State.{start}
+use Rattle.wire_runs.specs.PlainRun.{plain_from}
+use Rattle.wire_runs.specs.Laws.{event_total}
+use Rattle.wire_runs.proofs.PlainRun.{lowest_enabled}
 use Rattle.wire_core.specs.Course.{state_of}
 use Rattle.wire_core.proofs.Looks.{nobody}
 use Rattle.wire_core.proofs.Steps.{step_history, legal_push, length_push, ahead_step}

@@ -1,7 +1,7 @@
 use Rattle.std.proofs.Common.{◌≤◌, map, sym, arith}
-use Rattle.wire_types.specs.Plan.{process_count}
+use Rattle.wire_runs.specs.Plan.{process_count}
 use Rattle.wire_rehearsal.specs.Planned.{plan_of}
-use Rattle.wire_plan.specs.Machine.{run}
+use Rattle.wire_runs.specs.Step.{run}
 use Rattle.wire_core.proofs.Looks.{now_past}
 use Rattle.wire_core.proofs.running.Core.seen_now.Goals as goal
 

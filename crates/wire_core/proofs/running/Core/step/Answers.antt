@@ -5,13 +5,13 @@ use Rattle.std.proofs.lemmas.Option.{slice_get_read}
 use Rattle.wire_rehearsal.specs.Planned.{plan_of}
 use Rattle.wire_store.specs.Kept.{kept_with}
 use Rattle.wire_plan.specs.Kinds.{event_of}
-use Rattle.wire_plan.specs.State.{next_place}
-use Rattle.wire_plan.specs.Machine.{run, reply}
-use Rattle.wire_plan.specs.Ends.{call_of, given}
-use Rattle.wire_plan.proofs.Basics.{event_within, process_within}
+use Rattle.wire_runs.specs.State.{next_place}
+use Rattle.wire_runs.specs.Step.{run, reply}
+use Rattle.wire_runs.specs.Ends.{call_of, given}
+use Rattle.wire_runs.proofs.Basics.{event_within, process_within}
 use Rattle.wire_core.specs.Course.{state_of}
 use Rattle.wire_names.specs.Law.{names_after}
-use Rattle.wire_plan.specs.State.{start}
+use Rattle.wire_runs.specs.State.{start}
 use Rattle.wire_core.specs.Met.{IsArrival, after_arrival}
 use Rattle.wire_core.specs.Ranks.{calls_at, IsShared}
 use Rattle.wire_core.proofs.Shared.{shared_step, missing_if, has_name}

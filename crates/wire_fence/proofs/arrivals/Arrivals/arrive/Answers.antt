@@ -1,5 +1,5 @@
 use Rattle.std.proofs.Common.{ℕ, suc, List, subst, sym}
-use Rattle.wire_types.specs.Plan.{update}
+use Rattle.wire_runs.specs.Plan.{update}
 use Rattle.wire_fence.specs.Arrivals.{TellsMissing}
 use Rattle.wire_fence.proofs.Missing.{arrival_counts}
 use Rattle.wire_fence.proofs.arrivals.Arrivals.arrive.Goals as goal

@@ -1,6 +1,6 @@
 use Rattle.std.proofs.Common.{◌≡◌, ◌∙◌, ℕ, ◌<◌, List, length, map, get_or, subst, sym, ap, arith}
 use Rattle.std.proofs.lemmas.List.FromFn.{length-map-range_with_len}
-use Rattle.wire_types.specs.Fences.{has_node}
+use Rattle.wire_runs.specs.Fences.{has_node}
 use Rattle.wire_rehearsal.specs.Scripts.{Process, numbers_of, set_at}
 use Rattle.wire_rehearsal.specs.Planned.{plan_of}
 use Rattle.wire_procmap.specs.Map.{Map, process_count}

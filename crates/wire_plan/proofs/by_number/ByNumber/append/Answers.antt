@@ -1,6 +1,6 @@
 use Rattle.std.proofs.Common.{◌<◌, ◌∙◌, ◌++◌, ◌∷◌, [], length, ap, arith}
 use Rattle.std.proofs.lemmas.List.{length-map}
-use Rattle.wire_types.specs.Plan.{place_of}
+use Rattle.wire_runs.specs.Plan.{place_of}
 use Rattle.wire_plan.specs.Tables.{places_at}
 use Rattle.wire_plan.proofs.Numbered.{places_in, append_here, append_others}
 use Rattle.wire_plan.proofs.by_number.ByNumber.append.Goals as goal

@@ -1,5 +1,5 @@
 use Rattle.std.proofs.Common.{◌≡◌, ◌≤◌, ◌+◌, suc, subst, arith}
-use Rattle.wire_types.specs.Plan.{process_count}
+use Rattle.wire_runs.specs.Plan.{process_count}
 use Rattle.wire_rehearsal.specs.Planned.{plan_of}
 use Rattle.wire_plan.specs.Tables.{AreListedTo}
 use Rattle.wire_plan.proofs.Numbered.{listed_plan}

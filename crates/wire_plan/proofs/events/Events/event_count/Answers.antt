@@ -1,6 +1,6 @@
 use Rattle.std.proofs.Common.{◌≡◌, ◌∙◌, ap, sym, length, arith}
 use Rattle.std.proofs.lemmas.List.{length-map}
-use Rattle.wire_types.specs.Plan.{event_count}
+use Rattle.wire_runs.specs.Plan.{event_count}
 use Rattle.wire_rehearsal.specs.Planned.{plan_of}
 use Rattle.wire_plan.specs.Kinds.{event_of}
 use Rattle.wire_plan.proofs.Planning.{count_fits}

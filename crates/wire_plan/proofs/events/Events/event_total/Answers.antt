@@ -3,7 +3,7 @@ use Rattle.std.specs.Prelude.{sum_by, vec_len}
 use Rattle.std.proofs.lemmas.List.{length-map}
 use Rattle.wire_rehearsal.specs.Planned.{plan_of}
 use Rattle.wire_plan.specs.Kinds.{event_of}
-use Rattle.wire_plan.specs.Laws.{event_total}
+use Rattle.wire_runs.specs.Laws.{event_total}
 use Rattle.wire_plan.proofs.Planning.{sum_same, total_shown, total_fits}
 use Rattle.wire_plan.proofs.events.Events.event_total.Goals as goal
 

@@ -1,5 +1,5 @@
 use Rattle.std.proofs.Common.{subst}
-use Rattle.wire_types.specs.Plan.{event_count}
+use Rattle.wire_runs.specs.Plan.{event_count}
 use Rattle.wire_plan.specs.Keys.{IsKeyRow}
 use Rattle.wire_plan.proofs.KeyFacts.{never_put_stored}
 use Rattle.wire_plan.proofs.keys.KeyTable.store.Goals as goal

@@ -1,5 +1,5 @@
 use Rattle.std.proofs.Common.{◌≡◌, ◌+◌, ◌∙◌, subst, map, suc, arith}
-use Rattle.wire_types.specs.Plan.{process_count}
+use Rattle.wire_runs.specs.Plan.{process_count}
 use Rattle.wire_rehearsal.specs.Planned.{plan_of}
 use Rattle.wire_plan.specs.Meetings.{AreMeetingsTo}
 use Rattle.wire_plan.proofs.Gathering.{all_done}

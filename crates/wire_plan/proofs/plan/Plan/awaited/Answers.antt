@@ -1,6 +1,6 @@
 use Rattle.std.proofs.Common.{◌∙◌, ap, sym, subst, Some, eq-eqb}
 use Rattle.std.proofs.lemmas.Bool.{true≢false, eqb-true}
-use Rattle.wire_types.specs.Plan.{place_of}
+use Rattle.wire_runs.specs.Plan.{place_of}
 use Rattle.wire_rehearsal.specs.Planned.{plan_of}
 use Rattle.wire_plan.specs.Kinds.{event_of}
 use Rattle.wire_plan.specs.Keys.{AreKeysOf}

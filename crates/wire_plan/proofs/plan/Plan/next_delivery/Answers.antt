@@ -1,6 +1,6 @@
 use Rattle.std.proofs.Common.{subst, option_map}
 use Rattle.wire_rehearsal.specs.Planned.{plan_of}
-use Rattle.wire_plan.specs.Races.{IsPutOnce}
+use Rattle.wire_runs.specs.Races.{IsPutOnce}
 use Rattle.wire_plan.specs.Index.{IsNextDelivery}
 use Rattle.wire_plan.proofs.plan.Plan.next_delivery.Goals as goal
 

@@ -1,6 +1,6 @@
 use Rattle.wire_plan.proofs.Wired.{sources_are}
 use Rattle.wire_plan.proofs.plan.Plan.sources.Goals as goal
-use Rattle.wire_types.specs.Plan.{place_of}
+use Rattle.wire_runs.specs.Plan.{place_of}
 use Rattle.wire_rehearsal.specs.Planned.{plan_of}
 
 pub returns-clause-sources : goal.returns-clause-sources

@@ -1,8 +1,8 @@
 use Rattle.std.proofs.Common.{sym, subst}
-use Rattle.wire_types.specs.Plan.{place_of}
+use Rattle.wire_runs.specs.Plan.{place_of}
 use Rattle.wire_rehearsal.specs.Planned.{plan_of}
-use Rattle.wire_plan.specs.Findings.{Rewrite, IsFound}
-use Rattle.wire_plan.specs.Ends.{first_event}
+use Rattle.wire_runs.specs.Findings.{Rewrite, IsFound}
+use Rattle.wire_runs.specs.Ends.{first_event}
 use Rattle.wire_races.specs.Shown.{shown}
 use Rattle.wire_races.specs.declared.finding.Finding.TheVariants as told
 use Rattle.wire_races.proofs.Told.{shown_low, shown_high, one_first}

@@ -1,7 +1,7 @@
 use Rattle.std.proofs.Common.{subst}
 use Rattle.wire_rehearsal.specs.Planned.{plan_of}
-use Rattle.wire_plan.specs.Races.{IsSettled}
-use Rattle.wire_plan.proofs.OneEnd.{enabled_commute}
+use Rattle.wire_runs.specs.Races.{IsSettled}
+use Rattle.wire_runs.proofs.OneEnd.{enabled_commute}
 use Rattle.wire_races.proofs.settled.Settled.enabled_commute.Goals as goal
 
 pub returns : goal.returns

@@ -1,9 +1,9 @@
 use Rattle.std.proofs.Common.{subst}
 use Rattle.wire_rehearsal.specs.Planned.{plan_of}
-use Rattle.wire_plan.specs.Races.{IsSettled}
-use Rattle.wire_plan.specs.Fate.{Fate, HasFate}
-use Rattle.wire_plan.proofs.Fates.{one_fate}
-use Rattle.wire_plan.proofs.HaveFates.{have_fates}
+use Rattle.wire_runs.specs.Races.{IsSettled}
+use Rattle.wire_runs.specs.Fate.{Fate, HasFate}
+use Rattle.wire_runs.proofs.Fates.{one_fate}
+use Rattle.wire_runs.proofs.HaveFates.{have_fates}
 use Rattle.wire_races.proofs.Marked.{marks_of}
 use Rattle.wire_races.proofs.settled.Settled.has_fates.Goals as goal
 

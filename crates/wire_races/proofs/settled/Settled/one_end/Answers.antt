@@ -1,8 +1,8 @@
 use Rattle.std.proofs.Common.{subst}
 use Rattle.wire_rehearsal.specs.Planned.{plan_of}
-use Rattle.wire_plan.specs.Races.{IsSettled}
-use Rattle.wire_plan.proofs.OneEnd.{settled_one_end}
-use Rattle.wire_plan.proofs.PlainRun.{plain_runs}
+use Rattle.wire_runs.specs.Races.{IsSettled}
+use Rattle.wire_runs.proofs.OneEnd.{settled_one_end}
+use Rattle.wire_runs.proofs.PlainRun.{plain_runs}
 use Rattle.wire_races.proofs.settled.Settled.one_end.Goals as goal
 
 pub returns-clause-one : goal.returns-clause-one

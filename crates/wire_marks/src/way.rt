@@ -1,0 +1,79 @@
+//! The order in which processes are looked at: each is followed by the one that it waits for. What is marked
+//! in the end doesn't hang on it.
+
+ghost use Rattle.std.specs.Prelude.{◌≡◌, ◌++◌, ◌∷◌, [], IfOk, IfSome};
+ghost use Rattle.wire_runs.specs.Plan.{Place};
+ghost use Rattle.wire_rehearsal.specs.Planned.{plan_of};
+ghost use Rattle.wire_fence.specs.Fences.{AreFencesOf};
+ghost use Rattle.wire_runs.specs.Order.{Edge};
+ghost use Rattle.wire_marks.specs.Marking.{next_of};
+ghost use Rattle.std.specs.Bool.{OnTrue, OnFalse};
+
+use crate::clocks::Clocks;
+use crate::joins::{Meeting, fence_ended, missing_at};
+use std::alloc::{AllocError, Global};
+use wire_fence::Fences;
+use wire_plan::Plan;
+use wire_types::{Event, Proc};
+
+/// Processes in the order in which they were looked at, each once.
+#[derive(Drop)]
+pub(crate) struct Way {
+    pub procs: Vec<Proc>,
+    seen: Vec<bool>,
+}
+
+impl Way {
+    /// No process, of so many.
+    pub(crate) fn new(alloc: Global, count: usize) -> Result<Way, AllocError>
+        ensures { IfOk result (λ way. way.procs.items ≡ []) }
+    {
+        let procs = Vec::with_capacity(alloc, count)?;
+        let seen = vec![in alloc; false; count]?;
+        Ok(Way { procs, seen })
+    }
+
+    /// Adds a process, unless it is there. Whether it was added.
+    pub(crate) fn take(&mut self, proc: Proc) -> Result<bool, AllocError>
+        ensures added { IfOk result (λ b. OnTrue b (self.new.procs.items ≡ self.old.procs.items ++ proc ∷ [])) }
+        ensures same { IfOk result (λ b. OnFalse b (self.new.procs.items ≡ self.old.procs.items)) }
+    {
+        let index = proc.index();
+        if index >= self.seen.len() || self.seen[index] {
+            return Ok(false);
+        }
+        self.seen[index] = true;
+        self.procs.push(proc)?;
+        Ok(true)
+    }
+}
+
+/// A process whose event the next event of a process waits for, if there is one: of the event that is awaited,
+/// or of an arrival at the fence that it ends.
+pub(crate) fn waits_for(
+    plan: &Plan,
+    fences: &Fences,
+    clocks: &Clocks,
+    meetings: &[Meeting],
+    proc: Proc,
+) -> Option<Proc>
+    requires { AreFencesOf plan.now fences.now }
+    ensures { IfSome result (λ q. (z : Place) × Edge (plan_of plan.now) z (next_of clocks.now proc.number) × (z.proc ≡ q.number)) }
+{
+    let at = clocks.marked(proc);
+    if at >= plan.event_count(proc) as usize {
+        return None;
+    }
+    let event = Event {
+        proc,
+        at: at as u32,
+    };
+    let sources = plan.sources(event);
+    if let Some(awaited) = sources.awaited {
+        return Some(awaited.proc);
+    }
+    let Some(fence) = fence_ended(plan, fences, event) else {
+        return None;
+    };
+    missing_at(meetings, fence, sources.arrivals)
+}

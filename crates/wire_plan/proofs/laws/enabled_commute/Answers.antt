@@ -1,5 +1,0 @@
-use Rattle.wire_plan.proofs.OneEnd.{enabled_commute}
-use Rattle.wire_plan.proofs.laws.enabled_commute.Goals as goal
-
-pub returns : goal.returns
-returns c = enabled_commute

@@ -1,5 +1,0 @@
-use Rattle.wire_plan.proofs.Due.{enabled_is_due}
-use Rattle.wire_plan.proofs.laws.enabled_is_due.Goals as goal
-
-pub returns : goal.returns
-returns c = enabled_is_due

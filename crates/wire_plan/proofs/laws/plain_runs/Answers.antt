@@ -1,5 +1,0 @@
-use Rattle.wire_plan.proofs.PlainRun.{plain_runs}
-use Rattle.wire_plan.proofs.laws.plain_runs.Goals as goal
-
-pub returns : goal.returns
-returns c = plain_runs

@@ -1,0 +1,147 @@
+-- What a get-now sees doesn't change between two states that both have all that is before it.
+use Rattle.std.proofs.Common.{◌≡◌, ℕ, suc, ◌<◌, ◌≤◌, true, false, cond, nat_eq, nat_le, Option, Some, None, List, is_some, inl, inr, refl, sym, ap, ◌∙◌, subst, arith, eq-eqb, leb-true, leb-false}
+use Rattle.std.proofs.lemmas.Option.{same_Some}
+use Rattle.std.proofs.lemmas.Bool.{cond-true, cond-false, cond_both, cases_eq, cases_lt, cases_Bool, and_parts, and_from, true≢false}
+use Rattle.wire_runs.specs.Plan.{Plan, GetNow, event, event_count, node_of, same_node, admits}
+use Rattle.wire_runs.specs.Plan.{Place}
+use Rattle.wire_runs.specs.State.{State, IsDone}
+use Rattle.wire_runs.specs.Puts.{own, stored}
+use Rattle.wire_runs.specs.Fences.{arrivals, is_member, is_complete, is_collecting, has_node}
+use Rattle.wire_runs.specs.Puts.{scope_of}
+use Rattle.wire_runs.specs.Sight.{held, served, for_others, brings, delivered, brought, get_now_sees}
+use Rattle.wire_runs.specs.Order.{IsArrival, Live, Before}
+use Rattle.wire_runs.specs.Races.{Delivery, ByFence, IsOf, Delivers, ComesSurely, IsSettled}
+use Rattle.wire_runs.proofs.Basics.{arrivals_rise, arrivals_step, event_within}
+use Rattle.wire_runs.proofs.Due.{ClosedCut, arrived}
+use Rattle.wire_runs.proofs.Puts.{stored_fixed}
+use Rattle.wire_runs.proofs.Brought.{Bringer, bringer, delivered_from, complete_more, brings_more, differs, nth_arrival, complete_if_arrived, stored_same}
+use Rattle.wire_runs.proofs.Late.{no_late}
+
+-- what has come to the node
+data Came (plan : Plan) (s : State) (t key node u : ℕ) : Type 0 where
+  by_fence : Bringer plan s.done t node key (event_count plan t) u → admits (scope_of plan t u) false ≡ true → Came plan s t key node u
+
+for_others_from : (plan : Plan) (t : ℕ) (o : Option ℕ) (u : ℕ) → for_others plan t o ≡ Some u → (o ≡ Some u) × (admits (scope_of plan t u) false ≡ true)
+for_others_from plan t None u = λ h. cc
+for_others_from plan t (Some v) u =
+    cond_both (admits (scope_of plan t v) false) (Some v) None (λ o. o ≡ Some u → (Some v ≡ Some u) × (admits (scope_of plan t u) false ≡ true))
+    (λ a h. (h, subst (λ i. admits (scope_of plan t i) false ≡ true) (same_Some _ _ h) a))
+    (λ f h. cc)
+
+fence_came : (plan : Plan) (s : State) (t key node u : ℕ) → for_others plan t (delivered plan s.done t node key (event_count plan t)) ≡ Some u → Came plan s t key node u
+fence_came plan s t key node u e = let f = for_others_from plan t (delivered plan s.done t node key (event_count plan t)) u e in by_fence (bringer plan s.done t node key (event_count plan t) u f.0) f.1
+
+came : (plan : Plan) (s : State) (t key node u : ℕ) → brought plan s t key node ≡ Some u → Came plan s t key node u
+came plan s t key node u h = fence_came plan s t key node u h
+
+fence_some : (plan : Plan) → IsSettled plan → (s : State) (t key node u : ℕ) → Bringer plan s.done t node key (event_count plan t) u → admits (scope_of plan t u) false ≡ true → is_some (for_others plan t (delivered plan s.done t node key (event_count plan t))) ≡ true
+fence_some plan settled s t key node u b a = ap is_some (ap (for_others plan t) (delivered_from plan settled s.done t node key (event_count plan t) u b) ∙ cond-true _ _ _ a)
+
+module _ (plan : Plan) (settled : IsSettled plan) (s : State) (t key node : ℕ) (away : node_of plan t ≡ node → ⊥) where
+  -- whatever came is what its owner stores in the end
+  came_value : (u : ℕ) → Came plan s t key node u → stored plan t key (event_count plan t) ≡ Some u
+  came_value u (by_fence b a) = stored_fixed plan settled t key b.at (event_count plan t) (let l = b.below in omega (arith, l)) (ap is_some b.stored_is) ∙ b.stored_is
+
+  came_some : (u : ℕ) → Came plan s t key node u → is_some (brought plan s t key node) ≡ true
+  came_some u (by_fence b a) = (fence_some plan settled s t key node u b a)
+
+  came_is : (u : ℕ) → Came plan s t key node u → brought plan s t key node ≡ Some u
+  came_is u c = go (brought plan s t key node) refl (came_some u c)
+    where
+      go : (o : Option ℕ) → brought plan s t key node ≡ o → is_some o ≡ true → o ≡ Some u
+      go None e h = absurd (true≢false (sym h))
+      go (Some v) e h = sym (came_value v (came plan s t key node v e)) ∙ came_value u c
+
+brings_parts : (plan : Plan) (cut : ℕ → ℕ) (t node : ℕ) (members : List ℕ) (j : ℕ) → brings plan cut t node members j ≡ true → (is_complete plan cut members j ≡ true) × (is_collecting plan members j ≡ true) × (is_member members t ≡ true) × (has_node plan members node ≡ true)
+brings_parts plan cut t node members j h =
+    let a = and_parts _ _ h in
+    let b = and_parts _ _ a.1 in
+    let c = and_parts _ _ b.1 in
+    (a.0, b.0, c.0, c.1)
+
+-- of a fence that is complete in the second of two cuts alone, an arrival that isn't done in the first
+late_arrival : (plan : Plan) (cut later_cut : ℕ → ℕ) (members : List ℕ) (j : ℕ) → 0 < j → is_complete plan cut members j ≡ false → is_complete plan later_cut members j ≡ true → (z : Place) × IsArrival plan members j z × (cut z.proc ≤ z.at)
+late_arrival plan cut later_cut members j positive incomplete complete =
+    let d = differs (λ m. nat_le j (arrivals plan m members (cut m))) (λ m. nat_le j (arrivals plan m members (later_cut m))) members incomplete complete in
+    let few = leb-false _ _ d.2 in
+    let z = nth_arrival plan d.0 members j (later_cut d.0) positive (leb-true _ _ d.3) d.1 in
+    let nth = z.1.nth in (
+      record { proc = d.0; at = z.0 },
+      z.1,
+      elim (cases_lt z.0 (cut d.0)) [
+        | inl lt ↦ absurd (let rise = arrivals_rise plan d.0 members (suc z.0) (cut d.0) lt in omega (arith, few, rise, nth))
+        | inr ge ↦ ge
+      ],
+    )
+
+module _ (plan : Plan) (settled : IsSettled plan) (s r : State) (y : Place) (up : (m : ℕ) → s.done m ≤ r.done m) (known : (z : Place) → Before plan z y → IsDone s z) (closed : ClosedCut plan r.done) (not_yet : r.done y.proc ≤ y.at) (live_y : Live plan y) (t key : ℕ) (is : event plan y ≡ Some (GetNow t key)) where
+  module _ (away : same_node plan t y.proc ≡ false) where
+    apart : node_of plan t ≡ node_of plan y.proc → ⊥
+    apart e = true≢false (sym (eq-eqb _ _ e) ∙ away)
+
+    stays : (u : ℕ) → Came plan s t key (node_of plan y.proc) u → Came plan r t key (node_of plan y.proc) u
+    stays u (by_fence b a) = by_fence (record { at = b.at; members = b.members; collect = b.collect; is = b.is; brings_it = brings_more plan s.done r.done t (node_of plan y.proc) b.members _ up b.brings_it; stored_is = b.stored_is; below = b.below }) a
+
+    -- where nothing has come in the first state
+    module _ (none : brought plan s t key (node_of plan y.proc) ≡ None) where
+      had : (u : ℕ) → Came plan s t key (node_of plan y.proc) u → ⊥
+      had u c = let d = came_is plan settled s t key (node_of plan y.proc) apart u c in cc
+
+      sure_came : (d : Delivery) → Delivers plan t key (node_of plan y.proc) d → ((z : Place) → IsOf plan d z → Before plan z y) → ⊥
+      sure_came (ByFence members j) delivers before =
+          let d = delivers.brings_it in
+          let complete_now = complete_if_arrived plan s.done members j d.full (λ z a. known z (before z a)) in
+          had d.put (by_fence (record {
+            at = d.at;
+            members = members;
+            collect = d.arrival.collect;
+            is = d.arrival.is;
+            brings_it = subst (λ i. brings plan s.done t (node_of plan y.proc) members i ≡ true) (sym d.arrival.nth) (and_from _ _ complete_now (and_from _ _ d.collecting (and_from _ _ d.member d.reaches)));
+            stored_is = d.committed;
+            below = event_within plan t d.at _ d.arrival.is;
+          }) d.admitted)
+
+      not_sure : ComesSurely plan t key (node_of plan y.proc) y → ⊥
+      not_sure sure = sure_came sure.delivery sure.delivers sure.all_before
+
+      came_late : (u : ℕ) → Came plan r t key (node_of plan y.proc) u → ⊥
+      came_late u (by_fence b a) =
+          let j = arrivals plan t b.members (suc b.at) in
+          let parts = brings_parts plan r.done t (node_of plan y.proc) b.members j b.brings_it in
+          let incomplete : is_complete plan s.done b.members j ≡ false = elim (cases_Bool (is_complete plan s.done b.members j)) [
+            | inl c ↦ absurd (had u (by_fence (record { at = b.at; members = b.members; collect = b.collect; is = b.is; brings_it = and_from _ _ c (and_parts _ _ b.brings_it).1; stored_is = b.stored_is; below = b.below }) a))
+            | inr f ↦ f
+          ] in
+          let z = late_arrival plan s.done r.done b.members j (let e = arrivals_step plan t b.members b.collect b.at b.is in omega (arith, e)) incomplete parts.0 in
+          no_late plan settled r.done y closed not_yet live_y t key is away (ap is_some (came_value plan settled r t key (node_of plan y.proc) apart u (by_fence b a))) not_sure (ByFence b.members j)
+          (record {
+            full = complete_more plan r.done (event_count plan) b.members j closed.within parts.0;
+            collecting = parts.1;
+            member = parts.2;
+            reaches = parts.3;
+            at = b.at;
+            put = u;
+            arrival = record { collect = b.collect; is = b.is; member = parts.2; nth = refl };
+            committed = b.stored_is;
+            admitted = a;
+          })
+          (λ v v_arrives. arrived plan r.done b.members j v parts.0 v_arrives)
+          z.0 z.1 (λ before. let d = known z.0 before in let l = z.2 in omega (arith, d, l))
+
+    brought_same : brought plan r t key (node_of plan y.proc) ≡ brought plan s t key (node_of plan y.proc)
+    brought_same = go (brought plan s t key (node_of plan y.proc)) (brought plan r t key (node_of plan y.proc)) refl refl
+      where
+        go : (o v : Option ℕ) → brought plan s t key (node_of plan y.proc) ≡ o → brought plan r t key (node_of plan y.proc) ≡ v → brought plan r t key (node_of plan y.proc) ≡ brought plan s t key (node_of plan y.proc)
+        go (Some u) v e f = came_is plan settled r t key (node_of plan y.proc) apart u (stays u (came plan s t key (node_of plan y.proc) u e)) ∙ sym e
+        go None None e f = f ∙ sym e
+        go None (Some u) e f = absurd (came_late e u (came plan r t key (node_of plan y.proc) u f))
+
+  -- a get-now sees the same in both states
+  pub now_same : get_now_sees plan r y.proc y.at t key ≡ get_now_sees plan s y.proc y.at t key
+  now_same = elim (cases_eq y.proc t) [
+    | inl e ↦ cond-true _ _ _ (eq-eqb y.proc t e) ∙ sym (cond-true _ _ _ (eq-eqb y.proc t e))
+    | inr other ↦ ap (cond (nat_eq y.proc t) (held (own plan t key y.at))) (elim (cases_Bool (same_node plan t y.proc)) [
+      | inl here ↦ cond-true _ _ _ here ∙ ap (served plan t true) (stored_same plan settled s.done r.done y up known closed not_yet live_y t key is other here) ∙ sym (cond-true _ _ _ here)
+      | inr away ↦ cond-false _ _ _ away ∙ ap held (brought_same away) ∙ sym (cond-false _ _ _ away)
+    ])
+  ]

@@ -1,0 +1,38 @@
+-- A plan that is settled: a put, a commit, and a get by the node's other process.
+use Rattle.std.proofs.Common.{◌≡◌, ℕ, zero, suc, [], ◌∷◌, true, Option, Some, None, refl, arith}
+use Rattle.wire_runs.specs.Plan.{Plan, CallPut, CallCommit, CallGet, Event, Put, Commit, Get, GetNow, events, event_at}
+use Rattle.wire_types.specs.declared.Scope.{Scope}
+use Rattle.wire_types.specs.declared.Scope.TheVariants.{Global}
+use Rattle.wire_runs.specs.Names.{writes_name}
+use Rattle.wire_runs.specs.Races.{IsSettled}
+
+pub row : Plan
+row = record { processes = record { node = 0; calls = CallPut 7 Global ∷ (CallCommit ∷ []) } ∷ (record { node = 0; calls = CallGet 0 7 ∷ [] } ∷ []) }
+
+-- the events of the plan, one by one: what holds of each of them and of nothing holds of all
+each_event : (P : Option Event → Type 0) → P None → P (Some (Put 7 Global)) → P (Some Commit) → P (Some (Get 0 7)) → (p i : ℕ) → P (event_at row p i)
+unfolding row events event_at
+each_event P n a b c zero zero = a
+each_event P n a b c zero (suc zero) = b
+each_event P n a b c zero (suc (suc i)) = n
+each_event P n a b c (suc zero) zero = c
+each_event P n a b c (suc zero) (suc i) = n
+each_event P n a b c (suc (suc p)) i = n
+
+-- a put stands at the number 0
+put_at_zero : (p i key : ℕ) (scope : Scope) → event_at row p i ≡ Some (Put key scope) → i ≡ 0
+unfolding row events event_at
+put_at_zero zero zero key scope e = refl
+put_at_zero zero (suc zero) key scope e = cc
+put_at_zero zero (suc (suc i)) key scope e = cc
+put_at_zero (suc zero) zero key scope e = cc
+put_at_zero (suc zero) (suc i) key scope e = cc
+put_at_zero (suc (suc p)) i key scope e = cc
+
+pub row_is_settled : IsSettled row
+row_is_settled = record {
+  no_rewrite = λ x y r. (let l = r.later in let z = put_at_zero y.proc y.at r.key r.later_scope r.later_is in omega (arith, l, z));
+  no_node_race = λ x y key r. each_event (λ o. (o ≡ Some (GetNow x.proc key)) → ⊥) (λ e. cc) (λ e. cc) (λ e. cc) (λ e. cc) y.proc y.at r.is;
+  no_delivery_race = λ x y owner key r. each_event (λ o. (o ≡ Some (GetNow owner key)) → ⊥) (λ e. cc) (λ e. cc) (λ e. cc) (λ e. cc) y.proc y.at r.is;
+  no_name_race = λ x y name r. each_event (λ o. (writes_name row name x o ≡ true) → ⊥) (λ e. cc) (λ e. cc) (λ e. cc) (λ e. cc) x.proc x.at r.x_writes;
+}

@@ -1,0 +1,49 @@
+-- The list of what the checker finds.
+use Rattle.std.specs.Prelude.{◌≡◌, ℕ, List, [], ◌∷◌, Bool, true, ◌⊎◌, ◌↔◌}
+use Rattle.wire_runs.specs.Plan.{Plan}
+use Rattle.wire_runs.specs.Plan.{Place}
+use Rattle.wire_runs.specs.EventLists.{IsLower}
+use Rattle.wire_runs.specs.Races.{IsRewrite, IsNodeRace, IsDeliveryRace, IsNameRace}
+
+-- the lower place stands first
+pub data Finding : Type 0 where
+  Rewrite : (first later : Place) → Finding
+  KeyRace : (lower higher : Place) → (owner key : ℕ) → Finding
+  NameRace : (lower higher : Place) → (name : ℕ) → Finding
+
+-- a race on a key, told by either of its places first
+abbrev pub IsKeyRace : Plan → Place → Place → ℕ → ℕ → Type 0
+IsKeyRace plan x y owner key = ((x.proc ≡ owner) × IsNodeRace plan x y key) ⊎ IsDeliveryRace plan x y owner key
+
+abbrev pub IsFound : Plan → Finding → Type 0
+IsFound plan (Rewrite x y) = IsRewrite plan x y
+IsFound plan (KeyRace x y owner key) = IsLower x y × (IsKeyRace plan x y owner key ⊎ IsKeyRace plan y x owner key)
+IsFound plan (NameRace x y name) = IsLower x y × (IsNameRace plan x y name ⊎ IsNameRace plan y x name)
+
+-- by the lower place, then by the higher
+abbrev pub IsPairBefore : Place → Place → Place → Place → Type 0
+IsPairBefore x y v w = IsLower x v ⊎ ((x ≡ v) × IsLower y w)
+
+-- the order of the findings: rewrites by the later put, then races by their places, those of one pair by their names in the order that is given
+abbrev pub IsSooner : (ℕ → ℕ → Bool) → Finding → Finding → Type 0
+IsSooner lower_name (Rewrite x y) (Rewrite v w) = IsLower y w
+IsSooner lower_name (Rewrite x y) _ = Unit {0}
+IsSooner lower_name _ (Rewrite v w) = ⊥
+IsSooner lower_name (KeyRace x y p key) (KeyRace v w q other) = IsPairBefore x y v w
+IsSooner lower_name (KeyRace x y p key) (NameRace v w name) = IsPairBefore x y v w
+IsSooner lower_name (NameRace x y name) (KeyRace v w q other) = IsPairBefore x y v w
+IsSooner lower_name (NameRace x y name) (NameRace v w other) = IsPairBefore x y v w ⊎ ((x ≡ v) × (y ≡ w) × (lower_name name other ≡ true))
+
+abbrev pub Has : List Finding → Finding → Type 0
+Has [] f = ⊥
+Has (g ∷ found) f = (f ≡ g) ⊎ Has found f
+
+-- each stands before all behind it
+abbrev pub IsSorted : (ℕ → ℕ → Bool) → List Finding → Type 0
+IsSorted lower_name [] = Unit {0}
+IsSorted lower_name (g ∷ found) = ((f : Finding) → Has found f → IsSooner lower_name g f) × IsSorted lower_name found
+
+-- a finding stands in the list exactly where its race, or rewrite, is there
+pub record IsFindings (plan : Plan) (lower_name : ℕ → ℕ → Bool) (found : List Finding) : Type 0 where
+  pub those : (f : Finding) → Has found f ↔ IsFound plan f
+  pub sorted : IsSorted lower_name found

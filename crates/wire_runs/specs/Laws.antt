@@ -1,0 +1,83 @@
+-- The laws of runs.
+use Rattle.std.specs.Prelude.{slice_get, ◌↔◌, Some, ◌≡◌, ◌≢◌, ℕ, ◌≤◌, List, [], Bool, true, length, sum_by}
+use Rattle.wire_runs.specs.Plan.{Plan, events_of}
+use Rattle.wire_runs.specs.Plan.{Place}
+use Rattle.wire_runs.specs.State.{Answer, State, start, next_place, IsDone}
+use Rattle.wire_runs.specs.Step.{is_enabled, step, IsInterleaving, run, IsEnd, IsReachable}
+use Rattle.wire_runs.specs.Fate.{Fate, Waits, Says, HasFate, IsSoundCut}
+use Rattle.wire_runs.specs.Order.{Edge, Live, Before}
+use Rattle.wire_runs.specs.Races.{IsSettled}
+use Rattle.wire_runs.specs.Findings.{Finding, IsFindings}
+
+abbrev pub event_total : Plan → ℕ
+event_total plan = sum_by (λ process. length (events_of process.calls)) plan.processes
+
+-- no run is longer than the number of events
+abbrev pub RunsEnd : Type 0
+RunsEnd = (plan : Plan) (w : List ℕ) → IsInterleaving plan start w → length w ≤ event_total plan
+
+-- where a process may go on, its next event is live and all its sources are done
+pub record IsDue (plan : Plan) (s : State) (y : Place) : Type 0 where
+  pub is_live : Live plan y
+  pub sources_done : (x : Place) → Edge plan x y → IsDone s x
+  pub earlier_done : (x : Place) → Before plan x y → IsDone s x
+
+abbrev pub EnabledIsDue : Type 0
+EnabledIsDue = (plan : Plan) (s : State) (p : ℕ) → IsReachable plan s → is_enabled plan s p ≡ true → IsDue plan s (next_place s p)
+
+-- two processes that may both go on don't disturb each other
+pub record Commute (plan : Plan) (s : State) (p q : ℕ) : Type 0 where
+  pub first_stays : is_enabled plan (step plan s q) p ≡ true
+  pub second_stays : is_enabled plan (step plan s p) q ≡ true
+  pub same_end : step plan (step plan s p) q ≡ step plan (step plan s q) p
+
+-- in a settled plan, whatever state a run has come to
+abbrev pub EnabledCommute : Type 0
+EnabledCommute = (plan : Plan) (s : State) (p q : ℕ) → IsSettled plan → IsReachable plan s → p ≢ q → is_enabled plan s p ≡ true → is_enabled plan s q ≡ true → Commute plan s p q
+
+-- every two runs of a settled plan that can't go on end in the same state: names, replies and who waits
+abbrev pub OneEnd : Type 0
+OneEnd = (plan : Plan) (v w : List ℕ) → IsSettled plan → IsInterleaving plan start v → IsInterleaving plan start w → IsEnd plan (run plan v) → IsEnd plan (run plan w) → run plan v ≡ run plan w
+
+-- replies are fates, and who may go on is told by fates
+pub record FatesHold (plan : Plan) (s : State) : Type 0 where
+  pub answers : (z : Place) (a : Answer) (fate : Fate) → slice_get (s.replies z.proc) z.at ≡ Some a → HasFate plan z fate → fate ≡ Says a
+  pub enabled : (p : ℕ) (fate : Fate) → HasFate plan (next_place s p) fate → (is_enabled plan s p ≡ true) ↔ (((x : Place) → Edge plan x (next_place s p) → IsDone s x) × (fate ≢ Waits))
+
+abbrev pub FatesTell : Type 0
+FatesTell = (plan : Plan) (s : State) → IsSettled plan → IsReachable plan s → FatesHold plan s
+
+-- the fate of an event is one
+abbrev pub OneFate : Type 0
+OneFate = (plan : Plan) (y : Place) (a b : Fate) → IsSettled plan → HasFate plan y a → HasFate plan y b → a ≡ b
+
+-- what a run of a settled plan has come to is a sound cut
+abbrev pub RunsAreSound : Type 0
+RunsAreSound = (plan : Plan) (s : State) → IsSettled plan → IsReachable plan s → IsSoundCut plan s.done
+
+-- the list of findings is empty exactly where the plan is settled
+abbrev pub NoFindings : Type 0
+NoFindings = (plan : Plan) (lower_name : ℕ → ℕ → Bool) → IsFindings plan lower_name [] ↔ IsSettled plan
+
+-- no two names stand before each other
+abbrev pub IsOneWay : (ℕ → ℕ → Bool) → Type 0
+IsOneWay lower_name = (a b : ℕ) → lower_name a b ≡ true → lower_name b a ≡ true → ⊥
+
+-- for each order of the names the list of findings is one
+abbrev pub OneList : Type 0
+OneList = (plan : Plan) (lower_name : ℕ → ℕ → Bool) (xs ys : List Finding) → IsOneWay lower_name → IsFindings plan lower_name xs → IsFindings plan lower_name ys → xs ≡ ys
+
+-- marks that tell which events are live, and which are before which
+pub record Marks (plan : Plan) : Type 0 where
+  pub alive : Place → Bool
+  pub before : Place → Place → Bool
+  pub tells_live : (y : Place) → (alive y ≡ true) ↔ Live plan y
+  pub tells_before : (x y : Place) → (before x y ≡ true) ↔ Before plan x y
+
+-- each event of a settled plan has a fate
+abbrev pub HaveFates : Type 0
+HaveFates = (plan : Plan) → IsSettled plan → Marks plan → (y : Place) → (fate : Fate) × HasFate plan y fate
+
+-- a sound cut of a settled plan is what some run has come to
+abbrev pub SoundIsReached : Type 0
+SoundIsReached = (plan : Plan) (cut : ℕ → ℕ) → IsSettled plan → Marks plan → IsSoundCut plan cut → (s : State) × IsReachable plan s × ((p : ℕ) → s.done p ≡ cut p)

@@ -1,0 +1,15 @@
+pub mod Plan
+pub mod Puts
+pub mod Fences
+pub mod EventLists
+pub mod State
+pub mod Sight
+pub mod Names
+pub mod Step
+pub mod PlainRun
+pub mod Ends
+pub mod Order
+pub mod Races
+pub mod Findings
+pub mod Fate
+pub mod Laws

@@ -1,0 +1,63 @@
+-- What a get sees.
+use Rattle.std.specs.Prelude.{ℕ, zero, suc, List, Bool, true, false, ◌&&◌, Option, Some, None, ◌==◌, if◌then◌else◌}
+use Rattle.wire_runs.specs.Plan.{Plan, Event, Arrive, event_at, event_count, node_of, same_node, admits}
+use Rattle.wire_runs.specs.State.{State}
+use Rattle.wire_runs.specs.Puts.{own, stored, scope_of}
+use Rattle.wire_runs.specs.Fences.{arrivals, is_member, is_complete, is_collecting, has_node}
+
+-- nothing, something that isn't for the reader's node, or the value of the owner's put of this number
+pub data Sight : Type 0 where
+  Nothing : Sight
+  Outside : Sight
+  Shown : (put : ℕ) → Sight
+
+-- a put that is shown whatever its scope: one's own, or one that was brought
+abbrev pub held : Option ℕ → Sight
+held None = Nothing
+held (Some put) = Shown put
+
+-- what the owner's server shows
+abbrev pub served : Plan → ℕ → Bool → Option ℕ → Sight
+served plan p same None = Nothing
+served plan p same (Some put) = if admits (scope_of plan p put) same then Shown put else Outside
+
+-- a put that is for other nodes
+abbrev pub for_others : Plan → ℕ → Option ℕ → Option ℕ
+for_others plan p None = None
+for_others plan p (Some put) = if admits (scope_of plan p put) false then Some put else None
+
+-- whether in this cut the j-th fence over these members has brought p's data to the node
+abbrev pub brings : Plan → (ℕ → ℕ) → ℕ → ℕ → List ℕ → ℕ → Bool
+brings plan cut p node members j =
+    is_complete plan cut members j && (is_collecting plan members j && (is_member members p && has_node plan members node))
+
+abbrev pub stored_at_with : Bool → Option ℕ → Option ℕ → Option ℕ
+stored_at_with true here before = here
+stored_at_with false here before = before
+
+abbrev pub delivered_with : Plan → (ℕ → ℕ) → ℕ → ℕ → ℕ → ℕ → Option ℕ → Option Event → Option ℕ
+delivered_with plan cut p node key n before (Some (Arrive members collect)) =
+    stored_at_with (brings plan cut p node members (arrivals plan p members (suc n))) (stored plan p key n) before
+delivered_with plan cut p node key n before _ = before
+
+-- what p had stored under the key at its last arrival, among its first n events, at a fence that has brought p's data to the node
+abbrev pub delivered : Plan → (ℕ → ℕ) → ℕ → ℕ → ℕ → ℕ → Option ℕ
+delivered plan cut p node key zero = None
+delivered plan cut p node key (suc n) =
+    delivered_with plan cut p node key n (delivered plan cut p node key n) (event_at plan p n)
+
+-- what a get by q, its event number i, sees of p's key
+abbrev pub get_sees : Plan → (ℕ → ℕ) → ℕ → ℕ → ℕ → ℕ → Sight
+get_sees plan cut q i p key =
+    if q == p then held (own plan p key i) else served plan p (same_node plan p q) (stored plan p key (cut p))
+
+-- what p had stored under the key at its last arrival that brought its data to the node, where that put is for other nodes
+abbrev pub brought : Plan → State → ℕ → ℕ → ℕ → Option ℕ
+brought plan s p key node = for_others plan p (delivered plan s.done p node key (event_count plan p))
+
+-- what a get-now sees
+abbrev pub get_now_sees : Plan → State → ℕ → ℕ → ℕ → ℕ → Sight
+get_now_sees plan s q i p key =
+    if q == p then held (own plan p key i)
+    else if same_node plan p q then served plan p true (stored plan p key (s.done p))
+    else held (brought plan s p key (node_of plan q))

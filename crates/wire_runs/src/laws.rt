@@ -1,0 +1,73 @@
+//! The laws of runs of a plan. Each is the contract of a function that does nothing.
+
+ghost use Rattle.wire_runs.specs.Plan.{Plan};
+ghost use Rattle.wire_runs.specs.PlainRun.{PlainRuns};
+ghost use Rattle.wire_runs.specs.Laws.{RunsEnd, EnabledIsDue, EnabledCommute, OneEnd, FatesTell, OneFate, RunsAreSound, NoFindings, OneList, HaveFates, SoundIsReached};
+
+/// No run is longer than the number of events.
+pub fn runs_end()
+    ensures { RunsEnd }
+{}
+
+/// In a state that a run has come to: where a process may go on, its next event is live, and all that
+/// comes before it has happened.
+pub fn enabled_is_due()
+    ensures { EnabledIsDue }
+{}
+
+/// In a settled plan, in a state that a run has come to, two processes that may both go on don't disturb
+/// each other.
+pub fn enabled_commute()
+    ensures { EnabledCommute }
+{}
+
+/// Every two runs of a settled plan that can't go on end in the same state.
+#[tactic(auto, using(crate::proofs::OneEnd::settled_one_end))]
+pub fn one_end()
+    ensures { OneEnd }
+{}
+
+/// In a settled plan, in a state that a run has come to, replies are fates, and a process may go on
+/// exactly where its sources are done and its fate isn't to wait.
+#[tactic(auto, using(crate::proofs::Fates::fates_tell))]
+pub fn fates_tell()
+    ensures { FatesTell }
+{}
+
+/// The plain run is a run that can't go on, and where the plan is settled every such run ends as it does.
+pub fn plain_runs()
+    ensures { (plan : Plan) → PlainRuns plan }
+{}
+
+/// In a settled plan an event has one fate.
+#[tactic(auto, using(crate::proofs::Fates::one_fate))]
+pub fn one_fate()
+    ensures { OneFate }
+{}
+
+/// What a run of a settled plan has come to is a sound cut.
+#[tactic(auto, using(crate::proofs::Fates::runs_are_sound))]
+pub fn runs_are_sound()
+    ensures { RunsAreSound }
+{}
+
+/// The list of findings is empty exactly where the plan is settled.
+pub fn no_findings()
+    ensures { NoFindings }
+{}
+
+/// For each order of the names there is at most one list of findings.
+pub fn one_list()
+    ensures { OneList }
+{}
+
+/// Each event of a settled plan has a fate, given marks that tell which events are live, and which are
+/// before which.
+pub fn have_fates()
+    ensures { HaveFates }
+{}
+
+/// A sound cut of a settled plan is what some run has come to, given such marks.
+pub fn sound_is_reached()
+    ensures { SoundIsReached }
+{}
