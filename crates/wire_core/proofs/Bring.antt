@@ -1,19 +1,19 @@
 -- What fences have brought of a process's data to a node.
 use Rattle.std.proofs.Common.{◌≡◌, ◌∙◌, ap, sym, refl, ℕ, zero, suc, ◌≤◌, List, Bool, true, false, cond, ◌&&◌, Option, Some, inl, inr, arith}
 use Rattle.std.proofs.lemmas.Bool.{false_from_ne_true, cases_lt, leb-true, and_parts}
-use Rattle.wire_runs.specs.Plan.{Plan, Event, Arrive, event_at}
+use Rattle.wire_runs.specs.Plan.{Plan, Kind, Arrive, kind_at}
 use Rattle.wire_runs.specs.Puts.{stored}
 use Rattle.wire_runs.specs.Fences.{arrivals, is_complete, is_collecting, has_node}
 use Rattle.wire_rehearsal.specs.Scripts.{Scripts, set_at}
 use Rattle.wire_rehearsal.specs.Planned.{plan_of}
 use Rattle.wire_fence.specs.Fences.{FenceTable, AreFencesOf, fence_at, collects_in, reaches_in}
-use Rattle.wire_runs.specs.Sight.{brings, delivered, delivered_with, stored_at_with}
+use Rattle.wire_runs.specs.Sight.{has_brought, delivered, delivered_with, stored_at_with}
 use Rattle.wire_runs.proofs.Basics.{arrivals_step, arrivals_rise, list_all_at_member}
-use Rattle.wire_plan.specs.Meetings.{members_of, IsMet}
+use Rattle.wire_plan.specs.Meetings.{fence_members, IsMet}
 use Rattle.wire_core.specs.Met.{brings_with, brings_at}
 
 -- the three looks at a fence tell whether it has brought its members' data
-pub brings_told : (s : Scripts) (table : FenceTable) (cut : ℕ → ℕ) (p at number node : ℕ) (members : List ℕ) (collect : Bool) → AreFencesOf s table → event_at (plan_of s) p at ≡ Some (Arrive members collect) → (m : IsMet s table (record { proc = p; at = at }) number) → (complete collects reaches : Bool) → complete ≡ is_complete (plan_of s) cut m.fence.members m.fence.nth → collects ≡ collects_in (fence_at table number) → reaches ≡ reaches_in table node (fence_at table number) → (complete && (collects && reaches)) ≡ brings_at (plan_of s) cut p node at
+pub brings_told : (s : Scripts) (table : FenceTable) (cut : ℕ → ℕ) (p at number node : ℕ) (members : List ℕ) (collect : Bool) → AreFencesOf s table → kind_at (plan_of s) p at ≡ Some (Arrive members collect) → (m : IsMet s table (record { proc = p; at = at }) number) → (complete collects reaches : Bool) → complete ≡ is_complete (plan_of s) cut m.fence.members m.fence.nth → collects ≡ collects_in (fence_at table number) → reaches ≡ reaches_in table node (fence_at table number) → (complete && (collects && reaches)) ≡ brings_at (plan_of s) cut p node at
 brings_told s table cut p at number node members collect fences is m complete collects reaches complete_is collects_is reaches_is =
     let plan = plan_of s in
     let fence = m.fence in
@@ -23,29 +23,29 @@ brings_told s table cut p at number node members collect fences is m complete co
     collects_is ∙ ap collects_in m.there ∙ ap (λ f. f.collects) over ∙ ap (λ ms. is_collecting plan ms fence.nth) (sym its_members) in
     let reaching : reaches ≡ has_node plan fence.members node =
     reaches_is ∙ ap (reaches_in table node) m.there ∙ fences.nodes fence.set node ∙ ap (λ ms. has_node plan ms node) (sym its_members) in
-    let same : fence.members ≡ members = m.members ∙ ap members_of is in
+    let same : fence.members ≡ members = m.members ∙ ap fence_members is in
     (λ i. complete_is i && (collecting i && (sym m.member i && reaching i)))
-    ∙ ap (λ j. brings plan cut p node fence.members j) (sym m.nth)
-    ∙ ap (λ ms. brings plan cut p node ms (arrivals plan p ms (suc at))) same
+    ∙ ap (λ j. has_brought plan cut p node fence.members j) (sym m.nth)
+    ∙ ap (λ ms. has_brought plan cut p node ms (arrivals plan p ms (suc at))) same
     ∙ ap (brings_with plan cut p node at) (sym is)
 
 -- what an event adds to what was delivered
 pub delivered_more : (plan : Plan) (cut : ℕ → ℕ) (p node key n : ℕ) → delivered plan cut p node key (suc n) ≡ cond (brings_at plan cut p node n) (stored plan p key n) (delivered plan cut p node key n)
-delivered_more plan cut p node key n = go (event_at plan p n)
+delivered_more plan cut p node key n = go (kind_at plan p n)
   where
     either : (b : Bool) (here before : Option ℕ) → stored_at_with b here before ≡ cond b here before
     either true here before = refl
     either false here before = refl
 
-    go : (o : Option Event) → delivered_with plan cut p node key n (delivered plan cut p node key n) o ≡ cond (brings_with plan cut p node n o) (stored plan p key n) (delivered plan cut p node key n)
-    go (Some (Arrive members collect)) = either (brings plan cut p node members (arrivals plan p members (suc n))) (stored plan p key n) (delivered plan cut p node key n)
+    go : (o : Option Kind) → delivered_with plan cut p node key n (delivered plan cut p node key n) o ≡ cond (brings_with plan cut p node n o) (stored plan p key n) (delivered plan cut p node key n)
+    go (Some (Arrive members collect)) = either (has_brought plan cut p node members (arrivals plan p members (suc n))) (stored plan p key n) (delivered plan cut p node key n)
     go _ = refl
 
 -- an arrival that isn't done has brought nothing
 pub later_brings_nothing : (plan : Plan) (cut : ℕ → ℕ) (p node n : ℕ) → cut p ≤ n → brings_at plan cut p node n ≡ false
-later_brings_nothing plan cut p node n late = go (event_at plan p n) refl
+later_brings_nothing plan cut p node n late = go (kind_at plan p n) refl
   where
-    go : (o : Option Event) → event_at plan p n ≡ o → brings_with plan cut p node n o ≡ false
+    go : (o : Option Kind) → kind_at plan p n ≡ o → brings_with plan cut p node n o ≡ false
     go (Some (Arrive members collect)) is = false_from_ne_true _ (λ h.
         let parts = and_parts _ _ h in
         let more = and_parts _ _ (and_parts _ _ parts.1).1 in

@@ -3,7 +3,7 @@ use Rattle.std.proofs.Common.{◌≡◌, ◌∙◌, ap, sym, refl, ℕ, ◌≤�
 use Rattle.std.specs.Prelude.{option_map, slice_get, is_some, not, IsTrue, ◌↔◌, ◌==◌}
 use Rattle.std.proofs.lemmas.Bool.{true≢false, false_from_ne_true}
 use Rattle.std.proofs.lemmas.Option.{slice_get_past}
-use Rattle.wire_runs.specs.Plan.{Plan, admits, events, process_events, event_count, process_count, event_at, node_of, same_node}
+use Rattle.wire_runs.specs.Plan.{Plan, admits, kinds, process_kinds, event_count, process_count, kind_at, node_of, same_node}
 use Rattle.wire_runs.specs.Puts.{own, stored, scope_of}
 use Rattle.wire_types.specs.declared.CallAt.{CallAt}
 use Rattle.wire_store.specs.declared.Seen.{Seen}
@@ -25,21 +25,21 @@ use Rattle.wire_core.specs.declared.rank.Rank.{Rank}
 
 -- who isn't of the plan has done nothing
 pub done_past : (plan : Plan) (w : List ℕ) (p : ℕ) → IsInterleaving plan start w → process_count plan ≤ p → (run plan w).done p ≡ 0
-unfolding event_count events
+unfolding event_count kinds
 done_past plan w p legal past =
     let within = (reachable_sound plan (run plan w) (w, legal, refl)).within p in
-    let none : length (process_events (slice_get plan.processes p)) ≡ 0 = ap (λ o. length (process_events o)) (slice_get_past plan.processes p past) in
+    let none : length (process_kinds (slice_get plan.processes p)) ≡ 0 = ap (λ o. length (process_kinds o)) (slice_get_past plan.processes p past) in
     omega (arith, within, none)
 
 -- and shows nothing
 pub now_past : (plan : Plan) (w : List ℕ) (q i p key : ℕ) → IsInterleaving plan start w → process_count plan ≤ p → (q == p) ≡ false → seen.Nothing ≡ seen_as plan p (get_now_sees plan (run plan w) q i p key)
-unfolding event_count events
+unfolding event_count kinds
 now_past plan w q i p key legal past other =
     go (same_node plan p q)
     ∙ ap (λ b. seen_as plan p (cond b (held (own plan p key i)) (cond (same_node plan p q) (served plan p true (stored plan p key ((run plan w).done p))) (held (brought plan (run plan w) p key (node_of plan q)))))) (sym other)
   where
-    none : length (process_events (slice_get plan.processes p)) ≡ 0
-    none = ap (λ o. length (process_events o)) (slice_get_past plan.processes p past)
+    none : length (process_kinds (slice_get plan.processes p)) ≡ 0
+    none = ap (λ o. length (process_kinds o)) (slice_get_past plan.processes p past)
 
     go : (b : Bool) → seen.Nothing ≡ seen_as plan p (cond b (served plan p true (stored plan p key ((run plan w).done p))) (held (brought plan (run plan w) p key (node_of plan q))))
     go true = ap (λ n. seen_as plan p (served plan p true (stored plan p key n))) (sym (done_past plan w p legal past))
@@ -57,9 +57,9 @@ held_shown plan p (Some put) = refl
 pub own_shown : (plan : Plan) (s : State) (p key : ℕ) (rank : Rank) → IsRankOf plan s p rank → own_found (option_map (λ put. put.call) (last_put key rank.store.puts)) ≡ seen_as plan p (held (own plan p key (s.done p)))
 own_shown plan s p key rank told =
     rw told.puts
-    (ap own_found (store_tells (event_at plan p) (calls_at plan p) key (s.done p)).own ∙ held_shown plan p (own plan p key (s.done p)))
+    (ap own_found (store_tells (kind_at plan p) (calls_at plan p) key (s.done p)).own ∙ held_shown plan p (own plan p key (s.done p)))
 
-served_shown : (plan : Plan) (p : ℕ) (same : Bool) (o : Option ℕ) → seen_put (event_at plan p) (calls_at plan p) same o ≡ seen_as plan p (served plan p same o)
+served_shown : (plan : Plan) (p : ℕ) (same : Bool) (o : Option ℕ) → seen_put (kind_at plan p) (calls_at plan p) same o ≡ seen_as plan p (served plan p same o)
 served_shown plan p same None = refl
 served_shown plan p same (Some put) = go (admits (scope_of plan p put) same)
   where
@@ -70,26 +70,26 @@ served_shown plan p same (Some put) = go (admits (scope_of plan p put) same)
 pub stored_shown : (plan : Plan) (s : State) (p key : ℕ) (same : Bool) (rank : Rank) → IsRankOf plan s p rank → store_shows same (last_stored key rank.store.puts) ≡ seen_as plan p (served plan p same (stored plan p key (s.done p)))
 stored_shown plan s p key same rank told =
     rw told.puts
-    ((store_tells (event_at plan p) (calls_at plan p) key (s.done p)).others same ∙ served_shown plan p same (stored plan p key (s.done p)))
+    ((store_tells (kind_at plan p) (calls_at plan p) key (s.done p)).others same ∙ served_shown plan p same (stored plan p key (s.done p)))
 
 -- what another node is shown of what was so before an event
 pub before_shown : (plan : Plan) (s : State) (p key at : ℕ) (rank : Rank) → IsRankOf plan s p rank → at ≤ s.done p → brought_of (store_shows false (last_stored_before key at rank.store.puts)) ≡ seen_as plan p (held (for_others plan p (stored plan p key at)))
 before_shown plan s p key at rank told le =
     rw told.puts
-    (ap brought_of ((store_tells (event_at plan p) (calls_at plan p) key (s.done p)).before at le) ∙ go (stored plan p key at))
+    (ap brought_of ((store_tells (kind_at plan p) (calls_at plan p) key (s.done p)).before at le) ∙ go (stored plan p key at))
   where
     either : (b : Bool) (put : ℕ) → brought_of (cond b (seen.Value (calls_at plan p put)) seen.Outside) ≡ seen_as plan p (held (cond b (Some put) None))
     either true put = refl
     either false put = refl
 
-    go : (o : Option ℕ) → brought_of (seen_put (event_at plan p) (calls_at plan p) false o) ≡ seen_as plan p (held (for_others plan p o))
+    go : (o : Option ℕ) → brought_of (seen_put (kind_at plan p) (calls_at plan p) false o) ≡ seen_as plan p (held (for_others plan p o))
     go None = refl
     go (Some put) = either (admits (scope_of plan p put) false) put
 
 -- past its last event a process has none
-pub event_past : (plan : Plan) (p n : ℕ) → event_count plan p ≤ n → event_at plan p n ≡ None
-unfolding event_at event_count
-event_past plan p n past = slice_get_past (events plan p) n past
+pub event_past : (plan : Plan) (p n : ℕ) → event_count plan p ≤ n → kind_at plan p n ≡ None
+unfolding kind_at event_count
+event_past plan p n past = slice_get_past (kinds plan p) n past
 
 -- where there is no lowest process that is enabled, nobody is
 pub nobody : (plan : Plan) (s : State) → lowest plan s (process_count plan) ≡ None → IsEnd plan s

@@ -6,20 +6,20 @@ use Rattle.std.proofs.lemmas.List.{length-map, length-set, length-append}
 use Rattle.std.proofs.lemmas.List.Sums.{sum_by-cons}
 use Rattle.std.proofs.lemmas.List.Concat.{flat_map-append}
 use Rattle.std.proofs.Math.Seq.{drop-cons}
-use Rattle.wire_runs.specs.Plan.{Plan, process_count, Event, events, event_at, event_count}
+use Rattle.wire_runs.specs.Plan.{Plan, process_count, Kind, kinds, kind_at, event_count}
 use Rattle.wire_types.specs.declared.CallAt.{CallAt}
 use Rattle.wire_types.specs.declared.Reply.{Reply}
 use Rattle.wire_rehearsal.specs.Scripts.{Scripts}
 use Rattle.wire_rehearsal.specs.Planned.{plan_of}
 use Rattle.wire_store.specs.Kept.{kept_with, kept_after}
-use Rattle.wire_plan.specs.declared.Kind.{Kind}
-use Rattle.wire_plan.specs.declared.Kind.TheVariants as kind
+use Rattle.wire_plan.specs.declared.Kind.{Kind as CodeKind}
+use Rattle.wire_plan.specs.declared.Kind.TheVariants as code
 use Rattle.wire_names.specs.Law.{HasName}
-use Rattle.wire_plan.specs.Kinds.{event_of}
-use Rattle.wire_runs.specs.State.{State, start, next_place}
+use Rattle.wire_plan.specs.Kinds.{kind_of}
+use Rattle.wire_runs.specs.State.{State, start, next_event}
 use Rattle.wire_runs.specs.Step.{is_enabled, step, reply, IsInterleaving, run, run_from}
 use Rattle.wire_runs.specs.Ends.{given, replies_of}
-use Rattle.wire_runs.specs.Laws.{event_total}
+use Rattle.wire_runs.specs.Plan.{event_total}
 use Rattle.wire_runs.specs.PlainRun.{lowest, go_on, plain_from}
 use Rattle.wire_runs.proofs.Basics.{event_within}
 use Rattle.wire_runs.proofs.Length.{runs_end}
@@ -56,14 +56,14 @@ count_map f g [] = refl
 count_map f g (x ∷ xs) = sum_by-cons (λ y. cond (f y) 1 0) (g x) (map g xs) ∙ ap (λ n. cond (f (g x)) 1 0 + n) (count_map f g xs) ∙ sym (sum_by-cons (λ y. cond (f (g y)) 1 0) x xs)
 
 -- a process that hasn't begun
-pub new_rank : (plan : Plan) (p : ℕ) (sets : List (List ℕ)) (kinds : List Kind) (rank : Rank) → map (event_of sets) kinds ≡ events plan p → rank.done ≡ 0 → rank.store.puts ≡ [] → rank.store.room ≡ count_by is_put (map (event_of sets) kinds) → rank.replies.items ≡ [] → vec_capacity rank.replies ≡ length kinds → IsRankOf plan start p rank
+pub new_rank : (plan : Plan) (p : ℕ) (sets : List (List ℕ)) (kinds : List CodeKind) (rank : Rank) → map (kind_of sets) kinds ≡ kinds plan p → rank.done ≡ 0 → rank.store.puts ≡ [] → rank.store.room ≡ count_by is_put (map (kind_of sets) kinds) → rank.replies.items ≡ [] → vec_capacity rank.replies ≡ length kinds → IsRankOf plan start p rank
 unfolding event_count
 new_rank plan p sets kinds rank shown done puts room replies space = record {
   done = done;
   puts = puts;
   room = room ∙ ap (count_by is_put) shown;
   replies = replies;
-  space = let same : length kinds ≡ length (events plan p) = sym (length-map kinds (event_of sets)) ∙ ap length shown in
+  space = let same : length kinds ≡ length (kinds plan p) = sym (length-map kinds (kind_of sets)) ∙ ap length shown in
       let none : length rank.replies.items ≡ 0 = ap length replies in
       omega (arith, same, none, space);
 }
@@ -74,21 +74,21 @@ rank_other plan s p q rank ne told =
     let same = done_other plan s p q ne in
     record {
       done = told.done ∙ sym same;
-      puts = told.puts ∙ ap (kept_after (event_at plan q) (calls_at plan q)) (sym same);
+      puts = told.puts ∙ ap (kept_after (kind_at plan q) (calls_at plan q)) (sym same);
       room = told.room ∙ ap (puts_left plan q) (sym same);
       replies = told.replies ∙ ap (replies_of plan) (sym (replies_other plan s p q ne));
       space = rw same told.space;
     }
 
 -- what a rank is after one event
-pub record IsAdvanced (old new : Rank) (call : CallAt) (e : Event) (r : Option Reply) : Type 0 where
+pub record IsAdvanced (old new : Rank) (call : CallAt) (e : Kind) (r : Option Reply) : Type 0 where
   pub done : new.done ≡ old.done + 1
   pub puts : new.store.puts ≡ kept_with old.done call old.store.puts (Some e)
   pub room : new.store.room + cond (is_put e) 1 0 ≡ old.store.room
   pub replies : new.replies.items ≡ old.replies.items ++ replies_in r
   pub space : vec_capacity new.replies ≡ vec_capacity old.replies
 
-puts_first : (e : Event) (es : List Event) → count_by is_put (e ∷ es) ≡ count_by is_put es + cond (is_put e) 1 0
+puts_first : (e : Kind) (es : List Kind) → count_by is_put (e ∷ es) ≡ count_by is_put es + cond (is_put e) 1 0
 puts_first e es = let first = sum_by-cons (λ x. cond (is_put x) 1 0) e es in omega (arith, first)
 
 few : (r : Option Reply) (old : List Reply) → length (old ++ replies_in r) ≤ suc (length old)
@@ -98,16 +98,16 @@ few r old = let both = length-append old (replies_in r) in let one = go r in ome
     go None = omega arith
     go (Some reply) = omega arith
 
-pub left_first : (plan : Plan) (p n : ℕ) (e : Event) → event_at plan p n ≡ Some e → puts_left plan p n ≡ puts_left plan p (suc n) + cond (is_put e) 1 0
-unfolding event_at
+pub left_first : (plan : Plan) (p n : ℕ) (e : Kind) → kind_at plan p n ≡ Some e → puts_left plan p n ≡ puts_left plan p (suc n) + cond (is_put e) 1 0
+unfolding kind_at
 left_first plan p n e is =
-    let within = slice_get_within (events plan p) n e is in
-    let here = get_or_from_slice_get (events plan p) n e e is in
-    ap (count_by is_put) (drop-cons (events plan p) n e within ∙ ap (λ x. x ∷ drop (suc n) (events plan p)) here)
-    ∙ puts_first e (drop (suc n) (events plan p))
+    let within = slice_get_within (kinds plan p) n e is in
+    let here = get_or_from_slice_get (kinds plan p) n e e is in
+    ap (count_by is_put) (drop-cons (kinds plan p) n e within ∙ ap (λ x. x ∷ drop (suc n) (kinds plan p)) here)
+    ∙ puts_first e (drop (suc n) (kinds plan p))
 
 -- the process that steps
-pub rank_step : (plan : Plan) (s : State) (p : ℕ) (old new : Rank) (e : Event) (r : Option Reply) → IsRankOf plan s p old → event_at plan p (s.done p) ≡ Some e → given plan (reply plan s (next_place s p) (Some e)) ≡ replies_in r → IsAdvanced old new (calls_at plan p (s.done p)) e r → IsRankOf plan (step plan s p) p new
+pub rank_step : (plan : Plan) (s : State) (p : ℕ) (old new : Rank) (e : Kind) (r : Option Reply) → IsRankOf plan s p old → kind_at plan p (s.done p) ≡ Some e → given plan (reply plan s (next_event s p) (Some e)) ≡ replies_in r → IsAdvanced old new (calls_at plan p (s.done p)) e r → IsRankOf plan (step plan s p) p new
 rank_step plan s p old new e r told is answered after =
     let same = done_same plan s p in
     let was = told.done in
@@ -124,12 +124,12 @@ rank_step plan s p old new e r told is answered after =
     record {
       done = omega (arith, next, was, same);
       puts = after.puts ∙ ap (λ n. kept_with n (calls_at plan p (s.done p)) old.store.puts (Some e)) told.done ∙ ap (λ puts. kept_with (s.done p) (calls_at plan p (s.done p)) puts (Some e)) told.puts
-          ∙ ap (kept_with (s.done p) (calls_at plan p (s.done p)) (kept_after (event_at plan p) (calls_at plan p) (s.done p))) (sym is) ∙ ap (kept_after (event_at plan p) (calls_at plan p)) (sym same);
+          ∙ ap (kept_with (s.done p) (calls_at plan p (s.done p)) (kept_after (kind_at plan p) (calls_at plan p) (s.done p))) (sym is) ∙ ap (kept_after (kind_at plan p) (calls_at plan p)) (sym same);
       room = room ∙ ap (puts_left plan p) (sym same);
       replies = after.replies ∙ ap (λ rs. rs ++ replies_in r) told.replies ∙ ap (λ rs. replies_of plan (s.replies p) ++ rs) (sym answered)
-          ∙ ap (λ rs. replies_of plan (s.replies p) ++ rs) (no_more (given plan (reply plan s (next_place s p) (Some e))))
-          ∙ sym (flat_map-append (given plan) (s.replies p) (reply plan s (next_place s p) (Some e) ∷ []))
-          ∙ ap (λ o. replies_of plan (s.replies p ++ reply plan s (next_place s p) o ∷ [])) (sym is)
+          ∙ ap (λ rs. replies_of plan (s.replies p) ++ rs) (no_more (given plan (reply plan s (next_event s p) (Some e))))
+          ∙ sym (flat_map-append (given plan) (s.replies p) (reply plan s (next_event s p) (Some e) ∷ []))
+          ∙ ap (λ o. replies_of plan (s.replies p ++ reply plan s (next_event s p) o ∷ [])) (sym is)
           ∙ ap (replies_of plan) (sym (replies_same plan s p));
       space = subst (λ n. length new.replies.items + (event_count plan p - n) ≤ vec_capacity new.replies) (sym same) space;
     }
@@ -168,35 +168,35 @@ course_step scripts history ranks p new course on now = record {
 }
 
 -- whether a kind is a put isn't told by the sets
-pub put_anyway : (a b : List (List ℕ)) (kind : Kind) → is_put (event_of a kind) ≡ is_put (event_of b kind)
-put_anyway a b (kind.Put scope key) = refl
-put_anyway a b kind.Commit = refl
-put_anyway a b (kind.Arrive set collect) = refl
-put_anyway a b (kind.Leave set) = refl
-put_anyway a b (kind.Get owner key) = refl
-put_anyway a b (kind.GetNow owner key) = refl
-put_anyway a b (kind.Publish name) = refl
-put_anyway a b (kind.Lookup name) = refl
-put_anyway a b (kind.LookupWait name) = refl
-put_anyway a b (kind.Unpublish name) = refl
-put_anyway a b (kind.Fixed reply) = refl
+pub put_anyway : (a b : List (List ℕ)) (kind : CodeKind) → is_put (kind_of a kind) ≡ is_put (kind_of b kind)
+put_anyway a b (code.Put scope key) = refl
+put_anyway a b code.Commit = refl
+put_anyway a b (code.Arrive set collect) = refl
+put_anyway a b (code.Leave set) = refl
+put_anyway a b (code.Get owner key) = refl
+put_anyway a b (code.GetNow owner key) = refl
+put_anyway a b (code.Publish name) = refl
+put_anyway a b (code.Lookup name) = refl
+put_anyway a b (code.LookupWait name) = refl
+put_anyway a b (code.Unpublish name) = refl
+put_anyway a b (code.Fixed reply) = refl
 
 -- nor is the name that it changes
-pub name_anyway : (a b : List (List ℕ)) (kind : Kind) (names : List (Option CallAt)) → HasName (Some (event_of a kind)) names → HasName (Some (event_of b kind)) names
-name_anyway a b (kind.Put scope key) names h = tt
-name_anyway a b kind.Commit names h = tt
-name_anyway a b (kind.Arrive set collect) names h = tt
-name_anyway a b (kind.Leave set) names h = tt
-name_anyway a b (kind.Get owner key) names h = tt
-name_anyway a b (kind.GetNow owner key) names h = tt
-name_anyway a b (kind.Publish name) names h = h
-name_anyway a b (kind.Lookup name) names h = tt
-name_anyway a b (kind.LookupWait name) names h = tt
-name_anyway a b (kind.Unpublish name) names h = h
-name_anyway a b (kind.Fixed reply) names h = tt
+pub name_anyway : (a b : List (List ℕ)) (kind : CodeKind) (names : List (Option CallAt)) → HasName (Some (kind_of a kind)) names → HasName (Some (kind_of b kind)) names
+name_anyway a b (code.Put scope key) names h = tt
+name_anyway a b code.Commit names h = tt
+name_anyway a b (code.Arrive set collect) names h = tt
+name_anyway a b (code.Leave set) names h = tt
+name_anyway a b (code.Get owner key) names h = tt
+name_anyway a b (code.GetNow owner key) names h = tt
+name_anyway a b (code.Publish name) names h = h
+name_anyway a b (code.Lookup name) names h = tt
+name_anyway a b (code.LookupWait name) names h = tt
+name_anyway a b (code.Unpublish name) names h = h
+name_anyway a b (code.Fixed reply) names h = tt
 
 -- a put that comes has room in its store
-pub step_room : (plan : Plan) (s : State) (p : ℕ) (old : Rank) (e : Event) → IsRankOf plan s p old → event_at plan p (s.done p) ≡ Some e → is_put e ≡ true → 0 < old.store.room
+pub step_room : (plan : Plan) (s : State) (p : ℕ) (old : Rank) (e : Kind) → IsRankOf plan s p old → kind_at plan p (s.done p) ≡ Some e → is_put e ≡ true → 0 < old.store.room
 step_room plan s p old e told is put =
     let left = left_first plan p (s.done p) e is in
     let one : ◌≡◌ {A = ℕ} (cond (is_put e) 1 0) 1 = rw put refl in
@@ -204,7 +204,7 @@ step_room plan s p old e told is put =
     omega (arith, left, one, room)
 
 -- its reply has room too
-pub step_space : (plan : Plan) (s : State) (p : ℕ) (old : Rank) (e : Event) → IsRankOf plan s p old → event_at plan p (s.done p) ≡ Some e → length old.replies.items < vec_capacity old.replies
+pub step_space : (plan : Plan) (s : State) (p : ℕ) (old : Rank) (e : Kind) → IsRankOf plan s p old → kind_at plan p (s.done p) ≡ Some e → length old.replies.items < vec_capacity old.replies
 step_space plan s p old e told is =
     let within = event_within plan p (s.done p) e is in
     let space = told.space in

@@ -1,6 +1,6 @@
 -- What a core keeps, against the state that its history leads to.
 use Rattle.std.specs.Prelude.{◌≡◌, ℕ, ◌+◌, ◌-◌, ◌≤◌, List, Option, Some, count_by, length, drop, option_map, slice_get, vec_capacity}
-use Rattle.wire_runs.specs.Plan.{Plan, events, event_at, event_count, process_count}
+use Rattle.wire_runs.specs.Plan.{Plan, kinds, kind_at, event_count, process_count}
 use Rattle.wire_types.specs.declared.CallAt.{CallAt}
 use Rattle.wire_rehearsal.specs.Scripts.{Scripts, IsSound}
 use Rattle.wire_rehearsal.specs.Planned.{plan_of}
@@ -16,7 +16,7 @@ use Rattle.wire_core.specs.declared.rank.Rank.{Rank}
 
 -- how many puts p has from its event number n on
 abbrev pub puts_left : Plan → ℕ → ℕ → ℕ
-puts_left plan p n = count_by is_put (drop n (events plan p))
+puts_left plan p n = count_by is_put (drop n (kinds plan p))
 
 -- the call of each of p's events
 abbrev pub calls_at : Plan → ℕ → ℕ → CallAt
@@ -25,7 +25,7 @@ calls_at plan p n = call_of plan (record { proc = p; at = n })
 -- the rank tells what p has done in this state
 pub record IsRankOf (plan : Plan) (s : State) (p : ℕ) (rank : Rank) : Type 0 where
   pub done : rank.done ≡ s.done p
-  pub puts : rank.store.puts ≡ kept_after (event_at plan p) (calls_at plan p) (s.done p)
+  pub puts : rank.store.puts ≡ kept_after (kind_at plan p) (calls_at plan p) (s.done p)
   pub room : rank.store.room ≡ puts_left plan p (s.done p)
   pub replies : rank.replies.items ≡ replies_of plan (s.replies p)
   pub space : length rank.replies.items + (event_count plan p - s.done p) ≤ vec_capacity rank.replies
@@ -36,7 +36,7 @@ pub record AreRanksOf (plan : Plan) (s : State) (ranks : List Rank) : Type 0 whe
   pub each : (p : ℕ) (rank : Rank) → slice_get ranks p ≡ Some rank → IsRankOf plan s p rank
 
 -- the table has the calls of the publishes that stand under the names
-pub record AreNamesOf (scripts : Scripts) (s : State) (names : List (Option CallAt)) : Type 0 where
+pub record AreStateNames (scripts : Scripts) (s : State) (names : List (Option CallAt)) : Type 0 where
   pub count : length names ≡ length scripts.names
   pub each : (name : ℕ) → published names name ≡ option_map (call_of (plan_of scripts)) (s.names name)
 
@@ -45,7 +45,7 @@ pub record IsShared (scripts : Scripts) (s : State) (table : FenceTable) (missin
   pub sound : IsSound scripts
   pub fences : AreFencesOf scripts table
   pub arrived : TellsMissing scripts s.done table missing
-  pub named : AreNamesOf scripts s names
+  pub named : AreStateNames scripts s names
 
 -- the history is an interleaving, and the ranks are those of the state that it leads to
 pub record IsCourse (scripts : Scripts) (history : List ℕ) (ranks : List Rank) : Type 0 where

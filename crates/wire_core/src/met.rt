@@ -1,15 +1,15 @@
 //! The fences that events are part of.
 
 ghost use Rattle.std.specs.Prelude.{◌≡◌, ◌<◌, ◌≤◌, ℕ, suc, true, false, Some, length, option_map, IfSome, IfNone, OnSome};
-ghost use Rattle.wire_runs.specs.Plan.{Arrive, place_of, event_at, event_count, event as event_in};
+ghost use Rattle.wire_runs.specs.Plan.{Arrive, event_of, kind_at, event_count, kind as kind_in};
 ghost use Rattle.wire_runs.specs.Fences.{arrivals as arrivals_of, is_complete as all_arrived};
 ghost use Rattle.wire_rehearsal.specs.Planned.{plan_of};
 ghost use Rattle.wire_fence.specs.Fences.{AreFencesOf};
 ghost use Rattle.wire_fence.specs.Arrivals.{TellsMissing, missing_at};
-ghost use Rattle.wire_plan.specs.Kinds.{event_of};
+ghost use Rattle.wire_plan.specs.Kinds.{kind_of};
 ghost use Rattle.wire_runs.specs.Sight.{delivered};
-ghost use Rattle.wire_plan.specs.Meetings.{is_of_fence, members_of};
-ghost use Rattle.wire_core.specs.Met.{brings_at, stored_at, after_arrival, IsArrival};
+ghost use Rattle.wire_plan.specs.Meetings.{is_of_fence, fence_members};
+ghost use Rattle.wire_core.specs.Met.{brings_at, stored_at, after_arrival, ArrivesAt};
 
 use wire_fence::{Arrivals, FenceId, Fences};
 use wire_plan::{Kind, Plan, fence_of};
@@ -18,10 +18,10 @@ use wire_types::{Event, Proc};
 /// Whether all members have arrived at the fence that an event of the plan is part of.
 pub(crate) fn is_complete(plan: &Plan, fences: &Fences, arrivals: &Arrivals, event: Event) -> bool
     requires fences { AreFencesOf plan.now fences.now }
-    requires half { is_of_fence (event_in (plan_of plan.now) (place_of event)) ≡ true }
+    requires half { is_of_fence (kind_in (plan_of plan.now) (event_of event)) ≡ true }
     ensures { (cut : ℕ → ℕ) → TellsMissing plan.now cut fences.now arrivals.now
-        → result ≡ all_arrived (plan_of plan.now) cut (members_of (event_in (plan_of plan.now) (place_of event)))
-        (arrivals_of (plan_of plan.now) event.proc.number (members_of (event_in (plan_of plan.now) (place_of event))) (suc event.at)) }
+        → result ≡ all_arrived (plan_of plan.now) cut (fence_members (kind_in (plan_of plan.now) (event_of event)))
+        (arrivals_of (plan_of plan.now) event.proc.number (fence_members (kind_in (plan_of plan.now) (event_of event))) (suc event.at)) }
 {
     arrivals.complete(fence_of(plan, fences, event))
 }
@@ -29,8 +29,8 @@ pub(crate) fn is_complete(plan: &Plan, fences: &Fences, arrivals: &Arrivals, eve
 /// The fence at which an event of the plan, which is of this kind, arrives, where that is what it does.
 pub(crate) fn arrived_at(plan: &Plan, fences: &Fences, event: Event, kind: Kind) -> Option<FenceId>
     requires fences { AreFencesOf plan.now fences.now }
-    requires is { event_in (plan_of plan.now) (place_of event) ≡ Some (event_of plan.now.sets kind) }
-    ensures { IsArrival plan.now fences.now (place_of event) (option_map (λ f. f.number) result) }
+    requires is { kind_in (plan_of plan.now) (event_of event) ≡ Some (kind_of plan.now.sets kind) }
+    ensures { ArrivesAt plan.now fences.now (event_of event) (option_map (λ f. f.number) result) }
 {
     match kind {
         Kind::Arrive { .. } => Some(fence_of(plan, fences, event)),

@@ -2,7 +2,7 @@
 
 ghost use Rattle.std.specs.Prelude.{◌≡◌, ℕ, List, Some};
 ghost use Rattle.wire_names.specs.Law.{names_after, HasName};
-ghost use Rattle.wire_plan.specs.Kinds.{event_of};
+ghost use Rattle.wire_plan.specs.Kinds.{kind_of};
 
 use wire_names::Names;
 use wire_plan::Kind;
@@ -10,8 +10,8 @@ use wire_types::CallAt;
 
 /// Notes what an event of this kind, of this call, does to the names.
 pub(crate) fn note_name(names: &mut Names, kind: Kind, call: CallAt)
-    requires { (sets : List (List ℕ)) → HasName (Some (event_of sets kind)) names.old }
-    ensures { (sets : List (List ℕ)) → names.new ≡ names_after call (Some (event_of sets kind)) names.old }
+    requires { (sets : List (List ℕ)) → HasName (Some (kind_of sets kind)) names.old }
+    ensures { (sets : List (List ℕ)) → names.new ≡ names_after call (Some (kind_of sets kind)) names.old }
 {
     match kind {
         Kind::Publish { name } => {

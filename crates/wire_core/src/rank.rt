@@ -2,7 +2,7 @@
 
 ghost use Rattle.std.specs.Prelude.{◌≡◌, ◌+◌, ◌<◌, ◌^◌, ◌++◌, [], ℕ, List, Some, true, length, map, count_by, vec_len, vec_capacity, IfOk, IfErr, if◌then◌else◌};
 ghost use Rattle.wire_store.specs.Kept.{kept_with};
-ghost use Rattle.wire_plan.specs.Kinds.{event_of};
+ghost use Rattle.wire_plan.specs.Kinds.{kind_of};
 ghost use Rattle.wire_core.specs.Puts.{is_put as is_put_event};
 ghost use Rattle.wire_core.specs.Shown.{replies_in};
 
@@ -20,13 +20,13 @@ pub(crate) struct Rank {
 }
 
 fn is_put(kind: Kind) -> bool
-    ensures { (sets : List (List ℕ)) → result ≡ is_put_event (event_of sets kind) }
+    ensures { (sets : List (List ℕ)) → result ≡ is_put_event (kind_of sets kind) }
 {
     matches!(kind, Kind::Put { .. })
 }
 
 fn put_total(kinds: &[Kind]) -> usize
-    ensures { (sets : List (List ℕ)) → result ≡ count_by is_put_event (map (event_of sets) kinds.now) }
+    ensures { (sets : List (List ℕ)) → result ≡ count_by is_put_event (map (kind_of sets) kinds.now) }
 {
     kinds.iter().filter(|kind| is_put(**kind)).count()
 }
@@ -36,7 +36,7 @@ impl Rank {
     pub fn new(alloc: Global, kinds: &[Kind]) -> Result<Rank, Fault>
         ensures done { IfOk result (λ rank. rank.done ≡ 0) }
         ensures puts { IfOk result (λ rank. rank.store.puts ≡ []) }
-        ensures room { (sets : List (List ℕ)) → IfOk result (λ rank. rank.store.room ≡ count_by is_put_event (map (event_of sets) kinds.now)) }
+        ensures room { (sets : List (List ℕ)) → IfOk result (λ rank. rank.store.room ≡ count_by is_put_event (map (kind_of sets) kinds.now)) }
         ensures replies { IfOk result (λ rank. rank.replies.items ≡ []) }
         ensures space { IfOk result (λ rank. vec_capacity rank.replies ≡ length kinds.now) }
         ensures err { IfErr result (λ e. e ≡ Fault.Memory) }
@@ -51,11 +51,11 @@ impl Rank {
     /// Takes one event, of this call, with the reply to it, if it gives one.
     pub fn advance(&mut self, kind: Kind, call: CallAt, reply: Option<Reply>)
         requires number { self.old.done + 1 < 2 ^ 32 }
-        requires room { (sets : List (List ℕ)) → is_put_event (event_of sets kind) ≡ true → 0 < self.old.store.room }
+        requires room { (sets : List (List ℕ)) → is_put_event (kind_of sets kind) ≡ true → 0 < self.old.store.room }
         requires space { vec_len self.old.replies < vec_capacity self.old.replies }
         ensures done { self.new.done ≡ self.old.done + 1 }
-        ensures puts { (sets : List (List ℕ)) → self.new.store.puts ≡ kept_with self.old.done call self.old.store.puts (Some (event_of sets kind)) }
-        ensures room { (sets : List (List ℕ)) → self.new.store.room + (if is_put_event (event_of sets kind) then 1 else 0) ≡ self.old.store.room }
+        ensures puts { (sets : List (List ℕ)) → self.new.store.puts ≡ kept_with self.old.done call self.old.store.puts (Some (kind_of sets kind)) }
+        ensures room { (sets : List (List ℕ)) → self.new.store.room + (if is_put_event (kind_of sets kind) then 1 else 0) ≡ self.old.store.room }
         ensures replies { self.new.replies.items ≡ self.old.replies.items ++ replies_in reply }
         ensures space { vec_capacity self.new.replies ≡ vec_capacity self.old.replies }
     {

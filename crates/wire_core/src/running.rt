@@ -1,15 +1,15 @@
 //! A plan with the history of its steps.
 
 ghost use Rattle.std.specs.Prelude.{◌≡◌, ◌+◌, ◌<◌, ◌^◌, ◌∷◌, ◌++◌, [], true, Some, None, ℕ, List, length, map, option_map, slice_get, IsTrue, ◌↔◌, IfOk, IfErr, OnOk, OnSome};
-ghost use Rattle.wire_runs.specs.Plan.{place_of, process_count};
+ghost use Rattle.wire_runs.specs.Plan.{event_of, process_count};
 ghost use Rattle.wire_types.specs.Outcome.{ends_of};
 ghost use Rattle.wire_rehearsal.specs.Planned.{plan_of};
-ghost use Rattle.wire_plan.specs.Kinds.{event_of};
-ghost use Rattle.wire_runs.specs.State.{start, next_place, next_event};
+ghost use Rattle.wire_plan.specs.Kinds.{kind_of};
+ghost use Rattle.wire_runs.specs.State.{start, next_event, next_kind};
 ghost use Rattle.wire_runs.specs.Step.{is_enabled, run, IsInterleaving, IsEnd, reply as answer};
 ghost use Rattle.wire_runs.specs.PlainRun.{lowest, plain_from, plain_run};
 ghost use Rattle.wire_runs.specs.Races.{IsSettled};
-ghost use Rattle.wire_runs.specs.Laws.{event_total};
+ghost use Rattle.wire_runs.specs.Plan.{event_total};
 ghost use Rattle.wire_runs.specs.Ends.{given, is_waiting, outcome, row};
 ghost use Rattle.wire_core.specs.Course.{plan_in, state_of};
 ghost use Rattle.wire_core.specs.Shown.{replies_in};
@@ -44,7 +44,7 @@ pub struct Core<'a> {
 impl<'a> Model for Core<'a> {
     ghost use Rattle.std.specs.Prelude.{◌≤◌, map, vec_capacity};
     ghost use Rattle.wire_rehearsal.specs.Planned.{plan_of};
-    ghost use Rattle.wire_runs.specs.Laws.{event_total};
+    ghost use Rattle.wire_runs.specs.Plan.{event_total};
     ghost use Rattle.wire_core.specs.Course.{Course};
     ghost use Rattle.wire_runs.specs.Step.{run};
     ghost use Rattle.wire_core.specs.Ranks.{IsCourse, IsShared};
@@ -102,8 +102,8 @@ impl<'a> Core<'a> {
     }
 
     /// The place of the next event of a process.
-    fn next_place(&self, proc: Proc) -> Event
-        ensures { place_of result ≡ next_place (state_of self.now) proc.number }
+    fn next_event(&self, proc: Proc) -> Event
+        ensures { event_of result ≡ next_event (state_of self.now) proc.number }
     {
         let at = self.done(proc);
         Event { proc, at }
@@ -111,10 +111,10 @@ impl<'a> Core<'a> {
 
     /// What the next event of a process is, where it has one.
     fn next_kind(&self, proc: Proc) -> Option<Kind>
-        ensures kind { option_map (event_of self.now.scripts.sets) result ≡ next_event (plan_of self.now.scripts) (state_of self.now) proc.number }
+        ensures kind { option_map (kind_of self.now.scripts.sets) result ≡ next_kind (plan_of self.now.scripts) (state_of self.now) proc.number }
         ensures fits { OnSome result ((state_of self.now).done proc.number + 1 < 2 ^ 32) }
     {
-        let event = self.next_place(proc);
+        let event = self.next_event(proc);
         if event.at < self.plan.event_count(proc) {
             Some(self.plan.kind(event))
         } else {
@@ -142,7 +142,7 @@ impl<'a> Core<'a> {
                 self.plan,
                 self.fences,
                 &self.arrivals,
-                self.next_place(proc),
+                self.next_event(proc),
             ),
             Some(Kind::Get { owner, key }) => is_shown(self.seen_by(proc, owner, key)),
             Some(Kind::LookupWait { name }) => self.names.lookup(name).is_some(),
@@ -151,8 +151,8 @@ impl<'a> Core<'a> {
 
     /// The reply of the next event of a process, which is of this kind. An arrival at a fence has none.
     fn reply(&self, proc: Proc, kind: Kind) -> Option<Reply>
-        requires { next_event (plan_of self.now.scripts) (state_of self.now) proc.number ≡ Some (event_of self.now.scripts.sets kind) }
-        ensures { given (plan_of self.now.scripts) (answer (plan_of self.now.scripts) (state_of self.now) (next_place (state_of self.now) proc.number) (Some (event_of self.now.scripts.sets kind))) ≡ replies_in result }
+        requires { next_kind (plan_of self.now.scripts) (state_of self.now) proc.number ≡ Some (kind_of self.now.scripts.sets kind) }
+        ensures { given (plan_of self.now.scripts) (answer (plan_of self.now.scripts) (state_of self.now) (next_event (state_of self.now) proc.number) (Some (kind_of self.now.scripts.sets kind))) ≡ replies_in result }
     {
         match kind {
             Kind::Put { .. } | Kind::Commit | Kind::Leave { .. } => Some(bare_reply(
@@ -178,7 +178,7 @@ impl<'a> Core<'a> {
         let Some(kind) = self.next_kind(proc) else {
             unreachable!();
         };
-        let event = self.next_place(proc);
+        let event = self.next_event(proc);
         let reply = self.reply(proc, kind);
         let fence = arrived_at(self.plan, self.fences, event, kind);
         let call = self.plan.call_of(event);

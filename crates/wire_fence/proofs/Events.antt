@@ -7,7 +7,7 @@ use Rattle.std.proofs.lemmas.Bool.{cases_eq, cond_both, eq-eqb, ne_eqb, false_fr
 use Rattle.std.proofs.lemmas.Option.{none-some, same_Some, slice_get-map, slice_get-get_or}
 use Rattle.std.proofs.lemmas.List.{map-append}
 use Rattle.std.proofs.lemmas.List.Sums.{sum_by_push}
-use Rattle.wire_runs.specs.Plan.{Plan, Event, Put, Commit, Arrive, Leave, Get, GetNow, Publish, Lookup, LookupWait, Unpublish, Fixed, CallPut, CallCommit, CallFence, CallGet, CallGetNow, CallPublish, CallLookup, CallLookupWait, CallUnpublish, CallFixed, set_of, events_of, process_events, events, event_at, event_count}
+use Rattle.wire_runs.specs.Plan.{Plan, Kind, Put, Commit, Arrive, Leave, Get, GetNow, Publish, Lookup, LookupWait, Unpublish, Fixed, CallPut, CallCommit, CallFence, CallGet, CallGetNow, CallPublish, CallLookup, CallLookupWait, CallUnpublish, CallFixed, set_of, kinds_of, process_kinds, kinds, kind_at, event_count}
 use Rattle.wire_runs.specs.Plan as plan
 use Rattle.wire_runs.specs.Fences.{arrivals_with, arrivals, collects_with, collects}
 use Rattle.wire_types.specs.declared.Call.{Call}
@@ -18,7 +18,7 @@ use Rattle.wire_types.specs.Replies.{bare}
 use Rattle.wire_rehearsal.specs.Said.{is_reserved}
 use Rattle.wire_rehearsal.specs.Scripts.{Process, Scripts, IsSound, calls_in, set_at, text_at}
 use Rattle.wire_rehearsal.specs.Planned.{reply_of_key, planned_call, planned_process, plan_of}
-use Rattle.wire_fence.specs.Fences.{is_over, fence_count, calls_of}
+use Rattle.wire_fence.specs.Fences.{is_over, fence_count, written_calls}
 use Rattle.wire_fence.specs.Reading.{says_with, says_to}
 use Rattle.wire_fence.specs.Laws.{CallsAreArrivals}
 
@@ -46,7 +46,7 @@ drop_get [] n x h = absurd (none-some x h)
 drop_get (y ∷ ys) zero x h = ap (λ z. z ∷ ys) (same_Some y x h)
 drop_get {A = A} (y ∷ ys) (suc n) x h = ap (λ (zs : List A). y ∷ zs) (drop_get ys n x h)
 
-events-append : (xs ys : List plan.Call) → events_of (xs ++ ys) ≡ events_of xs ++ events_of ys
+events-append : (xs ys : List plan.Call) → kinds_of (xs ++ ys) ≡ kinds_of xs ++ kinds_of ys
 events-append [] ys = refl
 events-append (CallPut key scope ∷ xs) ys = ap (λ es. Put key scope ∷ es) (events-append xs ys)
 events-append (CallCommit ∷ xs) ys = ap (λ es. Commit ∷ es) (events-append xs ys)
@@ -65,8 +65,8 @@ IsPlain (CallFence members collect) = ⊥
 IsPlain _ = ⊤
 
 record PlainEvent (k : plan.Call) : Type 0 where
-  pub event : Event
-  pub one : (ks : List plan.Call) → events_of (k ∷ ks) ≡ event ∷ events_of ks
+  pub event : Kind
+  pub one : (ks : List plan.Call) → kinds_of (k ∷ ks) ≡ event ∷ kinds_of ks
   pub arrives : (members : List ℕ) (n : ℕ) → arrivals_with members n (Some event) ≡ n
   pub says : (members : List ℕ) (j n : ℕ) (before : Bool) → collects_with members j n before (Some event) ≡ before
 
@@ -86,42 +86,42 @@ unless_plain : (b : Bool) (reply : Reply) (k : plan.Call) → IsPlain k → IsPl
 unless_plain b reply k plain = cond_both b (CallFixed reply) k IsPlain (λ _. tt) (λ _. plain)
 
 -- the events of a process
-pub events_are : (s : Scripts) (p : ℕ) → events (plan_of s) p ≡ events_of (map (planned_call s) (calls_of s p))
-unfolding events
-events_are s p = ap process_events (slice_get-map (planned_process s) s.processes p) ∙ go (slice_get s.processes p)
+pub events_are : (s : Scripts) (p : ℕ) → kinds (plan_of s) p ≡ kinds_of (map (planned_call s) (written_calls s p))
+unfolding kinds
+events_are s p = ap process_kinds (slice_get-map (planned_process s) s.processes p) ∙ go (slice_get s.processes p)
   where
-    go : (o : Option Process) → process_events (option_map (planned_process s) o) ≡ events_of (map (planned_call s) (calls_in o))
+    go : (o : Option Process) → process_kinds (option_map (planned_process s) o) ≡ kinds_of (map (planned_call s) (calls_in o))
     go None = refl
     go (Some process) = refl
 
-pub event_is : (s : Scripts) (p i : ℕ) → event_at (plan_of s) p i ≡ slice_get (events_of (map (planned_call s) (calls_of s p))) i
-unfolding event_at
+pub event_is : (s : Scripts) (p i : ℕ) → kind_at (plan_of s) p i ≡ slice_get (kinds_of (map (planned_call s) (written_calls s p))) i
+unfolding kind_at
 event_is s p i = ap (λ es. slice_get es i) (events_are s p)
 
 -- how many events the first calls are
 abbrev pub events_to : Scripts → ℕ → ℕ → ℕ
-events_to s p c = length (events_of (map (planned_call s) (take c (calls_of s p))))
+events_to s p c = length (kinds_of (map (planned_call s) (take c (written_calls s p))))
 
-pub count_is : (s : Scripts) (p : ℕ) → event_count (plan_of s) p ≡ length (events_of (map (planned_call s) (calls_of s p)))
+pub count_is : (s : Scripts) (p : ℕ) → event_count (plan_of s) p ≡ length (kinds_of (map (planned_call s) (written_calls s p)))
 unfolding event_count
 count_is s p = ap length (events_are s p)
 
-events_more : (s : Scripts) (p c : ℕ) (k : Call) → slice_get (calls_of s p) c ≡ Some k → events_to s p (suc c) ≡ events_to s p c + length (events_of (planned_call s k ∷ []))
+events_more : (s : Scripts) (p c : ℕ) (k : Call) → slice_get (written_calls s p) c ≡ Some k → events_to s p (suc c) ≡ events_to s p c + length (kinds_of (planned_call s k ∷ []))
 events_more s p c k is =
-    ap (λ calls. length (events_of (map (planned_call s) calls))) (take_get (calls_of s p) c k is)
-    ∙ ap (λ calls. length (events_of calls)) (map-append (planned_call s) (take c (calls_of s p)) (k ∷ []))
-    ∙ ap length (events-append (map (planned_call s) (take c (calls_of s p))) (planned_call s k ∷ []))
-    ∙ length-append (events_of (map (planned_call s) (take c (calls_of s p)))) (events_of (planned_call s k ∷ []))
+    ap (λ calls. length (kinds_of (map (planned_call s) calls))) (take_get (written_calls s p) c k is)
+    ∙ ap (λ calls. length (kinds_of calls)) (map-append (planned_call s) (take c (written_calls s p)) (k ∷ []))
+    ∙ ap length (events-append (map (planned_call s) (take c (written_calls s p))) (planned_call s k ∷ []))
+    ∙ length-append (kinds_of (map (planned_call s) (take c (written_calls s p)))) (kinds_of (planned_call s k ∷ []))
 
-event_of_call : (s : Scripts) (p c i : ℕ) (k : Call) → slice_get (calls_of s p) c ≡ Some k → event_at (plan_of s) p (events_to s p c + i) ≡ slice_get (events_of (planned_call s k ∷ map (planned_call s) (drop (suc c) (calls_of s p)))) i
+event_of_call : (s : Scripts) (p c i : ℕ) (k : Call) → slice_get (written_calls s p) c ≡ Some k → kind_at (plan_of s) p (events_to s p c + i) ≡ slice_get (kinds_of (planned_call s k ∷ map (planned_call s) (drop (suc c) (written_calls s p)))) i
 event_of_call s p c i k is =
-    let front = take c (calls_of s p) in
-    let rest = drop (suc c) (calls_of s p) in
+    let front = take c (written_calls s p) in
+    let rest = drop (suc c) (written_calls s p) in
     event_is s p (events_to s p c + i)
-    ∙ ap (λ calls. slice_get (events_of (map (planned_call s) calls)) (events_to s p c + i)) (drop_get (calls_of s p) c k is)
-    ∙ ap (λ calls. slice_get (events_of calls) (events_to s p c + i)) (map-append (planned_call s) front (k ∷ rest))
+    ∙ ap (λ calls. slice_get (kinds_of (map (planned_call s) calls)) (events_to s p c + i)) (drop_get (written_calls s p) c k is)
+    ∙ ap (λ calls. slice_get (kinds_of calls) (events_to s p c + i)) (map-append (planned_call s) front (k ∷ rest))
     ∙ ap (λ es. slice_get es (events_to s p c + i)) (events-append (map (planned_call s) front) (planned_call s k ∷ map (planned_call s) rest))
-    ∙ slice_get-append_at (events_of (map (planned_call s) front)) (events_of (planned_call s k ∷ map (planned_call s) rest)) i
+    ∙ slice_get-append_at (kinds_of (map (planned_call s) front)) (kinds_of (planned_call s k ∷ map (planned_call s) rest)) i
 
 -- sets of the scripts are the same where their numbers are
 pub set_there : (s : Scripts) (set : ℕ) → set < length s.sets → slice_get s.sets set ≡ Some (set_at s.sets set)
@@ -146,24 +146,24 @@ sets_compare s m n sound low_m low_n =
 module _ (s : Scripts) (p set j : ℕ) (sound : IsSound s) (low : set < length s.sets) where
   -- what arrivals and calls say, after so many calls
   pub record Agrees (c : ℕ) : Type 0 where
-    pub arrive : arrivals (plan_of s) p (set_at s.sets set) (events_to s p c) ≡ fence_count set (take c (calls_of s p))
-    pub say : collects (plan_of s) p (set_at s.sets set) j (events_to s p c) ≡ says_to set j (calls_of s p) c
+    pub arrive : arrivals (plan_of s) p (set_at s.sets set) (events_to s p c) ≡ fence_count set (take c (written_calls s p))
+    pub say : collects (plan_of s) p (set_at s.sets set) j (events_to s p c) ≡ says_to set j (written_calls s p) c
 
-  count_more : (c : ℕ) (k : Call) → slice_get (calls_of s p) c ≡ Some k → fence_count set (take (suc c) (calls_of s p)) ≡ fence_count set (take c (calls_of s p)) + cond (is_over set k) 1 0
+  count_more : (c : ℕ) (k : Call) → slice_get (written_calls s p) c ≡ Some k → fence_count set (take (suc c) (written_calls s p)) ≡ fence_count set (take c (written_calls s p)) + cond (is_over set k) 1 0
   count_more c k is =
-      ap (fence_count set) (take_get (calls_of s p) c k is)
-      ∙ sum_by_push (λ x. cond (is_over set x) 1 0) (take c (calls_of s p)) k
+      ap (fence_count set) (take_get (written_calls s p) c k is)
+      ∙ sum_by_push (λ x. cond (is_over set x) 1 0) (take c (written_calls s p)) k
 
   -- a call that is no fence
-  plain_agrees : (c : ℕ) (k : Call) → slice_get (calls_of s p) c ≡ Some k → IsPlain (planned_call s k) → is_over set k ≡ false → ((n : ℕ) (before : Bool) → says_with set j n before (Some k) ≡ before) → Agrees c → Agrees (suc c)
+  plain_agrees : (c : ℕ) (k : Call) → slice_get (written_calls s p) c ≡ Some k → IsPlain (planned_call s k) → is_over set k ≡ false → ((n : ℕ) (before : Bool) → says_with set j n before (Some k) ≡ before) → Agrees c → Agrees (suc c)
   plain_agrees c k is plain over silent agrees =
       let e = plain_event (planned_call s k) plain in
       let members = set_at s.sets set in
       let one : events_to s p (suc c) ≡ suc (events_to s p c) =
       events_more s p c k is ∙ ap (λ es. events_to s p c + length es) (e.one []) ∙ add-one (events_to s p c)
       in
-      let here : event_at (plan_of s) p (events_to s p c) ≡ Some e.event =
-      ap (event_at (plan_of s) p) (add_none (events_to s p c)) ∙ event_of_call s p c 0 k is ∙ ap (λ es. slice_get es 0) (e.one (map (planned_call s) (drop (suc c) (calls_of s p))))
+      let here : kind_at (plan_of s) p (events_to s p c) ≡ Some e.event =
+      ap (kind_at (plan_of s) p) (add_none (events_to s p c)) ∙ event_of_call s p c 0 k is ∙ ap (λ es. slice_get es 0) (e.one (map (planned_call s) (drop (suc c) (written_calls s p))))
       in
       record {
         arrive =
@@ -171,34 +171,34 @@ module _ (s : Scripts) (p set j : ℕ) (sound : IsSound s) (low : set < length s
             ∙ ap (arrivals_with members (arrivals (plan_of s) p members (events_to s p c))) here
             ∙ e.arrives members (arrivals (plan_of s) p members (events_to s p c))
             ∙ agrees.arrive
-            ∙ sym (count_more c k is ∙ ap (λ b. fence_count set (take c (calls_of s p)) + cond b 1 0) over ∙ sym (add_none (fence_count set (take c (calls_of s p)))));
+            ∙ sym (count_more c k is ∙ ap (λ b. fence_count set (take c (written_calls s p)) + cond b 1 0) over ∙ sym (add_none (fence_count set (take c (written_calls s p)))));
         say =
             ap (collects (plan_of s) p members j) one
             ∙ ap (collects_with members j (arrivals (plan_of s) p members (events_to s p c)) (collects (plan_of s) p members j (events_to s p c))) here
             ∙ e.says members j (arrivals (plan_of s) p members (events_to s p c)) (collects (plan_of s) p members j (events_to s p c))
             ∙ agrees.say
-            ∙ sym (ap (says_with set j (fence_count set (take c (calls_of s p))) (says_to set j (calls_of s p) c)) is ∙ silent (fence_count set (take c (calls_of s p))) (says_to set j (calls_of s p) c));
+            ∙ sym (ap (says_with set j (fence_count set (take c (written_calls s p))) (says_to set j (written_calls s p) c)) is ∙ silent (fence_count set (take c (written_calls s p))) (says_to set j (written_calls s p) c));
       }
     where
       add_none : (n : ℕ) → n ≡ n + 0
       add_none n = omega arith
 
-  fence_agrees : (c other : ℕ) (collect : Bool) → slice_get (calls_of s p) c ≡ Some (call.Fence other collect) → Agrees c → Agrees (suc c)
+  fence_agrees : (c other : ℕ) (collect : Bool) → slice_get (written_calls s p) c ≡ Some (call.Fence other collect) → Agrees c → Agrees (suc c)
   fence_agrees c other collect is agrees =
       let members = set_at s.sets set in
       let others = set_of (set_at s.sets other) in
       let there = (sound.members p c other collect is).0 in
       let same = sets_compare s other set sound there low in
       let two : events_to s p (suc c) ≡ suc (suc (events_to s p c)) = events_more s p c (call.Fence other collect) is ∙ plus_two (events_to s p c) in
-      let here : event_at (plan_of s) p (events_to s p c) ≡ Some (Arrive others collect) = ap (event_at (plan_of s) p) (add_none (events_to s p c)) ∙ event_of_call s p c 0 (call.Fence other collect) is in
-      let next : event_at (plan_of s) p (suc (events_to s p c)) ≡ Some (Leave others) = ap (event_at (plan_of s) p) (sym (add-one (events_to s p c))) ∙ event_of_call s p c 1 (call.Fence other collect) is in
+      let here : kind_at (plan_of s) p (events_to s p c) ≡ Some (Arrive others collect) = ap (kind_at (plan_of s) p) (add_none (events_to s p c)) ∙ event_of_call s p c 0 (call.Fence other collect) is in
+      let next : kind_at (plan_of s) p (suc (events_to s p c)) ≡ Some (Leave others) = ap (kind_at (plan_of s) p) (sym (add-one (events_to s p c))) ∙ event_of_call s p c 1 (call.Fence other collect) is in
       let before = arrivals (plan_of s) p members (events_to s p c) in
       let said = collects (plan_of s) p members j (events_to s p c) in
-      let count = fence_count set (take c (calls_of s p)) in
+      let count = fence_count set (take c (written_calls s p)) in
       record {
         arrive =
             ap (arrivals (plan_of s) p members) two
-            ∙ ap (arrivals_with members (arrivals_with members before (event_at (plan_of s) p (events_to s p c)))) next
+            ∙ ap (arrivals_with members (arrivals_with members before (kind_at (plan_of s) p (events_to s p c)))) next
             ∙ ap (arrivals_with members before) here
             ∙ ap (λ b. cond b (suc before) before) same
             ∙ ap (λ n. cond (other == set) (suc n) n) agrees.arrive
@@ -211,7 +211,7 @@ module _ (s : Scripts) (p set j : ℕ) (sound : IsSound s) (low : set < length s
             ∙ ap (λ b. cond (b && (suc before == j)) collect said) same
             ∙ ap (λ n. cond ((other == set) && (suc n == j)) collect said) agrees.arrive
             ∙ ap (cond ((other == set) && (suc count == j)) collect) agrees.say
-            ∙ sym (ap (says_with set j count (says_to set j (calls_of s p) c)) is);
+            ∙ sym (ap (says_with set j count (says_to set j (written_calls s p) c)) is);
       }
     where
       add_none : (n : ℕ) → n ≡ n + 0
@@ -224,18 +224,18 @@ module _ (s : Scripts) (p set j : ℕ) (sound : IsSound s) (low : set < length s
       one_or_none true n = omega arith
       one_or_none false n = omega arith
 
-  agrees_more : (c : ℕ) (o : Option Call) → slice_get (calls_of s p) c ≡ o → Agrees c → Agrees (suc c)
+  agrees_more : (c : ℕ) (o : Option Call) → slice_get (written_calls s p) c ≡ o → Agrees c → Agrees (suc c)
   agrees_more c None is agrees =
-      let same = take_past (calls_of s p) c is in
+      let same = take_past (written_calls s p) c is in
       record {
         arrive =
-            ap (λ calls. arrivals (plan_of s) p (set_at s.sets set) (length (events_of (map (planned_call s) calls)))) same
+            ap (λ calls. arrivals (plan_of s) p (set_at s.sets set) (length (kinds_of (map (planned_call s) calls)))) same
             ∙ agrees.arrive
             ∙ ap (fence_count set) (sym same);
         say =
-            ap (λ calls. collects (plan_of s) p (set_at s.sets set) j (length (events_of (map (planned_call s) calls)))) same
+            ap (λ calls. collects (plan_of s) p (set_at s.sets set) j (length (kinds_of (map (planned_call s) calls)))) same
             ∙ agrees.say
-            ∙ sym (ap (says_with set j (fence_count set (take c (calls_of s p))) (says_to set j (calls_of s p) c)) is);
+            ∙ sym (ap (says_with set j (fence_count set (take c (written_calls s p))) (says_to set j (written_calls s p) c)) is);
       }
   agrees_more c (Some (call.Fence other collect)) is agrees = fence_agrees c other collect is agrees
   agrees_more c (Some (call.Put scope key value)) is agrees = plain_agrees c (call.Put scope key value) is (unless_plain (is_reserved (text_at s.keys key)) (bare BadParam) (CallPut key scope) tt) refl (λ _ _. refl) agrees
@@ -249,21 +249,21 @@ module _ (s : Scripts) (p set j : ℕ) (sound : IsSound s) (low : set < length s
 
   pub agree : (c : ℕ) → Agrees c
   agree zero = record { arrive = refl; say = refl }
-  agree (suc c) = agrees_more c (slice_get (calls_of s p) c) refl (agree c)
+  agree (suc c) = agrees_more c (slice_get (written_calls s p) c) refl (agree c)
 
 pub calls_are_arrivals : CallsAreArrivals
 calls_are_arrivals s p c set sound low = (agree s p set 0 sound low c).arrive
 
 -- of all calls
-all_events : (s : Scripts) (p : ℕ) → event_count (plan_of s) p ≡ events_to s p (length (calls_of s p))
-all_events s p = count_is s p ∙ ap (λ calls. length (events_of (map (planned_call s) calls))) (sym (take_whole (calls_of s p)))
+all_events : (s : Scripts) (p : ℕ) → event_count (plan_of s) p ≡ events_to s p (length (written_calls s p))
+all_events s p = count_is s p ∙ ap (λ calls. length (kinds_of (map (planned_call s) calls))) (sym (take_whole (written_calls s p)))
   where
     take_whole : {A : Type 0} (xs : List A) → take (length xs) xs ≡ xs
     take_whole [] = refl
     take_whole {A = A} (x ∷ xs) = ap (λ (ys : List A). x ∷ ys) (take_whole xs)
 
-pub all_arrivals : (s : Scripts) (p set : ℕ) → IsSound s → set < length s.sets → arrivals (plan_of s) p (set_at s.sets set) (event_count (plan_of s) p) ≡ fence_count set (take (length (calls_of s p)) (calls_of s p))
-all_arrivals s p set sound low = ap (arrivals (plan_of s) p (set_at s.sets set)) (all_events s p) ∙ (agree s p set 0 sound low (length (calls_of s p))).arrive
+pub all_arrivals : (s : Scripts) (p set : ℕ) → IsSound s → set < length s.sets → arrivals (plan_of s) p (set_at s.sets set) (event_count (plan_of s) p) ≡ fence_count set (take (length (written_calls s p)) (written_calls s p))
+all_arrivals s p set sound low = ap (arrivals (plan_of s) p (set_at s.sets set)) (all_events s p) ∙ (agree s p set 0 sound low (length (written_calls s p))).arrive
 
-pub all_say : (s : Scripts) (p set j : ℕ) → IsSound s → set < length s.sets → collects (plan_of s) p (set_at s.sets set) j (event_count (plan_of s) p) ≡ says_to set j (calls_of s p) (length (calls_of s p))
-all_say s p set j sound low = ap (collects (plan_of s) p (set_at s.sets set) j) (all_events s p) ∙ (agree s p set j sound low (length (calls_of s p))).say
+pub all_say : (s : Scripts) (p set j : ℕ) → IsSound s → set < length s.sets → collects (plan_of s) p (set_at s.sets set) j (event_count (plan_of s) p) ≡ says_to set j (written_calls s p) (length (written_calls s p))
+all_say s p set j sound low = ap (collects (plan_of s) p (set_at s.sets set) j) (all_events s p) ∙ (agree s p set j sound low (length (written_calls s p))).say

@@ -5,7 +5,7 @@ use Rattle.std.specs.Cmp.Lexicographic.{bytes_decides}
 use Rattle.std.proofs.lemmas.Bool.{cases_Bool, cases_eq, cases_lt, eq-eqb, ne_eqb, le-leb, lt-leb}
 use Rattle.std.proofs.lemmas.Option.{same_Some, slice_get_within, slice_get-map, get_or_from_slice_get}
 use Rattle.std.proofs.lemmas.List.{length-map, length-set, get_or-set_same, get_or-set_other}
-use Rattle.wire_runs.specs.Plan.{Event, Arrive, event_at, update}
+use Rattle.wire_runs.specs.Plan.{Kind, Arrive, kind_at, update}
 use Rattle.wire_runs.specs.Fences.{arrivals_with, arrivals, is_complete}
 use Rattle.wire_rehearsal.specs.Scripts.{Scripts, IsSound, set_at}
 use Rattle.wire_rehearsal.specs.Planned.{plan_of}
@@ -36,7 +36,7 @@ arrived_same s cut p fence same =
     ])
     fence.members
 
-not_arriving : (members : List ℕ) (n : ℕ) (o : Option Event) → ((others : List ℕ) (collect : Bool) → o ≡ Some (Arrive others collect) → ⊥) → arrivals_with members n o ≡ n
+not_arriving : (members : List ℕ) (n : ℕ) (o : Option Kind) → ((others : List ℕ) (collect : Bool) → o ≡ Some (Arrive others collect) → ⊥) → arrivals_with members n o ≡ n
 not_arriving members n (Some (Arrive others collect)) none = absurd (none others collect refl)
 not_arriving members n _ none = refl
 
@@ -44,7 +44,7 @@ pub other_events_keep : OtherEventsKeep
 other_events_keep s cut table missing p none tells = record {
   count = tells.count;
   each = λ number fence there.
-      let same = arrived_same s cut p fence (ap (nat_le fence.nth) (not_arriving fence.members (arrivals (plan_of s) p fence.members (cut p)) (event_at (plan_of s) p (cut p)) none)) in
+      let same = arrived_same s cut p fence (ap (nat_le fence.nth) (not_arriving fence.members (arrivals (plan_of s) p fence.members (cut p)) (kind_at (plan_of s) p (cut p)) none)) in
       ap (λ n. missing_at missing number + n) same ∙ tells.each number fence there;
 }
 
@@ -55,7 +55,7 @@ somebody_is_missing s cut table missing number p fence there member before tells
     omega (arith, short, sum)
 
 -- the arrival is counted
-arrival_step : (s : Scripts) (p n : ℕ) (members others : List ℕ) (collect : Bool) → event_at (plan_of s) p n ≡ Some (Arrive others collect) → arrivals (plan_of s) p members (suc n) ≡ cond (bytes_eq others members) (suc (arrivals (plan_of s) p members n)) (arrivals (plan_of s) p members n)
+arrival_step : (s : Scripts) (p n : ℕ) (members others : List ℕ) (collect : Bool) → kind_at (plan_of s) p n ≡ Some (Arrive others collect) → arrivals (plan_of s) p members (suc n) ≡ cond (bytes_eq others members) (suc (arrivals (plan_of s) p members n)) (arrivals (plan_of s) p members n)
 arrival_step s p n members others collect is = ap (arrivals_with members (arrivals (plan_of s) p members n)) is
 
 arrives_next : (s : Scripts) (cut : ℕ → ℕ) (table : FenceTable) (number p : ℕ) (arriving : IsArriving s cut table number p) → suc (arrivals (plan_of s) p arriving.fence.members (cut p)) ≡ arriving.fence.nth

@@ -11,7 +11,7 @@ use Rattle.wire_types.specs.declared.Call.{Call}
 use Rattle.wire_types.specs.declared.Call.TheVariants.{Fence}
 use Rattle.wire_rehearsal.specs.Scripts.{Scripts, IsSound, set_at}
 use Rattle.wire_fence.specs.declared.register.Row.{Row}
-use Rattle.wire_fence.specs.Fences.{is_over, fence_count, calls_of}
+use Rattle.wire_fence.specs.Fences.{is_over, fence_count, written_calls}
 use Rattle.wire_fence.specs.Reading.{says_with, says_to}
 use Rattle.wire_fence.specs.Rows.{called, HasRow, IsCalled, Again, First, read_count, IsRead, AreRead}
 use Rattle.wire_fence.proofs.Counts.{count_same, all_same, count_none, all_pass, count_one_more, all_one_more, canonical_distinct}
@@ -53,7 +53,7 @@ says_none set_of_row j calls (suc n) low = go (slice_get calls n) refl (says_non
         past (x ∷ xs) (suc k) e = ap (λ ys. x ∷ ys) (past xs k e)
 
 -- reading that doesn't change what is counted changes nothing
-pub read_same : (s : Scripts) (read now : ℕ → ℕ) (rows : List Row) → ((m set_of_row : ℕ) → read_count s now m set_of_row ≡ read_count s read m set_of_row) → ((m set_of_row j : ℕ) → says_to set_of_row j (calls_of s m) (now m) ≡ says_to set_of_row j (calls_of s m) (read m)) → AreRead s read rows → AreRead s now rows
+pub read_same : (s : Scripts) (read now : ℕ → ℕ) (rows : List Row) → ((m set_of_row : ℕ) → read_count s now m set_of_row ≡ read_count s read m set_of_row) → ((m set_of_row j : ℕ) → says_to set_of_row j (written_calls s m) (now m) ≡ says_to set_of_row j (written_calls s m) (read m)) → AreRead s read rows → AreRead s now rows
 read_same s read now rows counts says are = record {
   each = λ number row there.
       let is = are.each number row there in
@@ -63,13 +63,13 @@ read_same s read now rows counts says are = record {
         missing =
             ap (λ n. row.missing + n) (count_same (λ m. nat_le row.nth (read_count s now m row.set)) (λ m. nat_le row.nth (read_count s read m row.set)) (λ m. ap (nat_le row.nth) (counts m row.set)) (set_at s.sets row.set))
             ∙ is.missing;
-        collects = is.collects ∙ sym (all_same (λ m. says_to row.set row.nth (calls_of s m) (now m)) (λ m. says_to row.set row.nth (calls_of s m) (read m)) (λ m. says m row.set row.nth) (set_at s.sets row.set));
+        collects = is.collects ∙ sym (all_same (λ m. says_to row.set row.nth (written_calls s m) (now m)) (λ m. says_to row.set row.nth (written_calls s m) (read m)) (λ m. says m row.set row.nth) (set_at s.sets row.set));
       };
   once = are.once;
   there = λ m set_of_row nth low from_one le. are.there m set_of_row nth low from_one (subst (λ k. nth ≤ k) (counts m set_of_row) le);
 }
 
-module _ (s : Scripts) (sound : IsSound s) (read : ℕ → ℕ) (p n set_of_call : ℕ) (collect : Bool) (is : slice_get (calls_of s p) n ≡ Some (Fence set_of_call collect)) where
+module _ (s : Scripts) (sound : IsSound s) (read : ℕ → ℕ) (p n set_of_call : ℕ) (collect : Bool) (is : slice_get (written_calls s p) n ≡ Some (Fence set_of_call collect)) where
   abbrev before : ℕ → ℕ
   before = update read p n
 
@@ -78,19 +78,19 @@ module _ (s : Scripts) (sound : IsSound s) (read : ℕ → ℕ) (p n set_of_call
 
   -- the number of this call among the process's fences over its set, from 0
   abbrev count : ℕ
-  count = fence_count set_of_call (take n (calls_of s p))
+  count = fence_count set_of_call (take n (written_calls s p))
 
   elsewhere : (m : ℕ) → (m ≡ p → ⊥) → before m ≡ after m
   elsewhere m other = cut_other read p n m other ∙ sym (cut_other read p (suc n) m other)
 
   count_elsewhere : (m set_of_row : ℕ) → (m ≡ p → ⊥) → read_count s before m set_of_row ≡ read_count s after m set_of_row
-  count_elsewhere m set_of_row other = ap (λ k. fence_count set_of_row (take k (calls_of s m))) (elsewhere m other)
+  count_elsewhere m set_of_row other = ap (λ k. fence_count set_of_row (take k (written_calls s m))) (elsewhere m other)
 
-  count_before : (set_of_row : ℕ) → read_count s before p set_of_row ≡ fence_count set_of_row (take n (calls_of s p))
-  count_before set_of_row = ap (λ k. fence_count set_of_row (take k (calls_of s p))) (cut_here read p n)
+  count_before : (set_of_row : ℕ) → read_count s before p set_of_row ≡ fence_count set_of_row (take n (written_calls s p))
+  count_before set_of_row = ap (λ k. fence_count set_of_row (take k (written_calls s p))) (cut_here read p n)
 
-  count_after : (set_of_row : ℕ) → read_count s after p set_of_row ≡ fence_count set_of_row (take n (calls_of s p)) + cond (set_of_call == set_of_row) 1 0
-  count_after set_of_row = ap (λ k. fence_count set_of_row (take k (calls_of s p))) (cut_here read p (suc n)) ∙ count_call (calls_of s p) n set_of_row (Fence set_of_call collect) is
+  count_after : (set_of_row : ℕ) → read_count s after p set_of_row ≡ fence_count set_of_row (take n (written_calls s p)) + cond (set_of_call == set_of_row) 1 0
+  count_after set_of_row = ap (λ k. fence_count set_of_row (take k (written_calls s p))) (cut_here read p (suc n)) ∙ count_call (written_calls s p) n set_of_row (Fence set_of_call collect) is
 
   count_here : read_count s after p set_of_call ≡ suc count
   count_here = count_after set_of_call ∙ ap (λ b. count + cond b 1 0) (eq-eqb set_of_call set_of_call refl) ∙ add-one count
@@ -99,14 +99,14 @@ module _ (s : Scripts) (sound : IsSound s) (read : ℕ → ℕ) (p n set_of_call
   others_count : (set_of_row nth : ℕ) → ((set_of_row ≡ set_of_call) × (nth ≡ suc count) → ⊥) → nat_le nth (read_count s before p set_of_row) ≡ nat_le nth (read_count s after p set_of_row)
   others_count set_of_row nth other = elim (cases_eq set_of_row set_of_call) [
     | inl same ↦
-        ap (nat_le nth) (count_before set_of_row ∙ ap (λ k. fence_count k (take n (calls_of s p))) same)
+        ap (nat_le nth) (count_before set_of_row ∙ ap (λ k. fence_count k (take n (written_calls s p))) same)
         ∙ sym (le_same nth count (λ e. other (same, e)))
         ∙ ap (nat_le nth) (sym (ap (read_count s after p) same ∙ count_here))
     | inr ne ↦
         ap (nat_le nth) (
         count_before set_of_row
-        ∙ plus_none (fence_count set_of_row (take n (calls_of s p)))
-        ∙ ap (λ b. fence_count set_of_row (take n (calls_of s p)) + cond b 1 0) (sym (ne_eqb set_of_call set_of_row (λ e. ne (sym e))))
+        ∙ plus_none (fence_count set_of_row (take n (written_calls s p)))
+        ∙ ap (λ b. fence_count set_of_row (take n (written_calls s p)) + cond b 1 0) (sym (ne_eqb set_of_call set_of_row (λ e. ne (sym e))))
         ∙ sym (count_after set_of_row)
         )
   ]
@@ -114,23 +114,23 @@ module _ (s : Scripts) (sound : IsSound s) (read : ℕ → ℕ) (p n set_of_call
       plus_none : (k : ℕ) → k ≡ k + 0
       plus_none k = omega arith
 
-  says_after : (set_of_row nth : ℕ) → says_to set_of_row nth (calls_of s p) (after p) ≡ cond ((set_of_call == set_of_row) && (suc (fence_count set_of_row (take n (calls_of s p))) == nth)) collect (says_to set_of_row nth (calls_of s p) n)
+  says_after : (set_of_row nth : ℕ) → says_to set_of_row nth (written_calls s p) (after p) ≡ cond ((set_of_call == set_of_row) && (suc (fence_count set_of_row (take n (written_calls s p))) == nth)) collect (says_to set_of_row nth (written_calls s p) n)
   says_after set_of_row nth =
-      ap (says_to set_of_row nth (calls_of s p)) (cut_here read p (suc n))
-      ∙ ap (says_with set_of_row nth (fence_count set_of_row (take n (calls_of s p))) (says_to set_of_row nth (calls_of s p) n)) is
+      ap (says_to set_of_row nth (written_calls s p)) (cut_here read p (suc n))
+      ∙ ap (says_with set_of_row nth (fence_count set_of_row (take n (written_calls s p))) (says_to set_of_row nth (written_calls s p) n)) is
 
-  says_before : (set_of_row nth : ℕ) → says_to set_of_row nth (calls_of s p) (before p) ≡ says_to set_of_row nth (calls_of s p) n
-  says_before set_of_row nth = ap (says_to set_of_row nth (calls_of s p)) (cut_here read p n)
+  says_before : (set_of_row nth : ℕ) → says_to set_of_row nth (written_calls s p) (before p) ≡ says_to set_of_row nth (written_calls s p) n
+  says_before set_of_row nth = ap (says_to set_of_row nth (written_calls s p)) (cut_here read p n)
 
-  others_say : (set_of_row nth : ℕ) → ((set_of_row ≡ set_of_call) × (nth ≡ suc count) → ⊥) → says_to set_of_row nth (calls_of s p) (before p) ≡ says_to set_of_row nth (calls_of s p) (after p)
+  others_say : (set_of_row nth : ℕ) → ((set_of_row ≡ set_of_call) × (nth ≡ suc count) → ⊥) → says_to set_of_row nth (written_calls s p) (before p) ≡ says_to set_of_row nth (written_calls s p) (after p)
   others_say set_of_row nth other =
-      let fails : ((set_of_call == set_of_row) && (suc (fence_count set_of_row (take n (calls_of s p))) == nth)) ≡ false =
-      false_from_ne_true ((set_of_call == set_of_row) && (suc (fence_count set_of_row (take n (calls_of s p))) == nth)) (λ t.
-      let parts = and_parts (set_of_call == set_of_row) (suc (fence_count set_of_row (take n (calls_of s p))) == nth) t in
+      let fails : ((set_of_call == set_of_row) && (suc (fence_count set_of_row (take n (written_calls s p))) == nth)) ≡ false =
+      false_from_ne_true ((set_of_call == set_of_row) && (suc (fence_count set_of_row (take n (written_calls s p))) == nth)) (λ t.
+      let parts = and_parts (set_of_call == set_of_row) (suc (fence_count set_of_row (take n (written_calls s p))) == nth) t in
       let same = sym (eqb-true set_of_call set_of_row parts.0) in
-      other (same, sym (eqb-true (suc (fence_count set_of_row (take n (calls_of s p)))) nth parts.1) ∙ ap (λ k. suc (fence_count k (take n (calls_of s p)))) same))
+      other (same, sym (eqb-true (suc (fence_count set_of_row (take n (written_calls s p)))) nth parts.1) ∙ ap (λ k. suc (fence_count k (take n (written_calls s p)))) same))
       in
-      says_before set_of_row nth ∙ sym (says_after set_of_row nth ∙ ap (λ b. cond b collect (says_to set_of_row nth (calls_of s p) n)) fails)
+      says_before set_of_row nth ∙ sym (says_after set_of_row nth ∙ ap (λ b. cond b collect (says_to set_of_row nth (written_calls s p) n)) fails)
 
   other_row : (row : Row) → ((row.set ≡ set_of_call) × (row.nth ≡ suc count) → ⊥) → IsRead s before row → IsRead s after row
   other_row row other was = record {
@@ -149,12 +149,12 @@ module _ (s : Scripts) (sound : IsSound s) (read : ℕ → ℕ) (p n set_of_call
         ∙ was.missing;
     collects =
         was.collects
-        ∙ all_same (λ m. says_to row.set row.nth (calls_of s m) (before m)) (λ m. says_to row.set row.nth (calls_of s m) (after m)) (λ m. elim (cases_eq m p) [
+        ∙ all_same (λ m. says_to row.set row.nth (written_calls s m) (before m)) (λ m. says_to row.set row.nth (written_calls s m) (after m)) (λ m. elim (cases_eq m p) [
           | inl here ↦
-              ap (λ k. says_to row.set row.nth (calls_of s k) (before k)) here
+              ap (λ k. says_to row.set row.nth (written_calls s k) (before k)) here
               ∙ others_say row.set row.nth other
-              ∙ ap (λ k. says_to row.set row.nth (calls_of s k) (after k)) (sym here)
-          | inr ne ↦ ap (says_to row.set row.nth (calls_of s m)) (elsewhere m ne)
+              ∙ ap (λ k. says_to row.set row.nth (written_calls s k) (after k)) (sym here)
+          | inr ne ↦ ap (says_to row.set row.nth (written_calls s m)) (elsewhere m ne)
         ]) (set_at s.sets row.set);
   }
 
@@ -171,12 +171,12 @@ module _ (s : Scripts) (sound : IsSound s) (read : ℕ → ℕ) (p n set_of_call
       let one_more = count_one_more (λ m. nat_le row.nth (read_count s before m row.set)) (λ m. nat_le row.nth (read_count s after m row.set)) p (λ m ne. ap (nat_le row.nth) (count_elsewhere m row.set ne)) not_yet now members distinct member in
       let le = count_by-le-length (λ m. nat_le row.nth (read_count s after m row.set)) members in
       let sum = was.missing in
-      let passes : says_to row.set row.nth (calls_of s p) (before p) ≡ true =
-      says_before row.set row.nth ∙ says_none row.set row.nth (calls_of s p) n (let same = ap (λ k. fence_count k (take n (calls_of s p))) of_set in omega (arith, same, is_nth))
+      let passes : says_to row.set row.nth (written_calls s p) (before p) ≡ true =
+      says_before row.set row.nth ∙ says_none row.set row.nth (written_calls s p) n (let same = ap (λ k. fence_count k (take n (written_calls s p))) of_set in omega (arith, same, is_nth))
       in
-      let says : says_to row.set row.nth (calls_of s p) (after p) ≡ collect =
+      let says : says_to row.set row.nth (written_calls s p) (after p) ≡ collect =
       says_after row.set row.nth
-      ∙ rw (eq-eqb set_of_call row.set (sym of_set), eq-eqb (suc (fence_count row.set (take n (calls_of s p)))) row.nth (ap (λ k. suc (fence_count k (take n (calls_of s p)))) of_set ∙ sym is_nth)) refl
+      ∙ rw (eq-eqb set_of_call row.set (sym of_set), eq-eqb (suc (fence_count row.set (take n (written_calls s p)))) row.nth (ap (λ k. suc (fence_count k (take n (written_calls s p)))) of_set ∙ sym is_nth)) refl
       in
       record {
         of_set = was.of_set;
@@ -184,7 +184,7 @@ module _ (s : Scripts) (sound : IsSound s) (read : ℕ → ℕ) (p n set_of_call
         missing = omega (arith, one_more, le, sum);
         collects =
             ap (λ b. b && collect) was.collects
-            ∙ sym (all_one_more (λ m. says_to row.set row.nth (calls_of s m) (before m)) (λ m. says_to row.set row.nth (calls_of s m) (after m)) p collect (λ m ne. ap (says_to row.set row.nth (calls_of s m)) (elsewhere m ne)) passes says members member);
+            ∙ sym (all_one_more (λ m. says_to row.set row.nth (written_calls s m) (before m)) (λ m. says_to row.set row.nth (written_calls s m) (after m)) p collect (λ m ne. ap (says_to row.set row.nth (written_calls s m)) (elsewhere m ne)) passes says members member);
       }
 
   -- a fence that nobody has called
@@ -203,7 +203,7 @@ module _ (s : Scripts) (sound : IsSound s) (read : ℕ → ℕ) (p n set_of_call
         of_set = there;
         from_one = omega arith;
         missing = omega (arith, nobody);
-        collects = sym (all_pass (λ m. says_to set_of_call (suc count) (calls_of s m) (before m)) (λ m. says_none set_of_call (suc count) (calls_of s m) (before m) (low m)) (set_at s.sets set_of_call));
+        collects = sym (all_pass (λ m. says_to set_of_call (suc count) (written_calls s m) (before m)) (λ m. says_none set_of_call (suc count) (written_calls s m) (before m) (low m)) (set_at s.sets set_of_call));
       }
 
   -- the fences that are there afterwards
@@ -354,7 +354,7 @@ once_after s read rows new set_of_call nth members number collect are call m n k
     renamed xs i a b c d e f has = record { row = has.row; there = has.there; of_set = has.of_set ∙ e; is_nth = has.is_nth ∙ f }
 
 -- one more fence call is read
-each_after : (s : Scripts) (sound : IsSound s) (read : ℕ → ℕ) (p n set_of_call : ℕ) (collect : Bool) (is : slice_get (calls_of s p) n ≡ Some (Fence set_of_call collect)) (rows new : List Row) (number : ℕ) → AreRead s (update read p n) rows → IsCalled rows set_of_call (suc (fence_count set_of_call (take n (calls_of s p)))) (length (set_at s.sets set_of_call)) collect number new → (m : ℕ) (row : Row) → slice_get new m ≡ Some row → IsRead s (update read p (suc n)) row
+each_after : (s : Scripts) (sound : IsSound s) (read : ℕ → ℕ) (p n set_of_call : ℕ) (collect : Bool) (is : slice_get (written_calls s p) n ≡ Some (Fence set_of_call collect)) (rows new : List Row) (number : ℕ) → AreRead s (update read p n) rows → IsCalled rows set_of_call (suc (fence_count set_of_call (take n (written_calls s p)))) (length (set_at s.sets set_of_call)) collect number new → (m : ℕ) (row : Row) → slice_get new m ≡ Some row → IsRead s (update read p (suc n)) row
 each_after s sound read p n set_of_call collect is rows new number are (Again row there of_set is_nth made) m x at_m = elim (set_at_number rows number (called collect row) m x (ap (λ xs. slice_get xs m) (sym made) ∙ at_m)) [
   | inl here ↦ subst (IsRead s (update read p (suc n))) (sym here.1) (called_row s sound read p n set_of_call collect is row of_set is_nth (are.each number row there))
   | inr old ↦
@@ -364,12 +364,12 @@ each_after s sound read p n set_of_call collect is rows new number are (Again ro
             subst (IsRead s (update read p (suc n))) (sym new_row) (called_row s sound read p n set_of_call collect is row of_set is_nth (are.each number row there))
         | inr ne ↦
             other_row s sound read p n set_of_call collect is x
-            (λ both. ne (are.once m number set_of_call (suc (fence_count set_of_call (take n (calls_of s p)))) (record { row = x; there = old; of_set = both.0; is_nth = both.1 }) (record { row = row; there = there; of_set = of_set; is_nth = is_nth })))
+            (λ both. ne (are.once m number set_of_call (suc (fence_count set_of_call (take n (written_calls s p)))) (record { row = x; there = old; of_set = both.0; is_nth = both.1 }) (record { row = row; there = there; of_set = of_set; is_nth = is_nth })))
             (are.each m x old)
       ]
 ]
 each_after s sound read p n set_of_call collect is rows new number are (First last none made) m x at_m =
-    let first : Row = record { set = set_of_call; nth = suc (fence_count set_of_call (take n (calls_of s p))); missing = length (set_at s.sets set_of_call); collects = true } in
+    let first : Row = record { set = set_of_call; nth = suc (fence_count set_of_call (take n (written_calls s p))); missing = length (set_at s.sets set_of_call); collects = true } in
     elim (push_at rows (called collect first) m x (ap (λ xs. slice_get xs m) (sym made) ∙ at_m)) [
       | inl here ↦ subst (IsRead s (update read p (suc n))) (sym here.1) (called_row s sound read p n set_of_call collect is first refl refl (blank_row s sound read p n set_of_call collect is rows are none))
       | inr old ↦
@@ -378,9 +378,9 @@ each_after s sound read p n set_of_call collect is rows new number are (First la
           (are.each m x old)
     ]
 
-pub read_fence : (s : Scripts) (sound : IsSound s) (read : ℕ → ℕ) (p n set_of_call : ℕ) (collect : Bool) (is : slice_get (calls_of s p) n ≡ Some (Fence set_of_call collect)) (rows new : List Row) (number : ℕ) → AreRead s (update read p n) rows → IsCalled rows set_of_call (suc (fence_count set_of_call (take n (calls_of s p)))) (length (set_at s.sets set_of_call)) collect number new → AreRead s (update read p (suc n)) new
+pub read_fence : (s : Scripts) (sound : IsSound s) (read : ℕ → ℕ) (p n set_of_call : ℕ) (collect : Bool) (is : slice_get (written_calls s p) n ≡ Some (Fence set_of_call collect)) (rows new : List Row) (number : ℕ) → AreRead s (update read p n) rows → IsCalled rows set_of_call (suc (fence_count set_of_call (take n (written_calls s p)))) (length (set_at s.sets set_of_call)) collect number new → AreRead s (update read p (suc n)) new
 read_fence s sound read p n set_of_call collect is rows new number are call =
-    let nth = suc (fence_count set_of_call (take n (calls_of s p))) in
+    let nth = suc (fence_count set_of_call (take n (written_calls s p))) in
     let members = length (set_at s.sets set_of_call) in
     record {
       each = each_after s sound read p n set_of_call collect is rows new number are call;
@@ -389,29 +389,29 @@ read_fence s sound read p n set_of_call collect is rows new number are call =
     }
 
 -- one more call is read that is no fence
-pub read_other : (s : Scripts) (read : ℕ → ℕ) (p n : ℕ) (call : Call) (rows : List Row) → slice_get (calls_of s p) n ≡ Some call → ((k : ℕ) → is_over k call ≡ false) → ((k j m : ℕ) (b : Bool) → says_with k j m b (Some call) ≡ b) → AreRead s (update read p n) rows → AreRead s (update read p (suc n)) rows
+pub read_other : (s : Scripts) (read : ℕ → ℕ) (p n : ℕ) (call : Call) (rows : List Row) → slice_get (written_calls s p) n ≡ Some call → ((k : ℕ) → is_over k call ≡ false) → ((k j m : ℕ) (b : Bool) → says_with k j m b (Some call) ≡ b) → AreRead s (update read p n) rows → AreRead s (update read p (suc n)) rows
 read_other s read p n call rows is over silent are =
     read_same s (update read p n) (update read p (suc n)) rows
     (λ m k. elim (cases_eq m p) [
       | inl here ↦
           ap (λ q. read_count s (update read p (suc n)) q k) here
-          ∙ ap (λ v. fence_count k (take v (calls_of s p))) (cut_here read p (suc n))
-          ∙ count_call (calls_of s p) n k call is
-          ∙ ap (λ b. fence_count k (take n (calls_of s p)) + cond b 1 0) (over k)
-          ∙ plus_none (fence_count k (take n (calls_of s p)))
-          ∙ ap (λ v. fence_count k (take v (calls_of s p))) (sym (cut_here read p n))
+          ∙ ap (λ v. fence_count k (take v (written_calls s p))) (cut_here read p (suc n))
+          ∙ count_call (written_calls s p) n k call is
+          ∙ ap (λ b. fence_count k (take n (written_calls s p)) + cond b 1 0) (over k)
+          ∙ plus_none (fence_count k (take n (written_calls s p)))
+          ∙ ap (λ v. fence_count k (take v (written_calls s p))) (sym (cut_here read p n))
           ∙ ap (λ q. read_count s (update read p n) q k) (sym here)
-      | inr ne ↦ ap (λ v. fence_count k (take v (calls_of s m))) (cut_other read p (suc n) m ne ∙ sym (cut_other read p n m ne))
+      | inr ne ↦ ap (λ v. fence_count k (take v (written_calls s m))) (cut_other read p (suc n) m ne ∙ sym (cut_other read p n m ne))
     ])
     (λ m k j. elim (cases_eq m p) [
       | inl here ↦
-          ap (λ q. says_to k j (calls_of s q) (update read p (suc n) q)) here
-          ∙ ap (says_to k j (calls_of s p)) (cut_here read p (suc n))
-          ∙ ap (says_with k j (fence_count k (take n (calls_of s p))) (says_to k j (calls_of s p) n)) is
-          ∙ silent k j (fence_count k (take n (calls_of s p))) (says_to k j (calls_of s p) n)
-          ∙ ap (says_to k j (calls_of s p)) (sym (cut_here read p n))
-          ∙ ap (λ q. says_to k j (calls_of s q) (update read p n q)) (sym here)
-      | inr ne ↦ ap (says_to k j (calls_of s m)) (cut_other read p (suc n) m ne ∙ sym (cut_other read p n m ne))
+          ap (λ q. says_to k j (written_calls s q) (update read p (suc n) q)) here
+          ∙ ap (says_to k j (written_calls s p)) (cut_here read p (suc n))
+          ∙ ap (says_with k j (fence_count k (take n (written_calls s p))) (says_to k j (written_calls s p) n)) is
+          ∙ silent k j (fence_count k (take n (written_calls s p))) (says_to k j (written_calls s p) n)
+          ∙ ap (says_to k j (written_calls s p)) (sym (cut_here read p n))
+          ∙ ap (λ q. says_to k j (written_calls s q) (update read p n q)) (sym here)
+      | inr ne ↦ ap (says_to k j (written_calls s m)) (cut_other read p (suc n) m ne ∙ sym (cut_other read p n m ne))
     ])
     are
   where

@@ -10,7 +10,7 @@ use Rattle.wire_types.specs.declared.Call.{Call}
 use Rattle.wire_types.specs.declared.Call.TheVariants.{Fence}
 use Rattle.wire_rehearsal.specs.Scripts.{Process, Scripts, IsSound, set_at, calls_in, call_count}
 use Rattle.wire_fence.specs.declared.register.Row.{Row}
-use Rattle.wire_fence.specs.Fences.{is_over, fence_count, calls_of}
+use Rattle.wire_fence.specs.Fences.{is_over, fence_count, written_calls}
 use Rattle.wire_fence.specs.Reading.{says_with}
 use Rattle.wire_fence.specs.Rows.{HasRow, IsCalled, IsAfter, AreRead, IsNumber, AreNumbers, AreAllNumbers, read_to}
 use Rattle.wire_fence.proofs.Events.{take_get}
@@ -24,7 +24,7 @@ pub record StateOf (first rows : List Row) (sets : List (List ℕ)) (calls : Lis
   pub counted : (k : ℕ) → k < length sets → get_or counts k 0 ≡ fence_count k (take n calls)
   pub numbered : AreNumbers rows calls numbers n
   pub kept : (m k j : ℕ) → HasRow first m k j → HasRow rows m k j
-  pub read : (s : Scripts) (p : ℕ) (read : ℕ → ℕ) → IsSound s → sets ≡ s.sets → calls ≡ calls_of s p → read p ≡ 0 → AreRead s read first → AreRead s (update read p n) rows
+  pub read : (s : Scripts) (p : ℕ) (read : ℕ → ℕ) → IsSound s → sets ≡ s.sets → calls ≡ written_calls s p → read p ≡ 0 → AreRead s read first → AreRead s (update read p n) rows
 
 pub state_first : (rows : List Row) (sets : List (List ℕ)) (calls : List Call) (counts : List ℕ) (numbers : List (Option ℕ)) (size : ℕ) → size ≡ length sets → counts ≡ replicate size 0 → numbers ≡ [] → StateOf rows rows sets calls counts numbers 0
 state_first rows sets calls counts numbers size size_is zeros none = record {
@@ -189,7 +189,7 @@ all_first rows sets processes numbers none nothing = record {
     each = λ number row there. absurd (none-some row (ap (λ xs. slice_get xs number) (sym none) ∙ there));
     once = λ m n k j at_m at_n. absurd (none-some at_m.row (ap (λ xs. slice_get xs m) (sym none) ∙ at_m.there));
     there = λ m k j low from_one le.
-        let nobody : fence_count k (take (read_to s 0 m) (calls_of s m)) ≡ 0 = ap (λ b. fence_count k (take (cond b (length (calls_of s m)) 0) (calls_of s m))) (le-ltb m 0 (omega arith)) in
+        let nobody : fence_count k (take (read_to s 0 m) (written_calls s m)) ≡ 0 = ap (λ b. fence_count k (take (cond b (length (written_calls s m)) 0) (written_calls s m))) (le-ltb m 0 (omega arith)) in
         absurd (omega (arith, nobody, le, from_one));
   };
 }
@@ -213,7 +213,7 @@ all_numbers_more rows new processes numbers more n kept are is = record {
 
 pub all_more : (rows new : List Row) (sets : List (List ℕ)) (processes : List Process) (numbers : List (List (Option ℕ))) (more : List (Option ℕ)) (n : ℕ) (process : Process) → AllRead rows sets processes numbers n → slice_get processes n ≡ Some process →
     length new ≤ length rows + length process.calls → AreNumbers new process.calls more (length process.calls) → ((m k j : ℕ) → HasRow rows m k j → HasRow new m k j) →
-    ((s : Scripts) (p : ℕ) (read : ℕ → ℕ) → IsSound s → sets ≡ s.sets → process.calls ≡ calls_of s p → read p ≡ 0 → AreRead s read rows → AreRead s (update read p (length process.calls)) new) →
+    ((s : Scripts) (p : ℕ) (read : ℕ → ℕ) → IsSound s → sets ≡ s.sets → process.calls ≡ written_calls s p → read p ≡ 0 → AreRead s read rows → AreRead s (update read p (length process.calls)) new) →
     AllRead new sets processes (numbers ++ more ∷ []) (n + 1)
 all_more rows new sets processes numbers more n process all is few are kept read =
     subst (AllRead new sets processes (numbers ++ more ∷ [])) (sym (add-one n)) (
@@ -224,16 +224,16 @@ all_more rows new sets processes numbers more n process all is few are kept read
           omega (arith, was, few, one_more);
       numbered = all_numbers_more rows new processes numbers more n kept all.numbered (subst (λ o. AreNumbers new (calls_in o) more (length (calls_in o))) (sym is) are);
       read = λ s sound same_sets same_processes.
-          let calls : process.calls ≡ calls_of s n = ap calls_in (sym is ∙ ap (λ xs. slice_get xs n) same_processes) in
-          let nothing : read_to s n n ≡ 0 = ap (λ b. cond b (length (calls_of s n)) 0) (le-ltb n n (omega arith)) in
+          let calls : process.calls ≡ written_calls s n = ap calls_in (sym is ∙ ap (λ xs. slice_get xs n) same_processes) in
+          let nothing : read_to s n n ≡ 0 = ap (λ b. cond b (length (written_calls s n)) 0) (le-ltb n n (omega arith)) in
           let same : (m : ℕ) → update (read_to s n) n (length process.calls) m ≡ read_to s (suc n) m = λ m. elim (cases_eq m n) [
             | inl here ↦
                 ap (update (read_to s n) n (length process.calls)) here
                 ∙ cut_here (read_to s n) n (length process.calls)
                 ∙ ap length calls
-                ∙ ap (λ b. cond b (length (calls_of s n)) 0) (sym (lt-ltb n (suc n) (omega arith)))
+                ∙ ap (λ b. cond b (length (written_calls s n)) 0) (sym (lt-ltb n (suc n) (omega arith)))
                 ∙ ap (read_to s (suc n)) (sym here)
-            | inr ne ↦ cut_other (read_to s n) n (length process.calls) m ne ∙ ap (λ b. cond b (length (calls_of s m)) 0) (below_same m n ne)
+            | inr ne ↦ cut_other (read_to s n) n (length process.calls) m ne ∙ ap (λ b. cond b (length (written_calls s m)) 0) (below_same m n ne)
           ] in
           let path : update (read_to s n) n (length process.calls) ≡ read_to s (suc n) = λ i m. same m i in
           subst (λ (r : ℕ → ℕ). AreRead s r new) path (read s n (read_to s n) sound same_sets calls nothing (all.read s sound same_sets same_processes));
@@ -249,11 +249,11 @@ all_more rows new sets processes numbers more n process all is few are kept read
 -- the same, where the calls that were read are told apart from the process
 pub all_more_of : (rows new : List Row) (sets : List (List ℕ)) (processes : List Process) (numbers : List (List (Option ℕ))) (more : List (Option ℕ)) (n : ℕ) (process : Process) (calls : List Call) → AllRead rows sets processes numbers n → n < length processes → process ≡ get_or processes n process → calls ≡ process.calls →
     length new ≤ length rows + length calls → AreNumbers new calls more (length calls) → ((m k j : ℕ) → HasRow rows m k j → HasRow new m k j) →
-    ((s : Scripts) (p : ℕ) (read : ℕ → ℕ) → IsSound s → sets ≡ s.sets → calls ≡ calls_of s p → read p ≡ 0 → AreRead s read rows → AreRead s (update read p (length calls)) new) →
+    ((s : Scripts) (p : ℕ) (read : ℕ → ℕ) → IsSound s → sets ≡ s.sets → calls ≡ written_calls s p → read p ≡ 0 → AreRead s read rows → AreRead s (update read p (length calls)) new) →
     AllRead new sets processes (numbers ++ more ∷ []) (n + 1)
 all_more_of rows new sets processes numbers more n process calls all low is same few are kept read =
     all_more rows new sets processes numbers more n process all (slice_get-get_or processes n process low ∙ ap Some (sym is))
     (subst (λ xs. length new ≤ length rows + length xs) same few)
     (subst (λ xs. AreNumbers new xs more (length xs)) same are)
     kept
-    (subst (λ (xs : List Call). (s : Scripts) (p : ℕ) (read : ℕ → ℕ) → IsSound s → sets ≡ s.sets → xs ≡ calls_of s p → read p ≡ 0 → AreRead s read rows → AreRead s (update read p (length xs)) new) same read)
+    (subst (λ (xs : List Call). (s : Scripts) (p : ℕ) (read : ℕ → ℕ) → IsSound s → sets ≡ s.sets → xs ≡ written_calls s p → read p ≡ 0 → AreRead s read rows → AreRead s (update read p (length xs)) new) same read)

@@ -11,7 +11,7 @@ use Rattle.wire_types.specs.declared.Call.TheVariants.{Fence}
 use Rattle.wire_rehearsal.specs.Scripts.{Scripts, IsSound, calls_in, call_at, set_at}
 use Rattle.wire_rehearsal.specs.Planned.{plan_of}
 use Rattle.wire_fence.specs.declared.register.Row.{Row}
-use Rattle.wire_fence.specs.Fences.{FenceInfo, FenceTable, IsFenceOf, IsFence, AreFencesOf, is_reached, fence_at, number_at, fence_over, fence_count, calls_of}
+use Rattle.wire_fence.specs.Fences.{FenceInfo, FenceTable, IsFenceOf, IsFence, AreFencesOf, is_reached, fence_at, number_at, fence_over, fence_count, written_calls}
 use Rattle.wire_fence.specs.Reading.{says_to}
 use Rattle.wire_fence.specs.Rows.{info_of, HasRow, read_count, read_to, IsRead, AreRead, IsNumber, AreAllNumbers}
 use Rattle.wire_fence.proofs.Counts.{all_same, all_by_count}
@@ -19,12 +19,12 @@ use Rattle.wire_fence.proofs.Events.{all_arrivals, all_say}
 
 -- all calls
 abbrev all_calls : Scripts → ℕ → ℕ
-all_calls s m = length (calls_of s m)
+all_calls s m = length (written_calls s m)
 
 read_all : (s : Scripts) (m : ℕ) → read_to s (length s.processes) m ≡ all_calls s m
 read_all s m = elim (cases_lt m (length s.processes)) [
-  | inl low ↦ ap (λ b. cond b (length (calls_of s m)) 0) (lt-ltb m (length s.processes) low)
-  | inr past ↦ ap (λ b. cond b (length (calls_of s m)) 0) (le-ltb m (length s.processes) past) ∙ sym (ap (λ o. length (calls_in o)) (slice_get_past s.processes m past))
+  | inl low ↦ ap (λ b. cond b (length (written_calls s m)) 0) (lt-ltb m (length s.processes) low)
+  | inr past ↦ ap (λ b. cond b (length (written_calls s m)) 0) (le-ltb m (length s.processes) past) ∙ sym (ap (λ o. length (calls_in o)) (slice_get_past s.processes m past))
 ]
 
 none_missing : (a b n : ℕ) → a + b ≡ n → (a == 0) ≡ (b == n)
@@ -44,7 +44,7 @@ info_is s sound row is =
     in
     let says : row.collects ≡ is_collecting (plan_of s) members row.nth =
     is.collects
-    ∙ all_same (λ m. says_to row.set row.nth (calls_of s m) (all_calls s m)) (λ m. collects (plan_of s) m members row.nth (event_count (plan_of s) m)) (λ m. sym (all_say s m row.set row.nth sound is.of_set)) members
+    ∙ all_same (λ m. says_to row.set row.nth (written_calls s m) (all_calls s m)) (λ m. collects (plan_of s) m members row.nth (event_count (plan_of s) m)) (λ m. sym (all_say s m row.set row.nth sound is.of_set)) members
     in
     λ t. record { set = row.set; nth = row.nth; members = members; full = full t; collects = says t }
 
@@ -83,10 +83,10 @@ module _ (s : Scripts) (sound : IsSound s) (rows : List Row) (numbers : List (Li
   call_is p c k collect is =
       let low = calls_there p c (Fence k collect) is in
       let of_process = numbered.each p low in
-      let within = slice_get_within (calls_of s p) c (Fence k collect) is in
-      let number = subst (λ o. IsNumber rows (calls_of s p) c o (get_or (get_or numbers p []) c None)) is (of_process.each c within) in
+      let within = slice_get_within (written_calls s p) c (Fence k collect) is in
+      let number = subst (λ o. IsNumber rows (written_calls s p) c o (get_or (get_or numbers p []) c None)) is (of_process.each c within) in
       let has = number.2 in
-      let j = fence_count k (take (suc c) (calls_of s p)) in
+      let j = fence_count k (take (suc c) (written_calls s p)) in
       record {
         number = number.0;
         is = number.1;
@@ -100,8 +100,8 @@ module _ (s : Scripts) (sound : IsSound s) (rows : List Row) (numbers : List (Li
   number_is p c number is = elim (cases_lt p (length s.processes)) [
     | inl low ↦
         let of_process = numbered.each p low in
-        elim (cases_lt c (length (calls_of s p))) [
-          | inl within ↦ fence_call rows (calls_of s p) c number (slice_get (calls_of s p) c) (get_or (get_or numbers p []) c None) (of_process.each c within) is
+        elim (cases_lt c (length (written_calls s p))) [
+          | inl within ↦ fence_call rows (written_calls s p) c number (slice_get (written_calls s p) c) (get_or (get_or numbers p []) c None) (of_process.each c within) is
           | inr past ↦ let count = of_process.count in absurd (none-some number (sym (get_or_past (get_or numbers p []) c None (omega (arith, count, past))) ∙ is))
         ]
     | inr past ↦

@@ -1,6 +1,6 @@
 -- Who has arrived at the fences, in a cut: so many events of each process are done.
 use Rattle.std.specs.Prelude.{◌≡◌, ℕ, suc, ◌+◌, ◌-◌, List, Bool, true, Some, length, count_by, nat_le, set, slice_index_or}
-use Rattle.wire_runs.specs.Plan.{Arrive, event_at}
+use Rattle.wire_runs.specs.Plan.{Arrive, kind_at}
 use Rattle.wire_runs.specs.Fences.{arrivals, is_member}
 use Rattle.wire_rehearsal.specs.Scripts.{Scripts}
 use Rattle.wire_rehearsal.specs.Planned.{plan_of}
@@ -28,6 +28,6 @@ pub record IsArriving (s : Scripts) (cut : ℕ → ℕ) (table : FenceTable) (nu
   pub fence : FenceInfo
   pub there : fence_at table number ≡ Some fence
   pub collect : Bool
-  pub event : event_at (plan_of s) p (cut p) ≡ Some (Arrive fence.members collect)
+  pub event : kind_at (plan_of s) p (cut p) ≡ Some (Arrive fence.members collect)
   pub member : is_member fence.members p ≡ true
   pub nth : arrivals (plan_of s) p fence.members (suc (cut p)) ≡ fence.nth

@@ -71,15 +71,15 @@ is_over set _ = false
 abbrev pub fence_count : ℕ → List Call → ℕ
 fence_count set calls = count_by (is_over set) calls
 
-abbrev pub calls_of : Scripts → ℕ → List Call
-calls_of s p = calls_in (slice_get s.processes p)
+abbrev pub written_calls : Scripts → ℕ → List Call
+written_calls s p = calls_in (slice_get s.processes p)
 
 -- the number is that of the fence of this call: the set of the call, and how many fences over it the process has called up to
 -- this one
 pub record IsFenceOf (s : Scripts) (table : FenceTable) (p c set : ℕ) : Type 0 where
   pub number : ℕ
   pub is : number_at table p c ≡ Some number
-  pub fence : fence_at table number ≡ Some (fence_over s set (fence_count set (take (suc c) (calls_of s p))))
+  pub fence : fence_at table number ≡ Some (fence_over s set (fence_count set (take (suc c) (written_calls s p))))
 
 -- the fence is one over a set of the scripts
 pub record IsFence (s : Scripts) (fence : FenceInfo) : Type 0 where

@@ -6,7 +6,7 @@ use Rattle.wire_types.specs.declared.Call.TheVariants.{Fence}
 use Rattle.wire_rehearsal.specs.Scripts.{Process, Scripts, calls_in, set_at}
 use Rattle.wire_fence.specs.declared.register.Row.{Row}
 use Rattle.wire_fence.specs.declared.register.Register.{Register}
-use Rattle.wire_fence.specs.Fences.{FenceInfo, fence_count, calls_of}
+use Rattle.wire_fence.specs.Fences.{FenceInfo, fence_count, written_calls}
 use Rattle.wire_fence.specs.Reading.{says_to}
 
 -- the fence that a row is of, once all calls are read
@@ -50,14 +50,14 @@ IsAfter sets _ rows counts number new now = (number ≡ None) × (new ≡ rows) 
 
 -- how many of a process's calls are read
 abbrev pub read_count : Scripts → (ℕ → ℕ) → ℕ → ℕ → ℕ
-read_count s read m set_of_call = fence_count set_of_call (take (read m) (calls_of s m))
+read_count s read m set_of_call = fence_count set_of_call (take (read m) (written_calls s m))
 
 -- the row tells of the calls that are read, so many of each process
 pub record IsRead (s : Scripts) (read : ℕ → ℕ) (row : Row) : Type 0 where
   pub of_set : row.set < length s.sets
   pub from_one : 0 < row.nth
   pub missing : row.missing + count_by (λ m. nat_le row.nth (read_count s read m row.set)) (set_at s.sets row.set) ≡ length (set_at s.sets row.set)
-  pub collects : row.collects ≡ list_all (λ m. says_to row.set row.nth (calls_of s m) (read m)) (set_at s.sets row.set)
+  pub collects : row.collects ≡ list_all (λ m. says_to row.set row.nth (written_calls s m) (read m)) (set_at s.sets row.set)
 
 -- the rows are those of the fences that are read, each once
 pub record AreRead (s : Scripts) (read : ℕ → ℕ) (rows : List Row) : Type 0 where
@@ -82,4 +82,4 @@ pub record AreAllNumbers (rows : List Row) (processes : List Process) (numbers :
 
 -- all calls of the first processes
 abbrev pub read_to : Scripts → ℕ → ℕ → ℕ
-read_to s n m = if nat_lt m n then length (calls_of s m) else 0
+read_to s n m = if nat_lt m n then length (written_calls s m) else 0

@@ -4,7 +4,7 @@ ghost use Rattle.std.specs.Prelude.{◌≡◌, ◌+◌, ◌<◌, ◌≤◌, ◌^
 ghost use Rattle.wire_types.specs.declared.Call.TheVariants.{Fence as TheFence};
 ghost use Rattle.wire_runs.specs.Plan.{update};
 ghost use Rattle.wire_rehearsal.specs.Scripts.{Scripts, IsSound, IsCounted, numbers_of, call_at, set_at};
-ghost use Rattle.wire_fence.specs.Fences.{calls_of};
+ghost use Rattle.wire_fence.specs.Fences.{written_calls};
 ghost use Rattle.wire_fence.specs.Rows.{IsKeyed, HasRow, IsCalled, IsAfter, AreNumbers, AreAllNumbers, AreRead, read_to, called};
 
 use indexmap::IndexSet;
@@ -130,7 +130,7 @@ impl Register {
         ensures numbers { IfOk result (λ numbers. AreNumbers self.new.rows.items calls.now numbers.items (length calls.now)) }
         ensures kept { OnOk result ((m k j : ℕ) → HasRow self.old.rows.items m k j → HasRow self.new.rows.items m k j) }
         ensures read { OnOk result ((s : Scripts) (p : ℕ) (read : ℕ → ℕ) → IsSound s → map (λ v. numbers_of v.items) sets.now ≡ s.sets
-            → calls.now ≡ calls_of s p → read p ≡ 0 → AreRead s read self.old.rows.items → AreRead s (update read p (length calls.now)) self.new.rows.items) }
+            → calls.now ≡ written_calls s p → read p ≡ 0 → AreRead s read self.old.rows.items → AreRead s (update read p (length calls.now)) self.new.rows.items) }
     {
         let mut counts = vec![in alloc; 0; sets.len()]?;
         let mut numbers = Vec::with_capacity(alloc, calls.len())?;

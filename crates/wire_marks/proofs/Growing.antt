@@ -3,31 +3,31 @@ use Rattle.std.proofs.Common.{◌≡◌, ◌⊎◌, ◌↔◌, inl, inr, ℕ, ze
 use Rattle.std.specs.Prelude.{slice_get}
 use Rattle.std.proofs.lemmas.Bool.{cases_eq, cases_lt, true≢false}
 use Rattle.std.proofs.lemmas.Option.{slice_get_past, slice_get_within, same_Some}
-use Rattle.wire_runs.specs.Plan.{Place}
-use Rattle.wire_runs.specs.Plan.{Plan, Event, event, event_count, process_count, events, process_events}
+use Rattle.wire_runs.specs.Plan.{Event}
+use Rattle.wire_runs.specs.Plan.{Plan, Kind, kind, event_count, process_count, kinds, process_kinds}
 use Rattle.wire_runs.specs.Order.{Edge, may_come, Live, Before, edge, further}
 use Rattle.wire_runs.proofs.Basics.{event_within}
 use Rattle.wire_runs.proofs.Due.{live_source, live_may, place_path}
 use Rattle.wire_runs.proofs.Histories.{no_cycle, before_live}
 use Rattle.wire_marks.specs.Clocks.{items_at}
 use Rattle.wire_marks.specs.Clocks.{Clocks, marked_count, number_at, base_at, own_of, clock_over, clock_of, IsClock, AreMarks}
-use Rattle.wire_marks.specs.Marking.{IsReady, IsStuck, AreBased, AreClocks, next_of, IsStuckAt, IsNextBase, sum_to, left, IsGrown, Adds}
+use Rattle.wire_marks.specs.Marking.{IsReady, IsStuck, AreBased, AreClocks, next_of, IsStuckAt, IsNextBase, sum_to, unmarked, IsGrown, Adds}
 use Rattle.wire_marks.proofs.Marking.{ready_live, live_marked, clock_step, leads_on}
 use Rattle.wire_marks.proofs.Tables.{slice_get-append_left, slice_get-append_last}
 
 -- what may come is an event of the plan
-come_event : (plan : Plan) (y : Place) (o : Option Event) → may_come plan y o ≡ true → (e : Event) × (o ≡ Some e)
+come_event : (plan : Plan) (y : Event) (o : Option Kind) → may_come plan y o ≡ true → (e : Kind) × (o ≡ Some e)
 come_event plan y None h = absurd (true≢false (sym h))
 come_event plan y (Some e) h = (e, refl)
 
-pub come_within : (plan : Plan) (y : Place) → may_come plan y (event plan y) ≡ true → y.at < event_count plan y.proc
-come_within plan y h = let v = come_event plan y (event plan y) h in event_within plan y.proc y.at v.0 v.1
+pub come_within : (plan : Plan) (y : Event) → may_come plan y (kind plan y) ≡ true → y.at < event_count plan y.proc
+come_within plan y h = let v = come_event plan y (kind plan y) h in event_within plan y.proc y.at v.0 v.1
 
 pub event_process : (plan : Plan) (p i : ℕ) → i < event_count plan p → p < process_count plan
-unfolding event_count events
+unfolding event_count kinds
 event_process plan p i lt = elim (cases_lt p (process_count plan)) [
   | inl h ↦ h
-  | inr ge ↦ absurd (let past = slice_get_past plan.processes p ge in let e : length (process_events (slice_get plan.processes p)) ≡ 0 = rw past refl in omega (arith, lt, e))
+  | inr ge ↦ absurd (let past = slice_get_past plan.processes p ge in let e : length (process_kinds (slice_get plan.processes p)) ≡ 0 = rw past refl in omega (arith, lt, e))
 ]
 
 -- a process with a next event is one of the plan's
@@ -35,7 +35,7 @@ pub next_there : (plan : Plan) (clocks : Clocks) (p n : ℕ) → IsNextBase plan
 next_there plan clocks p n next = event_process plan p (marked_count clocks p) (come_within plan (next_of clocks p) next.ready.comes)
 
 -- the same clock
-pub same_clock : (plan : Plan) (y : Place) (c d : ℕ → ℕ) → ((q : ℕ) → d q ≡ c q) → IsClock plan y c → IsClock plan y d
+pub same_clock : (plan : Plan) (y : Event) (c d : ℕ → ℕ) → ((q : ℕ) → d q ≡ c q) → IsClock plan y c → IsClock plan y d
 same_clock plan y c d same h = record {
   only = λ x lt. h.only x (let e = same x.proc in omega (arith, lt, e));
   all = λ x l. let e = same x.proc in let lt = h.all x l in omega (arith, lt, e);
@@ -43,8 +43,8 @@ same_clock plan y c d same h = record {
 
 -- what is marked keeps its clock, and a base its numbers
 pub record Keeps (old new : Clocks) : Type 0 where
-  pub marked : (y : Place) → y.at < marked_count old y.proc → y.at < marked_count new y.proc
-  pub clocks : (y : Place) → y.at < marked_count old y.proc → (q : ℕ) → clock_of new y q ≡ clock_of old y q
+  pub marked : (y : Event) → y.at < marked_count old y.proc → y.at < marked_count new y.proc
+  pub clocks : (y : Event) → y.at < marked_count old y.proc → (q : ℕ) → clock_of new y q ≡ clock_of old y q
   pub more : length old.bases.items ≤ length new.bases.items
   pub bases : (n : ℕ) → n < length old.bases.items → items_at new.bases.items n ≡ items_at old.bases.items n
 
@@ -52,14 +52,14 @@ module _ (old new : Clocks) (based : AreBased old) (grown : IsGrown old new) whe
   pub count_grown : (p : ℕ) → marked_count new p ≡ marked_count old p
   count_grown p = ap (λ ns. length (items_at ns p)) grown.numbers
 
-  number_grown : (y : Place) → number_at new y ≡ number_at old y
+  number_grown : (y : Event) → number_at new y ≡ number_at old y
   number_grown y = ap (λ ns. slice_get (items_at ns y.proc) y.at) grown.numbers
 
-  over_grown : (y : Place) (q : ℕ) (o : Option ℕ) → number_at old y ≡ o → clock_over new y o q ≡ clock_over old y o q
+  over_grown : (y : Event) (q : ℕ) (o : Option ℕ) → number_at old y ≡ o → clock_over new y o q ≡ clock_over old y o q
   over_grown y q None e = refl
   over_grown y q (Some n) e = ap (λ b. max (slice_index b q) (own_of y q)) (grown.bases n (based.there y n e))
 
-  pub clock_grown : (y : Place) (q : ℕ) → clock_of new y q ≡ clock_of old y q
+  pub clock_grown : (y : Event) (q : ℕ) → clock_of new y q ≡ clock_of old y q
   clock_grown y q = ap (λ o. clock_over new y o q) (number_grown y) ∙ over_grown y q (number_at old y) refl
 
   pub grown_keeps : Keeps old new
@@ -85,7 +85,7 @@ module _ (plan : Plan) (old new : Clocks) (p n : ℕ) (there : p < process_count
   count_other : (q : ℕ) → (q ≡ p → ⊥) → marked_count new q ≡ marked_count old q
   count_other q ne = ap length (adds.others q ne)
 
-  was_or_next : (y : Place) → y.at < marked_count new y.proc → (y.at < marked_count old y.proc) ⊎ (y ≡ next_of old p)
+  was_or_next : (y : Event) → y.at < marked_count new y.proc → (y.at < marked_count old y.proc) ⊎ (y ≡ next_of old p)
   was_or_next y lt = elim (cases_eq y.proc p) [
     | inl e ↦
         let now : marked_count new y.proc ≡ suc (marked_count old p) = rw e count_here in
@@ -97,7 +97,7 @@ module _ (plan : Plan) (old new : Clocks) (p n : ℕ) (there : p < process_count
     | inr ne ↦ let c = count_other y.proc ne in inl (omega (arith, c, lt))
   ]
 
-  marked_up : (y : Place) → y.at < marked_count old y.proc → y.at < marked_count new y.proc
+  marked_up : (y : Event) → y.at < marked_count old y.proc → y.at < marked_count new y.proc
   marked_up y lt = elim (cases_eq y.proc p) [
     | inl e ↦
         let now : marked_count new y.proc ≡ suc (marked_count old p) = rw e count_here in
@@ -109,7 +109,7 @@ module _ (plan : Plan) (old new : Clocks) (p n : ℕ) (there : p < process_count
   number_here : number_at new (next_of old p) ≡ Some n
   number_here = ap (λ ns. slice_get ns (marked_count old p)) adds.here ∙ slice_get-append_last (items_at old.numbers.items p) n (marked_count old p) refl
 
-  number_kept : (y : Place) → y.at < marked_count old y.proc → number_at new y ≡ number_at old y
+  number_kept : (y : Event) → y.at < marked_count old y.proc → number_at new y ≡ number_at old y
   number_kept y lt = elim (cases_eq y.proc p) [
     | inl e ↦
         let lt' : y.at < marked_count old p = subst (λ q. y.at < marked_count old q) e lt in
@@ -118,11 +118,11 @@ module _ (plan : Plan) (old new : Clocks) (p n : ℕ) (there : p < process_count
     | inr ne ↦ ap (λ ns. slice_get ns y.at) (adds.others y.proc ne)
   ]
 
-  over_kept : (y : Place) (q : ℕ) (o : Option ℕ) → clock_over new y o q ≡ clock_over old y o q
+  over_kept : (y : Event) (q : ℕ) (o : Option ℕ) → clock_over new y o q ≡ clock_over old y o q
   over_kept y q None = refl
   over_kept y q (Some m) = ap (λ bases. max (slice_index (items_at bases m) q) (own_of y q)) adds.bases
 
-  clock_kept : (y : Place) → y.at < marked_count old y.proc → (q : ℕ) → clock_of new y q ≡ clock_of old y q
+  clock_kept : (y : Event) → y.at < marked_count old y.proc → (q : ℕ) → clock_of new y q ≡ clock_of old y q
   clock_kept y lt q = ap (λ o. clock_over new y o q) (number_kept y lt) ∙ over_kept y q (number_at old y)
 
   clock_here : (q : ℕ) → clock_of new (next_of old p) q ≡ max (base_at old n q) (own_of (next_of old p) q)
@@ -185,14 +185,14 @@ module _ (plan : Plan) (old new : Clocks) (p n : ℕ) (there : p < process_count
     | inr ne ↦ let a = sum_falls n f g (omega arith) less other in let b = other n (λ same. ne (sym same)) in omega (arith, a, b)
   ]
 
-  pub left_falls : left plan new < left plan old
+  pub left_falls : unmarked plan new < unmarked plan old
   left_falls =
       let within = come_within plan (next_of old p) next.ready.comes in
       let here = count_here in
       sum_falls (process_count plan) _ _ there (omega (arith, within, here)) (λ q ne. ap (λ n. event_count plan q - n) (count_other q ne))
 
 -- what is left is told by what is marked
-pub left_same : (plan : Plan) (old new : Clocks) → new.numbers.items ≡ old.numbers.items → left plan new ≡ left plan old
+pub left_same : (plan : Plan) (old new : Clocks) → new.numbers.items ≡ old.numbers.items → unmarked plan new ≡ unmarked plan old
 left_same plan old new same = ap (λ ns. sum_to (process_count plan) (λ p. event_count plan p - length (items_at ns p))) same
 
 pub stuck_same : (plan : Plan) (old new : Clocks) (p : ℕ) → new.numbers.items ≡ old.numbers.items → IsStuckAt plan old p → IsStuckAt plan new p
@@ -207,15 +207,15 @@ marks_whole plan clocks sound stuck = record { live = λ y. (sound.live y, all_m
         let within = event_process plan y.proc y.at (come_within plan y ready.comes) in
         stuck y.proc within (subst (λ z. IsReady plan (marked_count clocks) z) (place_path y y.proc _ refl e) ready)
 
-    all_marked : (y : Place) → Live plan y → y.at < marked_count clocks y.proc
+    all_marked : (y : Event) → Live plan y → y.at < marked_count clocks y.proc
     all_marked y l = live_marked plan (marked_count clocks) none_ready l
 
 -- an event that isn't marked counts none
-pub clock_past : (clocks : Clocks) (y : Place) (q : ℕ) → marked_count clocks y.proc ≤ y.at → clock_of clocks y q ≡ 0
+pub clock_past : (clocks : Clocks) (y : Event) (q : ℕ) → marked_count clocks y.proc ≤ y.at → clock_of clocks y q ≡ 0
 clock_past clocks y q ge = ap (λ o. clock_over clocks y o q) (slice_get_past (items_at clocks.numbers.items y.proc) y.at ge)
 
 -- what the clock says, for two places
-pub before_told : (plan : Plan) (clocks : Clocks) (x y : Place) → AreMarks plan clocks → (x ≡ y → ⊥) → x.at < clock_of clocks y x.proc → Before plan x y
+pub before_told : (plan : Plan) (clocks : Clocks) (x y : Event) → AreMarks plan clocks → (x ≡ y → ⊥) → x.at < clock_of clocks y x.proc → Before plan x y
 before_told plan clocks x y m ne lt =
     let marked : y.at < marked_count clocks y.proc = elim (cases_lt y.at (marked_count clocks y.proc)) [
       | inl h ↦ h
@@ -223,17 +223,17 @@ before_told plan clocks x y m ne lt =
     ] in
     elim ((m.told y ((m.live y).0 marked)).only x lt) [ inl e ↦ absurd (ne e) | inr b ↦ b ]
 
-pub before_tells : (plan : Plan) (clocks : Clocks) (x y : Place) → AreMarks plan clocks → Live plan y → Before plan x y → x.at < clock_of clocks y x.proc
+pub before_tells : (plan : Plan) (clocks : Clocks) (x y : Event) → AreMarks plan clocks → Live plan y → Before plan x y → x.at < clock_of clocks y x.proc
 before_tells plan clocks x y m l b = (m.told y l).all x (inr b)
 
-pub after_live : {plan : Plan} {x y : Place} → Before plan x y → Live plan y
+pub after_live : {plan : Plan} {x y : Event} → Before plan x y → Live plan y
 after_live (edge l e m) = m
 after_live (further b e m) = m
 
-pub never_self : (plan : Plan) (x y : Place) → x ≡ y → Before plan x y → ⊥
+pub never_self : (plan : Plan) (x y : Event) → x ≡ y → Before plan x y → ⊥
 never_self plan x y e b = no_cycle (before_live b) (subst (λ z. Before plan x z) (sym e) b)
 
-pub before_iff : (plan : Plan) (clocks : Clocks) (x y : Place) → AreMarks plan clocks → (x ≡ y → ⊥) → (x.at < clock_of clocks y x.proc) ↔ Before plan x y
+pub before_iff : (plan : Plan) (clocks : Clocks) (x y : Event) → AreMarks plan clocks → (x ≡ y → ⊥) → (x.at < clock_of clocks y x.proc) ↔ Before plan x y
 before_iff plan clocks x y m ne = (before_told plan clocks x y m ne, λ b. before_tells plan clocks x y m (after_live b) b)
 
 sum_le : (n : ℕ) (f g : ℕ → ℕ) → ((q : ℕ) → g q ≤ f q) → sum_to n g ≤ sum_to n f
@@ -248,7 +248,7 @@ sum_less (suc n) p f g lt less le = elim (cases_eq p n) [
 ]
 
 -- a source has the lower clock
-pub clock_falls : (plan : Plan) (clocks : Clocks) (z y : Place) → AreMarks plan clocks → Live plan y → Edge plan z y → sum_to (process_count plan) (clock_of clocks z) < sum_to (process_count plan) (clock_of clocks y)
+pub clock_falls : (plan : Plan) (clocks : Clocks) (z y : Event) → AreMarks plan clocks → Live plan y → Edge plan z y → sum_to (process_count plan) (clock_of clocks z) < sum_to (process_count plan) (clock_of clocks y)
 clock_falls plan clocks z y m l e =
     sum_less (process_count plan) y.proc (clock_of clocks y) (clock_of clocks z) (event_process plan y.proc y.at (come_within plan y (live_may l)))
     (elim (cases_lt y.at (clock_of clocks z y.proc)) [
@@ -257,7 +257,7 @@ clock_falls plan clocks z y m l e =
     ])
     (λ q. elim (cases_lt (clock_of clocks y q) (clock_of clocks z q)) [
       | inl lt ↦ absurd (
-          let x : Place = record { proc = q; at = clock_of clocks y q } in
+          let x : Event = record { proc = q; at = clock_of clocks y q } in
           let b = leads_on plan x z y (live_source l e) ((m.told z (live_source l e)).only x lt) e l in
           let more = (m.told y l).all x (inr b) in
           omega (arith, more))

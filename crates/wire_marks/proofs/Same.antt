@@ -2,24 +2,24 @@
 use Rattle.std.proofs.Common.{◌≡◌, ◌⊎◌, inl, inr, ℕ, zero, suc, List, [], ◌∷◌, Some, refl, sym, ap, ◌∙◌, subst, arith}
 use Rattle.std.specs.Prelude.{slice_get}
 use Rattle.std.proofs.lemmas.Option.{slice_get_within, same_Some}
-use Rattle.wire_runs.specs.Plan.{Place}
+use Rattle.wire_runs.specs.Plan.{Event}
 use Rattle.wire_runs.specs.EventLists.{IsLower, AreAll}
 
-lower_both : (x y : Place) → IsLower x y → IsLower y x → ⊥
+lower_both : (x y : Event) → IsLower x y → IsLower y x → ⊥
 lower_both x y (inl a) (inl b) = omega (arith, a, b)
 lower_both x y (inl a) (inr b) = let e = b.0 in omega (arith, a, e)
 lower_both x y (inr a) (inl b) = let e = a.0 in omega (arith, e, b)
 lower_both x y (inr a) (inr b) = let f = a.1 in let g = b.1 in omega (arith, f, g)
 
-lower_self : (x : Place) → IsLower x x → ⊥
+lower_self : (x : Event) → IsLower x x → ⊥
 lower_self x l = lower_both x x l l
 
-pub at_head : (y z : Place) (ys : List Place) (k : ℕ) → slice_get (y ∷ ys) k ≡ Some z → (z ≡ y) ⊎ ((j : ℕ) × (k ≡ suc j) × (slice_get ys j ≡ Some z))
+pub at_head : (y z : Event) (ys : List Event) (k : ℕ) → slice_get (y ∷ ys) k ≡ Some z → (z ≡ y) ⊎ ((j : ℕ) × (k ≡ suc j) × (slice_get ys j ≡ Some z))
 at_head y z ys zero e = inl (sym (same_Some _ _ e))
 at_head y z ys (suc j) e = inr (j, refl, e)
 
 -- the lower end of both lists
-same_head : (holds : Place → Type 0) (x y : Place) (xs ys : List Place) → AreAll holds (x ∷ xs) → AreAll holds (y ∷ ys) → x ≡ y
+same_head : (holds : Event → Type 0) (x y : Event) (xs ys : List Event) → AreAll holds (x ∷ xs) → AreAll holds (y ∷ ys) → x ≡ y
 same_head holds x y xs ys a b =
     let here = b.all x (a.only 0 x refl) in
     let there = a.all y (b.only 0 y refl) in
@@ -31,17 +31,17 @@ same_head holds x y xs ys a b =
       ]
     ]
 
-rest_all : (holds : Place → Type 0) (x : Place) (xs : List Place) → AreAll holds (x ∷ xs) → AreAll (λ z. holds z × (z ≡ x → ⊥)) xs
+rest_all : (holds : Event → Type 0) (x : Event) (xs : List Event) → AreAll holds (x ∷ xs) → AreAll (λ z. holds z × (z ≡ x → ⊥)) xs
 rest_all holds x xs a = record {
   only = λ k z e. (a.only (suc k) z e, λ same. lower_self x (subst (λ v. IsLower x v) same (a.rising 0 (suc k) x z (omega arith) refl e)));
   all = λ z h. let w = a.all z h.0 in elim (at_head x z xs w.0 w.1) [ inl e ↦ absurd (h.1 e) | inr r ↦ (r.0, r.2) ];
   rising = λ k l y z lt e f. a.rising (suc k) (suc l) y z (omega (arith, lt)) e f;
 }
 
-pub same_places : (holds : Place → Type 0) (xs ys : List Place) → AreAll holds xs → AreAll holds ys → xs ≡ ys
+pub same_places : (holds : Event → Type 0) (xs ys : List Event) → AreAll holds xs → AreAll holds ys → xs ≡ ys
 same_places holds [] [] a b = refl
-same_places holds [] (y ∷ ys) a b = absurd (let w = a.all y (b.only 0 y refl) in let lt = slice_get_within {A = Place} [] w.0 y w.1 in omega (arith, lt))
-same_places holds (x ∷ xs) [] a b = absurd (let w = b.all x (a.only 0 x refl) in let lt = slice_get_within {A = Place} [] w.0 x w.1 in omega (arith, lt))
+same_places holds [] (y ∷ ys) a b = absurd (let w = a.all y (b.only 0 y refl) in let lt = slice_get_within {A = Event} [] w.0 y w.1 in omega (arith, lt))
+same_places holds (x ∷ xs) [] a b = absurd (let w = b.all x (a.only 0 x refl) in let lt = slice_get_within {A = Event} [] w.0 x w.1 in omega (arith, lt))
 same_places holds (x ∷ xs) (y ∷ ys) a b =
     let heads = same_head holds x y xs ys a b in
     let tails = same_places (λ z. holds z × (z ≡ x → ⊥)) xs ys (rest_all holds x xs a) (subst (λ h. AreAll (λ z. holds z × (z ≡ h → ⊥)) ys) (sym heads) (rest_all holds y ys b)) in

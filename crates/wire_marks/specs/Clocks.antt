@@ -1,7 +1,7 @@
 -- What the marks of a plan are: how many events of each process are live, and a clock for each of them.
 use Rattle.std.specs.Prelude.{◌≡◌, ◌⊎◌, ◌↔◌, ◌<◌, ◌==◌, ℕ, suc, List, [], Option, Some, None, Vec, max, length, slice_get, slice_index, if◌then◌else◌}
 use Rattle.std.specs.declared.alloc.Global.{Global}
-use Rattle.wire_runs.specs.Plan.{Plan, Place}
+use Rattle.wire_runs.specs.Plan.{Plan, Event}
 use Rattle.wire_runs.specs.Order.{Live, Before}
 use Rattle.wire_marks.specs.declared.clocks.Clocks.{Clocks as Kept}
 
@@ -22,7 +22,7 @@ abbrev pub marked_count : Clocks → ℕ → ℕ
 marked_count clocks p = length (items_at clocks.numbers.items p)
 
 -- the number of the base of y, if y is marked
-abbrev pub number_at : Clocks → Place → Option ℕ
+abbrev pub number_at : Clocks → Event → Option ℕ
 number_at clocks y = slice_get (items_at clocks.numbers.items y.proc) y.at
 
 -- what a base says of the process q
@@ -30,33 +30,33 @@ abbrev pub base_at : Clocks → ℕ → ℕ → ℕ
 base_at clocks n q = slice_index (items_at clocks.bases.items n) q
 
 -- how many events of the process q are y or stand before y in its process
-abbrev pub own_of : Place → ℕ → ℕ
+abbrev pub own_of : Event → ℕ → ℕ
 own_of y q = if q == y.proc then suc y.at else 0
 
 -- the clock of y over the base of this number
-abbrev pub clock_over : Clocks → Place → Option ℕ → ℕ → ℕ
+abbrev pub clock_over : Clocks → Event → Option ℕ → ℕ → ℕ
 clock_over clocks y None q = 0
 clock_over clocks y (Some n) q = max (base_at clocks n q) (own_of y q)
 
 -- what the clock of y says of the process q, 0 where y isn't marked
-abbrev pub clock_of : Clocks → Place → ℕ → ℕ
+abbrev pub clock_of : Clocks → Event → ℕ → ℕ
 clock_of clocks y q = clock_over clocks y (number_at clocks y) q
 
 -- x is y, or before it
-abbrev pub LeadsTo : Plan → Place → Place → Type 0
+abbrev pub LeadsTo : Plan → Event → Event → Type 0
 LeadsTo plan x y = (x ≡ y) ⊎ Before plan x y
 
 -- the clock counts, of each process, its events that are y or before y
-pub record IsClock (plan : Plan) (y : Place) (clock : ℕ → ℕ) : Type 0 where
-  pub only : (x : Place) → x.at < clock x.proc → LeadsTo plan x y
-  pub all : (x : Place) → LeadsTo plan x y → x.at < clock x.proc
+pub record IsClock (plan : Plan) (y : Event) (clock : ℕ → ℕ) : Type 0 where
+  pub only : (x : Event) → x.at < clock x.proc → LeadsTo plan x y
+  pub all : (x : Event) → LeadsTo plan x y → x.at < clock x.proc
 
 -- the number is how many events of the process q are y or before y; it is 0 where y isn't live
-pub record IsClockOf (plan : Plan) (y : Place) (q number : ℕ) : Type 0 where
-  pub counts : Live plan y → (x : Place) → x.proc ≡ q → (x.at < number) ↔ LeadsTo plan x y
+pub record IsClockOf (plan : Plan) (y : Event) (q number : ℕ) : Type 0 where
+  pub counts : Live plan y → (x : Event) → x.proc ≡ q → (x.at < number) ↔ LeadsTo plan x y
   pub dead : (Live plan y → ⊥) → number ≡ 0
 
 -- the marks are this plan's
 pub record AreMarks (plan : Plan) (clocks : Clocks) : Type 0 where
-  pub live : (y : Place) → (y.at < marked_count clocks y.proc) ↔ Live plan y
-  pub told : (y : Place) → Live plan y → IsClock plan y (clock_of clocks y)
+  pub live : (y : Event) → (y.at < marked_count clocks y.proc) ↔ Live plan y
+  pub told : (y : Event) → Live plan y → IsClock plan y (clock_of clocks y)

@@ -1,30 +1,30 @@
 -- How the marks grow: for the contracts of private functions.
 use Rattle.std.specs.Prelude.{Some, None, Option, ◌≡◌, ◌≢◌, ◌⊎◌, ◌<◌, ◌≤◌, ◌+◌, ◌-◌, ◌^◌, zero, ◌++◌, ◌∷◌, [], ℕ, suc, true, max, length}
-use Rattle.wire_runs.specs.Plan.{Plan, Place, event, event_count, process_count}
+use Rattle.wire_runs.specs.Plan.{Plan, Event, kind, event_count, process_count}
 use Rattle.wire_runs.specs.Order.{Edge, may_come, Live}
 use Rattle.wire_marks.specs.Clocks.{items_at, Clocks, marked_count, number_at, base_at, own_of, clock_of, IsClock}
 
 -- the event may come, and all its sources are marked
-pub record IsReady (plan : Plan) (count : ℕ → ℕ) (y : Place) : Type 0 where
-  pub comes : may_come plan y (event plan y) ≡ true
-  pub sources : (z : Place) → Edge plan z y → z.at < count z.proc
+pub record IsReady (plan : Plan) (count : ℕ → ℕ) (y : Event) : Type 0 where
+  pub comes : may_come plan y (kind plan y) ≡ true
+  pub sources : (z : Event) → Edge plan z y → z.at < count z.proc
 
 -- each marked event is live
 abbrev pub AllLive : Plan → (ℕ → ℕ) → Type 0
-AllLive plan count = (y : Place) → y.at < count y.proc → Live plan y
+AllLive plan count = (y : Event) → y.at < count y.proc → Live plan y
 
 -- no process has a next event that is ready
 abbrev pub IsStuck : Plan → (ℕ → ℕ) → Type 0
-IsStuck plan count = (y : Place) → y.at ≡ count y.proc → IsReady plan count y → ⊥
+IsStuck plan count = (y : Event) → y.at ≡ count y.proc → IsReady plan count y → ⊥
 
 -- the base counts only what the sources of y count, and with y's own process all of that
-pub record IsBase (plan : Plan) (clock : Place → ℕ → ℕ) (y : Place) (base : ℕ → ℕ) : Type 0 where
-  pub from : (q n : ℕ) → n < base q → (z : Place) × Edge plan z y × (n < clock z q)
-  pub covers : (q : ℕ) (z : Place) → Edge plan z y → clock z q ≤ max (base q) (own_of y q)
+pub record IsBase (plan : Plan) (clock : Event → ℕ → ℕ) (y : Event) (base : ℕ → ℕ) : Type 0 where
+  pub from : (q n : ℕ) → n < base q → (z : Event) × Edge plan z y × (n < clock z q)
+  pub covers : (q : ℕ) (z : Event) → Edge plan z y → clock z q ≤ max (base q) (own_of y q)
 
 -- the numbers are those of bases, the first base is empty, and all numbers fit
 pub record AreBased (clocks : Clocks) : Type 0 where
-  pub there : (y : Place) (n : ℕ) → number_at clocks y ≡ Some n → n < length clocks.bases.items
+  pub there : (y : Event) (n : ℕ) → number_at clocks y ≡ Some n → n < length clocks.bases.items
   pub widths : (n : ℕ) → length (items_at clocks.bases.items n) ≤ length clocks.numbers.items
   pub first : items_at clocks.bases.items 0 ≡ []
   pub some : 0 < length clocks.bases.items
@@ -35,10 +35,10 @@ pub record AreClocks (plan : Plan) (clocks : Clocks) : Type 0 where
   pub processes : length clocks.numbers.items ≡ process_count plan
   pub based : AreBased clocks
   pub live : AllLive plan (marked_count clocks)
-  pub told : (y : Place) → y.at < marked_count clocks y.proc → IsClock plan y (clock_of clocks y)
+  pub told : (y : Event) → y.at < marked_count clocks y.proc → IsClock plan y (clock_of clocks y)
 
 -- the process's next event
-abbrev pub next_of : Clocks → ℕ → Place
+abbrev pub next_of : Clocks → ℕ → Event
 next_of clocks p = record { proc = p; at = marked_count clocks p }
 
 -- the process's next event isn't ready
@@ -57,8 +57,8 @@ sum_to zero f = 0
 sum_to (suc n) f = sum_to n f + f n
 
 -- how many events aren't marked
-abbrev pub left : Plan → Clocks → ℕ
-left plan clocks = sum_to (process_count plan) (λ p. event_count plan p - marked_count clocks p)
+abbrev pub unmarked : Plan → Clocks → ℕ
+unmarked plan clocks = sum_to (process_count plan) (λ p. event_count plan p - marked_count clocks p)
 
 -- no event more is marked, and no base is another
 pub record IsGrown (old new : Clocks) : Type 0 where
@@ -78,17 +78,17 @@ number_or_first None = 0
 number_or_first (Some n) = n
 
 -- the number of the base of the event before, the first one where there is none
-abbrev pub number_before : Clocks → Option Place → ℕ
+abbrev pub number_before : Clocks → Option Event → ℕ
 number_before clocks None = 0
 number_before clocks (Some z) = number_or_first (number_at clocks z)
 
 -- whether z counts the event x
-abbrev pub Counts : Clocks → Option Place → Place → Type 0
+abbrev pub Counts : Clocks → Option Event → Event → Type 0
 Counts clocks None x = ⊥
 Counts clocks (Some z) x = x.at < clock_of clocks z x.proc
 
 -- the base of the event before, raised to the clock of what is awaited where that event doesn't count it
-pub record IsRaised (clocks : Clocks) (previous awaited : Option Place) (base : ℕ → ℕ) : Type 0 where
-  pub from : (q n : ℕ) → n < base q → (n < base_at clocks (number_before clocks previous) q) ⊎ ((z : Place) × (awaited ≡ Some z) × (n < clock_of clocks z q))
+pub record IsRaised (clocks : Clocks) (previous awaited : Option Event) (base : ℕ → ℕ) : Type 0 where
+  pub from : (q n : ℕ) → n < base q → (n < base_at clocks (number_before clocks previous) q) ⊎ ((z : Event) × (awaited ≡ Some z) × (n < clock_of clocks z q))
   pub keeps : (q : ℕ) → base_at clocks (number_before clocks previous) q ≤ base q
-  pub covers : (z : Place) → awaited ≡ Some z → Counts clocks previous z ⊎ ((q : ℕ) → clock_of clocks z q ≤ base q)
+  pub covers : (z : Event) → awaited ≡ Some z → Counts clocks previous z ⊎ ((q : ℕ) → clock_of clocks z q ≤ base q)

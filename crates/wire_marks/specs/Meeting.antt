@@ -1,6 +1,6 @@
 -- What is kept of each fence: how many of its arrivals are marked, and then the join of their clocks: for the contracts of private functions.
 use Rattle.std.specs.Prelude.{◌≡◌, ◌≢◌, ◌⊎◌, ◌<◌, ◌≤◌, ℕ, List, Option, Some, None, length, slice_get, MatchOption}
-use Rattle.wire_runs.specs.Plan.{Plan, Place, Leave, event}
+use Rattle.wire_runs.specs.Plan.{Plan, Event, Leave, kind}
 use Rattle.wire_rehearsal.specs.Scripts.{Scripts}
 use Rattle.wire_rehearsal.specs.Planned.{plan_of}
 use Rattle.wire_fence.specs.Fences.{FenceInfo, FenceTable, fence_at}
@@ -12,22 +12,22 @@ use Rattle.wire_marks.specs.Marking.{AreClocks}
 use Rattle.wire_marks.specs.declared.joins.Meeting.{Meeting}
 
 -- each of the first n places is marked
-abbrev pub AreMarked : Clocks → List Place → ℕ → Type 0
-AreMarked clocks places n = (k : ℕ) (z : Place) → k < n → slice_get places k ≡ Some z → z.at < marked_count clocks z.proc
+abbrev pub AreMarked : Clocks → List Event → ℕ → Type 0
+AreMarked clocks places n = (k : ℕ) (z : Event) → k < n → slice_get places k ≡ Some z → z.at < marked_count clocks z.proc
 
 -- the clock is the least that is not below those of the first n places
-pub record IsJoin (clocks : Clocks) (places : List Place) (n : ℕ) (clock : ℕ → ℕ) : Type 0 where
-  pub from : (q m : ℕ) → m < clock q → (k : ℕ) × (z : Place) × (k < n) × (slice_get places k ≡ Some z) × (m < clock_of clocks z q)
-  pub covers : (q k : ℕ) (z : Place) → k < n → slice_get places k ≡ Some z → clock_of clocks z q ≤ clock q
+pub record IsJoin (clocks : Clocks) (places : List Event) (n : ℕ) (clock : ℕ → ℕ) : Type 0 where
+  pub from : (q m : ℕ) → m < clock q → (k : ℕ) × (z : Event) × (k < n) × (slice_get places k ≡ Some z) × (m < clock_of clocks z q)
+  pub covers : (q k : ℕ) (z : Event) → k < n → slice_get places k ≡ Some z → clock_of clocks z q ≤ clock q
 
 -- all these places are marked, and the base of this number is the join of their clocks
-pub record IsJoined (clocks : Clocks) (places : List Place) (n : ℕ) : Type 0 where
+pub record IsJoined (clocks : Clocks) (places : List Event) (n : ℕ) : Type 0 where
   pub there : n < length clocks.bases.items
   pub marked : AreMarked clocks places (length places)
   pub join : IsJoin clocks places (length places) (base_at clocks n)
 
 -- so many of these arrivals are marked, and the base that is kept, if any, is the join of their clocks
-pub record IsMeeting (clocks : Clocks) (places : List Place) (meeting : Meeting) : Type 0 where
+pub record IsMeeting (clocks : Clocks) (places : List Event) (meeting : Meeting) : Type 0 where
   pub marked : AreMarked clocks places meeting.count
   pub joined : (n : ℕ) → meeting.base ≡ Some n → IsJoined clocks places n
 
@@ -36,13 +36,13 @@ pub record IsEmpty (meeting : Meeting) : Type 0 where
   pub none : meeting.base ≡ None
 
 -- what is kept by the number of a fence, if anything, is of these arrivals
-abbrev pub IsMeetingAt : Clocks → List Meeting → ℕ → List Place → Type 0
+abbrev pub IsMeetingAt : Clocks → List Meeting → ℕ → List Event → Type 0
 IsMeetingAt clocks meetings n places = (meeting : Meeting) → slice_get meetings n ≡ Some meeting → IsMeeting clocks places meeting
 
 -- what is kept by the number of a fence is of the arrivals at it
 abbrev pub AreMeetings : Plan → FenceTable → Clocks → List Meeting → Type 0
 AreMeetings plan table clocks meetings =
-    (n : ℕ) (info : FenceInfo) (places : List Place) →
+    (n : ℕ) (info : FenceInfo) (places : List Event) →
     fence_at table n ≡ Some info → AreArrivals plan info.members info.nth places → IsMeetingAt clocks meetings n places
 
 -- what holds of both while they grow
@@ -51,14 +51,14 @@ pub record AreGrowing (plan : Plan) (table : FenceTable) (clocks : Clocks) (meet
   pub kept : AreMeetings plan table clocks meetings
 
 -- the event at y is the end of the fence of this number
-pub record IsEnd (s : Scripts) (table : FenceTable) (y : Place) (number : ℕ) : Type 0 where
+pub record IsLeaveOf (s : Scripts) (table : FenceTable) (y : Event) (number : ℕ) : Type 0 where
   pub members : List ℕ
-  pub is : event (plan_of s) y ≡ Some (Leave members)
+  pub is : kind (plan_of s) y ≡ Some (Leave members)
   pub met : IsMet s table y number
 
 -- the fence whose end the event at y is, if it is one
-abbrev pub IsEndOf : Scripts → FenceTable → Place → Option FenceId → Type 0
-IsEndOf s table y fence = MatchOption fence ((members : List ℕ) → event (plan_of s) y ≡ Some (Leave members) → ⊥) (λ f. IsEnd s table y f.number)
+abbrev pub IsEndOf : Scripts → FenceTable → Event → Option FenceId → Type 0
+IsEndOf s table y fence = MatchOption fence ((members : List ℕ) → kind (plan_of s) y ≡ Some (Leave members) → ⊥) (λ f. IsLeaveOf s table y f.number)
 
 -- of the other fences only what is empty is new
 abbrev pub AreOthersKept : List Meeting → List Meeting → ℕ → Type 0

@@ -1,35 +1,35 @@
 -- The chain that is shown.
 use Rattle.std.specs.Prelude.{◌≡◌, ◌⊎◌, ◌<◌, ◌≤◌, ◌++◌, ◌∷◌, [], List, Option, MatchOption}
-use Rattle.wire_runs.specs.Plan.{Plan, Place}
+use Rattle.wire_runs.specs.Plan.{Plan, Event}
 use Rattle.wire_runs.specs.Order.{Edge, Before}
 use Rattle.wire_runs.specs.Fate.{IsIn}
 use Rattle.wire_marks.specs.Clocks.{LeadsTo}
 
 -- z stands at w or below it, by process and number
-abbrev pub AtMost : Place → Place → Type 0
+abbrev pub AtMost : Event → Event → Type 0
 AtMost z w = (z.proc < w.proc) ⊎ ((z.proc ≡ w.proc) × (z.at ≤ w.at))
 
 -- z is the lowest of y's sources that is x or that x is before
-pub record IsStepBack (plan : Plan) (x y z : Place) : Type 0 where
+pub record IsStepBack (plan : Plan) (x y z : Event) : Type 0 where
   pub source : Edge plan z y
   pub leads : LeadsTo plan x z
-  pub lowest : (w : Place) → Edge plan w y → LeadsTo plan x w → AtMost z w
+  pub lowest : (w : Event) → Edge plan w y → LeadsTo plan x w → AtMost z w
 
 -- the chain from x to y in which each event but x stands after the lowest of its sources that is x or that x is before
-pub data IsShown (plan : Plan) (x : Place) : Place → List Place → Type 0 where
+pub data IsShown (plan : Plan) (x : Event) : Event → List Event → Type 0 where
   begins : IsShown plan x x (x ∷ [])
-  goes_on : {y z : Place} {chain : List Place} → IsShown plan x z chain → IsStepBack plan x y z → IsShown plan x y (chain ++ y ∷ [])
+  goes_on : {y z : Event} {chain : List Event} → IsShown plan x z chain → IsStepBack plan x y z → IsShown plan x y (chain ++ y ∷ [])
 
 -- two events have one shown chain
 abbrev pub OneShown : Type 0
-OneShown = (plan : Plan) (x y : Place) (a b : List Place) → Before plan x y → IsShown plan x y a → IsShown plan x y b → a ≡ b
+OneShown = (plan : Plan) (x y : Event) (a b : List Event) → Before plan x y → IsShown plan x y a → IsShown plan x y b → a ≡ b
 
 -- the lowest of these places that is x or that x is before
-pub record IsLowest (plan : Plan) (x : Place) (places : List Place) (z : Place) : Type 0 where
+pub record IsLowest (plan : Plan) (x : Event) (places : List Event) (z : Event) : Type 0 where
   pub source : IsIn z places
   pub leads : LeadsTo plan x z
-  pub lowest : (w : Place) → IsIn w places → LeadsTo plan x w → AtMost z w
+  pub lowest : (w : Event) → IsIn w places → LeadsTo plan x w → AtMost z w
 
 -- what is known once these places are looked at
-abbrev pub Lowest : Plan → Place → List Place → Option Place → Type 0
-Lowest plan x places found = MatchOption found ((w : Place) → IsIn w places → LeadsTo plan x w → ⊥) (λ z. IsLowest plan x places z)
+abbrev pub Lowest : Plan → Event → List Event → Option Event → Type 0
+Lowest plan x places found = MatchOption found ((w : Event) → IsIn w places → LeadsTo plan x w → ⊥) (λ z. IsLowest plan x places z)

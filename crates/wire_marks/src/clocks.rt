@@ -2,7 +2,8 @@
 //! count the same share a base.
 
 ghost use Rattle.std.specs.Prelude.{◌≡◌, ◌<◌, ◌≤◌, ◌+◌, ◌^◌, ◌↔◌, ◌++◌, ◌∷◌, [], ℕ, Some, IsTrue, IfOk, OnOk, option_map, map, length, slice_index, max};
-ghost use Rattle.wire_runs.specs.Plan.{place_of, Place};
+ghost use Rattle.wire_runs.specs.Plan.{event_of};
+ghost use Rattle.wire_runs.specs.Plan as runs;
 ghost use Rattle.wire_marks.specs.Clocks.{items_at, marked_count, number_at, base_at, clock_of};
 ghost use Rattle.wire_marks.specs.Marking.{AreBased, IsGrown, Adds, number_before, Counts, IsRaised};
 ghost use Rattle.wire_marks.specs.Meeting.{AreMarked, IsJoin};
@@ -39,7 +40,7 @@ impl Clocks {
 
     /// Whether a source is marked, if there is one.
     pub(crate) fn is_source_marked(&self, source: Option<Event>) -> bool
-        ensures { IsTrue result ↔ ((z : Place) → option_map place_of source ≡ Some z → z.at < marked_count self.now z.proc) }
+        ensures { IsTrue result ↔ ((z : runs.Event) → option_map event_of source ≡ Some z → z.at < marked_count self.now z.proc) }
     {
         match source {
             Some(event) => self.is_marked(event),
@@ -49,7 +50,7 @@ impl Clocks {
 
     // The number of the base of an event, if it is marked.
     fn number(&self, event: Event) -> Option<usize>
-        ensures { result ≡ number_at self.now (place_of event) }
+        ensures { result ≡ number_at self.now (event_of event) }
     {
         let Some(numbers) = self.numbers.get(event.proc.index()) else {
             return None;
@@ -70,7 +71,7 @@ impl Clocks {
     /// What the clock of an event says of a process, 0 where it isn't marked.
     pub(crate) fn count(&self, event: Event, proc: Proc) -> u32
         requires { (p : ℕ) → marked_count self.now p < 2 ^ 32 }
-        ensures { result ≡ clock_of self.now (place_of event) proc.number }
+        ensures { result ≡ clock_of self.now (event_of event) proc.number }
     {
         match self.number(event) {
             Some(number) => entry(self.base(number), proc).max(own(event, proc)),
@@ -80,7 +81,7 @@ impl Clocks {
 
     // The number of the base of the event before, the first one where there is none.
     fn number_before(&self, previous: Option<Event>) -> usize
-        ensures { result ≡ number_before self.now (option_map place_of previous) }
+        ensures { result ≡ number_before self.now (option_map event_of previous) }
     {
         match previous {
             Some(event) => self.number(event).unwrap_or(0),
@@ -91,7 +92,7 @@ impl Clocks {
     // Whether the clock of the event before, if there is one, counts an event.
     fn counts(&self, previous: Option<Event>, event: Event) -> bool
         requires { (p : ℕ) → marked_count self.now p < 2 ^ 32 }
-        ensures { IsTrue result ↔ Counts self.now (option_map place_of previous) (place_of event) }
+        ensures { IsTrue result ↔ Counts self.now (option_map event_of previous) (event_of event) }
     {
         match previous {
             Some(previous) => event.at < self.count(previous, event.proc),
@@ -107,7 +108,7 @@ impl Clocks {
         requires width { length clock.old.items ≡ length self.now.numbers.items }
         requires last { (q : ℕ) → base_at self.now last q ≤ slice_index clock.old.items q }
         ensures width { length clock.new.items ≡ length clock.old.items }
-        ensures each { (q : ℕ) → slice_index clock.new.items q ≡ max (slice_index clock.old.items q) (clock_of self.now (place_of event) q) }
+        ensures each { (q : ℕ) → slice_index clock.new.items q ≡ max (slice_index clock.old.items q) (clock_of self.now (event_of event) q) }
         ensures last { (q : ℕ) → base_at self.now result q ≤ slice_index clock.new.items q }
     {
         let number = self.number(event).unwrap();
@@ -121,9 +122,9 @@ impl Clocks {
     /// The join of the clocks of marked events.
     pub(crate) fn join(&self, alloc: Global, events: &[Event]) -> Result<Vec<u32>, AllocError>
         requires based { AreBased self.now }
-        requires marked { AreMarked self.now (map place_of events.now) (length events.now) }
+        requires marked { AreMarked self.now (map event_of events.now) (length events.now) }
         ensures width { IfOk result (λ v. length v.items ≡ length self.now.numbers.items) }
-        ensures join { IfOk result (λ v. IsJoin self.now (map place_of events.now) (length events.now) (λ q. slice_index v.items q)) }
+        ensures join { IfOk result (λ v. IsJoin self.now (map event_of events.now) (length events.now) (λ q. slice_index v.items q)) }
     {
         let mut clock = no_clock(alloc, self.numbers.len())?;
         let mut last = 0;
@@ -138,7 +139,7 @@ impl Clocks {
         requires based { AreBased self.now }
         requires marked { event.at < marked_count self.now event.proc.number }
         ensures width { IfOk result (λ v. length v.items ≡ length self.now.numbers.items) }
-        ensures each { IfOk result (λ v. (q : ℕ) → slice_index v.items q ≡ max (base_at self.now number q) (clock_of self.now (place_of event) q)) }
+        ensures each { IfOk result (λ v. (q : ℕ) → slice_index v.items q ≡ max (base_at self.now number q) (clock_of self.now (event_of event) q)) }
     {
         let mut clock = no_clock(alloc, self.numbers.len())?;
         raise(&mut clock, self.base(number));
@@ -169,11 +170,11 @@ impl Clocks {
         awaited: Option<Event>,
     ) -> Result<usize, AllocError>
         requires based { AreBased self.old }
-        requires awaited { (z : Place) → option_map place_of awaited ≡ Some z → z.at < marked_count self.old z.proc }
+        requires awaited { (z : runs.Event) → option_map event_of awaited ≡ Some z → z.at < marked_count self.old z.proc }
         ensures based { OnOk result (AreBased self.new) }
         ensures grown { OnOk result (IsGrown self.old self.new) }
         ensures there { IfOk result (λ n. n < length self.new.bases.items) }
-        ensures raised { IfOk result (λ n. IsRaised self.old (option_map place_of previous) (option_map place_of awaited) (base_at self.new n)) }
+        ensures raised { IfOk result (λ n. IsRaised self.old (option_map event_of previous) (option_map event_of awaited) (base_at self.new n)) }
     {
         let number = self.number_before(previous);
         let Some(event) = awaited else {

@@ -6,7 +6,7 @@ ghost use Rattle.wire_runs.specs.Plan.{process_count};
 ghost use Rattle.wire_rehearsal.specs.Planned.{plan_of};
 ghost use Rattle.wire_fence.specs.Fences.{AreFencesOf};
 ghost use Rattle.wire_marks.specs.Clocks.{items_at, marked_count, AreMarks};
-ghost use Rattle.wire_marks.specs.Marking.{AreClocks, IsStuckAt, IsNextBase, left};
+ghost use Rattle.wire_marks.specs.Marking.{AreClocks, IsStuckAt, IsNextBase, unmarked};
 ghost use Rattle.wire_marks.specs.Meeting.{AreGrowing};
 
 use crate::clocks::Clocks;
@@ -99,7 +99,7 @@ fn mark_next(
     requires fences { AreFencesOf plan.now fences.now }
     requires growing { AreGrowing (plan_of plan.now) fences.now clocks.old meetings.old.items }
     ensures growing { OnOk result (AreGrowing (plan_of plan.now) fences.now clocks.new meetings.new.items) }
-    ensures falls { IfOk result (λ b. OnTrue b (left (plan_of plan.now) clocks.new < left (plan_of plan.now) clocks.old)) }
+    ensures falls { IfOk result (λ b. OnTrue b (unmarked (plan_of plan.now) clocks.new < unmarked (plan_of plan.now) clocks.old)) }
     ensures same { IfOk result (λ b. OnFalse b (clocks.new.numbers.items ≡ clocks.old.numbers.items)) }
     ensures stuck { IfOk result (λ b. OnFalse b (IsStuckAt (plan_of plan.now) clocks.new proc.number)) }
 {
@@ -122,8 +122,8 @@ fn mark_run(
     requires fences { AreFencesOf plan.now fences.now }
     requires growing { AreGrowing (plan_of plan.now) fences.now clocks.old meetings.old.items }
     ensures growing { OnOk result (AreGrowing (plan_of plan.now) fences.now clocks.new meetings.new.items) }
-    ensures not_more { OnOk result (left (plan_of plan.now) clocks.new ≤ left (plan_of plan.now) clocks.old) }
-    ensures falls { IfOk result (λ b. OnTrue b (left (plan_of plan.now) clocks.new < left (plan_of plan.now) clocks.old)) }
+    ensures not_more { OnOk result (unmarked (plan_of plan.now) clocks.new ≤ unmarked (plan_of plan.now) clocks.old) }
+    ensures falls { IfOk result (λ b. OnTrue b (unmarked (plan_of plan.now) clocks.new < unmarked (plan_of plan.now) clocks.old)) }
     ensures same { IfOk result (λ b. OnFalse b (clocks.new.numbers.items ≡ clocks.old.numbers.items)) }
     ensures stuck { OnOk result (IsStuckAt (plan_of plan.now) clocks.new proc.number) }
 {
@@ -145,8 +145,8 @@ fn pass(
     requires fences { AreFencesOf plan.now fences.now }
     requires growing { AreGrowing (plan_of plan.now) fences.now clocks.old meetings.old.items }
     ensures growing { OnOk result (AreGrowing (plan_of plan.now) fences.now clocks.new meetings.new.items) }
-    ensures not_more { OnOk result (left (plan_of plan.now) clocks.new ≤ left (plan_of plan.now) clocks.old) }
-    ensures falls { IfOk result (λ b. OnTrue b (left (plan_of plan.now) clocks.new < left (plan_of plan.now) clocks.old)) }
+    ensures not_more { OnOk result (unmarked (plan_of plan.now) clocks.new ≤ unmarked (plan_of plan.now) clocks.old) }
+    ensures falls { IfOk result (λ b. OnTrue b (unmarked (plan_of plan.now) clocks.new < unmarked (plan_of plan.now) clocks.old)) }
     ensures stuck { IfOk result (λ b. OnFalse b ((p : ℕ) → p < process_count (plan_of plan.now) → IsStuckAt (plan_of plan.now) clocks.new p)) }
 {
     let mut moved = false;
@@ -170,7 +170,7 @@ fn go_back(
     requires fences { AreFencesOf plan.now fences.now }
     requires growing { AreGrowing (plan_of plan.now) fences.now clocks.old meetings.old.items }
     ensures growing { OnOk result (AreGrowing (plan_of plan.now) fences.now clocks.new meetings.new.items) }
-    ensures not_more { OnOk result (left (plan_of plan.now) clocks.new ≤ left (plan_of plan.now) clocks.old) }
+    ensures not_more { OnOk result (unmarked (plan_of plan.now) clocks.new ≤ unmarked (plan_of plan.now) clocks.old) }
 {
     for k in 0..way.len() {
         mark_run(
@@ -199,7 +199,7 @@ fn go_down(
     requires fences { AreFencesOf plan.now fences.now }
     requires growing { AreGrowing (plan_of plan.now) fences.now clocks.old meetings.old.items }
     ensures growing { OnOk result (AreGrowing (plan_of plan.now) fences.now clocks.new meetings.new.items) }
-    ensures not_more { OnOk result (left (plan_of plan.now) clocks.new ≤ left (plan_of plan.now) clocks.old) }
+    ensures not_more { OnOk result (unmarked (plan_of plan.now) clocks.new ≤ unmarked (plan_of plan.now) clocks.old) }
 {
     let mut proc = first;
     for _step in 0..plan.process_count() {
@@ -227,7 +227,7 @@ fn hurry(
     requires fences { AreFencesOf plan.now fences.now }
     requires growing { AreGrowing (plan_of plan.now) fences.now clocks.old meetings.old.items }
     ensures growing { OnOk result (AreGrowing (plan_of plan.now) fences.now clocks.new meetings.new.items) }
-    ensures not_more { OnOk result (left (plan_of plan.now) clocks.new ≤ left (plan_of plan.now) clocks.old) }
+    ensures not_more { OnOk result (unmarked (plan_of plan.now) clocks.new ≤ unmarked (plan_of plan.now) clocks.old) }
 {
     let mut way = Way::new(alloc, plan.process_count() as usize)?;
     for number in 0..plan.process_count() {

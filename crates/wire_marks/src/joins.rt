@@ -3,7 +3,8 @@
 
 ghost use Rattle.std.specs.Prelude.{◌≡◌, ◌<◌, ◌≤◌, ℕ, Some, length, map, IfOk, IfSome, OnOk, MatchOption, slice_get};
 ghost use Rattle.std.specs.Bool.{OnTrue, OnFalse};
-ghost use Rattle.wire_runs.specs.Plan.{Place, place_of, event_count};
+ghost use Rattle.wire_runs.specs.Plan.{event_of, event_count};
+ghost use Rattle.wire_runs.specs.Plan as runs;
 ghost use Rattle.wire_rehearsal.specs.Planned.{plan_of};
 ghost use Rattle.wire_fence.specs.Fences.{AreFencesOf};
 ghost use Rattle.wire_marks.specs.Marking.{AreBased, IsGrown};
@@ -34,10 +35,10 @@ fn arrival_at(arrivals: &[Event], k: usize) -> Event
 impl Meeting {
     // Counts further arrivals, as far as they are marked. Whether all of them are.
     fn count_on(&mut self, clocks: &Clocks, arrivals: &[Event]) -> bool
-        requires { IsMeeting clocks.now (map place_of arrivals.now) self.old }
-        ensures kept { IsMeeting clocks.now (map place_of arrivals.now) self.new }
-        ensures all { OnTrue result (AreMarked clocks.now (map place_of arrivals.now) (length arrivals.now)) }
-        ensures missing { OnFalse result (AreMarked clocks.now (map place_of arrivals.now) (length arrivals.now) → ⊥) }
+        requires { IsMeeting clocks.now (map event_of arrivals.now) self.old }
+        ensures kept { IsMeeting clocks.now (map event_of arrivals.now) self.new }
+        ensures all { OnTrue result (AreMarked clocks.now (map event_of arrivals.now) (length arrivals.now)) }
+        ensures missing { OnFalse result (AreMarked clocks.now (map event_of arrivals.now) (length arrivals.now) → ⊥) }
     {
         'met: while self.count < arrivals.len() {
             if !clocks.is_marked(arrival_at(arrivals, self.count)) {
@@ -56,12 +57,12 @@ impl Meeting {
         arrivals: &[Event],
     ) -> Result<usize, AllocError>
         requires based { AreBased clocks.old }
-        requires kept { IsMeeting clocks.old (map place_of arrivals.now) self.old }
-        requires marked { AreMarked clocks.old (map place_of arrivals.now) (length arrivals.now) }
+        requires kept { IsMeeting clocks.old (map event_of arrivals.now) self.old }
+        requires marked { AreMarked clocks.old (map event_of arrivals.now) (length arrivals.now) }
         ensures based { OnOk result (AreBased clocks.new) }
         ensures grown { OnOk result (IsGrown clocks.old clocks.new) }
-        ensures kept { OnOk result (IsMeeting clocks.new (map place_of arrivals.now) self.new) }
-        ensures joined { IfOk result (λ n. IsJoined clocks.new (map place_of arrivals.now) n) }
+        ensures kept { OnOk result (IsMeeting clocks.new (map event_of arrivals.now) self.new) }
+        ensures joined { IfOk result (λ n. IsJoined clocks.new (map event_of arrivals.now) n) }
     {
         if let Some(number) = self.base {
             return Ok(number);
@@ -80,12 +81,12 @@ impl Meeting {
         arrivals: &[Event],
     ) -> Result<Option<usize>, AllocError>
         requires based { AreBased clocks.old }
-        requires kept { IsMeeting clocks.old (map place_of arrivals.now) self.old }
+        requires kept { IsMeeting clocks.old (map event_of arrivals.now) self.old }
         ensures based { OnOk result (AreBased clocks.new) }
         ensures grown { OnOk result (IsGrown clocks.old clocks.new) }
-        ensures kept { OnOk result (IsMeeting clocks.new (map place_of arrivals.now) self.new) }
-        ensures met { IfOk result (λ o. MatchOption o (AreMarked clocks.old (map place_of arrivals.now) (length arrivals.now) → ⊥)
-            (λ n. IsJoined clocks.new (map place_of arrivals.now) n)) }
+        ensures kept { OnOk result (IsMeeting clocks.new (map event_of arrivals.now) self.new) }
+        ensures met { IfOk result (λ o. MatchOption o (AreMarked clocks.old (map event_of arrivals.now) (length arrivals.now) → ⊥)
+            (λ n. IsJoined clocks.new (map event_of arrivals.now) n)) }
     {
         if !self.count_on(clocks, arrivals) {
             return Ok(None);
@@ -118,13 +119,13 @@ pub(crate) fn meet(
     arrivals: &[Event],
 ) -> Result<Option<usize>, AllocError>
     requires based { AreBased clocks.old }
-    requires kept { IsMeetingAt clocks.old meetings.old.items fence.number (map place_of arrivals.now) }
+    requires kept { IsMeetingAt clocks.old meetings.old.items fence.number (map event_of arrivals.now) }
     ensures based { OnOk result (AreBased clocks.new) }
     ensures grown { OnOk result (IsGrown clocks.old clocks.new) }
-    ensures kept { OnOk result (IsMeetingAt clocks.new meetings.new.items fence.number (map place_of arrivals.now)) }
+    ensures kept { OnOk result (IsMeetingAt clocks.new meetings.new.items fence.number (map event_of arrivals.now)) }
     ensures others { OnOk result (AreOthersKept meetings.old.items meetings.new.items fence.number) }
-    ensures met { IfOk result (λ o. MatchOption o (AreMarked clocks.old (map place_of arrivals.now) (length arrivals.now) → ⊥)
-        (λ n. IsJoined clocks.new (map place_of arrivals.now) n)) }
+    ensures met { IfOk result (λ o. MatchOption o (AreMarked clocks.old (map event_of arrivals.now) (length arrivals.now) → ⊥)
+        (λ n. IsJoined clocks.new (map event_of arrivals.now) n)) }
 {
     add_meetings(meetings, fence)?;
     let met = meetings[fence.number as usize].meet(alloc, clocks, arrivals)?;
@@ -133,7 +134,7 @@ pub(crate) fn meet(
 
 /// The process of the first arrival at a fence that isn't met, if there is one.
 pub(crate) fn missing_at(meetings: &[Meeting], fence: FenceId, arrivals: &[Event]) -> Option<Proc>
-    ensures { IfSome result (λ p. (k : ℕ) × (z : Place) × (slice_get (map place_of arrivals.now) k ≡ Some z) × (z.proc ≡ p.number)) }
+    ensures { IfSome result (λ p. (k : ℕ) × (z : runs.Event) × (slice_get (map event_of arrivals.now) k ≡ Some z) × (z.proc ≡ p.number)) }
 {
     let Some(meeting) = meetings.get(fence.number as usize) else {
         return None;
@@ -148,7 +149,7 @@ pub(crate) fn missing_at(meetings: &[Meeting], fence: FenceId, arrivals: &[Event
 pub(crate) fn fence_ended(plan: &Plan, fences: &Fences, event: Event) -> Option<FenceId>
     requires fences { AreFencesOf plan.now fences.now }
     requires there { event.at < event_count (plan_of plan.now) event.proc.number }
-    ensures { IsEndOf plan.now fences.now (place_of event) result }
+    ensures { IsEndOf plan.now fences.now (event_of event) result }
 {
     match plan.kind(event) {
         Kind::Leave { .. } => Some(fence_of(plan, fences, event)),

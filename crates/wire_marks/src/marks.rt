@@ -1,7 +1,8 @@
 //! The marks of a plan.
 
 ghost use Rattle.std.specs.Prelude.{◌≡◌, ◌↔◌, IsTrue, IfOk, IsOkUnless, MatchOption, map};
-ghost use Rattle.wire_runs.specs.Plan.{Plan as ThePlan, place_of};
+ghost use Rattle.wire_runs.specs.Plan.{event_of};
+ghost use Rattle.wire_runs.specs.Plan as runs;
 ghost use Rattle.wire_rehearsal.specs.Planned.{plan_of};
 ghost use Rattle.wire_runs.specs.Order.{Live, Before};
 ghost use Rattle.wire_marks.specs.Clocks.{AreMarks, IsClockOf};
@@ -45,21 +46,21 @@ impl Marks {
 
     /// Whether an event is live: it may come, and all that it waits for is live.
     pub fn live(&self, event: Event) -> bool
-        ensures { (plan : ThePlan) → AreMarks plan self.now → (IsTrue result ↔ Live plan (place_of event)) }
+        ensures { (plan : runs.Plan) → AreMarks plan self.now → (IsTrue result ↔ Live plan (event_of event)) }
     {
         self.clocks.is_marked(event)
     }
 
     /// Whether there is a chain from x to y, through live events.
     pub fn before(&self, x: Event, y: Event) -> bool
-        ensures { (plan : ThePlan) → AreMarks plan self.now → (IsTrue result ↔ Before plan (place_of x) (place_of y)) }
+        ensures { (plan : runs.Plan) → AreMarks plan self.now → (IsTrue result ↔ Before plan (event_of x) (event_of y)) }
     {
         !is_same(x, y) && x.at < self.clocks.count(y, x.proc)
     }
 
     /// How many events of a process are this one or before it, 0 where it isn't live.
     pub fn clock(&self, event: Event, proc: Proc) -> u32
-        ensures { (plan : ThePlan) → AreMarks plan self.now → IsClockOf plan (place_of event) proc.number result }
+        ensures { (plan : runs.Plan) → AreMarks plan self.now → IsClockOf plan (event_of event) proc.number result }
     {
         self.clocks.count(event, proc)
     }
@@ -75,8 +76,8 @@ impl Marks {
         y: Event,
     ) -> Result<Option<Vec<Event>>, Fault>
         requires { AreMarks (plan_of plan.now) self.now }
-        ensures shown { IfOk result (λ o. MatchOption o (Before (plan_of plan.now) (place_of x) (place_of y) → ⊥)
-            (λ chain. IsShown (plan_of plan.now) (place_of x) (place_of y) (map place_of chain.items) × Before (plan_of plan.now) (place_of x) (place_of y))) }
+        ensures shown { IfOk result (λ o. MatchOption o (Before (plan_of plan.now) (event_of x) (event_of y) → ⊥)
+            (λ chain. IsShown (plan_of plan.now) (event_of x) (event_of y) (map event_of chain.items) × Before (plan_of plan.now) (event_of x) (event_of y))) }
         ensures memory { IsOkUnless result Fault.Memory }
     {
         if !self.before(x, y) {

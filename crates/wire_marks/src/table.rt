@@ -1,7 +1,7 @@
 //! One clock: for each process a number.
 
 ghost use Rattle.std.specs.Prelude.{◌≡◌, ◌<◌, ◌≤◌, ◌+◌, ◌^◌, ℕ, IfOk, length, slice_index, max};
-ghost use Rattle.wire_runs.specs.Plan.{place_of};
+ghost use Rattle.wire_runs.specs.Plan.{event_of};
 ghost use Rattle.wire_marks.specs.Clocks.{own_of};
 
 use std::alloc::{AllocError, Global};
@@ -17,7 +17,7 @@ pub(crate) fn entry(clock: &[u32], proc: Proc) -> u32
 /// How many events of a process are this one or stand before it in its process.
 pub(crate) fn own(event: Event, proc: Proc) -> u32
     requires { event.at + 1 < 2 ^ 32 }
-    ensures { result ≡ own_of (place_of event) proc.number }
+    ensures { result ≡ own_of (event_of event) proc.number }
 {
     if proc.number == event.proc.number {
         event.at + 1
@@ -42,7 +42,7 @@ pub(crate) fn raise_own(clock: &mut Vec<u32>, event: Event)
     requires there { event.proc.number < length clock.old.items }
     requires fits { event.at + 1 < 2 ^ 32 }
     ensures width { length clock.new.items ≡ length clock.old.items }
-    ensures each { (q : ℕ) → slice_index clock.new.items q ≡ max (slice_index clock.old.items q) (own_of (place_of event) q) }
+    ensures each { (q : ℕ) → slice_index clock.new.items q ≡ max (slice_index clock.old.items q) (own_of (event_of event) q) }
 {
     let q = event.proc.index();
     clock[q] = clock[q].max(event.at + 1);

@@ -2,7 +2,7 @@
 //! in the end doesn't hang on it.
 
 ghost use Rattle.std.specs.Prelude.{◌≡◌, ◌++◌, ◌∷◌, [], IfOk, IfSome};
-ghost use Rattle.wire_runs.specs.Plan.{Place};
+ghost use Rattle.wire_runs.specs.Plan as runs;
 ghost use Rattle.wire_rehearsal.specs.Planned.{plan_of};
 ghost use Rattle.wire_fence.specs.Fences.{AreFencesOf};
 ghost use Rattle.wire_runs.specs.Order.{Edge};
@@ -58,7 +58,7 @@ pub(crate) fn waits_for(
     proc: Proc,
 ) -> Option<Proc>
     requires { AreFencesOf plan.now fences.now }
-    ensures { IfSome result (λ q. (z : Place) × Edge (plan_of plan.now) z (next_of clocks.now proc.number) × (z.proc ≡ q.number)) }
+    ensures { IfSome result (λ q. (z : runs.Event) × Edge (plan_of plan.now) z (next_of clocks.now proc.number) × (z.proc ≡ q.number)) }
 {
     let at = clocks.marked(proc);
     if at >= plan.event_count(proc) as usize {

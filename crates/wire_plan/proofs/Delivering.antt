@@ -1,7 +1,7 @@
 -- Which arrivals bring a key to a node.
 use Rattle.std.proofs.Common.{◌≡◌, ◌∙◌, ap, sym, subst, refl, ℕ, suc, ◌<◌, ◌≤◌, List, Bool, true, false, ◌&&◌, Some, arith, inl, inr}
 use Rattle.std.proofs.lemmas.Bool.{true≢false, cases_lt}
-use Rattle.wire_runs.specs.Plan.{Plan, Place, Arrive, event_at, event_count}
+use Rattle.wire_runs.specs.Plan.{Plan, Event, Arrive, kind_at, event_count}
 use Rattle.wire_runs.specs.Fences.{arrivals, is_full, is_collecting, has_node}
 use Rattle.wire_runs.specs.Puts.{stored}
 use Rattle.wire_rehearsal.specs.Scripts.{Scripts, set_at}
@@ -10,7 +10,7 @@ use Rattle.wire_fence.specs.Fences.{FenceTable, AreFencesOf, fence_at, fence_ove
 use Rattle.wire_runs.specs.Order.{IsArrival}
 use Rattle.wire_plan.specs.Index.{IsDelivering}
 use Rattle.wire_plan.specs.Keys.{IsSent}
-use Rattle.wire_plan.specs.Meetings.{IsMet, members_of}
+use Rattle.wire_plan.specs.Meetings.{IsMet, fence_members}
 use Rattle.wire_runs.proofs.Basics.{arrivals_step, arrivals_rise}
 use Rattle.wire_plan.proofs.KeyFacts.{event_past}
 
@@ -22,7 +22,7 @@ are_true : (a b : Bool) → a ≡ true → b ≡ true → (a && b) ≡ true
 are_true true b x y = y
 are_true false b x y = absurd (true≢false (sym x))
 
-abbrev pub here : ℕ → ℕ → Place
+abbrev pub here : ℕ → ℕ → Event
 here p at = record { proc = p; at = at }
 
 -- a process arrives at a fence once
@@ -50,7 +50,7 @@ sent_there plan p key node at d =
     record { put = d.brings.put; committed = subst (λ n. stored plan p key n ≡ Some d.brings.put) same d.brings.committed; admitted = d.brings.admitted }
 
 -- what isn't an arrival delivers nothing
-pub no_arrival_delivers : (plan : Plan) (p key node at : ℕ) → ((members : List ℕ) (collect : Bool) → event_at plan p at ≡ Some (Arrive members collect) → ⊥) → IsDelivering plan p key node at → ⊥
+pub no_arrival_delivers : (plan : Plan) (p key node at : ℕ) → ((members : List ℕ) (collect : Bool) → kind_at plan p at ≡ Some (Arrive members collect) → ⊥) → IsDelivering plan p key node at → ⊥
 no_arrival_delivers plan p key node at other d = other d.members d.arrival.collect d.arrival.is
 
 -- nor does what is past the last event
@@ -58,7 +58,7 @@ pub none_past : (plan : Plan) (p key node at : ℕ) → event_count plan p ≤ a
 none_past plan p key node at past d = let none = event_past plan p at past in let is = d.arrival.is in cc
 
 -- p's event number `at` is its arrival at the fence of this number in the table
-module _ (s : Scripts) (table : FenceTable) (fences : AreFencesOf s table) (p at number key node : ℕ) (members : List ℕ) (collect : Bool) (is : event_at (plan_of s) p at ≡ Some (Arrive members collect)) (m : IsMet s table (here p at) number) where
+module _ (s : Scripts) (table : FenceTable) (fences : AreFencesOf s table) (p at number key node : ℕ) (members : List ℕ) (collect : Bool) (is : kind_at (plan_of s) p at ≡ Some (Arrive members collect)) (m : IsMet s table (here p at) number) where
   over : m.fence ≡ fence_over s m.fence.set m.fence.nth
   over = (fences.each number m.fence m.there).is
 
@@ -75,7 +75,7 @@ module _ (s : Scripts) (table : FenceTable) (fences : AreFencesOf s table) (p at
   reaches_is = ap (reaches_in table node) m.there ∙ fences.nodes m.fence.set node ∙ ap (λ ms. has_node (plan_of s) ms node) its_set
 
   its_members : m.fence.members ≡ members
-  its_members = m.members ∙ ap members_of is
+  its_members = m.members ∙ ap fence_members is
 
   arrives : IsArrival (plan_of s) m.fence.members m.fence.nth (here p at)
   arrives = record {
@@ -106,8 +106,8 @@ module _ (s : Scripts) (table : FenceTable) (fences : AreFencesOf s table) (p at
         };
       }
 
-  same_members : (others : List ℕ) (c : Bool) → event_at (plan_of s) p at ≡ Some (Arrive others c) → others ≡ m.fence.members
-  same_members others c other = ap members_of (sym other ∙ is) ∙ sym its_members
+  same_members : (others : List ℕ) (c : Bool) → kind_at (plan_of s) p at ≡ Some (Arrive others c) → others ≡ m.fence.members
+  same_members others c other = ap fence_members (sym other ∙ is) ∙ sym its_members
 
   pub brought_where : IsDelivering (plan_of s) p key node at → (full_in (fence_at table number) && (collects_in (fence_at table number) && reaches_in table node (fence_at table number))) ≡ true
   brought_where d =

@@ -5,8 +5,8 @@ use Rattle.std.proofs.lemmas.Bool.{cond_both, cases_eq, cases_lt, true≢false, 
 use Rattle.std.proofs.lemmas.Option.{slice_get_past, same_Some}
 use Rattle.wire_types.specs.declared.Scope.{Scope}
 use Rattle.wire_types.specs.declared.Proc.{Proc}
-use Rattle.wire_types.specs.declared.Event.{Event as EventAt}
-use Rattle.wire_runs.specs.Plan.{Plan, Place, place_of, Event, Put, Commit, event_at, event_count, events, admits}
+use Rattle.wire_types.specs.declared.Event.{Event as CodeEvent}
+use Rattle.wire_runs.specs.Plan.{Plan, Event, event_of, Kind, Put, Commit, kind_at, event_count, kinds, admits}
 use Rattle.wire_runs.specs.Puts.{own_with, own, stored_with, stored, put_count, scope_of}
 use Rattle.wire_runs.specs.Order.{Stores}
 use Rattle.wire_runs.specs.Races.{IsPutOnce}
@@ -25,14 +25,14 @@ none_always f end stays past h (suc n) = elim (cases_lt n end) [
   | inr ge ↦ past n ge ∙ none_always f end stays past h n
 ]
 
-pub event_past : (plan : Plan) (p n : ℕ) → event_count plan p ≤ n → event_at plan p n ≡ None
-unfolding event_at event_count
-event_past plan p n le = slice_get_past (events plan p) n le
+pub event_past : (plan : Plan) (p n : ℕ) → event_count plan p ≤ n → kind_at plan p n ≡ None
+unfolding kind_at event_count
+event_past plan p n le = slice_get_past (kinds plan p) n le
 
 -- a key that is never put
 pub never_put : (plan : Plan) (p key n : ℕ) → put_count plan p key (event_count plan p) ≡ 0 → own plan p key n ≡ None
 never_put plan p key n h =
-    none_always (own plan p key) (event_count plan p) (own_stays (event_at plan p) key) (λ m le. ap (own_with key m (own plan p key m)) (event_past plan p m le)) (own_none (event_at plan p) key (event_count plan p) h) n
+    none_always (own plan p key) (event_count plan p) (own_stays (kind_at plan p) key) (λ m le. ap (own_with key m (own plan p key m)) (event_past plan p m le)) (own_none (kind_at plan p) key (event_count plan p) h) n
 
 pub never_put_stored : (plan : Plan) (p key n : ℕ) → put_count plan p key (event_count plan p) ≡ 0 → stored plan p key n ≡ None
 never_put_stored plan p key n h = none_or_some _ (λ s. true≢false (sym (stored_own plan p key n s) ∙ ap is_some (never_put plan p key n h)))
@@ -42,7 +42,7 @@ pub never_stored : (plan : Plan) (p key n : ℕ) → stored plan p key (event_co
 never_stored plan p key n h =
     none_always (stored plan p key) (event_count plan p) (stored_stays plan p key) (λ m le. ap (stored_with (own plan p key m) (stored plan p key m)) (event_past plan p m le)) h n
 
-pub no_store : (plan : Plan) (p key : ℕ) → stored plan p key (event_count plan p) ≡ None → (x : Place) → x.proc ≡ p → Stores plan x key → ⊥
+pub no_store : (plan : Plan) (p key : ℕ) → stored plan p key (event_count plan p) ≡ None → (x : Event) → x.proc ≡ p → Stores plan x key → ⊥
 no_store plan p key h x e s =
     true≢false (sym s.something_after ∙ ap is_some (subst (λ q. stored plan q key (suc x.at) ≡ None) (sym e) (never_stored plan p key (suc x.at) h)))
 
@@ -54,8 +54,8 @@ is_before (Some k) n = nat_lt k n
 -- a key is put exactly after its first put
 pub put_exactly : (plan : Plan) (p key i n : ℕ) → IsFirstPut plan (record { proc = p; at = i }) key → is_some (own plan p key n) ≡ nat_lt i n
 put_exactly plan p key i n first = elim (cases_lt i n) [
-  | inl lt ↦ own_stays (event_at plan p) key (suc i) n (omega (arith, lt)) (ap is_some (own_here (event_at plan p) key i first.scope first.is)) ∙ sym (lt-ltb i n lt)
-  | inr ge ↦ ap is_some (none_or_some _ (λ s. true≢false (sym (own_stays (event_at plan p) key n i ge s) ∙ ap is_some first.first))) ∙ sym (le-ltb i n ge)
+  | inl lt ↦ own_stays (kind_at plan p) key (suc i) n (omega (arith, lt)) (ap is_some (own_here (kind_at plan p) key i first.scope first.is)) ∙ sym (lt-ltb i n lt)
+  | inr ge ↦ ap is_some (none_or_some _ (λ s. true≢false (sym (own_stays (kind_at plan p) key n i ge s) ∙ ap is_some first.first))) ∙ sym (le-ltb i n ge)
 ]
 
 -- and stored exactly after its store
@@ -76,39 +76,39 @@ stored_at_all plan p key (Some c) h = elim (cases_lt c (event_count plan p)) [
 -- the last put is a put of the key
 record IsPutAt (plan : Plan) (p key put : ℕ) : Type 0 where
   pub scope : Scope
-  pub is : event_at plan p put ≡ Some (Put key scope)
+  pub is : kind_at plan p put ≡ Some (Put key scope)
 
-own_with_put : (plan : Plan) (p key n put : ℕ) (o : Option ℕ) (e : Option Event) → event_at plan p n ≡ e → (o ≡ Some put → IsPutAt plan p key put) → own_with key n o e ≡ Some put → IsPutAt plan p key put
+own_with_put : (plan : Plan) (p key n put : ℕ) (o : Option ℕ) (e : Option Kind) → kind_at plan p n ≡ e → (o ≡ Some put → IsPutAt plan p key put) → own_with key n o e ≡ Some put → IsPutAt plan p key put
 own_with_put plan p key n put o (Some (Put k scope)) is ih =
     cond_both (k == key) (Some n) o (λ v. v ≡ Some put → IsPutAt plan p key put)
-    (λ t h. record { scope = scope; is = ap (event_at plan p) (sym (same_Some n put h)) ∙ is ∙ ap (λ q. Some (Put q scope)) (eqb-true k key t) })
+    (λ t h. record { scope = scope; is = ap (kind_at plan p) (sym (same_Some n put h)) ∙ is ∙ ap (λ q. Some (Put q scope)) (eqb-true k key t) })
     (λ f h. ih h)
 own_with_put plan p key n put o _ is ih = ih
 
 own_is_put : (plan : Plan) (p key n put : ℕ) → own plan p key n ≡ Some put → IsPutAt plan p key put
 own_is_put plan p key zero put h = absurd (true≢false (sym (ap is_some h)))
-own_is_put plan p key (suc n) put h = own_with_put plan p key n put (own plan p key n) (event_at plan p n) refl (own_is_put plan p key n put) h
+own_is_put plan p key (suc n) put h = own_with_put plan p key n put (own plan p key n) (kind_at plan p n) refl (own_is_put plan p key n put) h
 
-stored_with_put : (plan : Plan) (p key n put : ℕ) (e : Option Event) → (stored plan p key n ≡ Some put → IsPutAt plan p key put) → stored_with (own plan p key n) (stored plan p key n) e ≡ Some put → IsPutAt plan p key put
+stored_with_put : (plan : Plan) (p key n put : ℕ) (e : Option Kind) → (stored plan p key n ≡ Some put → IsPutAt plan p key put) → stored_with (own plan p key n) (stored plan p key n) e ≡ Some put → IsPutAt plan p key put
 stored_with_put plan p key n put (Some Commit) ih h = own_is_put plan p key n put h
 stored_with_put plan p key n put _ ih h = ih h
 
 stored_is_put : (plan : Plan) (p key n put : ℕ) → stored plan p key n ≡ Some put → IsPutAt plan p key put
 stored_is_put plan p key zero put h = absurd (true≢false (sym (ap is_some h)))
-stored_is_put plan p key (suc n) put h = stored_with_put plan p key n put (event_at plan p n) (stored_is_put plan p key n put) h
+stored_is_put plan p key (suc n) put h = stored_with_put plan p key n put (kind_at plan p n) (stored_is_put plan p key n put) h
 
 -- of a key that is put once each put is the first
 once_first : (plan : Plan) (p key i put : ℕ) → IsPutOnce plan p key → IsFirstPut plan (record { proc = p; at = i }) key → IsPutAt plan p key put → put ≡ i
 once_first plan p key i put once first at = elim (cases_lt put i) [
-  | inl lt ↦ absurd (true≢false (sym (own_stays (event_at plan p) key (suc put) i (omega (arith, lt)) (ap is_some (own_here (event_at plan p) key put at.scope at.is))) ∙ ap is_some first.first))
+  | inl lt ↦ absurd (true≢false (sym (own_stays (kind_at plan p) key (suc put) i (omega (arith, lt)) (ap is_some (own_here (kind_at plan p) key put at.scope at.is))) ∙ ap is_some first.first))
   | inr ge ↦ elim (cases_eq put i) [
     | inl e ↦ e
     | inr ne ↦
         let within = event_within plan p put _ at.is in
-        let one = count_same (event_at plan p) key i first.scope first.is in
-        let two = count_same (event_at plan p) key put at.scope at.is in
-        let up = counts_rise (event_at plan p) key (suc i) put (omega (arith, ge, ne)) in
-        let end = counts_rise (event_at plan p) key (suc put) (event_count plan p) (omega (arith, within)) in
+        let one = count_same (kind_at plan p) key i first.scope first.is in
+        let two = count_same (kind_at plan p) key put at.scope at.is in
+        let up = counts_rise (kind_at plan p) key (suc i) put (omega (arith, ge, ne)) in
+        let end = counts_rise (kind_at plan p) key (suc put) (event_count plan p) (omega (arith, within)) in
         absurd (omega (arith, one, two, up, end, once))
   ]
 ]
@@ -140,7 +140,7 @@ pub sent_stored : (plan : Plan) (p key at : ℕ) → IsSent plan p key at → is
 sent_stored plan p key at sent = ap is_some sent.committed
 
 -- the commit that stores a key put once
-pub feeds_where : (plan : Plan) (owner : Proc) (key count : ℕ) (o : Option EventAt) → count ≡ put_count plan owner.number key (event_count plan owner.number) → count ≡ 1 → MatchOption o ((x : Place) → x.proc ≡ owner.number → Stores plan x key → ⊥) (λ x. (x.proc ≡ owner) × Stores plan (place_of x) key) → MatchOption o ((x : Place) → x.proc ≡ owner.number → IsPutOnce plan owner.number key → Stores plan x key → ⊥) (λ x. (x.proc ≡ owner) × IsPutOnce plan owner.number key × Stores plan (place_of x) key)
+pub feeds_where : (plan : Plan) (owner : Proc) (key count : ℕ) (o : Option CodeEvent) → count ≡ put_count plan owner.number key (event_count plan owner.number) → count ≡ 1 → MatchOption o ((x : Event) → x.proc ≡ owner.number → Stores plan x key → ⊥) (λ x. (x.proc ≡ owner) × Stores plan (event_of x) key) → MatchOption o ((x : Event) → x.proc ≡ owner.number → IsPutOnce plan owner.number key → Stores plan x key → ⊥) (λ x. (x.proc ≡ owner) × IsPutOnce plan owner.number key × Stores plan (event_of x) key)
 feeds_where plan owner key count None is one h = λ x same once. h x same
 feeds_where plan owner key count (Some at) is one h = (h.0, sym is ∙ one, h.1)
 
@@ -148,13 +148,13 @@ pub or_from : (a b r : Bool) → r ≡ true → r ≡ a → r ≡ (a || b)
 or_from true b r t e = e
 or_from false b r t e = absurd (true≢false (sym t ∙ e))
 
-not_later : (plan : Plan) (x y : Place) (key : ℕ) → x.proc ≡ y.proc → Stores plan x key → Stores plan y key → x.at < y.at → ⊥
+not_later : (plan : Plan) (x y : Event) (key : ℕ) → x.proc ≡ y.proc → Stores plan x key → Stores plan y key → x.at < y.at → ⊥
 not_later plan x y key e sx sy lt =
     let some : is_some (stored plan y.proc key (suc x.at)) ≡ true = subst (λ q. is_some (stored plan q key (suc x.at)) ≡ true) e sx.something_after in
     true≢false (sym (stored_stays plan y.proc key (suc x.at) y.at (omega (arith, lt)) some) ∙ ap is_some sy.nothing_before)
 
 -- only one event stores a process's key first
-pub stores_once : (plan : Plan) (x y : Place) (key : ℕ) → x.proc ≡ y.proc → Stores plan x key → Stores plan y key → x ≡ y
+pub stores_once : (plan : Plan) (x y : Event) (key : ℕ) → x.proc ≡ y.proc → Stores plan x key → Stores plan y key → x ≡ y
 stores_once plan x y key e sx sy =
     place_path x y.proc y.at e (elim (cases_lt x.at y.at) [
       | inl lt ↦ absurd (not_later plan x y key e sx sy lt)

@@ -1,7 +1,7 @@
 -- What is looked up in a plan: the sources of an event, the puts of a key, the calls on a name, and the fences that bring a key to a node.
 use Rattle.std.specs.Prelude.{◌≡◌, ◌≢◌, ℕ, zero, suc, ◌<◌, ◌≤◌, List, ◌++◌, true, Option, Some, None, map, option_map, option_to_list, slice_get, MatchOption}
-use Rattle.wire_runs.specs.Plan.{Plan, Place, Put, Get, GetNow, LookupWait, event, place_of}
-use Rattle.wire_types.specs.declared.Event.{Event}
+use Rattle.wire_runs.specs.Plan.{Plan, Event, Put, Get, GetNow, LookupWait, kind, event_of}
+use Rattle.wire_types.specs.declared.Event.{Event as CodeEvent}
 use Rattle.wire_types.specs.declared.Scope.{Scope}
 use Rattle.wire_runs.specs.Puts.{own}
 use Rattle.wire_runs.specs.Names.{calls_name}
@@ -10,54 +10,54 @@ use Rattle.wire_runs.specs.Races.{ByFence, Brings, IsPutOnce}
 use Rattle.wire_runs.specs.EventLists.{AreAll}
 
 -- these are the sources of the edges into y, and no others
-pub record AreSources (plan : Plan) (y : Place) (sources : List Place) : Type 0 where
-  pub only : (k : ℕ) (z : Place) → slice_get sources k ≡ Some z → Edge plan z y
-  pub all : (z : Place) → Edge plan z y → (k : ℕ) × (slice_get sources k ≡ Some z)
+pub record AreSources (plan : Plan) (y : Event) (sources : List Event) : Type 0 where
+  pub only : (k : ℕ) (z : Event) → slice_get sources k ≡ Some z → Edge plan z y
+  pub all : (z : Event) → Edge plan z y → (k : ℕ) × (slice_get sources k ≡ Some z)
 
 -- the event before it in its process
-abbrev pub previous_at : ℕ → ℕ → Option Place
+abbrev pub previous_at : ℕ → ℕ → Option Event
 previous_at p zero = None
 previous_at p (suc i) = Some (record { proc = p; at = i })
 
-abbrev pub previous_of : Place → Option Place
+abbrev pub previous_of : Event → Option Event
 previous_of y = previous_at y.proc y.at
 
 -- what an event waits for: the event before it, a commit or a publish, and the arrivals at a fence
-abbrev pub source_list : Option Event → Option Event → List Event → List Place
-source_list previous single arrivals = option_to_list (option_map place_of previous) ++ (option_to_list (option_map place_of single) ++ map place_of arrivals)
+abbrev pub source_list : Option CodeEvent → Option CodeEvent → List CodeEvent → List Event
+source_list previous single arrivals = option_to_list (option_map event_of previous) ++ (option_to_list (option_map event_of single) ++ map event_of arrivals)
 
 -- y is a get of another process's key that is put once, and z the commit that stores the key; or y is a waiting look-up of a
 -- name that is published once, and z that publish
-pub data Awaits (plan : Plan) (y z : Place) : Type 0 where
-  Stored : (key : ℕ) → event plan y ≡ Some (Get z.proc key) → z.proc ≢ y.proc → IsPutOnce plan z.proc key → Stores plan z key → Awaits plan y z
-  Published : (name : ℕ) → event plan y ≡ Some (LookupWait name) → PublishesOnce plan z name → Awaits plan y z
+pub data Awaits (plan : Plan) (y z : Event) : Type 0 where
+  Stored : (key : ℕ) → kind plan y ≡ Some (Get z.proc key) → z.proc ≢ y.proc → IsPutOnce plan z.proc key → Stores plan z key → Awaits plan y z
+  Published : (name : ℕ) → kind plan y ≡ Some (LookupWait name) → PublishesOnce plan z name → Awaits plan y z
 
 -- what is found, if anything, is that commit or that publish
-pub record IsAwaited (plan : Plan) (y : Place) (found : Option Place) : Type 0 where
-  pub only : (z : Place) → found ≡ Some z → Awaits plan y z
-  pub all : (z : Place) → Awaits plan y z → found ≡ Some z
+pub record IsAwaited (plan : Plan) (y : Event) (found : Option Event) : Type 0 where
+  pub only : (z : Event) → found ≡ Some z → Awaits plan y z
+  pub all : (z : Event) → Awaits plan y z → found ≡ Some z
 
 -- x is its process's first put of the key
-pub record IsFirstPut (plan : Plan) (x : Place) (key : ℕ) : Type 0 where
+pub record IsFirstPut (plan : Plan) (x : Event) (key : ℕ) : Type 0 where
   pub scope : Scope
-  pub is : event plan x ≡ Some (Put key scope)
+  pub is : kind plan x ≡ Some (Put key scope)
   pub first : own plan x.proc key x.at ≡ None
 
 -- the arrivals at the j-th fence over these members
-abbrev pub AreArrivals : Plan → List ℕ → ℕ → List Place → Type 0
+abbrev pub AreArrivals : Plan → List ℕ → ℕ → List Event → Type 0
 AreArrivals plan members j places = AreAll (IsArrival plan members j) places
 
 -- the calls on a name
-abbrev pub AreNameCalls : Plan → ℕ → List Place → Type 0
-AreNameCalls plan name places = AreAll (λ x. calls_name plan name x (event plan x) ≡ true) places
+abbrev pub AreNameCalls : Plan → ℕ → List Event → Type 0
+AreNameCalls plan name places = AreAll (λ x. calls_name plan name x (kind plan x) ≡ true) places
 
 -- x asks another process for the key and is answered at once
-pub record IsLook (plan : Plan) (key : ℕ) (x : Place) : Type 0 where
+pub record IsLook (plan : Plan) (key : ℕ) (x : Event) : Type 0 where
   pub owner : ℕ
-  pub is : event plan x ≡ Some (GetNow owner key)
+  pub is : kind plan x ≡ Some (GetNow owner key)
   pub other : x.proc ≢ owner
 
-abbrev pub AreLooks : Plan → ℕ → List Place → Type 0
+abbrev pub AreLooks : Plan → ℕ → List Event → Type 0
 AreLooks plan key places = AreAll (IsLook plan key) places
 
 -- p's event number `at` is its arrival at a fence that brings its key to the node

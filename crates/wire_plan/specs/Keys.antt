@@ -2,7 +2,7 @@
 use Rattle.std.specs.Prelude.{◌≡◌, ℕ, ◌+◌, ◌<◌, ◌≤◌, Option, Some, None, MatchOption, false, true, slice_get}
 use Rattle.std.specs.BTreeMap.{BTreeMap, get}
 use Rattle.std.specs.Ordering.{nat_cmp}
-use Rattle.wire_runs.specs.Plan.{Plan, Event, Put, Commit, event_count, admits}
+use Rattle.wire_runs.specs.Plan.{Plan, Kind, Put, Commit, event_count, admits}
 use Rattle.wire_runs.specs.Puts.{count_puts, stored, put_count, scope_of}
 use Rattle.wire_runs.specs.Order.{Stores}
 use Rattle.wire_plan.specs.Index.{IsFirstPut}
@@ -50,14 +50,14 @@ puts_in None = 0
 puts_in (Some row) = row.puts
 
 -- the first commit among the events from one number up to another
-abbrev pub IsNextCommit : (ℕ → Option Event) → ℕ → ℕ → Option ℕ → Type 0
+abbrev pub IsNextCommit : (ℕ → Option Kind) → ℕ → ℕ → Option ℕ → Type 0
 IsNextCommit events from end found =
     MatchOption found
     ((k : ℕ) → from ≤ k → k < end → events k ≡ Some Commit → ⊥)
     (λ c. (from ≤ c) × (c < end) × (events c ≡ Some Commit) × ((k : ℕ) → from ≤ k → k < c → events k ≡ Some Commit → ⊥))
 
 -- the row tells of the puts of the key among the events from one number up to another
-pub record IsRowFrom (events : ℕ → Option Event) (key from end : ℕ) (row : KeyRow) : Type 0 where
+pub record IsRowFrom (events : ℕ → Option Kind) (key from end : ℕ) (row : KeyRow) : Type 0 where
   pub puts : count_puts events key end ≡ count_puts events key from + row.puts
   pub positive : 0 < row.puts
   pub is : events row.first ≡ Some (Put key row.scope)
@@ -66,6 +66,6 @@ pub record IsRowFrom (events : ℕ → Option Event) (key from end : ℕ) (row :
   pub store : IsNextCommit events row.first end row.store
 
 -- the rows of all keys, and the first commit among these events
-pub record AreRowsFrom (events : ℕ → Option Event) (from end : ℕ) (rows : ℕ → Option KeyRow) (commit : Option ℕ) : Type 0 where
+pub record AreRowsFrom (events : ℕ → Option Kind) (from end : ℕ) (rows : ℕ → Option KeyRow) (commit : Option ℕ) : Type 0 where
   pub each : (key : ℕ) → MatchOption (rows key) (count_puts events key end ≡ count_puts events key from) (λ row. IsRowFrom events key from end row)
   pub next : IsNextCommit events from end commit

@@ -1,33 +1,33 @@
 -- What the kinds of events are, and the events that scripts plan, each with the number of its call.
 use Rattle.std.specs.Prelude.{◌≡◌, ℕ, suc, ◌+◌, List, [], ◌∷◌, ◌++◌, map, replicate}
-use Rattle.wire_runs.specs.Plan.{Event, Call, events_of, set_of}
+use Rattle.wire_runs.specs.Plan.{Kind, Call, kinds_of, set_of}
 use Rattle.wire_runs.specs.Plan as plan
 use Rattle.wire_types.specs.declared.Call.{Call as Written}
 use Rattle.wire_types.specs.declared.Call.TheVariants.{Fence}
 use Rattle.wire_rehearsal.specs.Scripts.{Scripts, IsSound, set_at}
 use Rattle.wire_rehearsal.specs.Planned.{planned_call}
 use Rattle.wire_runs.specs.Ends.{call_size}
-use Rattle.wire_plan.specs.declared.kind.Kind.{Kind}
+use Rattle.wire_plan.specs.declared.kind.Kind.{Kind as CodeKind}
 use Rattle.wire_plan.specs.declared.kind.Kind.TheVariants.{Put, Commit, Arrive, Leave, Get, GetNow, Publish, Lookup, LookupWait, Unpublish, Fixed}
 
 -- the event of a kind, given the table of sets
-abbrev pub event_of : List (List ℕ) → Kind → Event
-event_of sets (Put scope key) = plan.Put key scope
-event_of sets Commit = plan.Commit
-event_of sets (Arrive set collect) = plan.Arrive (set_of (set_at sets set)) collect
-event_of sets (Leave set) = plan.Leave (set_of (set_at sets set))
-event_of sets (Get owner key) = plan.Get owner.number key
-event_of sets (GetNow owner key) = plan.GetNow owner.number key
-event_of sets (Publish name) = plan.Publish name
-event_of sets (Lookup name) = plan.Lookup name
-event_of sets (LookupWait name) = plan.LookupWait name
-event_of sets (Unpublish name) = plan.Unpublish name
-event_of sets (Fixed reply) = plan.Fixed reply
+abbrev pub kind_of : List (List ℕ) → CodeKind → Kind
+kind_of sets (Put scope key) = plan.Put key scope
+kind_of sets Commit = plan.Commit
+kind_of sets (Arrive set collect) = plan.Arrive (set_of (set_at sets set)) collect
+kind_of sets (Leave set) = plan.Leave (set_of (set_at sets set))
+kind_of sets (Get owner key) = plan.Get owner.number key
+kind_of sets (GetNow owner key) = plan.GetNow owner.number key
+kind_of sets (Publish name) = plan.Publish name
+kind_of sets (Lookup name) = plan.Lookup name
+kind_of sets (LookupWait name) = plan.LookupWait name
+kind_of sets (Unpublish name) = plan.Unpublish name
+kind_of sets (Fixed reply) = plan.Fixed reply
 
 -- the events of a call after its first
-abbrev pub events_after : List (List ℕ) → Written → List Event
-events_after sets (Fence set collect) = plan.Leave (set_of (set_at sets set)) ∷ []
-events_after sets _ = []
+abbrev pub kinds_after : List (List ℕ) → Written → List Kind
+kinds_after sets (Fence set collect) = plan.Leave (set_of (set_at sets set)) ∷ []
+kinds_after sets _ = []
 
 -- for each event of these calls the number of its call, the first of them with this number
 abbrev pub calls_from : ℕ → List Call → List ℕ
@@ -40,8 +40,8 @@ starts_from n [] = []
 starts_from n (call ∷ calls) = n ∷ starts_from (n + call_size call) calls
 
 -- the events that the calls of each process are made of
-abbrev pub events_planned : Scripts → List (List Event)
-events_planned s = map (λ p. events_of (map (planned_call s) p.calls)) s.processes
+abbrev pub kinds_planned : Scripts → List (List Kind)
+kinds_planned s = map (λ p. kinds_of (map (planned_call s) p.calls)) s.processes
 
 -- and the number of the call of each
 abbrev pub calls_planned : Scripts → List (List ℕ)
@@ -52,8 +52,8 @@ abbrev pub starts_planned : Scripts → List (List ℕ)
 starts_planned s = map (λ p. starts_from 0 (map (planned_call s) p.calls)) s.processes
 
 -- the rows are the events of these scripts, with their calls, and where each call starts
-pub record AreEventsOf (s : Scripts) (rows : List (List Event)) (numbers firsts : List (List ℕ)) : Type 0 where
-  pub events : rows ≡ events_planned s
+pub record AreEventsOf (s : Scripts) (rows : List (List Kind)) (numbers firsts : List (List ℕ)) : Type 0 where
+  pub events : rows ≡ kinds_planned s
   pub calls : numbers ≡ calls_planned s
   pub starts : firsts ≡ starts_planned s
   pub sound : IsSound s

@@ -1,10 +1,11 @@
 //! Events listed by the number of a name or of a key.
 
 ghost use Rattle.std.specs.Prelude.{◌≡◌, ◌≢◌, ◌<◌, ◌++◌, ◌∷◌, [], ℕ, suc, List, Some, length, map, OnOk, IfOk};
-ghost use Rattle.wire_runs.specs.Plan.{Plan as ThePlan, Place, place_of, event_at};
+ghost use Rattle.wire_runs.specs.Plan.{event_of, kind_at};
+ghost use Rattle.wire_runs.specs.Plan as runs;
 ghost use Rattle.wire_rehearsal.specs.Planned.{plan_of};
-ghost use Rattle.wire_plan.specs.Kinds.{event_of};
-ghost use Rattle.wire_plan.specs.Tables.{is_listed, is_number, places_at, AreListed, AreListedTo};
+ghost use Rattle.wire_plan.specs.Kinds.{kind_of};
+ghost use Rattle.wire_plan.specs.Tables.{is_listed, is_number, events_listed, AreListed, AreListedTo};
 
 use crate::events::Events;
 use crate::kind::Kind;
@@ -28,7 +29,7 @@ pub(crate) enum Listing {
 impl Listing {
     // The number that an event of a process is listed under, if it is listed.
     fn number_of(self, proc: Proc, kind: Kind) -> Option<u32>
-        ensures { (plan : ThePlan) (sets : List (List ℕ)) (number : ℕ) (x : Place) → x.proc ≡ proc.number → is_listed plan self number x (Some (event_of sets kind)) ≡ is_number result number }
+        ensures { (plan : runs.Plan) (sets : List (List ℕ)) (number : ℕ) (x : runs.Event) → x.proc ≡ proc.number → is_listed plan self number x (Some (kind_of sets kind)) ≡ is_number result number }
     {
         match self {
             Listing::NameCalls => name_called(kind),
@@ -41,7 +42,7 @@ impl Listing {
 
 // The name of a call on a name.
 fn name_called(kind: Kind) -> Option<u32>
-    ensures { (plan : ThePlan) (sets : List (List ℕ)) (number : ℕ) (x : Place) → is_listed plan Listing.NameCalls number x (Some (event_of sets kind)) ≡ is_number result number }
+    ensures { (plan : runs.Plan) (sets : List (List ℕ)) (number : ℕ) (x : runs.Event) → is_listed plan Listing.NameCalls number x (Some (kind_of sets kind)) ≡ is_number result number }
 {
     match kind {
         Kind::Publish { name } => Some(name),
@@ -54,7 +55,7 @@ fn name_called(kind: Kind) -> Option<u32>
 
 // The name of a publish.
 fn name_published(kind: Kind) -> Option<u32>
-    ensures { (plan : ThePlan) (sets : List (List ℕ)) (number : ℕ) (x : Place) → is_listed plan Listing.Publishes number x (Some (event_of sets kind)) ≡ is_number result number }
+    ensures { (plan : runs.Plan) (sets : List (List ℕ)) (number : ℕ) (x : runs.Event) → is_listed plan Listing.Publishes number x (Some (kind_of sets kind)) ≡ is_number result number }
 {
     match kind {
         Kind::Publish { name } => Some(name),
@@ -64,7 +65,7 @@ fn name_published(kind: Kind) -> Option<u32>
 
 // The name of a call that may take it away.
 fn name_taken(kind: Kind) -> Option<u32>
-    ensures { (plan : ThePlan) (sets : List (List ℕ)) (number : ℕ) (x : Place) → is_listed plan Listing.Takes number x (Some (event_of sets kind)) ≡ is_number result number }
+    ensures { (plan : runs.Plan) (sets : List (List ℕ)) (number : ℕ) (x : runs.Event) → is_listed plan Listing.Takes number x (Some (kind_of sets kind)) ≡ is_number result number }
 {
     match kind {
         Kind::Unpublish { name } => Some(name),
@@ -74,7 +75,7 @@ fn name_taken(kind: Kind) -> Option<u32>
 
 // The key of a get that is answered at once and asks another process.
 fn key_looked_at(proc: Proc, kind: Kind) -> Option<u32>
-    ensures { (plan : ThePlan) (sets : List (List ℕ)) (number : ℕ) (x : Place) → x.proc ≡ proc.number → is_listed plan Listing.Looks number x (Some (event_of sets kind)) ≡ is_number result number }
+    ensures { (plan : runs.Plan) (sets : List (List ℕ)) (number : ℕ) (x : runs.Event) → x.proc ≡ proc.number → is_listed plan Listing.Looks number x (Some (kind_of sets kind)) ≡ is_number result number }
 {
     match kind {
         Kind::GetNow { owner, key } => {
@@ -96,17 +97,18 @@ pub(crate) struct ByNumber {
 
 impl Model for ByNumber {
     ghost use Rattle.std.specs.Prelude.{List, map};
-    ghost use Rattle.wire_runs.specs.Plan.{Place, place_of};
+    ghost use Rattle.wire_runs.specs.Plan.{event_of};
+    ghost use Rattle.wire_runs.specs.Plan as runs;
 
-    ghost Value = { List (List Place) };
+    ghost Value = { List (List runs.Event) };
 
-    ghost view = { λ t. map (λ v. map place_of v.items) t.lists.items };
+    ghost view = { λ t. map (λ v. map event_of v.items) t.lists.items };
 }
 
 impl ByNumber {
     // Gives each number up to this one a list, at first an empty one.
     fn reach(&mut self, alloc: Global, number: u32) -> Result<(), AllocError>
-        ensures same { OnOk result ((n : ℕ) → places_at self.new n ≡ places_at self.old n) }
+        ensures same { OnOk result ((n : ℕ) → events_listed self.new n ≡ events_listed self.old n) }
         ensures there { OnOk result (number < length self.new) }
     {
         for _ in self.lists.len()..number as usize + 1 {
@@ -118,8 +120,8 @@ impl ByNumber {
     // Adds an event to a list that is there.
     fn append(&mut self, number: u32, event: Event) -> Result<(), AllocError>
         requires { number < length self.old }
-        ensures here { OnOk result (places_at self.new number ≡ places_at self.old number ++ place_of event ∷ []) }
-        ensures others { OnOk result ((n : ℕ) → n ≢ number → places_at self.new n ≡ places_at self.old n) }
+        ensures here { OnOk result (events_listed self.new number ≡ events_listed self.old number ++ event_of event ∷ []) }
+        ensures others { OnOk result ((n : ℕ) → n ≢ number → events_listed self.new n ≡ events_listed self.old n) }
     {
         self.lists[number as usize].push(event)?;
         Ok(())
@@ -127,8 +129,8 @@ impl ByNumber {
 
     // Adds an event to the list of a number.
     fn add(&mut self, alloc: Global, number: u32, event: Event) -> Result<(), AllocError>
-        ensures here { OnOk result (places_at self.new number ≡ places_at self.old number ++ place_of event ∷ []) }
-        ensures others { OnOk result ((n : ℕ) → n ≢ number → places_at self.new n ≡ places_at self.old n) }
+        ensures here { OnOk result (events_listed self.new number ≡ events_listed self.old number ++ event_of event ∷ []) }
+        ensures others { OnOk result ((n : ℕ) → n ≢ number → events_listed self.new n ≡ events_listed self.old n) }
     {
         self.reach(alloc, number)?;
         self.append(number, event)
@@ -142,7 +144,7 @@ impl ByNumber {
         event: Event,
         kind: Kind,
     ) -> Result<(), AllocError>
-        ensures { OnOk result ((plan : ThePlan) (sets : List (List ℕ)) → event_at plan event.proc.number event.at ≡ Some (event_of sets kind)
+        ensures { OnOk result ((plan : runs.Plan) (sets : List (List ℕ)) → kind_at plan event.proc.number event.at ≡ Some (kind_of sets kind)
             → AreListedTo plan listing event.proc.number event.at self.old → AreListedTo plan listing event.proc.number (suc event.at) self.new) }
     {
         if let Some(number) = listing.number_of(event.proc, kind) {
@@ -187,7 +189,7 @@ impl ByNumber {
 
     /// The events that are listed under a number, in process order; none where there are none.
     pub(crate) fn list(&self, number: u32) -> &[Event]
-        ensures { map place_of result.now ≡ places_at self.now number }
+        ensures { map event_of result.now ≡ events_listed self.now number }
     {
         match self.lists.get(number as usize) {
             Some(list) => list.as_slice(),

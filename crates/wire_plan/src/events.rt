@@ -1,13 +1,13 @@
 //! The events of scripts, and what they are made of.
 
 ghost use Rattle.std.specs.Prelude.{◌≡◌, ◌<◌, ◌^◌, Some, length, map, sum_by, vec_len, IfOk, IfErr};
-ghost use Rattle.wire_runs.specs.Plan.{place_of, process_count, events, event_at, event_count, node_of};
+ghost use Rattle.wire_runs.specs.Plan.{event_of, process_count, kinds, kind_at, event_count, node_of};
 ghost use Rattle.wire_rehearsal.specs.Scripts.{IsSound};
 ghost use Rattle.wire_rehearsal.specs.Planned.{plan_of};
 ghost use Rattle.wire_procmap.specs.Map.{map_of};
-ghost use Rattle.wire_plan.specs.Kinds.{event_of, events_planned, calls_planned, starts_planned};
+ghost use Rattle.wire_plan.specs.Kinds.{kind_of, kinds_planned, calls_planned, starts_planned};
 ghost use Rattle.wire_runs.specs.Ends.{call_of, calls_of, first_event};
-ghost use Rattle.wire_runs.specs.Laws.{event_total};
+ghost use Rattle.wire_runs.specs.Plan.{event_total};
 
 use crate::kind::Kind;
 use crate::row::{Row, row_of};
@@ -29,19 +29,19 @@ impl Model for Events {
     ghost use Rattle.std.specs.Prelude.{◌≡◌, map};
     ghost use Rattle.wire_rehearsal.specs.Scripts as spec;
     ghost use Rattle.wire_procmap.specs.Map.{map_of};
-    ghost use Rattle.wire_plan.specs.Kinds.{event_of, AreEventsOf};
+    ghost use Rattle.wire_plan.specs.Kinds.{kind_of, AreEventsOf};
 
     ghost Value = { spec.Scripts };
 
     ghost view = { λ p. p.scripts };
 
-    ghost invariant = { λ p. AreEventsOf p.scripts (map (λ row. map (event_of p.scripts.sets) row.kinds.items) p.rows.items) (map (λ row. row.calls.items) p.rows.items) (map (λ row. row.starts.items) p.rows.items) × (p.places ≡ map_of p.scripts) };
+    ghost invariant = { λ p. AreEventsOf p.scripts (map (λ row. map (kind_of p.scripts.sets) row.kinds.items) p.rows.items) (map (λ row. row.calls.items) p.rows.items) (map (λ row. row.starts.items) p.rows.items) × (p.places ≡ map_of p.scripts) };
 }
 
 /// The events of each process.
 fn all_rows(alloc: Global, scripts: &Scripts, places: &ProcMap) -> Result<Vec<Row>, AllocError>
     requires { places.now ≡ map_of scripts.now }
-    ensures kinds { IfOk result (λ all. map (λ row. map (event_of scripts.now.sets) row.kinds.items) all.items ≡ events_planned scripts.now) }
+    ensures kinds { IfOk result (λ all. map (λ row. map (kind_of scripts.now.sets) row.kinds.items) all.items ≡ kinds_planned scripts.now) }
     ensures calls { IfOk result (λ all. map (λ row. row.calls.items) all.items ≡ calls_planned scripts.now) }
     ensures starts { IfOk result (λ all. map (λ row. row.starts.items) all.items ≡ starts_planned scripts.now) }
 {
@@ -56,7 +56,7 @@ fn all_rows(alloc: Global, scripts: &Scripts, places: &ProcMap) -> Result<Vec<Ro
 /// The process map of scripts, and the events of each process.
 fn parts_of(alloc: Global, scripts: &Scripts) -> Result<(ProcMap, Vec<Row>), Fault>
     ensures places { IfOk result (λ parts. parts.0 ≡ map_of scripts.now) }
-    ensures kinds { IfOk result (λ parts. map (λ row. map (event_of scripts.now.sets) row.kinds.items) parts.1.items ≡ events_planned scripts.now) }
+    ensures kinds { IfOk result (λ parts. map (λ row. map (kind_of scripts.now.sets) row.kinds.items) parts.1.items ≡ kinds_planned scripts.now) }
     ensures calls { IfOk result (λ parts. map (λ row. row.calls.items) parts.1.items ≡ calls_planned scripts.now) }
     ensures starts { IfOk result (λ parts. map (λ row. row.starts.items) parts.1.items ≡ starts_planned scripts.now) }
     ensures err { IfErr result (λ e. e ≡ Fault.Memory) }
@@ -77,7 +77,7 @@ fn total_of(rows: &[Row]) -> usize
 impl Events {
     /// The events of scripts. The one fault is `Fault::Memory`.
     pub(crate) fn of(alloc: Global, scripts: Scripts) -> Result<Events, Fault>
-        ensures ok { IfOk result (λ events. events ≡ scripts) }
+        ensures ok { IfOk result (λ kinds. kinds ≡ scripts) }
         ensures err { IfErr result (λ e. e ≡ Fault.Memory) }
     {
         match parts_of(alloc, &scripts) {
@@ -117,7 +117,7 @@ impl Events {
 
     /// What the events of a process are, in their order; none where it isn't of the plan.
     pub(crate) fn events(&self, proc: Proc) -> &[Kind]
-        ensures { map (event_of self.now.sets) result.now ≡ events (plan_of self.now) proc.number }
+        ensures { map (kind_of self.now.sets) result.now ≡ kinds (plan_of self.now) proc.number }
     {
         match self.rows.get(proc.index()) {
             Some(row) => row.kinds.as_slice(),
@@ -145,7 +145,7 @@ impl Events {
     /// What an event of the plan is.
     pub(crate) fn kind(&self, event: Event) -> Kind
         requires { event.at < event_count (plan_of self.now) event.proc.number }
-        ensures { event_at (plan_of self.now) event.proc.number event.at ≡ Some (event_of self.now.sets result) }
+        ensures { kind_at (plan_of self.now) event.proc.number event.at ≡ Some (kind_of self.now.sets result) }
     {
         self.events(event.proc)[event.at as usize]
     }
@@ -153,7 +153,7 @@ impl Events {
     /// The call that an event of the plan belongs to.
     pub(crate) fn call_of(&self, event: Event) -> CallAt
         requires { event.at < event_count (plan_of self.now) event.proc.number }
-        ensures { result ≡ call_of (plan_of self.now) (place_of event) }
+        ensures { result ≡ call_of (plan_of self.now) (event_of event) }
     {
         let row = &self.rows[event.proc.index()];
         CallAt {
@@ -165,7 +165,7 @@ impl Events {
     /// The first event of a call of the plan.
     pub(crate) fn first_event(&self, call: CallAt) -> Event
         requires { call.call < length (calls_of (plan_of self.now) call.proc.number) }
-        ensures { place_of result ≡ first_event (plan_of self.now) call }
+        ensures { event_of result ≡ first_event (plan_of self.now) call }
     {
         let row = &self.rows[call.proc.index()];
         Event {

@@ -3,10 +3,11 @@
 ghost use Rattle.std.specs.BTreeMap.{get};
 ghost use Rattle.std.specs.Ordering.{nat_cmp};
 ghost use Rattle.std.specs.Prelude.{◌≡◌, ◌↔◌, ◌||◌, ◌+◌, ◌<◌, ◌^◌, ℕ, List, Option, Some, suc, false, is_some, nat_le, IfOk, OnOk, IsTrue, MatchOption};
-ghost use Rattle.wire_runs.specs.Plan.{Plan, Place, Event as Planned, place_of, event_at, event_count, admits};
+ghost use Rattle.wire_runs.specs.Plan.{Plan, event_of, kind_at, event_count, admits};
+ghost use Rattle.wire_runs.specs.Plan as runs;
 ghost use Rattle.wire_runs.specs.Puts.{own, stored, put_count};
 ghost use Rattle.wire_rehearsal.specs.Planned.{plan_of};
-ghost use Rattle.wire_plan.specs.Kinds.{event_of};
+ghost use Rattle.wire_plan.specs.Kinds.{kind_of};
 ghost use Rattle.wire_runs.specs.Order.{Stores};
 ghost use Rattle.wire_runs.specs.Races.{IsPutOnce};
 ghost use Rattle.wire_plan.specs.Index.{IsFirstPut};
@@ -60,7 +61,7 @@ impl Scan {
     /// Takes the event before those that were taken.
     fn take(&mut self, kind: Kind, at: u32) -> Result<(), AllocError>
         requires { (key : ℕ) → puts_in (get nat_cmp self.old.rows key) + 1 < 2 ^ 32 }
-        ensures { OnOk result ((events : ℕ → Option Planned) (sets : List (List ℕ)) (end : ℕ) → events at ≡ Some (event_of sets kind) → at < end → AreRowsFrom events (suc at) end (get nat_cmp self.old.rows) self.old.commit → AreRowsFrom events at end (get nat_cmp self.new.rows) self.new.commit) }
+        ensures { OnOk result ((events : ℕ → Option runs.Kind) (sets : List (List ℕ)) (end : ℕ) → events at ≡ Some (kind_of sets kind) → at < end → AreRowsFrom events (suc at) end (get nat_cmp self.old.rows) self.old.commit → AreRowsFrom events at end (get nat_cmp self.new.rows) self.new.commit) }
     {
         match kind {
             Kind::Put { scope, key } => {
@@ -141,7 +142,7 @@ impl KeyTable {
 
     /// The first put of a key by a process; `None` where it never puts the key.
     pub(crate) fn first_put(&self, owner: Proc, key: u32) -> Option<Event>
-        ensures { (plan : Plan) → AreKeysOf plan self.now → MatchOption result (put_count plan owner.number key (event_count plan owner.number) ≡ 0) (λ x. (x.proc ≡ owner) × IsFirstPut plan (place_of x) key) }
+        ensures { (plan : Plan) → AreKeysOf plan self.now → MatchOption result (put_count plan owner.number key (event_count plan owner.number) ≡ 0) (λ x. (x.proc ≡ owner) × IsFirstPut plan (event_of x) key) }
     {
         match self.row(owner, key) {
             Some(row) => Some(Event {
@@ -165,7 +166,7 @@ impl KeyTable {
     /// The commit that first stores a key of a process, which is the first one after the first put;
     /// `None` where none does (PMIx Standard 5.0, Posting Key-Value Pairs).
     pub(crate) fn store_of(&self, owner: Proc, key: u32) -> Option<Event>
-        ensures { (plan : Plan) → AreKeysOf plan self.now → MatchOption result ((x : Place) → x.proc ≡ owner.number → Stores plan x key → ⊥) (λ x. (x.proc ≡ owner) × Stores plan (place_of x) key) }
+        ensures { (plan : Plan) → AreKeysOf plan self.now → MatchOption result ((x : runs.Event) → x.proc ≡ owner.number → Stores plan x key → ⊥) (λ x. (x.proc ≡ owner) × Stores plan (event_of x) key) }
     {
         match self.store(owner, key) {
             Some(at) => Some(Event { proc: owner, at }),
@@ -204,7 +205,7 @@ impl KeyTable {
     /// The commit that a get of another process's key waits for: the one that first stores it, where
     /// the key is put once.
     pub(crate) fn feeding(&self, owner: Proc, key: u32) -> Option<Event>
-        ensures { (plan : Plan) → AreKeysOf plan self.now → MatchOption result ((x : Place) → x.proc ≡ owner.number → IsPutOnce plan owner.number key → Stores plan x key → ⊥) (λ x. (x.proc ≡ owner) × IsPutOnce plan owner.number key × Stores plan (place_of x) key) }
+        ensures { (plan : Plan) → AreKeysOf plan self.now → MatchOption result ((x : runs.Event) → x.proc ≡ owner.number → IsPutOnce plan owner.number key → Stores plan x key → ⊥) (λ x. (x.proc ≡ owner) × IsPutOnce plan owner.number key × Stores plan (event_of x) key) }
     {
         if self.put_count(owner, key) == 1 {
             self.store_of(owner, key)

@@ -1,13 +1,13 @@
 //! What an event is.
 
 ghost use Rattle.std.specs.Prelude.{◌≡◌, ◌∷◌, [], if◌then◌else◌};
-ghost use Rattle.wire_runs.specs.Plan.{events_of};
+ghost use Rattle.wire_runs.specs.Plan.{kinds_of};
 ghost use Rattle.wire_types.specs.Replies.{bare};
 ghost use Rattle.wire_lines.specs.Said.{is_reserved as is_reserved_text};
 ghost use Rattle.wire_rehearsal.specs.Scripts.{text_at};
 ghost use Rattle.wire_rehearsal.specs.Planned.{planned_call, reply_of_key};
 ghost use Rattle.wire_procmap.specs.Map.{map_of};
-ghost use Rattle.wire_plan.specs.Kinds.{event_of, events_after};
+ghost use Rattle.wire_plan.specs.Kinds.{kind_of, kinds_after};
 
 use wire_lines::is_reserved;
 use wire_procmap::ProcMap;
@@ -97,7 +97,7 @@ fn get_kind(scripts: &Scripts, places: &ProcMap, owner: Proc, key: u32, kind: Ki
 /// The first event of a call.
 pub(crate) fn first_kind(scripts: &Scripts, places: &ProcMap, call: Call) -> Kind
     requires { places.now ≡ map_of scripts.now }
-    ensures { events_of (planned_call scripts.now call ∷ []) ≡ event_of scripts.now.sets result ∷ events_after scripts.now.sets call }
+    ensures { kinds_of (planned_call scripts.now call ∷ []) ≡ kind_of scripts.now.sets result ∷ kinds_after scripts.now.sets call }
 {
     match call {
         Call::Put { scope, key, .. } => {

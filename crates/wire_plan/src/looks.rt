@@ -1,7 +1,8 @@
 //! The gets that are answered at once, of each key.
 
 ghost use Rattle.std.specs.Prelude.{map, IfOk};
-ghost use Rattle.wire_runs.specs.Plan.{Plan as ThePlan, place_of};
+ghost use Rattle.wire_runs.specs.Plan.{event_of};
+ghost use Rattle.wire_runs.specs.Plan as runs;
 ghost use Rattle.wire_rehearsal.specs.Planned.{plan_of};
 ghost use Rattle.wire_plan.specs.Index.{AreLooks};
 ghost use Rattle.wire_plan.specs.Tables.{AreLooksOf};
@@ -31,7 +32,7 @@ impl LookTable {
     /// The gets of a key that are answered at once and ask another process (PMIx Standard 5.0, PMIx_Get
     /// with PMIX_IMMEDIATE), in process order. None where there are none.
     pub(crate) fn looks(&self, key: u32) -> &[Event]
-        ensures { (plan : ThePlan) → AreLooksOf plan self.now → AreLooks plan key (map place_of result.now) }
+        ensures { (plan : runs.Plan) → AreLooksOf plan self.now → AreLooks plan key (map event_of result.now) }
     {
         self.looks.list(key)
     }

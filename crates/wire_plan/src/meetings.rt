@@ -1,13 +1,13 @@
 //! The fences that events are part of, and who arrives at each fence.
 
 ghost use Rattle.std.specs.Prelude.{◌≡◌, ◌<◌, ◌∷◌, [], ℕ, suc, List, true, Some, length, map as map_list, IfOk, OnOk};
-ghost use Rattle.wire_runs.specs.Plan.{Leave, place_of, process_count, event_count, event as event_in};
+ghost use Rattle.wire_runs.specs.Plan.{Leave, event_of, process_count, event_count, kind};
 ghost use Rattle.wire_runs.specs.Fences.{arrivals as arrivals_of, is_full as is_full_fence};
 ghost use Rattle.wire_rehearsal.specs.Scripts.{Scripts as TheScripts};
 ghost use Rattle.wire_rehearsal.specs.Planned.{plan_of};
 ghost use Rattle.wire_fence.specs.Fences.{FenceInfo, FenceTable, AreFencesOf, fence_at as the_fence_at};
 ghost use Rattle.wire_plan.specs.Index.{AreArrivals};
-ghost use Rattle.wire_plan.specs.Meetings.{is_of_fence, IsMet, arrivals_in, AreMeetings, AreMeetingsTo, IsAdded};
+ghost use Rattle.wire_plan.specs.Meetings.{is_of_fence, IsMet, arrivals_in, AreArrivalLists, AreArrivalListsTo, IsAdded};
 
 use crate::events::Events;
 use crate::kind::Kind;
@@ -20,8 +20,8 @@ use wire_types::{Event, Proc};
 /// the scripts.
 pub(crate) fn fence_at(events: &Events, fences: &Fences, event: Event) -> FenceId
     requires fences { AreFencesOf events.now fences.now }
-    requires half { is_of_fence (event_in (plan_of events.now) (place_of event)) ≡ true }
-    ensures { IsMet events.now fences.now (place_of event) result.number }
+    requires half { is_of_fence (kind (plan_of events.now) (event_of event)) ≡ true }
+    ensures { IsMet events.now fences.now (event_of event) result.number }
 {
     fences.id_of(events.call_of(event))
 }
@@ -78,7 +78,7 @@ fn add_event(
 ) -> Result<(), AllocError>
     requires fences { AreFencesOf events.now fences.now }
     requires there { event.at < event_count (plan_of events.now) event.proc.number }
-    ensures { OnOk result (AreMeetingsTo events.now fences.now event.proc.number event.at (map_list (λ v. v.items) lists.old.items) → AreMeetingsTo events.now fences.now event.proc.number (suc event.at) (map_list (λ v. v.items) lists.new.items)) }
+    ensures { OnOk result (AreArrivalListsTo events.now fences.now event.proc.number event.at (map_list (λ v. v.items) lists.old.items) → AreArrivalListsTo events.now fences.now event.proc.number (suc event.at) (map_list (λ v. v.items) lists.new.items)) }
 {
     if let Kind::Arrive { .. } = events.kind(event) {
         add_arrival(lists, alloc, fence_at(events, fences, event), event)?;
@@ -95,7 +95,7 @@ fn add_process(
     proc: Proc,
 ) -> Result<(), AllocError>
     requires { AreFencesOf events.now fences.now }
-    ensures { OnOk result (AreMeetingsTo events.now fences.now proc.number 0 (map_list (λ v. v.items) lists.old.items) → AreMeetingsTo events.now fences.now (suc proc.number) 0 (map_list (λ v. v.items) lists.new.items)) }
+    ensures { OnOk result (AreArrivalListsTo events.now fences.now proc.number 0 (map_list (λ v. v.items) lists.old.items) → AreArrivalListsTo events.now fences.now (suc proc.number) 0 (map_list (λ v. v.items) lists.new.items)) }
 {
     for at in 0..events.event_count(proc) {
         add_event(lists, alloc, events, fences, Event { proc, at })?;
@@ -111,7 +111,7 @@ impl Meetings {
         fences: &Fences,
     ) -> Result<Meetings, AllocError>
         requires { AreFencesOf events.now fences.now }
-        ensures { IfOk result (λ meetings. AreMeetings events.now fences.now meetings) }
+        ensures { IfOk result (λ meetings. AreArrivalLists events.now fences.now meetings) }
     {
         let mut arrivals = Vec::new(alloc);
         for number in 0..events.process_count() {
@@ -122,7 +122,7 @@ impl Meetings {
 
     /// The arrivals at a fence, in process order.
     pub(crate) fn arrivals(&self, fence: FenceId) -> &[Event]
-        ensures { (s : TheScripts) (table : FenceTable) (info : FenceInfo) → AreMeetings s table self.now → the_fence_at table fence.number ≡ Some info → AreArrivals (plan_of s) info.members info.nth (map_list place_of result.now) }
+        ensures { (s : TheScripts) (table : FenceTable) (info : FenceInfo) → AreArrivalLists s table self.now → the_fence_at table fence.number ≡ Some info → AreArrivals (plan_of s) info.members info.nth (map_list event_of result.now) }
     {
         match self.arrivals.get(fence.number as usize) {
             Some(list) => list.as_slice(),
@@ -139,9 +139,9 @@ pub(crate) fn arrivals_at<'a>(
     event: Event,
 ) -> &'a [Event]
     requires fences { AreFencesOf events.now fences.now }
-    requires meetings { AreMeetings events.now fences.now meetings.now }
-    requires half { is_of_fence (event_in (plan_of events.now) (place_of event)) ≡ true }
-    ensures { (members : List ℕ) → event_in (plan_of events.now) (place_of event) ≡ Some (Leave members) → AreArrivals (plan_of events.now) members (arrivals_of (plan_of events.now) event.proc.number members event.at) (map_list place_of result.now) }
+    requires meetings { AreArrivalLists events.now fences.now meetings.now }
+    requires half { is_of_fence (kind (plan_of events.now) (event_of event)) ≡ true }
+    ensures { (members : List ℕ) → kind (plan_of events.now) (event_of event) ≡ Some (Leave members) → AreArrivals (plan_of events.now) members (arrivals_of (plan_of events.now) event.proc.number members event.at) (map_list event_of result.now) }
 {
     meetings.arrivals(fence_at(events, fences, event))
 }
@@ -149,8 +149,8 @@ pub(crate) fn arrivals_at<'a>(
 /// Whether each member calls the fence that ends at an event.
 pub(crate) fn is_full(events: &Events, fences: &Fences, event: Event) -> bool
     requires fences { AreFencesOf events.now fences.now }
-    requires half { is_of_fence (event_in (plan_of events.now) (place_of event)) ≡ true }
-    ensures { (members : List ℕ) → event_in (plan_of events.now) (place_of event) ≡ Some (Leave members) → result ≡ is_full_fence (plan_of events.now) members (arrivals_of (plan_of events.now) event.proc.number members event.at) }
+    requires half { is_of_fence (kind (plan_of events.now) (event_of event)) ≡ true }
+    ensures { (members : List ℕ) → kind (plan_of events.now) (event_of event) ≡ Some (Leave members) → result ≡ is_full_fence (plan_of events.now) members (arrivals_of (plan_of events.now) event.proc.number members event.at) }
 {
     fences.full(fence_at(events, fences, event))
 }

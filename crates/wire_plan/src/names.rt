@@ -1,7 +1,8 @@
 //! The calls on each name.
 
 ghost use Rattle.std.specs.Prelude.{◌≡◌, map, IfOk, MatchOption};
-ghost use Rattle.wire_runs.specs.Plan.{Plan as ThePlan, Place, place_of};
+ghost use Rattle.wire_runs.specs.Plan.{event_of};
+ghost use Rattle.wire_runs.specs.Plan as runs;
 ghost use Rattle.wire_rehearsal.specs.Planned.{plan_of};
 ghost use Rattle.wire_runs.specs.Order.{PublishesOnce};
 ghost use Rattle.wire_plan.specs.Index.{AreNameCalls};
@@ -48,14 +49,14 @@ impl NameTable {
     /// The calls on a name, in process order: publishes, look-ups and unpublishes (PMIx Standard 5.0,
     /// PMIx_Publish, PMIx_Lookup, PMIx_Unpublish). None where no event calls it.
     pub(crate) fn calls(&self, name: u32) -> &[Event]
-        ensures { (plan : ThePlan) → AreNamesOf plan self.now → AreNameCalls plan name (map place_of result.now) }
+        ensures { (plan : runs.Plan) → AreNamesOf plan self.now → AreNameCalls plan name (map event_of result.now) }
     {
         self.calls.list(name)
     }
 
     /// The publish of a name that is published once and that nobody unpublishes. None of any other name.
     pub(crate) fn once_published(&self, name: u32) -> Option<Event>
-        ensures { (plan : ThePlan) → AreNamesOf plan self.now → MatchOption result ((x : Place) → PublishesOnce plan x name → ⊥) (λ x. PublishesOnce plan (place_of x) name) }
+        ensures { (plan : runs.Plan) → AreNamesOf plan self.now → MatchOption result ((x : runs.Event) → PublishesOnce plan x name → ⊥) (λ x. PublishesOnce plan (event_of x) name) }
     {
         only_publish(self.publishes.list(name), self.takes.list(name))
     }

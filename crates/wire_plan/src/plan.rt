@@ -1,16 +1,17 @@
 //! A plan: scripts with the events of each process, and what is looked up of them.
 
 ghost use Rattle.std.specs.Prelude.{◌≡◌, ◌<◌, ◌^◌, ℕ, List, [], true, Some, length, map, option_map, IfOk, IfErr, IfSome, MatchOption};
-ghost use Rattle.wire_runs.specs.Plan.{Place, Get, Leave, place_of, process_count, events, event_at, event_count, event as event_in, node_of};
+ghost use Rattle.wire_runs.specs.Plan.{Get, Leave, event_of, process_count, kinds, kind_at, event_count, kind, node_of};
+ghost use Rattle.wire_runs.specs.Plan as runs;
 ghost use Rattle.wire_runs.specs.Puts.{put_count};
 ghost use Rattle.wire_runs.specs.Fences.{arrivals as arrivals_of};
 ghost use Rattle.wire_rehearsal.specs.Scripts.{IsSound};
 ghost use Rattle.wire_rehearsal.specs.Planned.{plan_of};
 ghost use Rattle.wire_procmap.specs.Map.{map_of};
 ghost use Rattle.wire_fence.specs.Fences.{AreFencesOf};
-ghost use Rattle.wire_plan.specs.Kinds.{event_of};
+ghost use Rattle.wire_plan.specs.Kinds.{kind_of};
 ghost use Rattle.wire_runs.specs.Ends.{call_of, calls_of, first_event};
-ghost use Rattle.wire_runs.specs.Laws.{event_total};
+ghost use Rattle.wire_runs.specs.Plan.{event_total};
 ghost use Rattle.wire_runs.specs.Order.{may_come, Stores, PublishesOnce};
 ghost use Rattle.wire_runs.specs.Races.{IsPutOnce};
 ghost use Rattle.wire_plan.specs.Index.{AreSources, AreArrivals, AreNameCalls, AreLooks, IsAwaited, IsFirstPut, IsNextDelivery, source_list, previous_of};
@@ -112,7 +113,7 @@ impl Plan {
 
     /// What the events of a process are, in their order; none where it isn't of the plan.
     pub fn events(&self, proc: Proc) -> &[Kind]
-        ensures { map (event_of self.now.sets) result.now ≡ events (plan_of self.now) proc.number }
+        ensures { map (kind_of self.now.sets) result.now ≡ kinds (plan_of self.now) proc.number }
     {
         self.events.events(proc)
     }
@@ -135,7 +136,7 @@ impl Plan {
     /// What an event of the plan is.
     pub fn kind(&self, event: Event) -> Kind
         requires { event.at < event_count (plan_of self.now) event.proc.number }
-        ensures { event_at (plan_of self.now) event.proc.number event.at ≡ Some (event_of self.now.sets result) }
+        ensures { kind_at (plan_of self.now) event.proc.number event.at ≡ Some (kind_of self.now.sets result) }
     {
         self.events.kind(event)
     }
@@ -143,7 +144,7 @@ impl Plan {
     /// The call that an event of the plan belongs to.
     pub fn call_of(&self, event: Event) -> CallAt
         requires { event.at < event_count (plan_of self.now) event.proc.number }
-        ensures { result ≡ call_of (plan_of self.now) (place_of event) }
+        ensures { result ≡ call_of (plan_of self.now) (event_of event) }
     {
         self.events.call_of(event)
     }
@@ -151,7 +152,7 @@ impl Plan {
     /// The first event of a call of the plan: the one event of most calls, the arrival of a fence.
     pub fn first_event(&self, call: CallAt) -> Event
         requires { call.call < length (calls_of (plan_of self.now) call.proc.number) }
-        ensures { place_of result ≡ first_event (plan_of self.now) call }
+        ensures { event_of result ≡ first_event (plan_of self.now) call }
     {
         self.events.first_event(call)
     }
@@ -166,7 +167,7 @@ impl Plan {
 
     // Whether a get of a key isn't ruled out by the scripts.
     fn may_get(&self, event: Event, owner: Proc, key: u32) -> bool
-        ensures { result ≡ may_come (plan_of self.now) (place_of event) (Some (Get owner.number key)) }
+        ensures { result ≡ may_come (plan_of self.now) (event_of event) (Some (Get owner.number key)) }
     {
         if owner == event.proc {
             self.index.keys.is_put_before(owner, key, event.at)
@@ -180,7 +181,7 @@ impl Plan {
     /// doesn't commit after that, and the end of a fence that a member doesn't call.
     pub fn may_come(&self, event: Event) -> bool
         requires { event.at < event_count (plan_of self.now) event.proc.number }
-        ensures { result ≡ may_come (plan_of self.now) (place_of event) (event_in (plan_of self.now) (place_of event)) }
+        ensures { result ≡ may_come (plan_of self.now) (event_of event) (kind (plan_of self.now) (event_of event)) }
     {
         match self.kind(event) {
             Kind::Get { owner, key } => self.may_get(event, owner, key),
@@ -192,7 +193,7 @@ impl Plan {
     // The commit or the publish that an event of the plan waits for.
     fn awaited(&self, event: Event) -> Option<Event>
         requires { event.at < event_count (plan_of self.now) event.proc.number }
-        ensures { IsAwaited (plan_of self.now) (place_of event) (option_map place_of result) }
+        ensures { IsAwaited (plan_of self.now) (event_of event) (option_map event_of result) }
     {
         match self.kind(event) {
             Kind::Get { owner, key } => {
@@ -210,9 +211,9 @@ impl Plan {
     // The arrivals at the fence that an event of the plan ends; none where it ends none.
     fn arrivals_before(&self, event: Event) -> &[Event]
         requires { event.at < event_count (plan_of self.now) event.proc.number }
-        ensures leave { (members : List ℕ) → event_in (plan_of self.now) (place_of event) ≡ Some (Leave members)
-            → AreArrivals (plan_of self.now) members (arrivals_of (plan_of self.now) event.proc.number members event.at) (map place_of result.now) }
-        ensures others { ((members : List ℕ) → event_in (plan_of self.now) (place_of event) ≡ Some (Leave members) → ⊥) → result.now ≡ [] }
+        ensures leave { (members : List ℕ) → kind (plan_of self.now) (event_of event) ≡ Some (Leave members)
+            → AreArrivals (plan_of self.now) members (arrivals_of (plan_of self.now) event.proc.number members event.at) (map event_of result.now) }
+        ensures others { ((members : List ℕ) → kind (plan_of self.now) (event_of event) ≡ Some (Leave members) → ⊥) → result.now ≡ [] }
     {
         match self.kind(event) {
             Kind::Leave { .. } => arrivals_at(
@@ -231,12 +232,12 @@ impl Plan {
     /// ends.
     pub fn sources(&self, event: Event) -> Sources<'_>
         requires { event.at < event_count (plan_of self.now) event.proc.number }
-        ensures sources { AreSources (plan_of self.now) (place_of event) (source_list result.previous result.awaited result.arrivals.now) }
-        ensures previous { option_map place_of result.previous ≡ previous_of (place_of event) }
-        ensures awaited { IsAwaited (plan_of self.now) (place_of event) (option_map place_of result.awaited) }
-        ensures leave { (members : List ℕ) → event_in (plan_of self.now) (place_of event) ≡ Some (Leave members)
-            → AreArrivals (plan_of self.now) members (arrivals_of (plan_of self.now) event.proc.number members event.at) (map place_of result.arrivals.now) }
-        ensures others { ((members : List ℕ) → event_in (plan_of self.now) (place_of event) ≡ Some (Leave members) → ⊥) → result.arrivals.now ≡ [] }
+        ensures sources { AreSources (plan_of self.now) (event_of event) (source_list result.previous result.awaited result.arrivals.now) }
+        ensures previous { option_map event_of result.previous ≡ previous_of (event_of event) }
+        ensures awaited { IsAwaited (plan_of self.now) (event_of event) (option_map event_of result.awaited) }
+        ensures leave { (members : List ℕ) → kind (plan_of self.now) (event_of event) ≡ Some (Leave members)
+            → AreArrivals (plan_of self.now) members (arrivals_of (plan_of self.now) event.proc.number members event.at) (map event_of result.arrivals.now) }
+        ensures others { ((members : List ℕ) → kind (plan_of self.now) (event_of event) ≡ Some (Leave members) → ⊥) → result.arrivals.now ≡ [] }
     {
         Sources {
             previous: previous_event(event),
@@ -255,7 +256,7 @@ impl Plan {
     /// The event by which a process puts a key first; `None` where it never does.
     pub fn first_put(&self, owner: Proc, key: u32) -> Option<Event>
         ensures { MatchOption result (put_count (plan_of self.now) owner.number key (event_count (plan_of self.now) owner.number) ≡ 0)
-            (λ x. (x.proc ≡ owner) × IsFirstPut (plan_of self.now) (place_of x) key) }
+            (λ x. (x.proc ≡ owner) × IsFirstPut (plan_of self.now) (event_of x) key) }
     {
         self.index.keys.first_put(owner, key)
     }
@@ -263,8 +264,8 @@ impl Plan {
     /// The commit that stores a key of a process: the first one after its first put of the key; `None`
     /// where there is none (PMIx Standard 5.0, Posting Key-Value Pairs).
     pub fn store_of(&self, owner: Proc, key: u32) -> Option<Event>
-        ensures { MatchOption result ((x : Place) → x.proc ≡ owner.number → Stores (plan_of self.now) x key → ⊥)
-            (λ x. (x.proc ≡ owner) × Stores (plan_of self.now) (place_of x) key) }
+        ensures { MatchOption result ((x : runs.Event) → x.proc ≡ owner.number → Stores (plan_of self.now) x key → ⊥)
+            (λ x. (x.proc ≡ owner) × Stores (plan_of self.now) (event_of x) key) }
     {
         self.index.keys.store_of(owner, key)
     }
@@ -290,15 +291,15 @@ impl Plan {
 
     /// The publish of a name that is published once and that nobody unpublishes; `None` of any other name.
     pub fn once_published(&self, name: u32) -> Option<Event>
-        ensures { MatchOption result ((x : Place) → PublishesOnce (plan_of self.now) x name → ⊥)
-            (λ x. PublishesOnce (plan_of self.now) (place_of x) name) }
+        ensures { MatchOption result ((x : runs.Event) → PublishesOnce (plan_of self.now) x name → ⊥)
+            (λ x. PublishesOnce (plan_of self.now) (event_of x) name) }
     {
         self.index.names.once_published(name)
     }
 
     /// The calls on a name, in process order. Each name is a shard of its own.
     pub fn name_calls(&self, name: u32) -> &[Event]
-        ensures { AreNameCalls (plan_of self.now) name (map place_of result.now) }
+        ensures { AreNameCalls (plan_of self.now) name (map event_of result.now) }
     {
         self.index.names.calls(name)
     }
@@ -306,7 +307,7 @@ impl Plan {
     /// The gets that are answered at once and ask another process for a key, in process order. Each key
     /// is a shard of its own (PMIx Standard 5.0, PMIx_Get with PMIX_IMMEDIATE).
     pub fn looks(&self, key: u32) -> &[Event]
-        ensures { AreLooks (plan_of self.now) key (map place_of result.now) }
+        ensures { AreLooks (plan_of self.now) key (map event_of result.now) }
     {
         self.index.looks.looks(key)
     }
@@ -316,8 +317,8 @@ impl Plan {
 /// fences of the plan's scripts (PMIx Standard 5.0, PMIx_Fence).
 pub fn fence_of(plan: &Plan, fences: &Fences, event: Event) -> FenceId
     requires fences { AreFencesOf plan.now fences.now }
-    requires half { is_of_fence (event_in (plan_of plan.now) (place_of event)) ≡ true }
-    ensures { IsMet plan.now fences.now (place_of event) result.number }
+    requires half { is_of_fence (kind (plan_of plan.now) (event_of event)) ≡ true }
+    ensures { IsMet plan.now fences.now (event_of event) result.number }
 {
     fence_at(&plan.events, fences, event)
 }

@@ -1,10 +1,10 @@
 //! The events of one process.
 
 ghost use Rattle.std.specs.Prelude.{◌≡◌, ◌+◌, ◌<◌, ◌^◌, ◌∷◌, ◌++◌, [], length, map, OnOk, IfOk};
-ghost use Rattle.wire_runs.specs.Plan.{events_of};
+ghost use Rattle.wire_runs.specs.Plan.{kinds_of};
 ghost use Rattle.wire_rehearsal.specs.Planned.{planned_call};
 ghost use Rattle.wire_procmap.specs.Map.{map_of};
-ghost use Rattle.wire_plan.specs.Kinds.{event_of, calls_from, starts_from};
+ghost use Rattle.wire_plan.specs.Kinds.{kind_of, calls_from, starts_from};
 
 use crate::kind::{Kind, first_kind};
 use std::alloc::{AllocError, Global};
@@ -43,7 +43,7 @@ fn add_call(
 ) -> Result<(), AllocError>
     requires places { places.now ≡ map_of scripts.now }
     requires few { length row.old.kinds.items < 2 ^ 32 }
-    ensures kinds { OnOk result (map (event_of scripts.now.sets) row.new.kinds.items ≡ map (event_of scripts.now.sets) row.old.kinds.items ++ events_of (planned_call scripts.now call ∷ [])) }
+    ensures kinds { OnOk result (map (kind_of scripts.now.sets) row.new.kinds.items ≡ map (kind_of scripts.now.sets) row.old.kinds.items ++ kinds_of (planned_call scripts.now call ∷ [])) }
     ensures calls { OnOk result (row.new.calls.items ≡ row.old.calls.items ++ calls_from number (planned_call scripts.now call ∷ [])) }
     ensures starts { OnOk result (row.new.starts.items ≡ row.old.starts.items ++ length row.old.kinds.items ∷ []) }
 {
@@ -64,7 +64,7 @@ pub(crate) fn row_of(
 ) -> Result<Row, AllocError>
     requires places { places.now ≡ map_of scripts.now }
     requires few { length calls.now < 2 ^ 31 }
-    ensures kinds { IfOk result (λ row. map (event_of scripts.now.sets) row.kinds.items ≡ events_of (map (planned_call scripts.now) calls.now)) }
+    ensures kinds { IfOk result (λ row. map (kind_of scripts.now.sets) row.kinds.items ≡ kinds_of (map (planned_call scripts.now) calls.now)) }
     ensures calls { IfOk result (λ row. row.calls.items ≡ calls_from 0 (map (planned_call scripts.now) calls.now)) }
     ensures starts { IfOk result (λ row. row.starts.items ≡ starts_from 0 (map (planned_call scripts.now) calls.now)) }
 {

@@ -1,7 +1,7 @@
 //! What an event waits for.
 
 ghost use Rattle.std.specs.Prelude.{◌≡◌, option_map};
-ghost use Rattle.wire_runs.specs.Plan.{place_of};
+ghost use Rattle.wire_runs.specs.Plan.{event_of};
 ghost use Rattle.wire_plan.specs.Index.{previous_of};
 
 use wire_types::Event;
@@ -20,7 +20,7 @@ pub struct Sources<'a> {
 
 /// The event before an event in its process.
 pub(crate) fn previous_event(event: Event) -> Option<Event>
-    ensures { option_map place_of result ≡ previous_of (place_of event) }
+    ensures { option_map event_of result ≡ previous_of (event_of event) }
 {
     if event.at == 0 {
         return None;

@@ -2,9 +2,9 @@
 use Rattle.std.proofs.Common.{◌≡◌, ◌∙◌, ap, sym, subst, ℕ, suc, ◌<◌, ◌≤◌, List, true, Option, Some, None, arith, inl, inr}
 use Rattle.std.specs.Prelude.{IfSome, option_map}
 use Rattle.std.proofs.lemmas.Bool.{true≢false, cases_lt, cases_eq}
-use Rattle.wire_runs.specs.Plan.{Plan, Place, event_count, process_count, node_of, same_node}
+use Rattle.wire_runs.specs.Plan.{Plan, Event, event_count, process_count, node_of, same_node}
 use Rattle.wire_types.specs.declared.Proc.{Proc}
-use Rattle.wire_types.specs.declared.place.Event.{Event as EventPlace}
+use Rattle.wire_types.specs.declared.place.Event.{Event as CodeEvent}
 use Rattle.wire_runs.specs.Order.{IsArrival, Before}
 use Rattle.wire_runs.specs.Races.{Delivery, ByFence, IsOf, Delivers, ComesSurely}
 use Rattle.wire_runs.specs.Findings.{Finding, IsFound, IsKeyRace}
@@ -20,7 +20,7 @@ use Rattle.wire_races.proofs.Arriving.{arrival_of, late_once}
 use Rattle.wire_races.proofs.Sooner.{sooner_live, sooner_before}
 use Rattle.wire_races.proofs.Looking.{race_with, race_open, race_found, get_there}
 
-abbrev pub here : ℕ → ℕ → Place
+abbrev pub here : ℕ → ℕ → Event
 here p at = record { proc = p; at = at }
 
 pub arrives : (plan : Plan) (p key node at : ℕ) → IsDelivering plan p key node at → Arrives plan (here p at)
@@ -30,7 +30,7 @@ delivering_within : (plan : Plan) (p key node at : ℕ) → IsDelivering plan p 
 delivering_within plan p key node at d = event_within plan p at _ d.arrival.is
 
 -- the next delivery, told by its event
-pub next_from : (plan : Plan) (owner : Proc) (key node from : ℕ) (found : Option EventPlace) → IfSome found (λ e. e.proc ≡ owner) → IsNextDelivery plan owner.number key node from (option_map (λ e. e.at) found) → IsNextArrival plan owner.number key node from found
+pub next_from : (plan : Plan) (owner : Proc) (key node from : ℕ) (found : Option CodeEvent) → IfSome found (λ e. e.proc ≡ owner) → IsNextDelivery plan owner.number key node from (option_map (λ e. e.at) found) → IsNextArrival plan owner.number key node from found
 next_from plan owner key node from None owned next = next
 next_from plan owner key node from (Some e) owned next = record {
   proc = ap (λ q. q.number) owned;
@@ -40,7 +40,7 @@ next_from plan owner key node from (Some e) owned next = record {
   others = next.2;
 }
 
-module _ (plan : Plan) (get : Place) (p key node : ℕ) where
+module _ (plan : Plan) (get : Event) (p key node : ℕ) where
   -- a sure delivery, by the owner's arrival at its fence
   pub surely : (at : ℕ) → IsDelivering plan p key node at → IsSure plan get (here p at) → ComesSurely plan p key node get
   surely at d s = record {
@@ -55,7 +55,7 @@ module _ (plan : Plan) (get : Place) (p key node : ℕ) where
   pub sure_at : ComesSurely plan p key node get → (at : ℕ) × IsDelivering plan p key node at × IsSure plan get (here p at)
   sure_at s = go s.delivery s.delivers s.all_before
     where
-      go : (d : Delivery) → Delivers plan p key node d → ((z : Place) → IsOf plan d z → Before plan z get) → (at : ℕ) × IsDelivering plan p key node at × IsSure plan get (here p at)
+      go : (d : Delivery) → Delivers plan p key node d → ((z : Event) → IsOf plan d z → Before plan z get) → (at : ℕ) × IsDelivering plan p key node at × IsSure plan get (here p at)
       go (ByFence members j) d before = (
         d.brings_it.at,
         record { members = members; j = j; arrival = d.brings_it.arrival; brings = d.brings_it },
@@ -90,11 +90,11 @@ module _ (plan : Plan) (get : Place) (p key node : ℕ) where
 pub past_all : (plan : Plan) (p key node from count : ℕ) → count ≡ event_count plan p → count ≤ from → (k : ℕ) → from ≤ k → IsDelivering plan p key node k → ⊥
 past_all plan p key node from count is end k ge d = let lt = delivering_within plan p key node k d in omega (arith, lt, is, end, ge)
 
-module _ (plan : Plan) (get : Place) (owner key : ℕ) (n : IsUnsure plan get owner key) where
+module _ (plan : Plan) (get : Event) (owner key : ℕ) (n : IsUnsure plan get owner key) where
   -- a late arrival is a race
-  pub late_race : (at : ℕ) (x : Place) → IsDelivering plan owner key (node_of plan get.proc) at → IsLate plan get (here owner at) x → IsKeyRace plan x get owner key
+  pub late_race : (at : ℕ) (x : Event) → IsDelivering plan owner key (node_of plan get.proc) at → IsLate plan get (here owner at) x → IsKeyRace plan x get owner key
   late_race at x d l =
-      let there : (z : Place) → IsArrival plan d.members d.j z → IsArrival plan l.fence.members l.fence.j z =
+      let there : (z : Event) → IsArrival plan d.members d.j z → IsArrival plan l.fence.members l.fence.j z =
       λ z a. arrival_of plan (here owner at) z d.members l.fence.members d.j l.fence.j d.arrival l.fence.arrival a in
       inr (record {
         is = n.opened.is;
@@ -114,7 +114,7 @@ module _ (plan : Plan) (get : Place) (owner key : ℕ) (n : IsUnsure plan get ow
   race_late : (f : Finding) → IsKeyRaceBy plan get f → (at : ℕ) × IsLateBy plan get owner key (node_of plan get.proc) at f
   race_late f t = let w = race_with plan get owner key f n.opened.is t in go w.source w.race w.is
     where
-      delivered : (x : Place) → IsRaceOf x get owner key f → (d : Delivery) → Delivers plan owner key (node_of plan get.proc) d → ((z : Place) → IsOf plan d z → ¬ (Before plan get z)) → IsOf plan d x → ¬ (Before plan x get) → ((z : Place) → IsOf plan d z → ¬ (Before plan z get) → x.proc ≤ z.proc) → (at : ℕ) × IsLateBy plan get owner key (node_of plan get.proc) at f
+      delivered : (x : Event) → IsRaceOf x get owner key f → (d : Delivery) → Delivers plan owner key (node_of plan get.proc) d → ((z : Event) → IsOf plan d z → ¬ (Before plan get z)) → IsOf plan d x → ¬ (Before plan x get) → ((z : Event) → IsOf plan d z → ¬ (Before plan z get) → x.proc ≤ z.proc) → (at : ℕ) × IsLateBy plan get owner key (node_of plan get.proc) at f
       delivered x is (ByFence members j) d before_none of_it not_before first = (
         d.brings_it.at,
         record {
@@ -132,7 +132,7 @@ module _ (plan : Plan) (get : Place) (owner key : ℕ) (n : IsUnsure plan get ow
         },
       )
 
-      go : (x : Place) → IsKeyRace plan x get owner key → IsRaceOf x get owner key f → (at : ℕ) × IsLateBy plan get owner key (node_of plan get.proc) at f
+      go : (x : Event) → IsKeyRace plan x get owner key → IsRaceOf x get owner key f → (at : ℕ) × IsLateBy plan get owner key (node_of plan get.proc) at f
       go x (inl r) is = absurd (true≢false (sym (subst (λ q. same_node plan q get.proc ≡ true) r.0 r.1.node) ∙ n.other))
       go x (inr r) is = delivered x is r.delivery r.delivers r.before_none r.of_it r.not_before r.first
 
@@ -144,16 +144,16 @@ module _ (plan : Plan) (get : Place) (owner key : ℕ) (n : IsUnsure plan get ow
       (λ f t. let w = race_late f t in (w.0, delivering_within plan owner key _ w.0 w.1.delivers, w.1))
       h
 
-module _ (plan : Plan) (get : Place) (owner key node : ℕ) where
+module _ (plan : Plan) (get : Event) (owner key node : ℕ) where
   -- one arrival is looked at
-  pub one_late : (old new : List Finding) (at : ℕ) (x : Place) → IsDelivering plan owner key node at → IsLate plan get (here owner at) x → Adds plan old new (IsRaceOf x get owner key) → Adds plan old new (IsLateBy plan get owner key node at)
+  pub one_late : (old new : List Finding) (at : ℕ) (x : Event) → IsDelivering plan owner key node at → IsLate plan get (here owner at) x → Adds plan old new (IsRaceOf x get owner key) → Adds plan old new (IsLateBy plan get owner key node at)
   one_late old new at x d l h =
       adds_same plan old new (IsRaceOf x get owner key) (IsLateBy plan get owner key node at)
       (λ f i. record { source = x; delivers = d; late = l; is = i })
       (λ f t. subst (λ z. IsRaceOf z get owner key f) (late_once plan get (here owner at) x t.source l t.late) t.is)
       h
 
-  pub not_late : (found : List Finding) (at : ℕ) → ((x : Place) → IsLate plan get (here owner at) x → ⊥) → AreFound plan found → Adds plan found found (IsLateBy plan get owner key node at)
+  pub not_late : (found : List Finding) (at : ℕ) → ((x : Event) → IsLate plan get (here owner at) x → ⊥) → AreFound plan found → Adds plan found found (IsLateBy plan get owner key node at)
   not_late found at never are = adds_none plan found (IsLateBy plan get owner key node at) are (λ f t. never t.source t.late)
 
   pub late_more : (old mid new : List Finding) (from at next : ℕ) → from ≤ at → next ≡ suc at → ((k : ℕ) → from ≤ k → k < at → IsDelivering plan owner key node k → ⊥) → Adds plan old mid (AreLateBelow plan get owner key node from) → Adds plan mid new (IsLateBy plan get owner key node at) → Adds plan old new (AreLateBelow plan get owner key node next)
@@ -202,20 +202,20 @@ module _ (plan : Plan) (get : Place) (owner key node : ℕ) where
       h
 
 -- races stand among the events
-pub race_within : (plan : Plan) (y : Place) (f : Finding) → IsKeyRaceBy plan y f → y.at < event_count plan y.proc
+pub race_within : (plan : Plan) (y : Event) (f : Finding) → IsKeyRaceBy plan y f → y.at < event_count plan y.proc
 race_within plan y f t = get_there plan t.source y t.owner t.key t.race
 
-pub race_below : (plan : Plan) (y : Place) (f : Finding) → IsKeyRaceBy plan y f → y.proc < process_count plan
+pub race_below : (plan : Plan) (y : Event) (f : Finding) → IsKeyRaceBy plan y f → y.proc < process_count plan
 race_below plan y f t = process_within plan y.proc y.at _ (race_open plan t.source y t.owner t.key t.race).is
 
-pub race_told : (plan : Plan) (y : Place) (f : Finding) → IsKeyRaceBy plan y f → OfKind plan IsOfKey f
+pub race_told : (plan : Plan) (y : Event) (f : Finding) → IsKeyRaceBy plan y f → OfKind plan IsOfKey f
 race_told plan y f t = (of_kind t.source y t.owner t.key f t.is, race_found plan t.source y t.owner t.key f t.race t.is)
   where
-    of_kind : (x y : Place) (p k : ℕ) (f : Finding) → IsRaceOf x y p k f → IsOfKey f
+    of_kind : (x y : Event) (p k : ℕ) (f : Finding) → IsRaceOf x y p k f → IsOfKey f
     of_kind x y p k f (inl a) = (x, y, p, k, a.1)
     of_kind x y p k f (inr a) = (y, x, p, k, a.1)
 
-pub race_by : (plan : Plan) (f : Finding) → OfKind plan IsOfKey f → (y : Place) × IsKeyRaceBy plan y f
+pub race_by : (plan : Plan) (f : Finding) → OfKind plan IsOfKey f → (y : Event) × IsKeyRaceBy plan y f
 race_by plan f k =
     let x = k.0.0 in
     let y = k.0.1 in

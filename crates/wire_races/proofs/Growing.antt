@@ -1,7 +1,7 @@
 -- How the list of findings grows, event by event.
 use Rattle.std.proofs.Common.{◌≡◌, ◌⊎◌, inl, inr, ⊎_elim, ℕ, suc, ◌<◌, List, refl, sym, subst, arith}
 use Rattle.std.proofs.lemmas.Bool.{cases_eq}
-use Rattle.wire_runs.specs.Plan.{Plan, Place, process_count, event_count}
+use Rattle.wire_runs.specs.Plan.{Plan, Event, process_count, event_count}
 use Rattle.wire_runs.specs.Findings.{Finding, IsFound}
 use Rattle.wire_races.specs.Collected.{AreFound, IsAdded}
 use Rattle.wire_races.specs.Kinds.{AllAdded}
@@ -52,7 +52,7 @@ adds_both plan old mid new a b c first second either x y = record {
   ];
 }
 
-module _ (plan : Plan) (tells : Place → Finding → Type 0) where
+module _ (plan : Plan) (tells : Event → Finding → Type 0) where
   -- one event more
   pub one_event : (old mid new : List Finding) (p n m : ℕ) → m ≡ suc n → Adds plan old mid (ToldIn tells p n) → Adds plan mid new (tells (record { proc = p; at = n })) → Adds plan old new (ToldIn tells p m)
   one_event old mid new p n m one first second =
@@ -66,7 +66,7 @@ module _ (plan : Plan) (tells : Place → Finding → Type 0) where
       first second
 
   -- one process more
-  pub one_process : ((y : Place) (f : Finding) → tells y f → y.at < event_count plan y.proc) → (old mid new : List Finding) (n m : ℕ) → m ≡ suc n → Adds plan old mid (ToldBelow tells n) → Adds plan mid new (ToldIn tells n (event_count plan n)) → Adds plan old new (ToldBelow tells m)
+  pub one_process : ((y : Event) (f : Finding) → tells y f → y.at < event_count plan y.proc) → (old mid new : List Finding) (n m : ℕ) → m ≡ suc n → Adds plan old mid (ToldBelow tells n) → Adds plan mid new (ToldIn tells n (event_count plan n)) → Adds plan old new (ToldBelow tells m)
   one_process within old mid new n m one first second =
       adds_both plan old mid new (ToldBelow tells n) (ToldIn tells n (event_count plan n)) (ToldBelow tells m)
       (λ f t. let lt = t.2 in (t.0, t.1, omega (arith, lt, one)))
@@ -78,7 +78,7 @@ module _ (plan : Plan) (tells : Place → Finding → Type 0) where
       first second
 
   -- all processes
-  pub all_told : ((y : Place) (f : Finding) → tells y f → y.proc < process_count plan) → (kind : Finding → Type 0) → ((y : Place) (f : Finding) → tells y f → OfKind plan kind f) → ((f : Finding) → OfKind plan kind f → (y : Place) × tells y f) → (old new : List Finding) (n : ℕ) → n ≡ process_count plan → Adds plan old new (ToldBelow tells n) → Adds plan old new (OfKind plan kind)
+  pub all_told : ((y : Event) (f : Finding) → tells y f → y.proc < process_count plan) → (kind : Finding → Type 0) → ((y : Event) (f : Finding) → tells y f → OfKind plan kind f) → ((f : Finding) → OfKind plan kind f → (y : Event) × tells y f) → (old new : List Finding) (n : ℕ) → n ≡ process_count plan → Adds plan old new (ToldBelow tells n) → Adds plan old new (OfKind plan kind)
   all_told within kind there back old new n all h =
       adds_same plan old new (ToldBelow tells n) (OfKind plan kind)
       (λ f t. there t.0 f t.1)

@@ -3,75 +3,75 @@ use Rattle.std.proofs.Common.{◌≡◌, ◌⊎◌, inl, inr, ⊎_elim, ℕ, zer
 use Rattle.std.specs.Prelude.{slice_get, slice_index_or, option_map}
 use Rattle.std.proofs.lemmas.Option.{slice_get_within, same_Some, slice_get-map, slice_get-get_or}
 use Rattle.std.proofs.lemmas.List.{map_more, map-append, take-append-drop}
-use Rattle.wire_runs.specs.Plan.{Plan, Place, place_of}
-use Rattle.wire_types.specs.declared.place.Event.{Event as EventPlace}
+use Rattle.wire_runs.specs.Plan.{Plan, Event, event_of}
+use Rattle.wire_types.specs.declared.place.Event.{Event as CodeEvent}
 use Rattle.wire_runs.specs.Fate.{IsIn}
 use Rattle.wire_runs.proofs.EventLists.{in_either}
 use Rattle.wire_races.specs.NameRaces.{AreCallsOn, AreOf}
 
-pub in_index : (xs : List Place) (z : Place) → IsIn z xs → (k : ℕ) × (slice_get xs k ≡ Some z)
+pub in_index : (xs : List Event) (z : Event) → IsIn z xs → (k : ℕ) × (slice_get xs k ≡ Some z)
 in_index [] z i = absurd i
 in_index (x ∷ xs) z (inl e) = (0, ap (λ v. Some v) (sym e))
 in_index (x ∷ xs) z (inr i) = let w = in_index xs z i in (suc w.0, w.1)
 
-pub index_in : (xs : List Place) (z : Place) (k : ℕ) → slice_get xs k ≡ Some z → IsIn z xs
-index_in [] z k e = absurd (let lt = slice_get_within {A = Place} [] k z e in omega (arith, lt))
+pub index_in : (xs : List Event) (z : Event) (k : ℕ) → slice_get xs k ≡ Some z → IsIn z xs
+index_in [] z k e = absurd (let lt = slice_get_within {A = Event} [] k z e in omega (arith, lt))
 index_in (x ∷ xs) z zero e = inl (sym (same_Some _ _ e))
 index_in (x ∷ xs) z (suc k) e = inr (index_in xs z k e)
 
-pub place_at : (run : List EventPlace) (k : ℕ) (d : EventPlace) → k < length run → slice_get (map place_of run) k ≡ Some (place_of (slice_index_or run k d))
-place_at run k d lt = slice_get-map place_of run k ∙ ap (option_map place_of) (slice_get-get_or run k d lt)
+pub place_at : (run : List CodeEvent) (k : ℕ) (d : CodeEvent) → k < length run → slice_get (map event_of run) k ≡ Some (event_of (slice_index_or run k d))
+place_at run k d lt = slice_get-map event_of run k ∙ ap (option_map event_of) (slice_get-get_or run k d lt)
 
-pub in_left : (xs ys : List Place) (z : Place) → IsIn z xs → IsIn z (xs ++ ys)
+pub in_left : (xs ys : List Event) (z : Event) → IsIn z xs → IsIn z (xs ++ ys)
 in_left [] ys z i = absurd i
 in_left (x ∷ xs) ys z (inl e) = inl e
 in_left (x ∷ xs) ys z (inr i) = inr (in_left xs ys z i)
 
-pub in_right : (xs ys : List Place) (z : Place) → IsIn z ys → IsIn z (xs ++ ys)
+pub in_right : (xs ys : List Event) (z : Event) → IsIn z ys → IsIn z (xs ++ ys)
 in_right [] ys z i = i
 in_right (x ∷ xs) ys z i = inr (in_right xs ys z i)
 
-pub in_parts : (xs ys : List Place) (z : Place) → IsIn z (xs ++ ys) → IsIn z xs ⊎ IsIn z ys
+pub in_parts : (xs ys : List Event) (z : Event) → IsIn z (xs ++ ys) → IsIn z xs ⊎ IsIn z ys
 in_parts [] ys z i = inr i
 in_parts (x ∷ xs) ys z (inl e) = inl (inl e)
 in_parts (x ∷ xs) ys z (inr i) = ⊎_elim (λ a. inl (inr a)) (λ b. inr b) (in_parts xs ys z i)
 
-get_left : (xs ys : List Place) (k : ℕ) (z : Place) → slice_get xs k ≡ Some z → slice_get (xs ++ ys) k ≡ Some z
-get_left [] ys k z e = absurd (let lt = slice_get_within {A = Place} [] k z e in omega (arith, lt))
+get_left : (xs ys : List Event) (k : ℕ) (z : Event) → slice_get xs k ≡ Some z → slice_get (xs ++ ys) k ≡ Some z
+get_left [] ys k z e = absurd (let lt = slice_get_within {A = Event} [] k z e in omega (arith, lt))
 get_left (x ∷ xs) ys zero z e = e
 get_left (x ∷ xs) ys (suc k) z e = get_left xs ys k z e
 
-get_right : (xs ys : List Place) (k : ℕ) (z : Place) → slice_get ys k ≡ Some z → slice_get (xs ++ ys) (length xs + k) ≡ Some z
+get_right : (xs ys : List Event) (k : ℕ) (z : Event) → slice_get ys k ≡ Some z → slice_get (xs ++ ys) (length xs + k) ≡ Some z
 get_right [] ys k z e = let same : k ≡ 0 + k = omega arith in subst (λ n. slice_get ys n ≡ Some z) same e
 get_right (x ∷ xs) ys k z e =
     let same : suc (length xs + k) ≡ suc (length xs) + k = omega arith in
     subst (λ n. slice_get (x ∷ (xs ++ ys)) n ≡ Some z) same (get_right xs ys k z e)
 
 -- the two parts of calls on a name
-pub first_calls : (plan : Plan) (name : ℕ) (xs ys : List Place) → AreCallsOn plan name (xs ++ ys) → AreCallsOn plan name xs
+pub first_calls : (plan : Plan) (name : ℕ) (xs ys : List Event) → AreCallsOn plan name (xs ++ ys) → AreCallsOn plan name xs
 first_calls plan name xs ys are = record {
   each = λ k z e. are.each k z (get_left xs ys k z e);
   rising = λ k l y z lt e f. are.rising k l y z lt (get_left xs ys k y e) (get_left xs ys l z f);
 }
 
-pub other_calls : (plan : Plan) (name : ℕ) (xs ys : List Place) → AreCallsOn plan name (xs ++ ys) → AreCallsOn plan name ys
+pub other_calls : (plan : Plan) (name : ℕ) (xs ys : List Event) → AreCallsOn plan name (xs ++ ys) → AreCallsOn plan name ys
 other_calls plan name xs ys are = record {
   each = λ k z e. are.each (length xs + k) z (get_right xs ys k z e);
   rising = λ k l y z lt e f. are.rising (length xs + k) (length xs + l) y z (omega (arith, lt)) (get_right xs ys k y e) (get_right xs ys l z f);
 }
 
 -- the two parts of a list
-pub both_parts : (rest run others : List EventPlace) (n : ℕ) → run ≡ take n rest → others ≡ drop n rest → map place_of rest ≡ map place_of run ++ map place_of others
+pub both_parts : (rest run others : List CodeEvent) (n : ℕ) → run ≡ take n rest → others ≡ drop n rest → map event_of rest ≡ map event_of run ++ map event_of others
 both_parts rest run others n front back =
-    ap (map place_of) (sym (take-append-drop n rest))
-    ∙ map-append place_of (take n rest) (drop n rest)
-    ∙ ap (λ l. map place_of l ++ map place_of (drop n rest)) (sym front)
-    ∙ ap (λ l. map place_of run ++ map place_of l) (sym back)
+    ap (map event_of) (sym (take-append-drop n rest))
+    ∙ map-append event_of (take n rest) (drop n rest)
+    ∙ ap (λ l. map event_of l ++ map event_of (drop n rest)) (sym front)
+    ∙ ap (λ l. map event_of run ++ map event_of l) (sym back)
 
 -- one call more of the process
-pub one_more_of : (p : ℕ) (calls : List EventPlace) (n : ℕ) (d : EventPlace) → n < length calls → (slice_index_or calls n d).proc.number ≡ p → AreOf p (map place_of (take n calls)) → AreOf p (map place_of (take (n + 1) calls))
+pub one_more_of : (p : ℕ) (calls : List CodeEvent) (n : ℕ) (d : CodeEvent) → n < length calls → (slice_index_or calls n d).proc.number ≡ p → AreOf p (map event_of (take n calls)) → AreOf p (map event_of (take (n + 1) calls))
 one_more_of p calls n d lt is are k z e =
-    elim (in_either (map place_of (take n calls)) (place_of (slice_index_or calls n d)) k z (subst (λ l. slice_get l k ≡ Some z) (map_more place_of calls n d lt) e)) [
+    elim (in_either (map event_of (take n calls)) (event_of (slice_index_or calls n d)) k z (subst (λ l. slice_get l k ≡ Some z) (map_more event_of calls n d lt) e)) [
       | inl was ↦ are k z was
-      | inr w ↦ ap (λ (v : Place). v.proc) (sym w.1) ∙ is
+      | inr w ↦ ap (λ (v : Event). v.proc) (sym w.1) ∙ is
     ]

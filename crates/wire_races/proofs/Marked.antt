@@ -2,26 +2,26 @@
 use Rattle.std.proofs.Common.{◌≡◌, ◌⊎◌, inl, inr, ap, sym, Bool, true, false, ltb-true, lt-ltb}
 use Rattle.std.specs.Prelude.{◌↔◌, nat_lt}
 use Rattle.std.proofs.lemmas.Bool.{cases_eq, true≢false}
-use Rattle.wire_runs.specs.Plan.{Plan, Place}
+use Rattle.wire_runs.specs.Plan.{Plan, Event}
 use Rattle.wire_runs.specs.Order.{Before}
 use Rattle.wire_runs.specs.Laws.{Marks}
 use Rattle.wire_marks.specs.Clocks.{Clocks, marked_count, clock_of, AreMarks}
 use Rattle.wire_marks.proofs.Growing.{before_iff, never_self}
 
-one_or_two : (x y : Place) → (x ≡ y) ⊎ (x ≡ y → ⊥)
+one_or_two : (x y : Event) → (x ≡ y) ⊎ (x ≡ y → ⊥)
 one_or_two x y = elim (cases_eq x.proc y.proc) [
   | inl p ↦ elim (cases_eq x.at y.at) [
     | inl at ↦ inl (λ t. record { proc = p t; at = at t })
-    | inr other ↦ inr (λ e. other (ap (λ (z : Place). z.at) e))
+    | inr other ↦ inr (λ e. other (ap (λ (z : Event). z.at) e))
   ]
-  | inr other ↦ inr (λ e. other (ap (λ (z : Place). z.proc) e))
+  | inr other ↦ inr (λ e. other (ap (λ (z : Event). z.proc) e))
 ]
 
-abbrev is_before : (clocks : Clocks) (x y : Place) → (x ≡ y) ⊎ (x ≡ y → ⊥) → Bool
+abbrev is_before : (clocks : Clocks) (x y : Event) → (x ≡ y) ⊎ (x ≡ y → ⊥) → Bool
 is_before clocks x y (inl e) = false
 is_before clocks x y (inr other) = nat_lt x.at (clock_of clocks y x.proc)
 
-tells : (plan : Plan) (clocks : Clocks) → AreMarks plan clocks → (x y : Place) (same : (x ≡ y) ⊎ (x ≡ y → ⊥)) → (is_before clocks x y same ≡ true) ↔ Before plan x y
+tells : (plan : Plan) (clocks : Clocks) → AreMarks plan clocks → (x y : Event) (same : (x ≡ y) ⊎ (x ≡ y → ⊥)) → (is_before clocks x y same ≡ true) ↔ Before plan x y
 tells plan clocks m x y (inl e) = ((λ t. absurd (true≢false (sym t))), (λ b. absurd (never_self plan x y e b)))
 tells plan clocks m x y (inr other) =
     let iff = before_iff plan clocks x y m other in

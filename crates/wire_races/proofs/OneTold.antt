@@ -2,7 +2,7 @@
 use Rattle.std.proofs.Common.{◌≡◌, ap, refl, sym, subst, ℕ, zero, suc, ◌<◌, List, [], ◌∷◌, length, take, Bool, false, inl, inr, arith}
 use Rattle.std.specs.Prelude.{◌↔◌}
 use Rattle.std.proofs.lemmas.Bool.{cases_lt, true≢false}
-use Rattle.wire_runs.specs.Plan.{Plan, Place, Call, CallPut, CallCommit, CallFence, CallGet, CallGetNow, CallPublish, CallLookup, CallLookupWait, CallUnpublish, CallFixed, events_of}
+use Rattle.wire_runs.specs.Plan.{Plan, Event, Call, CallPut, CallCommit, CallFence, CallGet, CallGetNow, CallPublish, CallLookup, CallLookupWait, CallUnpublish, CallFixed, kinds_of}
 use Rattle.wire_types.specs.declared.CallAt.{CallAt}
 use Rattle.wire_runs.specs.Ends.{call_size, calls_of, first_event}
 use Rattle.wire_runs.specs.Races.{IsSettled}
@@ -29,7 +29,7 @@ some_event (CallUnpublish name) = omega arith
 some_event (CallFixed reply) = omega arith
 
 -- a later call starts at a later event
-rising : (calls : List Call) (m n : ℕ) → m < n → m < length calls → length (events_of (take m calls)) < length (events_of (take n calls))
+rising : (calls : List Call) (m n : ℕ) → m < n → m < length calls → length (kinds_of (take m calls)) < length (kinds_of (take n calls))
 rising [] m n lt within = absurd (omega (arith, within))
 rising (call ∷ calls) m zero lt within = absurd (omega (arith, lt))
 rising (call ∷ calls) zero (suc n) lt within =
@@ -42,7 +42,7 @@ rising (call ∷ calls) (suc m) (suc n) lt within =
     let ih = rising calls m n (omega (arith, lt)) (omega (arith, within)) in
     omega (arith, few, more, ih)
 
-same_number : (calls : List Call) (m n : ℕ) → m < length calls → n < length calls → length (events_of (take m calls)) ≡ length (events_of (take n calls)) → m ≡ n
+same_number : (calls : List Call) (m n : ℕ) → m < length calls → n < length calls → length (kinds_of (take m calls)) ≡ length (kinds_of (take n calls)) → m ≡ n
 same_number calls m n a b e = elim (cases_lt m n) [
   | inl lt ↦ absurd (let more = rising calls m n lt a in omega (arith, more, e))
   | inr ge ↦ elim (cases_lt n m) [
@@ -54,10 +54,10 @@ same_number calls m n a b e = elim (cases_lt m n) [
 -- a call is told by its first event
 same_call : (plan : Plan) (v w : CallAt) → v.call < length (calls_of plan v.proc.number) → w.call < length (calls_of plan w.proc.number) → first_event plan v ≡ first_event plan w → v ≡ w
 same_call plan v w a b e =
-    let p : v.proc.number ≡ w.proc.number = ap (λ (x : Place). x.proc) e in
-    let at : length (events_of (take v.call (calls_of plan v.proc.number))) ≡ length (events_of (take w.call (calls_of plan w.proc.number))) = ap (λ (x : Place). x.at) e in
+    let p : v.proc.number ≡ w.proc.number = ap (λ (x : Event). x.proc) e in
+    let at : length (kinds_of (take v.call (calls_of plan v.proc.number))) ≡ length (kinds_of (take w.call (calls_of plan w.proc.number))) = ap (λ (x : Event). x.at) e in
     let there = subst (λ (q : ℕ). v.call < length (calls_of plan q)) p a in
-    let start = subst (λ (q : ℕ). length (events_of (take v.call (calls_of plan q))) ≡ length (events_of (take w.call (calls_of plan w.proc.number)))) p at in
+    let start = subst (λ (q : ℕ). length (kinds_of (take v.call (calls_of plan q))) ≡ length (kinds_of (take w.call (calls_of plan w.proc.number)))) p at in
     let n = same_number (calls_of plan w.proc.number) v.call w.call there b start in
     λ t. record { proc = record { number = p t }; call = n t }
 

@@ -3,7 +3,7 @@ use Rattle.std.proofs.Common.{◌≡◌, ◌∙◌, ap, sym, refl, ℕ, zero, su
 use Rattle.std.specs.Prelude.{slice_get, is_some}
 use Rattle.std.proofs.lemmas.Bool.{cases_lt, cond_below, cond_above, true≢false}
 use Rattle.std.proofs.lemmas.Option.{slice_get_within, same_Some}
-use Rattle.wire_runs.specs.Plan.{Plan, Place, Process, Call, CallFence, Event, Put, Commit, Arrive, Leave, GetNow, Publish, Lookup, LookupWait, Unpublish, events_of, events, event_at, event, event_count, process_events}
+use Rattle.wire_runs.specs.Plan.{Plan, Event, Process, Call, CallFence, Kind, Put, Commit, Arrive, Leave, GetNow, Publish, Lookup, LookupWait, Unpublish, kinds_of, kinds, kind_at, kind, event_count, process_kinds}
 use Rattle.wire_runs.specs.Puts.{own, stored, stored_with}
 use Rattle.wire_types.specs.declared.CallAt.{CallAt}
 use Rattle.wire_runs.specs.Names.{writes_name, calls_name}
@@ -13,14 +13,14 @@ use Rattle.wire_runs.specs.Findings.{Finding, Rewrite, KeyRace, NameRace, IsFoun
 use Rattle.wire_runs.specs.Ends.{call_number, call_size, calls_of, process_calls, call_of, first_event}
 use Rattle.wire_plan.proofs.Planning.{events_first}
 
-abbrev pub is_leave : Event → Bool
+abbrev pub is_leave : Kind → Bool
 is_leave (Leave members) = true
 is_leave _ = false
 
 -- the first event of a call stands here
-pub record Starts (plan : Plan) (x : Place) : Type 0 where
-  pub what : Event
-  pub is : event plan x ≡ Some what
+pub record Starts (plan : Plan) (x : Event) : Type 0 where
+  pub what : Kind
+  pub is : kind plan x ≡ Some what
   pub first : is_leave what ≡ false
 
 nothing : {A : Type 0} (n : ℕ) (e : A) → slice_get [] n ≡ Some e → {B : Type 0} → B
@@ -38,132 +38,132 @@ get_right (x ∷ xs) ys i =
     ap (slice_get (x ∷ (xs ++ ys))) same ∙ get_right xs ys i
 
 -- of a call's events the first alone doesn't end a fence
-one_call : (call : Call) (at : ℕ) (e : Event) → slice_get (events_of (call ∷ [])) at ≡ Some e → is_leave e ≡ false → at ≡ 0
+one_call : (call : Call) (at : ℕ) (e : Kind) → slice_get (kinds_of (call ∷ [])) at ≡ Some e → is_leave e ≡ false → at ≡ 0
 one_call call zero e is h = refl
 one_call (CallFence members collect) (suc zero) e is h = absurd (true≢false (ap is_leave (same_Some _ _ is) ∙ h))
 one_call (CallFence members collect) (suc (suc n)) e is h = nothing n e is
 one_call _ (suc n) e is h = nothing n e is
 
 -- the events of one call more
-pub longer : (call : Call) (calls : List Call) (n : ℕ) → length (events_of (take (suc n) (call ∷ calls))) ≡ call_size call + length (events_of (take n calls))
-longer call calls n = ap length (events_first call (take n calls)) ∙ length-append (events_of (call ∷ [])) (events_of (take n calls))
+pub longer : (call : Call) (calls : List Call) (n : ℕ) → length (kinds_of (take (suc n) (call ∷ calls))) ≡ call_size call + length (kinds_of (take n calls))
+longer call calls n = ap length (events_first call (take n calls)) ∙ length-append (kinds_of (call ∷ [])) (kinds_of (take n calls))
 
-starts_at : (calls : List Call) (at : ℕ) (e : Event) → slice_get (events_of calls) at ≡ Some e → is_leave e ≡ false → length (events_of (take (call_number calls at) calls)) ≡ at
+starts_at : (calls : List Call) (at : ℕ) (e : Kind) → slice_get (kinds_of calls) at ≡ Some e → is_leave e ≡ false → length (kinds_of (take (call_number calls at) calls)) ≡ at
 starts_at [] at e is h = nothing at e is
 starts_at (call ∷ calls) at e is h =
     let size = call_size call in
     let rest = suc (call_number calls (at - size)) in
-    let found : slice_get (events_of (call ∷ []) ++ events_of calls) at ≡ Some e = ap (λ es. slice_get es at) (sym (events_first call calls)) ∙ is in
+    let found : slice_get (kinds_of (call ∷ []) ++ kinds_of calls) at ≡ Some e = ap (λ es. slice_get es at) (sym (events_first call calls)) ∙ is in
     elim (cases_lt at size) [
       | inl low ↦
-          let none : at ≡ 0 = one_call call at e (sym (get_left (events_of (call ∷ [])) (events_of calls) at low) ∙ found) h in
-          ap (λ n. length (events_of (take n (call ∷ calls)))) (sym (cond_below at size 0 rest low)) ∙ sym none
+          let none : at ≡ 0 = one_call call at e (sym (get_left (kinds_of (call ∷ [])) (kinds_of calls) at low) ∙ found) h in
+          ap (λ n. length (kinds_of (take n (call ∷ calls)))) (sym (cond_below at size 0 rest low)) ∙ sym none
       | inr high ↦
           let same : at ≡ size + (at - size) = omega (arith, high) in
-          let later : slice_get (events_of calls) (at - size) ≡ Some e =
-          sym (get_right (events_of (call ∷ [])) (events_of calls) (at - size)) ∙ ap (slice_get (events_of (call ∷ []) ++ events_of calls)) (sym same) ∙ found in
+          let later : slice_get (kinds_of calls) (at - size) ≡ Some e =
+          sym (get_right (kinds_of (call ∷ [])) (kinds_of calls) (at - size)) ∙ ap (slice_get (kinds_of (call ∷ []) ++ kinds_of calls)) (sym same) ∙ found in
           let ih = starts_at calls (at - size) e later h in
           let more = longer call calls (call_number calls (at - size)) in
-          ap (λ n. length (events_of (take n (call ∷ calls)))) (sym (cond_above at size 0 rest rest high refl)) ∙ omega (arith, ih, more, same)
+          ap (λ n. length (kinds_of (take n (call ∷ calls)))) (sym (cond_above at size 0 rest rest high refl)) ∙ omega (arith, ih, more, same)
     ]
 
-in_calls : (calls : List Call) (n : ℕ) (e : Event) → slice_get (events_of calls) (length (events_of (take n calls))) ≡ Some e → n < length calls
-in_calls [] n e is = nothing (length (events_of (take {A = Call} n []))) e is
+in_calls : (calls : List Call) (n : ℕ) (e : Kind) → slice_get (kinds_of calls) (length (kinds_of (take n calls))) ≡ Some e → n < length calls
+in_calls [] n e is = nothing (length (kinds_of (take {A = Call} n []))) e is
 in_calls (call ∷ calls) zero e is = omega arith
 in_calls (call ∷ calls) (suc n) e is =
-    let later : slice_get (events_of calls) (length (events_of (take n calls))) ≡ Some e =
-    sym (get_right (events_of (call ∷ [])) (events_of calls) (length (events_of (take n calls))))
-    ∙ ap (λ k. slice_get (events_of (call ∷ []) ++ events_of calls) k) (sym (longer call calls n))
-    ∙ ap (λ es. slice_get es (length (events_of (take (suc n) (call ∷ calls))))) (sym (events_first call calls))
+    let later : slice_get (kinds_of calls) (length (kinds_of (take n calls))) ≡ Some e =
+    sym (get_right (kinds_of (call ∷ [])) (kinds_of calls) (length (kinds_of (take n calls))))
+    ∙ ap (λ k. slice_get (kinds_of (call ∷ []) ++ kinds_of calls) k) (sym (longer call calls n))
+    ∙ ap (λ es. slice_get es (length (kinds_of (take (suc n) (call ∷ calls))))) (sym (events_first call calls))
     ∙ is in
     let ih = in_calls calls n e later in
     omega (arith, ih)
 
-pub same_events : (o : Option Process) → process_events o ≡ events_of (process_calls o)
+pub same_events : (o : Option Process) → process_kinds o ≡ kinds_of (process_calls o)
 same_events None = refl
 same_events (Some process) = refl
 
-events_called : (plan : Plan) (p : ℕ) → events plan p ≡ events_of (calls_of plan p)
-unfolding events
+events_called : (plan : Plan) (p : ℕ) → kinds plan p ≡ kinds_of (calls_of plan p)
+unfolding kinds
 events_called plan p = same_events (slice_get plan.processes p)
 
-event_called : (plan : Plan) (x : Place) → event plan x ≡ slice_get (events_of (calls_of plan x.proc)) x.at
-unfolding event_at
+event_called : (plan : Plan) (x : Event) → kind plan x ≡ slice_get (kinds_of (calls_of plan x.proc)) x.at
+unfolding kind_at
 event_called plan x = ap (λ es. slice_get es x.at) (events_called plan x.proc)
 
 -- it is the first event of its call
-pub starts_back : (plan : Plan) (x : Place) → Starts plan x → first_event plan (call_of plan x) ≡ x
+pub starts_back : (plan : Plan) (x : Event) → Starts plan x → first_event plan (call_of plan x) ≡ x
 starts_back plan x s =
     ap (λ (n : ℕ). record { proc = x.proc; at = n }) (starts_at (calls_of plan x.proc) x.at s.what (sym (event_called plan x) ∙ s.is) s.first)
 
-pub starts_within : (plan : Plan) (x : Place) → Starts plan x → x.at < event_count plan x.proc
-unfolding event_count event_at
-starts_within plan x s = slice_get_within (events plan x.proc) x.at s.what s.is
+pub starts_within : (plan : Plan) (x : Event) → Starts plan x → x.at < event_count plan x.proc
+unfolding event_count kind_at
+starts_within plan x s = slice_get_within (kinds plan x.proc) x.at s.what s.is
 
 -- the call is there
 pub call_within : (plan : Plan) (call : CallAt) → Starts plan (first_event plan call) → call.call < length (calls_of plan call.proc.number)
 call_within plan call s = in_calls (calls_of plan call.proc.number) call.call s.what (sym (event_called plan (first_event plan call)) ∙ s.is)
 
-stored_anew : (committed before : Option ℕ) (o : Option Event) → before ≡ None → is_some (stored_with committed before o) ≡ true → o ≡ Some Commit
+stored_anew : (committed before : Option ℕ) (o : Option Kind) → before ≡ None → is_some (stored_with committed before o) ≡ true → o ≡ Some Commit
 stored_anew committed before (Some Commit) b h = refl
 stored_anew committed before _ b h = absurd (true≢false (sym h ∙ ap is_some b))
 
-pub stores_commit : (plan : Plan) (x : Place) (key : ℕ) → Stores plan x key → event plan x ≡ Some Commit
-stores_commit plan x key s = stored_anew (own plan x.proc key x.at) (stored plan x.proc key x.at) (event plan x) s.nothing_before s.something_after
+pub stores_commit : (plan : Plan) (x : Event) (key : ℕ) → Stores plan x key → kind plan x ≡ Some Commit
+stores_commit plan x key s = stored_anew (own plan x.proc key x.at) (stored plan x.proc key x.at) (kind plan x) s.nothing_before s.something_after
 
-pub node_commit : (plan : Plan) (x y : Place) (key : ℕ) → IsNodeRace plan x y key → event plan x ≡ Some Commit
+pub node_commit : (plan : Plan) (x y : Event) (key : ℕ) → IsNodeRace plan x y key → kind plan x ≡ Some Commit
 node_commit plan x y key r = stores_commit plan x key r.stores
 
 -- the source of a delivery race is an arrival
-pub record IsArriving (plan : Plan) (x : Place) : Type 0 where
+pub record IsArriving (plan : Plan) (x : Event) : Type 0 where
   pub members : List ℕ
   pub collect : Bool
-  pub is : event plan x ≡ Some (Arrive members collect)
+  pub is : kind plan x ≡ Some (Arrive members collect)
 
-of_arrives : (plan : Plan) (d : Delivery) (x : Place) → IsOf plan d x → IsArriving plan x
+of_arrives : (plan : Plan) (d : Delivery) (x : Event) → IsOf plan d x → IsArriving plan x
 of_arrives plan (ByFence members j) x a = record { members = members; collect = a.collect; is = a.is }
 
-pub delivery_arrives : (plan : Plan) (x y : Place) (owner key : ℕ) → IsDeliveryRace plan x y owner key → IsArriving plan x
+pub delivery_arrives : (plan : Plan) (x y : Event) (owner key : ℕ) → IsDeliveryRace plan x y owner key → IsArriving plan x
 delivery_arrives plan x y owner key r = of_arrives plan r.delivery x r.of_it
 
-pub writes_calls : (plan : Plan) (name : ℕ) (x : Place) (o : Option Event) → writes_name plan name x o ≡ true → calls_name plan name x o ≡ true
+pub writes_calls : (plan : Plan) (name : ℕ) (x : Event) (o : Option Kind) → writes_name plan name x o ≡ true → calls_name plan name x o ≡ true
 writes_calls plan name x (Some (Publish n)) h = h
 writes_calls plan name x (Some (Unpublish n)) h = h
 writes_calls plan name x _ h = absurd (true≢false (sym h))
 
 -- a call on a name, by its event
-pub record IsNamed (o : Option Event) : Type 0 where
-  pub what : Event
+pub record IsNamed (o : Option Kind) : Type 0 where
+  pub what : Kind
   pub is : o ≡ Some what
   pub first : is_leave what ≡ false
 
-named : (plan : Plan) (name : ℕ) (x : Place) (o : Option Event) → calls_name plan name x o ≡ true → IsNamed o
+named : (plan : Plan) (name : ℕ) (x : Event) (o : Option Kind) → calls_name plan name x o ≡ true → IsNamed o
 named plan name x (Some (Publish n)) h = record { what = Publish n; is = refl; first = refl }
 named plan name x (Some (Lookup n)) h = record { what = Lookup n; is = refl; first = refl }
 named plan name x (Some (LookupWait n)) h = record { what = LookupWait n; is = refl; first = refl }
 named plan name x (Some (Unpublish n)) h = record { what = Unpublish n; is = refl; first = refl }
 named plan name x _ h = absurd (true≢false (sym h))
 
-pub starts_named : (plan : Plan) (name : ℕ) (x : Place) → calls_name plan name x (event plan x) ≡ true → Starts plan x
-starts_named plan name x h = let n = named plan name x (event plan x) h in record { what = n.what; is = n.is; first = n.first }
+pub starts_named : (plan : Plan) (name : ℕ) (x : Event) → calls_name plan name x (kind plan x) ≡ true → Starts plan x
+starts_named plan name x h = let n = named plan name x (kind plan x) h in record { what = n.what; is = n.is; first = n.first }
 
-abbrev pub low_of : Finding → Place
+abbrev pub low_of : Finding → Event
 low_of (Rewrite x y) = x
 low_of (KeyRace x y owner key) = x
 low_of (NameRace x y name) = x
 
-abbrev pub high_of : Finding → Place
+abbrev pub high_of : Finding → Event
 high_of (Rewrite x y) = y
 high_of (KeyRace x y owner key) = y
 high_of (NameRace x y name) = y
 
-starts_commit : (plan : Plan) (x y : Place) (key : ℕ) → IsNodeRace plan x y key → Starts plan x
+starts_commit : (plan : Plan) (x y : Event) (key : ℕ) → IsNodeRace plan x y key → Starts plan x
 starts_commit plan x y key r = record { what = Commit; is = node_commit plan x y key r; first = refl }
 
-starts_look : (plan : Plan) (x : Place) (owner key : ℕ) → event plan x ≡ Some (GetNow owner key) → Starts plan x
+starts_look : (plan : Plan) (x : Event) (owner key : ℕ) → kind plan x ≡ Some (GetNow owner key) → Starts plan x
 starts_look plan x owner key is = record { what = GetNow owner key; is = is; first = refl }
 
-starts_arrival : (plan : Plan) (x : Place) → IsArriving plan x → Starts plan x
+starts_arrival : (plan : Plan) (x : Event) → IsArriving plan x → Starts plan x
 starts_arrival plan x a = record { what = Arrive a.members a.collect; is = a.is; first = refl }
 
 -- each event of a finding is the first of its call
@@ -173,7 +173,7 @@ low_starts plan (KeyRace x y owner key) (low, inl (inl r)) = starts_commit plan 
 low_starts plan (KeyRace x y owner key) (low, inl (inr r)) = starts_arrival plan x (delivery_arrives plan x y owner key r)
 low_starts plan (KeyRace x y owner key) (low, inr (inl r)) = starts_look plan x y.proc key r.1.is
 low_starts plan (KeyRace x y owner key) (low, inr (inr r)) = starts_look plan x owner key r.is
-low_starts plan (NameRace x y name) (low, inl r) = starts_named plan name x (writes_calls plan name x (event plan x) r.x_writes)
+low_starts plan (NameRace x y name) (low, inl r) = starts_named plan name x (writes_calls plan name x (kind plan x) r.x_writes)
 low_starts plan (NameRace x y name) (low, inr r) = starts_named plan name x r.y_calls
 
 pub high_starts : (plan : Plan) (f : Finding) → IsFound plan f → Starts plan (high_of f)
@@ -183,4 +183,4 @@ high_starts plan (KeyRace x y owner key) (low, inl (inr r)) = starts_look plan y
 high_starts plan (KeyRace x y owner key) (low, inr (inl r)) = starts_commit plan y x key r.1
 high_starts plan (KeyRace x y owner key) (low, inr (inr r)) = starts_arrival plan y (delivery_arrives plan y x owner key r)
 high_starts plan (NameRace x y name) (low, inl r) = starts_named plan name y r.y_calls
-high_starts plan (NameRace x y name) (low, inr r) = starts_named plan name y (writes_calls plan name y (event plan y) r.x_writes)
+high_starts plan (NameRace x y name) (low, inr r) = starts_named plan name y (writes_calls plan name y (kind plan y) r.x_writes)

@@ -6,7 +6,7 @@ use Rattle.std.specs.List.{AllZip, Contains, range_with_len}
 use Rattle.std.specs.declared.alloc.AllocError.{AllocError}
 use Rattle.std.proofs.lemmas.Bool.{cases_eq}
 use Rattle.std.proofs.lemmas.Option.{slice_get_within, slice_get_cases, same_Some}
-use Rattle.wire_runs.specs.Plan.{Plan, event, process_count}
+use Rattle.wire_runs.specs.Plan.{Plan, kind, process_count}
 use Rattle.wire_rehearsal.specs.Scripts.{Scripts, IsSound}
 use Rattle.wire_rehearsal.specs.Planned.{plan_of}
 use Rattle.wire_runs.specs.Findings.{Finding, IsFound, Has}
@@ -123,7 +123,7 @@ name_pieces_added s sound pieces old new =
     (λ k f r. (on_name plan k f r, found_on plan k f r))
     (λ f o.
     let w = race_on plan f o.0 o.1 in
-    (w.0, named_within s w.0 w.1.x sound (writes_calls plan w.0 w.1.x (event plan w.1.x) w.1.race.x_writes), w.1))
+    (w.0, named_within s w.0 w.1.x sound (writes_calls plan w.0 w.1.x (kind plan w.1.x) w.1.race.x_writes), w.1))
 
 module _ (plan : Plan) (n : ℕ) (those : ℕ → Finding → Type 0) where
   as_pieces : (r : Result (Vec (Vec Told Global) Global) AllocError)

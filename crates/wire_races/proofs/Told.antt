@@ -2,7 +2,7 @@
 use Rattle.std.proofs.Common.{◌≡◌, ◌∙◌, ap, sym, refl, subst, ℕ, ◌<◌, true, Option, Some, length, arith, inl, inr, eqb-true, lt-ltb}
 use Rattle.std.specs.Prelude.{is_some}
 use Rattle.std.proofs.lemmas.Bool.{cases_lt, true≢false}
-use Rattle.wire_runs.specs.Plan.{Plan, Place, Event, Put, GetNow, Publish, Lookup, LookupWait, Unpublish, event}
+use Rattle.wire_runs.specs.Plan.{Plan, Event, Kind, Put, GetNow, Publish, Lookup, LookupWait, Unpublish, kind}
 use Rattle.wire_types.specs.declared.CallAt.{CallAt}
 use Rattle.wire_runs.specs.Names.{calls_name}
 use Rattle.wire_runs.specs.Races.{IsRewrite}
@@ -18,42 +18,42 @@ use Rattle.wire_races.specs.declared.found.Race.{Race}
 use Rattle.wire_races.specs.declared.found.Race.TheVariants.{OnKey, OnName}
 use Rattle.wire_races.proofs.Starting.{Starts, call_within, low_starts, high_starts, starts_back, node_commit, delivery_arrives, writes_calls}
 
-pub race_low_starts : (plan : Plan) (x y : Place) (race : Race) → IsFound plan (race_between x y race) → Starts plan x
+pub race_low_starts : (plan : Plan) (x y : Event) (race : Race) → IsFound plan (race_between x y race) → Starts plan x
 race_low_starts plan x y (OnKey owner key) f = low_starts plan (KeyRace x y owner.number key) f
 race_low_starts plan x y (OnName name) f = low_starts plan (NameRace x y name) f
 
-pub race_high_starts : (plan : Plan) (x y : Place) (race : Race) → IsFound plan (race_between x y race) → Starts plan y
+pub race_high_starts : (plan : Plan) (x y : Event) (race : Race) → IsFound plan (race_between x y race) → Starts plan y
 race_high_starts plan x y (OnKey owner key) f = high_starts plan (KeyRace x y owner.number key) f
 race_high_starts plan x y (OnName name) f = high_starts plan (NameRace x y name) f
 
-pub race_back : (plan : Plan) (x y : Place) (race found : Race) (v w : CallAt) → race ≡ found → IsFound plan (race_between x y race) → v ≡ call_of plan x → w ≡ call_of plan y → race_between (first_event plan v) (first_event plan w) found ≡ race_between x y race
+pub race_back : (plan : Plan) (x y : Event) (race found : Race) (v w : CallAt) → race ≡ found → IsFound plan (race_between x y race) → v ≡ call_of plan x → w ≡ call_of plan y → race_between (first_event plan v) (first_event plan w) found ≡ race_between x y race
 race_back plan x y race found v w is f a b =
     let low : first_event plan v ≡ x = ap (first_event plan) a ∙ starts_back plan x (race_low_starts plan x y race f) in
     let high : first_event plan w ≡ y = ap (first_event plan) b ∙ starts_back plan y (race_high_starts plan x y race f) in
-    ap (λ (z : Place). race_between z (first_event plan w) found) low ∙ (ap (λ (z : Place). race_between x z found) high ∙ ap (race_between x y) (sym is))
+    ap (λ (z : Event). race_between z (first_event plan w) found) low ∙ (ap (λ (z : Event). race_between x z found) high ∙ ap (race_between x y) (sym is))
 
 -- the name that an event is a call on
-abbrev pub name_of : Option Event → ℕ
+abbrev pub name_of : Option Kind → ℕ
 name_of (Some (Publish n)) = n
 name_of (Some (Lookup n)) = n
 name_of (Some (LookupWait n)) = n
 name_of (Some (Unpublish n)) = n
 name_of _ = 0
 
-abbrev pub told_by : Place → Place → ℕ → Option Event → Finding
+abbrev pub told_by : Event → Event → ℕ → Option Kind → Finding
 told_by x y name (Some (GetNow owner key)) = KeyRace x y owner key
 told_by x y name _ = NameRace x y name
 
 -- the race that two events may be
-abbrev pub told : Place → Place → Option Event → Option Event → Finding
+abbrev pub told : Event → Event → Option Kind → Option Kind → Finding
 told x y (Some (GetNow owner key)) p = KeyRace x y owner key
 told x y o p = told_by x y (name_of o) p
 
-named_by : (plan : Plan) (x y z : Place) (n name : ℕ) (p : Option Event) → calls_name plan name z p ≡ true → told_by x y n p ≡ NameRace x y n
+named_by : (plan : Plan) (x y z : Event) (n name : ℕ) (p : Option Kind) → calls_name plan name z p ≡ true → told_by x y n p ≡ NameRace x y n
 named_by plan x y z n name (Some (GetNow owner key)) h = absurd (true≢false (sym h))
 named_by plan x y z n name _ h = refl
 
-named : (plan : Plan) (x y v w : Place) (name : ℕ) (o p : Option Event) → calls_name plan name v o ≡ true → calls_name plan name w p ≡ true → told x y o p ≡ NameRace x y name
+named : (plan : Plan) (x y v w : Event) (name : ℕ) (o p : Option Kind) → calls_name plan name v o ≡ true → calls_name plan name w p ≡ true → told x y o p ≡ NameRace x y name
 named plan x y v w name (Some (Publish n)) p h i = named_by plan x y w n name p i ∙ ap (NameRace x y) (eqb-true n name h)
 named plan x y v w name (Some (Lookup n)) p h i = named_by plan x y w n name p i ∙ ap (NameRace x y) (eqb-true n name h)
 named plan x y v w name (Some (LookupWait n)) p h i = named_by plan x y w n name p i ∙ ap (NameRace x y) (eqb-true n name h)
@@ -61,19 +61,19 @@ named plan x y v w name (Some (Unpublish n)) p h i = named_by plan x y w n name 
 named plan x y v w name _ p h i = absurd (true≢false (sym h))
 
 -- the events tell which race it is
-by_events : (plan : Plan) (x y : Place) (a b : Option Event) (f : Finding) → event plan x ≡ a → event plan y ≡ b → told x y a b ≡ f → told x y (event plan x) (event plan y) ≡ f
-by_events plan x y a b f e h t = ap (λ (o : Option Event). told x y o (event plan y)) e ∙ (ap (told x y a) h ∙ t)
+by_events : (plan : Plan) (x y : Event) (a b : Option Kind) (f : Finding) → kind plan x ≡ a → kind plan y ≡ b → told x y a b ≡ f → told x y (kind plan x) (kind plan y) ≡ f
+by_events plan x y a b f e h t = ap (λ (o : Option Kind). told x y o (kind plan y)) e ∙ (ap (told x y a) h ∙ t)
 
-race_told : (plan : Plan) (x y : Place) (race : Race) → IsFound plan (race_between x y race) → told x y (event plan x) (event plan y) ≡ race_between x y race
+race_told : (plan : Plan) (x y : Event) (race : Race) → IsFound plan (race_between x y race) → told x y (kind plan x) (kind plan y) ≡ race_between x y race
 race_told plan x y (OnKey owner key) (low, inl (inl r)) = by_events plan x y _ _ _ (node_commit plan x y key r.1) (r.1.is) (ap (λ (p : ℕ). KeyRace x y p key) r.0)
 race_told plan x y (OnKey owner key) (low, inl (inr r)) = let a = delivery_arrives plan x y owner.number key r in by_events plan x y _ _ _ a.is r.is refl
 race_told plan x y (OnKey owner key) (low, inr (inl r)) = by_events plan x y _ _ _ r.1.is (node_commit plan y x key r.1) (ap (λ (p : ℕ). KeyRace x y p key) r.0)
 race_told plan x y (OnKey owner key) (low, inr (inr r)) = let a = delivery_arrives plan y x owner.number key r in by_events plan x y _ _ _ r.is a.is refl
-race_told plan x y (OnName name) (low, inl r) = named plan x y x y name (event plan x) (event plan y) (writes_calls plan name x (event plan x) r.x_writes) r.y_calls
-race_told plan x y (OnName name) (low, inr r) = named plan x y x y name (event plan x) (event plan y) r.y_calls (writes_calls plan name y (event plan y) r.x_writes)
+race_told plan x y (OnName name) (low, inl r) = named plan x y x y name (kind plan x) (kind plan y) (writes_calls plan name x (kind plan x) r.x_writes) r.y_calls
+race_told plan x y (OnName name) (low, inr r) = named plan x y x y name (kind plan x) (kind plan y) r.y_calls (writes_calls plan name y (kind plan y) r.x_writes)
 
 -- a pair of calls is one race
-pub one_race : (plan : Plan) (x y : Place) (a b : Race) → IsFound plan (race_between x y a) → IsFound plan (race_between x y b) → race_between x y a ≡ race_between x y b
+pub one_race : (plan : Plan) (x y : Event) (a b : Race) → IsFound plan (race_between x y a) → IsFound plan (race_between x y b) → race_between x y a ≡ race_between x y b
 one_race plan x y a b f g = sym (race_told plan x y a f) ∙ race_told plan x y b g
 
 not_sooner : (plan : Plan) (p key i j : ℕ) → IsFirstPut plan (record { proc = p; at = i }) key → IsFirstPut plan (record { proc = p; at = j }) key → i < j → ⊥
@@ -89,15 +89,15 @@ first_once plan p key i j a b = elim (cases_lt i j) [
   ]
 ]
 
-abbrev pub put_key : Option Event → ℕ
+abbrev pub put_key : Option Kind → ℕ
 put_key (Some (Put key scope)) = key
 put_key _ = 0
 
-first_at : (plan : Plan) (x : Place) (p key k : ℕ) → x.proc ≡ p → k ≡ key → IsFirstPut plan x k → IsFirstPut plan (record { proc = p; at = x.at }) key
+first_at : (plan : Plan) (x : Event) (p key k : ℕ) → x.proc ≡ p → k ≡ key → IsFirstPut plan x k → IsFirstPut plan (record { proc = p; at = x.at }) key
 first_at plan x p key k e h f = subst (λ (m : ℕ). IsFirstPut plan (record { proc = p; at = x.at }) m) h (subst (λ (q : ℕ). IsFirstPut plan (record { proc = q; at = x.at }) k) e f)
 
 -- a later put has one first put
-pub one_first : (plan : Plan) (x z y : Place) → IsRewrite plan x y → IsRewrite plan z y → x ≡ z
+pub one_first : (plan : Plan) (x z y : Event) → IsRewrite plan x y → IsRewrite plan z y → x ≡ z
 one_first plan x z y a b =
     let procs : z.proc ≡ x.proc = b.same ∙ sym a.same in
     let keys : b.key ≡ a.key = ap put_key (sym b.later_is ∙ a.later_is) in

@@ -1,6 +1,6 @@
 -- How the list of findings grows: for the contracts of private functions.
 use Rattle.std.specs.Prelude.{◌≡◌, ◌⊎◌, ◌<◌, ℕ, List}
-use Rattle.wire_runs.specs.Plan.{Plan, Place}
+use Rattle.wire_runs.specs.Plan.{Plan, Event}
 use Rattle.wire_runs.specs.Findings.{Finding, IsFound, Has}
 use Rattle.wire_races.specs.Collected.{AreFound}
 
@@ -16,9 +16,9 @@ abbrev pub OfKind : Plan → (Finding → Type 0) → Finding → Type 0
 OfKind plan kind f = kind f × IsFound plan f
 
 -- those that one of p's first n events tells
-abbrev pub ToldIn : (Place → Finding → Type 0) → ℕ → ℕ → Finding → Type 0
-ToldIn tells p n f = (y : Place) × tells y f × (y.proc ≡ p) × (y.at < n)
+abbrev pub ToldIn : (Event → Finding → Type 0) → ℕ → ℕ → Finding → Type 0
+ToldIn tells p n f = (y : Event) × tells y f × (y.proc ≡ p) × (y.at < n)
 
 -- those that an event of one of the first n processes tells
-abbrev pub ToldBelow : (Place → Finding → Type 0) → ℕ → Finding → Type 0
-ToldBelow tells n f = (y : Place) × tells y f × (y.proc < n)
+abbrev pub ToldBelow : (Event → Finding → Type 0) → ℕ → Finding → Type 0
+ToldBelow tells n f = (y : Event) × tells y f × (y.proc < n)

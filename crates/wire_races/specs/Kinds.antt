@@ -1,16 +1,16 @@
 -- The kinds of findings, each found by itself: for the contracts of private functions.
 use Rattle.std.specs.Prelude.{◌≡◌, ◌⊎◌, ◌↔◌, ℕ, List}
-use Rattle.wire_runs.specs.Plan.{Plan, Place}
+use Rattle.wire_runs.specs.Plan.{Plan, Event}
 use Rattle.wire_runs.specs.Findings.{Finding, Rewrite, KeyRace, NameRace, IsFound, Has}
 
 abbrev pub IsOfRewrite : Finding → Type 0
-IsOfRewrite f = (x : Place) × (y : Place) × (f ≡ Rewrite x y)
+IsOfRewrite f = (x : Event) × (y : Event) × (f ≡ Rewrite x y)
 
 abbrev pub IsOfKey : Finding → Type 0
-IsOfKey f = (x : Place) × (y : Place) × (owner : ℕ) × (key : ℕ) × (f ≡ KeyRace x y owner key)
+IsOfKey f = (x : Event) × (y : Event) × (owner : ℕ) × (key : ℕ) × (f ≡ KeyRace x y owner key)
 
 abbrev pub IsOfName : Finding → Type 0
-IsOfName f = (x : Place) × (y : Place) × (name : ℕ) × (f ≡ NameRace x y name)
+IsOfName f = (x : Event) × (y : Event) × (name : ℕ) × (f ≡ NameRace x y name)
 
 -- the same findings, and all of the plan that are of this kind
 abbrev pub AllAdded : Plan → (Finding → Type 0) → List Finding → List Finding → Type 0

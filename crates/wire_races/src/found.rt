@@ -1,7 +1,8 @@
 //! The findings so far, each once and in their order.
 
 ghost use Rattle.std.specs.Prelude.{◌≡◌, ◌++◌, ℕ, Bool, [], map, IfOk, OnOk};
-ghost use Rattle.wire_runs.specs.Plan.{Place, place_of};
+ghost use Rattle.wire_runs.specs.Plan.{event_of};
+ghost use Rattle.wire_runs.specs.Plan as runs;
 ghost use Rattle.wire_rehearsal.specs.Planned.{plan_of};
 ghost use Rattle.wire_runs.specs.Findings.{Rewrite, KeyRace, NameRace, IsFound, Has, IsSorted};
 ghost use Rattle.wire_races.specs.Shown.{shown, all_shown};
@@ -41,16 +42,16 @@ impl Model for Found {
 
 // The rewrite of two puts.
 fn told_rewrite(plan: &Plan, first: Event, later: Event) -> Finding
-    requires { IsFound (plan_of plan.now) (Rewrite (place_of first) (place_of later)) }
-    ensures { shown (plan_of plan.now) result ≡ Rewrite (place_of first) (place_of later) }
+    requires { IsFound (plan_of plan.now) (Rewrite (event_of first) (event_of later)) }
+    ensures { shown (plan_of plan.now) result ≡ Rewrite (event_of first) (event_of later) }
 {
     Finding::Rewrite(plan.call_of(first), plan.call_of(later))
 }
 
 // The race of two events, the lower place first.
 fn told_race(plan: &Plan, lower: Event, higher: Event, race: Race) -> Finding
-    requires { IsFound (plan_of plan.now) (race_between (place_of lower) (place_of higher) race) }
-    ensures { shown (plan_of plan.now) result ≡ race_between (place_of lower) (place_of higher) race }
+    requires { IsFound (plan_of plan.now) (race_between (event_of lower) (event_of higher) race) }
+    ensures { shown (plan_of plan.now) result ≡ race_between (event_of lower) (event_of higher) race }
 {
     let lower = plan.call_of(lower);
     let higher = plan.call_of(higher);
@@ -103,8 +104,8 @@ impl Found {
 
     // Adds the rewrite of two puts.
     fn add_rewrite(&mut self, first: Event, later: Event) -> Result<(), AllocError>
-        requires { (x : Place) → Has self.old (Rewrite x (place_of later)) → x ≡ place_of first }
-        ensures { OnOk result (IsAdded self.old self.new (Rewrite (place_of first) (place_of later))) }
+        requires { (x : runs.Event) → Has self.old (Rewrite x (event_of later)) → x ≡ event_of first }
+        ensures { OnOk result (IsAdded self.old self.new (Rewrite (event_of first) (event_of later))) }
     {
         self.rewrites.insert(later, first)?;
         Ok(())
@@ -112,8 +113,8 @@ impl Found {
 
     // Adds the race of two events, the lower place first.
     fn add_race(&mut self, lower: Event, higher: Event, race: Race) -> Result<(), AllocError>
-        requires { (other : Race) → Has self.old (race_between (place_of lower) (place_of higher) other) → race_between (place_of lower) (place_of higher) other ≡ race_between (place_of lower) (place_of higher) race }
-        ensures { OnOk result (IsAdded self.old self.new (race_between (place_of lower) (place_of higher) race)) }
+        requires { (other : Race) → Has self.old (race_between (event_of lower) (event_of higher) other) → race_between (event_of lower) (event_of higher) other ≡ race_between (event_of lower) (event_of higher) race }
+        ensures { OnOk result (IsAdded self.old self.new (race_between (event_of lower) (event_of higher) race)) }
     {
         self.races.insert((lower, higher), race)?;
         Ok(())

@@ -1,7 +1,8 @@
 //! Races on keys: a get that is answered at once, and the commit or the fence that brings the key.
 
 ghost use Rattle.std.specs.Prelude.{◌≡◌, ◌<◌, ℕ, List, suc, Some, OnOk, IsTrue, MatchOption, IfOk, ◌↔◌, true, false, map};
-ghost use Rattle.wire_runs.specs.Plan.{Plan as ThePlan, Place, GetNow, Leave, place_of, process_count, event_count, event as event_in, node_of, same_node};
+ghost use Rattle.wire_runs.specs.Plan.{GetNow, Leave, event_of, process_count, event_count, kind, node_of, same_node};
+ghost use Rattle.wire_runs.specs.Plan as runs;
 ghost use Rattle.wire_rehearsal.specs.Planned.{plan_of};
 ghost use Rattle.wire_runs.specs.EventLists.{IsLower};
 ghost use Rattle.wire_runs.specs.Order.{IsArrival, Live};
@@ -28,22 +29,22 @@ use wire_types::{Event, Proc};
 
 /// Whether an event stands before another in process order, or earlier in the same process.
 fn is_lower(x: Event, y: Event) -> bool
-    ensures { IsTrue result ↔ IsLower (place_of x) (place_of y) }
+    ensures { IsTrue result ↔ IsLower (event_of x) (event_of y) }
 {
     x.proc.number < y.proc.number || (x.proc.number == y.proc.number && x.at < y.at)
 }
 
 /// Whether two events are live and neither is before the other.
 fn are_unordered(marks: &Marks, x: Event, y: Event) -> bool
-    ensures { (plan : ThePlan) → AreMarks plan marks.now → (IsTrue result ↔ IsUnordered plan (place_of x) (place_of y)) }
+    ensures { (plan : runs.Plan) → AreMarks plan marks.now → (IsTrue result ↔ IsUnordered plan (event_of x) (event_of y)) }
 {
     marks.live(x) && marks.live(y) && !marks.before(x, y) && !marks.before(y, x)
 }
 
 /// The race of a get with an event, the lower call first.
 fn race_of(plan: &Plan, source: Event, look: Event, owner: Proc, key: u32) -> Finding
-    requires { IsKeyRace (plan_of plan.now) (place_of source) (place_of look) owner.number key }
-    ensures { IsRaceOf (place_of source) (place_of look) owner.number key (shown (plan_of plan.now) result) }
+    requires { IsKeyRace (plan_of plan.now) (event_of source) (event_of look) owner.number key }
+    ensures { IsRaceOf (event_of source) (event_of look) owner.number key (shown (plan_of plan.now) result) }
 {
     let first = plan.call_of(source);
     let second = plan.call_of(look);
@@ -63,9 +64,9 @@ fn add_race(
     owner: Proc,
     key: u32,
 ) -> Result<(), AllocError>
-    requires race { IsKeyRace (plan_of plan.now) (place_of source) (place_of look) owner.number key }
+    requires race { IsKeyRace (plan_of plan.now) (event_of source) (event_of look) owner.number key }
     requires found { AreFound (plan_of plan.now) found.old }
-    ensures { OnOk result (Adds (plan_of plan.now) found.old found.new (IsRaceOf (place_of source) (place_of look) owner.number key)) }
+    ensures { OnOk result (Adds (plan_of plan.now) found.old found.new (IsRaceOf (event_of source) (event_of look) owner.number key)) }
 {
     found.add(plan, race_of(plan, source, look, owner, key))
 }
@@ -81,9 +82,9 @@ fn add_node_race(
 ) -> Result<(), AllocError>
     requires marks { AreMarks (plan_of plan.now) marks.now }
     requires found { AreFound (plan_of plan.now) found.old }
-    requires get { IsOpen (plan_of plan.now) (place_of look) owner.number key }
+    requires get { IsOpen (plan_of plan.now) (event_of look) owner.number key }
     requires node { same_node (plan_of plan.now) owner.number look.proc.number ≡ true }
-    ensures { OnOk result (Adds (plan_of plan.now) found.old found.new (IsKeyRaceBy (plan_of plan.now) (place_of look))) }
+    ensures { OnOk result (Adds (plan_of plan.now) found.old found.new (IsKeyRaceBy (plan_of plan.now) (event_of look))) }
 {
     let Some(commit) = plan.store_of(owner, key) else {
         return Ok(());
@@ -97,10 +98,10 @@ fn add_node_race(
 
 /// The end of the fence at which an event of the plan arrives: the next event of its process.
 fn end_of(plan: &Plan, arrival: Event) -> Event
-    requires { Arrives (plan_of plan.now) (place_of arrival) }
+    requires { Arrives (plan_of plan.now) (event_of arrival) }
     ensures proc { result.proc ≡ arrival.proc }
     ensures next { result.at ≡ suc arrival.at }
-    ensures leave { (members : List ℕ) (j : ℕ) → IsArrival (plan_of plan.now) members j (place_of arrival) → event_in (plan_of plan.now) (place_of result) ≡ Some (Leave members) }
+    ensures leave { (members : List ℕ) (j : ℕ) → IsArrival (plan_of plan.now) members j (event_of arrival) → kind (plan_of plan.now) (event_of result) ≡ Some (Leave members) }
 {
     // Scripts are sound, so the numbers of their events fit.
     let _ = plan.scripts();
@@ -112,15 +113,15 @@ fn end_of(plan: &Plan, arrival: Event) -> Event
 
 /// The arrivals at the fence of an arrival, in process order.
 fn all_arrivals(plan: &Plan, arrival: Event) -> &[Event]
-    requires { Arrives (plan_of plan.now) (place_of arrival) }
-    ensures { (members : List ℕ) (j : ℕ) → IsArrival (plan_of plan.now) members j (place_of arrival) → AreArrivals (plan_of plan.now) members j (map place_of result.now) }
+    requires { Arrives (plan_of plan.now) (event_of arrival) }
+    ensures { (members : List ℕ) (j : ℕ) → IsArrival (plan_of plan.now) members j (event_of arrival) → AreArrivals (plan_of plan.now) members j (map event_of result.now) }
 {
     plan.sources(end_of(plan, arrival)).arrivals
 }
 
 /// Whether each of these events is live.
 fn all_live(marks: &Marks, events: &[Event]) -> bool
-    ensures { (plan : ThePlan) → AreMarks plan marks.now → (IsTrue result ↔ AllLive plan (map place_of events.now)) }
+    ensures { (plan : runs.Plan) → AreMarks plan marks.now → (IsTrue result ↔ AllLive plan (map event_of events.now)) }
 {
     for x in events {
         if !marks.live(*x) {
@@ -132,7 +133,7 @@ fn all_live(marks: &Marks, events: &[Event]) -> bool
 
 /// Whether a get is before none of these events.
 fn is_before_none(marks: &Marks, look: Event, events: &[Event]) -> bool
-    ensures { (plan : ThePlan) → AreMarks plan marks.now → (IsTrue result ↔ NoneAfter plan (place_of look) (map place_of events.now)) }
+    ensures { (plan : runs.Plan) → AreMarks plan marks.now → (IsTrue result ↔ NoneAfter plan (event_of look) (map event_of events.now)) }
 {
     for x in events {
         if marks.before(look, *x) {
@@ -144,7 +145,7 @@ fn is_before_none(marks: &Marks, look: Event, events: &[Event]) -> bool
 
 /// The first of these events that isn't before a get.
 fn first_not_before(marks: &Marks, events: &[Event], look: Event) -> Option<Event>
-    ensures { (plan : ThePlan) → AreMarks plan marks.now → IsFirstLate plan (place_of look) (map place_of events.now) result }
+    ensures { (plan : runs.Plan) → AreMarks plan marks.now → IsFirstLate plan (event_of look) (map event_of events.now) result }
 {
     for x in events {
         if !marks.before(*x, look) {
@@ -157,8 +158,8 @@ fn first_not_before(marks: &Marks, events: &[Event], look: Event) -> Option<Even
 /// Whether all arrivals at the fence of an arrival are live and before a get.
 fn is_sure(plan: &Plan, marks: &Marks, look: Event, arrival: Event) -> bool
     requires marks { AreMarks (plan_of plan.now) marks.now }
-    requires fence { Arrives (plan_of plan.now) (place_of arrival) }
-    ensures { IsTrue result ↔ IsSure (plan_of plan.now) (place_of look) (place_of arrival) }
+    requires fence { Arrives (plan_of plan.now) (event_of arrival) }
+    ensures { IsTrue result ↔ IsSure (plan_of plan.now) (event_of look) (event_of arrival) }
 {
     let arrivals = all_arrivals(plan, arrival);
     all_live(marks, arrivals) && first_not_before(marks, arrivals, look).is_none()
@@ -167,8 +168,8 @@ fn is_sure(plan: &Plan, marks: &Marks, look: Event, arrival: Event) -> bool
 /// Whether all arrivals at the fence of an arrival are live, and a get is before none of them.
 fn may_be_late(plan: &Plan, marks: &Marks, look: Event, arrival: Event) -> bool
     requires marks { AreMarks (plan_of plan.now) marks.now }
-    requires fence { Arrives (plan_of plan.now) (place_of arrival) }
-    ensures { IsTrue result ↔ MayBeLate (plan_of plan.now) (place_of look) (place_of arrival) }
+    requires fence { Arrives (plan_of plan.now) (event_of arrival) }
+    ensures { IsTrue result ↔ MayBeLate (plan_of plan.now) (event_of look) (event_of arrival) }
 {
     let arrivals = all_arrivals(plan, arrival);
     all_live(marks, arrivals) && is_before_none(marks, look, arrivals)
@@ -178,8 +179,8 @@ fn may_be_late(plan: &Plan, marks: &Marks, look: Event, arrival: Event) -> bool
 /// arrivals there are live, and the get is before none of them.
 fn late_source(plan: &Plan, marks: &Marks, look: Event, arrival: Event) -> Option<Event>
     requires marks { AreMarks (plan_of plan.now) marks.now }
-    requires may { MayBeLate (plan_of plan.now) (place_of look) (place_of arrival) }
-    ensures { MatchOption result ((x : Place) → IsLate (plan_of plan.now) (place_of look) (place_of arrival) x → ⊥) (λ x. IsLate (plan_of plan.now) (place_of look) (place_of arrival) (place_of x)) }
+    requires may { MayBeLate (plan_of plan.now) (event_of look) (event_of arrival) }
+    ensures { MatchOption result ((x : runs.Event) → IsLate (plan_of plan.now) (event_of look) (event_of arrival) x → ⊥) (λ x. IsLate (plan_of plan.now) (event_of look) (event_of arrival) (event_of x)) }
 {
     first_not_before(marks, all_arrivals(plan, arrival), look)
 }
@@ -197,7 +198,7 @@ fn next_arrival(plan: &Plan, owner: Proc, key: u32, node: u32, from: u32) -> Opt
 fn comes_surely(plan: &Plan, marks: &Marks, look: Event, owner: Proc, key: u32, node: u32) -> bool
     requires marks { AreMarks (plan_of plan.now) marks.now }
     requires once { IsPutOnce (plan_of plan.now) owner.number key }
-    ensures { IsTrue result ↔ ComesSurely (plan_of plan.now) owner.number key node (place_of look) }
+    ensures { IsTrue result ↔ ComesSurely (plan_of plan.now) owner.number key node (event_of look) }
 {
     match next_arrival(plan, owner, key, node, 0) {
         Some(first) => is_sure(plan, marks, look, first),
@@ -217,11 +218,11 @@ fn add_late(
 ) -> Result<(), AllocError>
     requires marks { AreMarks (plan_of plan.now) marks.now }
     requires found { AreFound (plan_of plan.now) found.old }
-    requires late { IsUnsure (plan_of plan.now) (place_of look) owner.number key }
-    requires may { MayBeLate (plan_of plan.now) (place_of look) (place_of arrival) }
+    requires late { IsUnsure (plan_of plan.now) (event_of look) owner.number key }
+    requires may { MayBeLate (plan_of plan.now) (event_of look) (event_of arrival) }
     requires proc { arrival.proc ≡ owner }
     requires delivers { IsDelivering (plan_of plan.now) owner.number key (node_of (plan_of plan.now) look.proc.number) arrival.at }
-    ensures { OnOk result (Adds (plan_of plan.now) found.old found.new (IsLateBy (plan_of plan.now) (place_of look) owner.number key (node_of (plan_of plan.now) look.proc.number) arrival.at)) }
+    ensures { OnOk result (Adds (plan_of plan.now) found.old found.new (IsLateBy (plan_of plan.now) (event_of look) owner.number key (node_of (plan_of plan.now) look.proc.number) arrival.at)) }
 {
     match late_source(plan, marks, look, arrival) {
         Some(source) => add_race(plan, found, source, look, owner, key),
@@ -243,9 +244,9 @@ fn add_all_late(
 ) -> Result<(), AllocError>
     requires marks { AreMarks (plan_of plan.now) marks.now }
     requires found { AreFound (plan_of plan.now) found.old }
-    requires late { IsUnsure (plan_of plan.now) (place_of look) owner.number key }
+    requires late { IsUnsure (plan_of plan.now) (event_of look) owner.number key }
     requires node { node ≡ node_of (plan_of plan.now) look.proc.number }
-    ensures { OnOk result (Adds (plan_of plan.now) found.old found.new (AreLateBelow (plan_of plan.now) (place_of look) owner.number key (node_of (plan_of plan.now) look.proc.number) (event_count (plan_of plan.now) owner.number))) }
+    ensures { OnOk result (Adds (plan_of plan.now) found.old found.new (AreLateBelow (plan_of plan.now) (event_of look) owner.number key (node_of (plan_of plan.now) look.proc.number) (event_count (plan_of plan.now) owner.number))) }
 {
     let count = plan.event_count(owner);
     let mut from = 0;
@@ -273,9 +274,9 @@ fn add_delivery_races(
 ) -> Result<(), AllocError>
     requires marks { AreMarks (plan_of plan.now) marks.now }
     requires found { AreFound (plan_of plan.now) found.old }
-    requires get { IsOpen (plan_of plan.now) (place_of look) owner.number key }
+    requires get { IsOpen (plan_of plan.now) (event_of look) owner.number key }
     requires node { same_node (plan_of plan.now) owner.number look.proc.number ≡ false }
-    ensures { OnOk result (Adds (plan_of plan.now) found.old found.new (IsKeyRaceBy (plan_of plan.now) (place_of look))) }
+    ensures { OnOk result (Adds (plan_of plan.now) found.old found.new (IsKeyRaceBy (plan_of plan.now) (event_of look))) }
 {
     let node = plan.node_of(look.proc);
     if comes_surely(plan, marks, look, owner, key, node) {
@@ -287,8 +288,8 @@ fn add_delivery_races(
 /// Whether a get that is answered at once is live, and of a key that another process puts once.
 fn is_open(plan: &Plan, marks: &Marks, look: Event, owner: Proc, key: u32) -> bool
     requires marks { AreMarks (plan_of plan.now) marks.now }
-    requires get { event_in (plan_of plan.now) (place_of look) ≡ Some (GetNow owner.number key) }
-    ensures { IsTrue result ↔ IsOpen (plan_of plan.now) (place_of look) owner.number key }
+    requires get { kind (plan_of plan.now) (event_of look) ≡ Some (GetNow owner.number key) }
+    ensures { IsTrue result ↔ IsOpen (plan_of plan.now) (event_of look) owner.number key }
 {
     look.proc.number != owner.number && plan.put_count(owner, key) == 1 && marks.live(look)
 }
@@ -304,8 +305,8 @@ fn add_look(
 ) -> Result<(), AllocError>
     requires marks { AreMarks (plan_of plan.now) marks.now }
     requires found { AreFound (plan_of plan.now) found.old }
-    requires get { event_in (plan_of plan.now) (place_of look) ≡ Some (GetNow owner.number key) }
-    ensures { OnOk result (Adds (plan_of plan.now) found.old found.new (IsKeyRaceBy (plan_of plan.now) (place_of look))) }
+    requires get { kind (plan_of plan.now) (event_of look) ≡ Some (GetNow owner.number key) }
+    ensures { OnOk result (Adds (plan_of plan.now) found.old found.new (IsKeyRaceBy (plan_of plan.now) (event_of look))) }
 {
     if !is_open(plan, marks, look, owner, key) {
         return Ok(());
@@ -324,7 +325,7 @@ fn add_event(plan: &Plan, marks: &Marks, found: &mut Found, event: Event) -> Res
     requires marks { AreMarks (plan_of plan.now) marks.now }
     requires found { AreFound (plan_of plan.now) found.old }
     requires there { event.at < event_count (plan_of plan.now) event.proc.number }
-    ensures { OnOk result (Adds (plan_of plan.now) found.old found.new (IsKeyRaceBy (plan_of plan.now) (place_of event))) }
+    ensures { OnOk result (Adds (plan_of plan.now) found.old found.new (IsKeyRaceBy (plan_of plan.now) (event_of event))) }
 {
     match plan.kind(event) {
         Kind::GetNow { owner, key } => add_look(plan, marks, found, event, owner, key),

@@ -1,7 +1,8 @@
 //! Races on names.
 
 ghost use Rattle.std.specs.Prelude.{◌≡◌, ◌≢◌, ◌<◌, ◌≤◌, ◌↔◌, ℕ, Some, true, IsTrue, IfOk, OnOk, length, map, take, slice_get};
-ghost use Rattle.wire_runs.specs.Plan.{Plan as ThePlan, Place, place_of, event as event_in, event_count};
+ghost use Rattle.wire_runs.specs.Plan.{event_of, kind, event_count};
+ghost use Rattle.wire_runs.specs.Plan as runs;
 ghost use Rattle.wire_rehearsal.specs.Planned.{plan_of};
 ghost use Rattle.wire_runs.specs.Names.{calls_name, writes_name};
 ghost use Rattle.wire_runs.specs.Order.{Live};
@@ -34,7 +35,7 @@ enum Border {
 // Whether an event may change what stands under a name.
 fn writes(plan: &Plan, name: u32, event: Event) -> bool
     requires { event.at < event_count (plan_of plan.now) event.proc.number }
-    ensures { result ≡ writes_name (plan_of plan.now) name (place_of event) (event_in (plan_of plan.now) (place_of event)) }
+    ensures { result ≡ writes_name (plan_of plan.now) name (event_of event) (kind (plan_of plan.now) (event_of event)) }
 {
     match plan.kind(event) {
         Kind::Publish { name: published } => published == name,
@@ -45,9 +46,9 @@ fn writes(plan: &Plan, name: u32, event: Event) -> bool
 
 // The finding that two calls of different processes on a name are.
 fn race_of(plan: &Plan, name: u32, x: Event, y: Event) -> Finding
-    requires x { calls_name (plan_of plan.now) name (place_of x) (event_in (plan_of plan.now) (place_of x)) ≡ true }
-    requires y { calls_name (plan_of plan.now) name (place_of y) (event_in (plan_of plan.now) (place_of y)) ≡ true }
-    ensures { shown (plan_of plan.now) result ≡ name_race (place_of x) (place_of y) name }
+    requires x { calls_name (plan_of plan.now) name (event_of x) (kind (plan_of plan.now) (event_of x)) ≡ true }
+    requires y { calls_name (plan_of plan.now) name (event_of y) (kind (plan_of plan.now) (event_of y)) ≡ true }
+    ensures { shown (plan_of plan.now) result ≡ name_race (event_of x) (event_of y) name }
 {
     let (first, second) = (plan.call_of(x), plan.call_of(y));
     if x.proc.number < y.proc.number {
@@ -59,7 +60,7 @@ fn race_of(plan: &Plan, name: u32, x: Event, y: Event) -> Finding
 
 // Whether a call stands below a border of the calls that may race with x.
 fn is_below(marks: &Marks, x: Event, border: Border, y: Event) -> bool
-    ensures { (plan : ThePlan) → AreMarks plan marks.now → (IsTrue result ↔ IsBelow plan (place_of x) border (place_of y)) }
+    ensures { (plan : runs.Plan) → AreMarks plan marks.now → (IsTrue result ↔ IsBelow plan (event_of x) border (event_of y)) }
 {
     match border {
         Border::FirstNotBefore => marks.before(y, x),
@@ -70,8 +71,8 @@ fn is_below(marks: &Marks, x: Event, border: Border, y: Event) -> bool
 // How many of these calls of one process stand below the border, by bisection.
 fn count_below(marks: &Marks, x: Event, border: Border, run: &[Event]) -> usize
     ensures within { result ≤ length run.now }
-    ensures cut { (plan : ThePlan) (name p : ℕ) → AreMarks plan marks.now → AreCallsOn plan name (map place_of run.now) → AreOf p (map place_of run.now)
-        → IsCut (IsBelow plan (place_of x) border) (map place_of run.now) result }
+    ensures cut { (plan : runs.Plan) (name p : ℕ) → AreMarks plan marks.now → AreCallsOn plan name (map event_of run.now) → AreOf p (map event_of run.now)
+        → IsCut (IsBelow plan (event_of x) border) (map event_of run.now) result }
 {
     let mut low = 0;
     let mut high = run.len();
@@ -100,12 +101,12 @@ fn add_between(
 ) -> Result<(), AllocError>
     requires marks { AreMarks (plan_of plan.now) marks.now }
     requires found { AreFound (plan_of plan.now) found.old }
-    requires writes { writes_name (plan_of plan.now) name (place_of x) (event_in (plan_of plan.now) (place_of x)) ≡ true }
-    requires live { Live (plan_of plan.now) (place_of x) }
+    requires writes { writes_name (plan_of plan.now) name (event_of x) (kind (plan_of plan.now) (event_of x)) ≡ true }
+    requires live { Live (plan_of plan.now) (event_of x) }
     requires other { x.proc.number ≢ proc.number }
-    requires calls { AreCallsOn (plan_of plan.now) name (map place_of run.now) }
-    requires run { AreOf proc.number (map place_of run.now) }
-    ensures { OnOk result (Adds (plan_of plan.now) found.old found.new (IsRaceWith (plan_of plan.now) name (place_of x) (map place_of run.now))) }
+    requires calls { AreCallsOn (plan_of plan.now) name (map event_of run.now) }
+    requires run { AreOf proc.number (map event_of run.now) }
+    ensures { OnOk result (Adds (plan_of plan.now) found.old found.new (IsRaceWith (plan_of plan.now) name (event_of x) (map event_of run.now))) }
 {
     let from = count_below(marks, x, Border::FirstNotBefore, run);
     let to = count_below(marks, x, Border::FirstAfter, run);
@@ -127,10 +128,10 @@ fn add_races_of(
 ) -> Result<(), AllocError>
     requires marks { AreMarks (plan_of plan.now) marks.now }
     requires found { AreFound (plan_of plan.now) found.old }
-    requires x { calls_name (plan_of plan.now) name (place_of x) (event_in (plan_of plan.now) (place_of x)) ≡ true }
-    requires calls { AreCallsOn (plan_of plan.now) name (map place_of run.now) }
-    requires run { AreOf proc.number (map place_of run.now) }
-    ensures { OnOk result (Adds (plan_of plan.now) found.old found.new (IsRaceWith (plan_of plan.now) name (place_of x) (map place_of run.now))) }
+    requires x { calls_name (plan_of plan.now) name (event_of x) (kind (plan_of plan.now) (event_of x)) ≡ true }
+    requires calls { AreCallsOn (plan_of plan.now) name (map event_of run.now) }
+    requires run { AreOf proc.number (map event_of run.now) }
+    ensures { OnOk result (Adds (plan_of plan.now) found.old found.new (IsRaceWith (plan_of plan.now) name (event_of x) (map event_of run.now))) }
 {
     if x.proc.number != proc.number && writes(plan, name, x) && marks.live(x) {
         add_between(plan, marks, found, name, x, proc, run)
@@ -150,9 +151,9 @@ fn add_races_with(
 ) -> Result<(), AllocError>
     requires marks { AreMarks (plan_of plan.now) marks.now }
     requires found { AreFound (plan_of plan.now) found.old }
-    requires calls { AreCallsOn (plan_of plan.now) name (map place_of run.now) }
-    requires run { AreOf proc.number (map place_of run.now) }
-    ensures { OnOk result (Adds (plan_of plan.now) found.old found.new (IsRaceIn (plan_of plan.now) name (map place_of run.now))) }
+    requires calls { AreCallsOn (plan_of plan.now) name (map event_of run.now) }
+    requires run { AreOf proc.number (map event_of run.now) }
+    ensures { OnOk result (Adds (plan_of plan.now) found.old found.new (IsRaceIn (plan_of plan.now) name (map event_of run.now))) }
 {
     let calls = plan.name_calls(name);
     for x in calls {
@@ -164,8 +165,8 @@ fn add_races_with(
 // How many of the first calls are of this process.
 fn run_length(calls: &[Event], proc: Proc) -> usize
     ensures within { result ≤ length calls.now }
-    ensures run { AreOf proc.number (map place_of (take result calls.now)) }
-    ensures more { (x : Event) → slice_get calls.now 0 ≡ Some x → x.proc ≡ proc → 0 < result }
+    ensures run { AreOf proc.number (map event_of (take result calls.now)) }
+    ensures more { (x : runs.Event) → slice_get calls.now 0 ≡ Some x → x.proc ≡ proc → 0 < result }
 {
     let mut count = 0;
     'run: while count < calls.len() && calls[count].proc.number == proc.number {

@@ -1,7 +1,8 @@
 //! Rewrites: puts of a key that its process has put before.
 
 ghost use Rattle.std.specs.Prelude.{◌≡◌, ◌<◌, OnOk, MatchOption};
-ghost use Rattle.wire_runs.specs.Plan.{Place, place_of, event_count};
+ghost use Rattle.wire_runs.specs.Plan.{event_of, event_count};
+ghost use Rattle.wire_runs.specs.Plan as runs;
 ghost use Rattle.wire_rehearsal.specs.Planned.{plan_of};
 ghost use Rattle.wire_runs.specs.Races.{IsRewrite};
 ghost use Rattle.wire_races.specs.Collected.{AreFound};
@@ -18,7 +19,7 @@ use wire_types::{Event, Proc};
 /// The first put of the key that an event of the plan puts again.
 fn first_put_before(plan: &Plan, event: Event) -> Option<Event>
     requires { event.at < event_count (plan_of plan.now) event.proc.number }
-    ensures { MatchOption result ((x : Place) → IsRewrite (plan_of plan.now) x (place_of event) → ⊥) (λ x. IsRewrite (plan_of plan.now) (place_of x) (place_of event)) }
+    ensures { MatchOption result ((x : runs.Event) → IsRewrite (plan_of plan.now) x (event_of event) → ⊥) (λ x. IsRewrite (plan_of plan.now) (event_of x) (event_of event)) }
 {
     match plan.kind(event) {
         Kind::Put { key, .. } => match plan.first_put(event.proc, key) {
@@ -33,7 +34,7 @@ fn first_put_before(plan: &Plan, event: Event) -> Option<Event>
 fn add_rewrite(plan: &Plan, found: &mut Found, event: Event) -> Result<(), AllocError>
     requires there { event.at < event_count (plan_of plan.now) event.proc.number }
     requires found { AreFound (plan_of plan.now) found.old }
-    ensures { OnOk result (Adds (plan_of plan.now) found.old found.new (IsRewriteBy (plan_of plan.now) (place_of event))) }
+    ensures { OnOk result (Adds (plan_of plan.now) found.old found.new (IsRewriteBy (plan_of plan.now) (event_of event))) }
 {
     match first_put_before(plan, event) {
         Some(first) => {

@@ -1,7 +1,7 @@
 //! Plans in which nothing is found.
 
 ghost use Rattle.std.specs.Prelude.{◌≡◌, ◌≢◌, ◌↔◌, ℕ, List, [], true, IfOk, IfErr, IsOk};
-ghost use Rattle.wire_runs.specs.Plan.{Place};
+ghost use Rattle.wire_runs.specs.Plan as runs;
 ghost use Rattle.wire_rehearsal.specs.Planned.{plan_of};
 ghost use Rattle.wire_runs.specs.State.{State, start};
 ghost use Rattle.wire_runs.specs.Step.{is_enabled, IsInterleaving, run, IsEnd, IsReachable};
@@ -103,8 +103,8 @@ impl Settled {
 
     /// Each event has one fate: what it answers where it comes, or that it waits.
     pub fn has_fates(&self)
-        ensures some { (y : Place) → (fate : Fate) × HasFate (plan_of self.now) y fate }
-        ensures one { let plan = plan_of self.now in (y : Place) (a b : Fate) → HasFate plan y a → HasFate plan y b → a ≡ b }
+        ensures some { (y : runs.Event) → (fate : Fate) × HasFate (plan_of self.now) y fate }
+        ensures one { let plan = plan_of self.now in (y : runs.Event) (a b : Fate) → HasFate plan y a → HasFate plan y b → a ≡ b }
     {
         let _ = &self.plan;
     }

@@ -31,12 +31,12 @@ members_from n job [] = []
 members_from n job (p ∷ ps) =
     if p.job == job then n ∷ members_from (n + 1) job ps else members_from (n + 1) job ps
 
-abbrev pub members_of : List Process → ℕ → List ℕ
-members_of processes job = members_from 0 job processes
+abbrev pub job_members : List Process → ℕ → List ℕ
+job_members processes job = members_from 0 job processes
 
 -- whether all processes of a job are in a set
 abbrev pub is_whole : List Process → List ℕ → ℕ → Bool
-is_whole processes set job = list_all (is_member set) (members_of processes job)
+is_whole processes set job = list_all (is_member set) (job_members processes job)
 
 -- a process alone, or all of its job, which is said once, where the process has rank 0
 abbrev pub process_items : Scripts → Bool → ℕ → List said.Item
@@ -55,7 +55,7 @@ set_items s set = flat_map (member_items s set) set
 -- what a process of a job says of a set: its own job, or else the items
 abbrev pub set_said : Scripts → ℕ → List ℕ → said.Set
 set_said s job set =
-    if same_members set (members_of s.processes job) then said.Own else said.Listed (set_items s set)
+    if same_members set (job_members s.processes job) then said.Own else said.Listed (set_items s set)
 
 -- items, with a comma after each: for the contract of the code that writes them, no part of the canonical text
 abbrev pub items_text : List said.Item → List ℕ

@@ -8,7 +8,7 @@ ghost use Rattle.wire_runs.specs.Fences.{is_member};
 ghost use Rattle.wire_lines.specs.Said as said;
 ghost use Rattle.wire_lines.specs.Said.{spelled_set};
 ghost use Rattle.wire_rehearsal.specs.Scripts.{numbers_of, set_at};
-ghost use Rattle.wire_rehearsal.specs.Canonical.{process_at, rank_at, members_of, is_whole};
+ghost use Rattle.wire_rehearsal.specs.Canonical.{process_at, rank_at, job_members, is_whole};
 ghost use Rattle.wire_rehearsal.specs.Canonical.{process_items, set_items, set_said, items_text};
 
 use crate::scripts::Scripts;
@@ -59,7 +59,7 @@ fn broken_jobs(alloc: Global, scripts: &Scripts, set: &[Proc]) -> Result<Vec<u32
 
 /// Whether a set is just the processes of a job.
 fn is_job(scripts: &Scripts, set: &[Proc], job: u32) -> bool
-    ensures { result ≡ same_members (numbers_of set.now) (members_of scripts.now.processes job) }
+    ensures { result ≡ same_members (numbers_of set.now) (job_members scripts.now.processes job) }
 {
     let mut rest = set;
     for (number, process) in scripts.processes().iter().enumerate() {

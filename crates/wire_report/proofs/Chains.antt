@@ -2,9 +2,9 @@
 use Rattle.std.proofs.Common.{◌≡◌, ◌∙◌, ap, sym, refl, subst, ℕ, zero, suc, ◌<◌, List, [], ◌∷◌, ◌++◌, map, Option, Some, None, Result, Ok, Err, append_assoc, ◌⊎◌, inl, inr, arith, codes}
 use Rattle.std.specs.Prelude.{slice_get, option_map, IfOk, OnOk, IfErr, MatchOption}
 use Rattle.std.proofs.lemmas.Option.{slice_get-map, slice_get_within, same_Some}
-use Rattle.wire_runs.specs.Plan.{Plan, Place, place_of, event_count}
+use Rattle.wire_runs.specs.Plan.{Plan, Event, event_of, event_count}
 use Rattle.wire_types.specs.declared.CallAt.{CallAt}
-use Rattle.wire_types.specs.declared.Event.{Event}
+use Rattle.wire_types.specs.declared.Event.{Event as CodeEvent}
 use Rattle.wire_rehearsal.specs.Scripts.{Scripts}
 use Rattle.wire_rehearsal.specs.Planned.{plan_of}
 use Rattle.wire_runs.specs.Order.{Live, Before, edge, further}
@@ -24,16 +24,16 @@ one_of [] y w (suc k) is = let lt = slice_get_within [] k w is in absurd (omega 
 one_of (x ∷ xs) y w zero is = inl is
 one_of (x ∷ xs) y w (suc k) is = one_of xs y w k is
 
-live_end : {plan : Plan} {x y : Place} → Before plan x y → Live plan y
+live_end : {plan : Plan} {x y : Event} → Before plan x y → Live plan y
 live_end (edge l e m) = m
 live_end (further b e m) = m
 
-live_on : {plan : Plan} {x y : Place} → Live plan x → LeadsTo plan x y → Live plan y
+live_on : {plan : Plan} {x y : Event} → Live plan x → LeadsTo plan x y → Live plan y
 live_on {plan} l (inl e) = subst (Live plan) e l
 live_on l (inr b) = live_end b
 
 -- each event of a shown chain is live
-all_live : {plan : Plan} {x y : Place} {chain : List Place} → IsShown plan x y chain → Live plan x → Live plan y → (k : ℕ) (z : Place) → slice_get chain k ≡ Some z → Live plan z
+all_live : {plan : Plan} {x y : Event} {chain : List Event} → IsShown plan x y chain → Live plan x → Live plan y → (k : ℕ) (z : Event) → slice_get chain k ≡ Some z → Live plan z
 all_live {plan} {x} begins l m k v is = elim (one_of [] x v k is) [
   | inl h ↦ let lt = slice_get_within [] k v h in absurd (omega (arith, lt))
   | inr e ↦ subst (Live plan) (sym e) l
@@ -43,13 +43,13 @@ all_live {plan} {x} (goes_on {y} {z} {chain} s t) l m k v is = elim (one_of chai
   | inr e ↦ subst (Live plan) (sym e) m
 ]
 
-live_there : (plan : Plan) (z : Place) → Live plan z → z.at < event_count plan z.proc
+live_there : (plan : Plan) (z : Event) → Live plan z → z.at < event_count plan z.proc
 live_there plan z l = let v = live_event plan z l in event_within plan z.proc z.at v.0 v.1
 
-pub shown_there : (plan : Plan) (x y : Place) (chain : List Event) → IsShown plan x y (map place_of chain) → Before plan x y → AreThere plan chain
+pub shown_there : (plan : Plan) (x y : Event) (chain : List CodeEvent) → IsShown plan x y (map event_of chain) → Before plan x y → AreThere plan chain
 shown_there plan x y chain s b k e is =
-    live_there plan (place_of e)
-    (all_live s (before_live b) (live_end b) k (place_of e) (slice_get-map place_of chain k ∙ ap (option_map place_of) is))
+    live_there plan (event_of e)
+    (all_live s (before_live b) (live_end b) k (event_of e) (slice_get-map event_of chain k ∙ ap (option_map event_of) is))
 
 dead_once : {s : Scripts} {x : CallAt} {a b : List ℕ} → IsDeadLine s x a → IsDeadLine s x b → a ≡ b
 dead_once (Dead n e) (Dead m f) = e ∙ sym f
@@ -63,7 +63,7 @@ deads_once (OfOne e d) (OfTwo n c1 c2 h i is) = absurd (n e)
 deads_once (OfTwo n d1 d2 h i is) (OfOne e d) = absurd (n e)
 deads_once (OfTwo n d1 d2 h i is) (OfTwo m c1 c2 j k js) = is ∙ (λ t. dead_once h j t ++ dead_once i k t) ∙ sym js
 
-chain_once : {plan : Plan} {x y : CallAt} {a b : List Place} → OneShown → IsCallChain plan x y a → IsCallChain plan x y b → a ≡ b
+chain_once : {plan : Plan} {x y : CallAt} {a b : List Event} → OneShown → IsCallChain plan x y a → IsCallChain plan x y b → a ≡ b
 chain_once once h k = once _ _ _ _ _ h.before h.shown k.shown
 
 pub text_once : OneShown → OneChainText
@@ -81,8 +81,8 @@ text_once once s x y a b first second = go first second
     go (TellsUnordered c n m h e) (TellsUnordered d o p k f) = e ∙ ap (λ l. codes "unordered\n" ++ l) (deads_once h k) ∙ sym f
 
 -- what the chains between the two events tell
-module _ (s : Scripts) (x y : CallAt) (from to : Place) (is_from : from ≡ first_event (plan_of s) x) (is_to : to ≡ first_event (plan_of s) y) where
-  is_chain : (chain : List Place) → IsShown (plan_of s) from to chain → Before (plan_of s) from to → IsCallChain (plan_of s) x y chain
+module _ (s : Scripts) (x y : CallAt) (from to : Event) (is_from : from ≡ first_event (plan_of s) x) (is_to : to ≡ first_event (plan_of s) y) where
+  is_chain : (chain : List Event) → IsShown (plan_of s) from to chain → Before (plan_of s) from to → IsCallChain (plan_of s) x y chain
   is_chain chain shown before = record {
     shown = subst (λ v. IsShown (plan_of s) v (first_event (plan_of s) y) chain) is_from (subst (λ w. IsShown (plan_of s) from w chain) is_to shown);
     before = subst (λ v. Before (plan_of s) v (first_event (plan_of s) y)) is_from (subst (λ w. Before (plan_of s) from w) is_to before);
@@ -91,15 +91,15 @@ module _ (s : Scripts) (x y : CallAt) (from to : Place) (is_from : from ≡ firs
   is_not : (Before (plan_of s) from to → ⊥) → IsCallBefore (plan_of s) x y → ⊥
   is_not n before = n (subst (λ v. Before (plan_of s) v to) (sym is_from) (subst (λ w. Before (plan_of s) (first_event (plan_of s) x) w) (sym is_to) before))
 
-pub tells_before : (s : Scripts) (x y : CallAt) (from to : Place) (chain : List Place) (text : List ℕ) → from ≡ first_event (plan_of s) x → to ≡ first_event (plan_of s) y
+pub tells_before : (s : Scripts) (x y : CallAt) (from to : Event) (chain : List Event) (text : List ℕ) → from ≡ first_event (plan_of s) x → to ≡ first_event (plan_of s) y
     → IsShown (plan_of s) from to chain → Before (plan_of s) from to → text ≡ codes "before\n" ++ event_lines s chain → IsChainText s x y text
 tells_before s x y from to chain text f t shown before e = TellsBefore chain (is_chain s x y from to f t chain shown before) e
 
-pub tells_after : (s : Scripts) (x y : CallAt) (from to : Place) (chain : List Place) (text : List ℕ) → from ≡ first_event (plan_of s) x → to ≡ first_event (plan_of s) y
+pub tells_after : (s : Scripts) (x y : CallAt) (from to : Event) (chain : List Event) (text : List ℕ) → from ≡ first_event (plan_of s) x → to ≡ first_event (plan_of s) y
     → (Before (plan_of s) from to → ⊥) → IsShown (plan_of s) to from chain → Before (plan_of s) to from → text ≡ codes "after\n" ++ event_lines s chain → IsChainText s x y text
 tells_after s x y from to chain text f t n shown before e = TellsAfter chain (is_not s x y from to f t n) (is_chain s y x to from t f chain shown before) e
 
-pub tells_unordered : (s : Scripts) (x y : CallAt) (from to : Place) (lines text : List ℕ) → from ≡ first_event (plan_of s) x → to ≡ first_event (plan_of s) y
+pub tells_unordered : (s : Scripts) (x y : CallAt) (from to : Event) (lines text : List ℕ) → from ≡ first_event (plan_of s) x → to ≡ first_event (plan_of s) y
     → (Before (plan_of s) from to → ⊥) → (Before (plan_of s) to from → ⊥) → AreDeadLines s x y lines → text ≡ codes "unordered\n" ++ lines → IsChainText s x y text
 tells_unordered s x y from to lines text f t n m dead e = TellsUnordered lines (is_not s x y from to f t n) (is_not s y x to from t f m) dead e
 

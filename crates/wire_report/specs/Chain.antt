@@ -3,7 +3,7 @@ use Rattle.std.specs.Prelude.{◌≡◌, ℕ, ◌+◌, List, [], ◌++◌, Optio
 use Rattle.std.specs.List.{flat_map}
 use Rattle.wire_types.specs.declared.Call.{Call}
 use Rattle.wire_types.specs.declared.CallAt.{CallAt}
-use Rattle.wire_runs.specs.Plan.{Plan, Place, Event, Arrive, Leave, event}
+use Rattle.wire_runs.specs.Plan.{Plan, Event, Kind, Arrive, Leave, kind}
 use Rattle.wire_rehearsal.specs.Scripts.{Scripts, Process, call_at}
 use Rattle.wire_rehearsal.specs.Planned.{plan_of}
 use Rattle.wire_runs.specs.Order.{Live, Before}
@@ -26,22 +26,22 @@ abbrev pub call_text : Scripts → CallAt → List ℕ
 call_text scripts call = proc_text_in scripts (slice_get scripts.processes call.proc.number) ++ codes " " ++ decimal (call.call + 1)
 
 -- which half of a fence an event is, nothing where it is no part of one
-abbrev pub half_text : Option Event → List ℕ
+abbrev pub half_text : Option Kind → List ℕ
 half_text (Some (Arrive members collect)) = codes " arrive"
 half_text (Some (Leave members)) = codes " leave"
 half_text _ = []
 
 -- the line of a call, with the text of a half of it
-abbrev pub line_of : Scripts → CallAt → List ℕ → List ℕ
-line_of scripts call half =
+abbrev pub event_line : Scripts → CallAt → List ℕ → List ℕ
+event_line scripts call half =
     call_text scripts call ++ codes " " ++ verb_in (call_at scripts.processes call.proc.number call.call) ++ half ++ codes "\n"
 
 -- the line of the event at a place
-abbrev pub event_line : Scripts → Place → List ℕ
-event_line scripts x = line_of scripts (call_of (plan_of scripts) x) (half_text (event (plan_of scripts) x))
+abbrev pub event_line : Scripts → Event → List ℕ
+event_line scripts x = event_line scripts (call_of (plan_of scripts) x) (half_text (kind (plan_of scripts) x))
 
 -- the lines of these events
-abbrev pub event_lines : Scripts → List Place → List ℕ
+abbrev pub event_lines : Scripts → List Event → List ℕ
 event_lines scripts places = flat_map (event_line scripts) places
 
 -- the line of a call whose event isn't live
@@ -57,7 +57,7 @@ abbrev pub IsCallBefore : Plan → CallAt → CallAt → Type 0
 IsCallBefore plan x y = Before plan (first_event plan x) (first_event plan y)
 
 -- the first event of a call is before that of another, and this chain between them is the one that is shown
-pub record IsCallChain (plan : Plan) (x y : CallAt) (chain : List Place) : Type 0 where
+pub record IsCallChain (plan : Plan) (x y : CallAt) (chain : List Event) : Type 0 where
   pub shown : IsShown plan (first_event plan x) (first_event plan y) chain
   pub before : IsCallBefore plan x y
 
@@ -73,8 +73,8 @@ pub data AreDeadLines (scripts : Scripts) (x y : CallAt) (text : List ℕ) : Typ
 
 -- the text tells whether call x is before call y, else whether y is before x, and else which of them isn't live
 pub data IsChainText (scripts : Scripts) (x y : CallAt) (text : List ℕ) : Type 0 where
-  TellsBefore : (chain : List Place) → IsCallChain (plan_of scripts) x y chain → text ≡ codes "before\n" ++ event_lines scripts chain → IsChainText scripts x y text
-  TellsAfter : (chain : List Place) → (IsCallBefore (plan_of scripts) x y → ⊥) → IsCallChain (plan_of scripts) y x chain → text ≡ codes "after\n" ++ event_lines scripts chain → IsChainText scripts x y text
+  TellsBefore : (chain : List Event) → IsCallChain (plan_of scripts) x y chain → text ≡ codes "before\n" ++ event_lines scripts chain → IsChainText scripts x y text
+  TellsAfter : (chain : List Event) → (IsCallBefore (plan_of scripts) x y → ⊥) → IsCallChain (plan_of scripts) y x chain → text ≡ codes "after\n" ++ event_lines scripts chain → IsChainText scripts x y text
   TellsUnordered : (lines : List ℕ) → (IsCallBefore (plan_of scripts) x y → ⊥) → (IsCallBefore (plan_of scripts) y x → ⊥) → AreDeadLines scripts x y lines → text ≡ codes "unordered\n" ++ lines → IsChainText scripts x y text
 
 -- two calls have one text

@@ -2,11 +2,11 @@
 
 ghost use Rattle.std.specs.Prelude.{◌≡◌, ◌<◌, ◌↔◌, ◌++◌, ℕ, List, Some, codes, length, map, slice_get, IsTrue, IfOk, OnOk, IfErr};
 ghost use Rattle.wire_types.specs.declared.Fault.TheVariants.{Memory};
-ghost use Rattle.wire_runs.specs.Plan.{event_count, place_of};
+ghost use Rattle.wire_runs.specs.Plan.{event_count, event_of};
 ghost use Rattle.wire_rehearsal.specs.Scripts.{call_at};
 ghost use Rattle.wire_rehearsal.specs.Planned.{plan_of};
 ghost use Rattle.wire_runs.specs.Ends.{calls_of};
-ghost use Rattle.wire_plan.specs.Kinds.{event_of};
+ghost use Rattle.wire_plan.specs.Kinds.{kind_of};
 ghost use Rattle.wire_marks.specs.Clocks.{AreMarks};
 ghost use Rattle.wire_report.specs.Chain as spec;
 ghost use Rattle.wire_report.specs.There.{AreThere};
@@ -26,7 +26,7 @@ pub fn ordered_text(
     chain: &[Event],
 ) -> Result<Vec<u8>, Fault>
     requires { AreThere (plan_of plan.now) chain.now }
-    ensures ok { IfOk result (λ text. text.items ≡ first_line.now ++ spec.event_lines plan.now (map place_of chain.now)) }
+    ensures ok { IfOk result (λ text. text.items ≡ first_line.now ++ spec.event_lines plan.now (map event_of chain.now)) }
     ensures err { IfErr result (λ e. e ≡ Memory) }
 {
     let mut text = Vec::from_slice(alloc, first_line)?;
@@ -105,7 +105,7 @@ fn push_dead_line(out: &mut Vec<u8>, scripts: &Scripts, call: CallAt) -> Result<
 /// Appends the lines of these events of the plan.
 fn push_events(out: &mut Vec<u8>, plan: &Plan, chain: &[Event]) -> Result<(), AllocError>
     requires { AreThere (plan_of plan.now) chain.now }
-    ensures { OnOk result (out.new.items ≡ out.old.items ++ spec.event_lines plan.now (map place_of chain.now)) }
+    ensures { OnOk result (out.new.items ≡ out.old.items ++ spec.event_lines plan.now (map event_of chain.now)) }
 {
     for event in chain {
         push_event(out, plan, *event)?;
@@ -116,7 +116,7 @@ fn push_events(out: &mut Vec<u8>, plan: &Plan, chain: &[Event]) -> Result<(), Al
 /// Appends the line of an event of the plan.
 fn push_event(out: &mut Vec<u8>, plan: &Plan, event: Event) -> Result<(), AllocError>
     requires { event.at < event_count (plan_of plan.now) event.proc.number }
-    ensures { OnOk result (out.new.items ≡ out.old.items ++ spec.event_line plan.now (place_of event)) }
+    ensures { OnOk result (out.new.items ≡ out.old.items ++ spec.event_line plan.now (event_of event)) }
 {
     let call = plan.call_of(event);
     push_line(out, plan.scripts(), call, half(plan.kind(event)))
@@ -170,7 +170,7 @@ fn verb_at(scripts: &Scripts, place: CallAt) -> &'static str
 
 /// Which half of a fence an event is, after a space.
 fn half(kind: Kind) -> &'static str
-    ensures { (sets : List (List ℕ)) → result.now ≡ spec.half_text (Some (event_of sets kind)) }
+    ensures { (sets : List (List ℕ)) → result.now ≡ spec.half_text (Some (kind_of sets kind)) }
 {
     match kind {
         Kind::Arrive { .. } => " arrive",

@@ -2,13 +2,11 @@
 use Rattle.std.proofs.Common.{◌≡◌, ℕ, suc, ◌<◌, ◌≤◌, true, false, cond, nat_eq, nat_le, Option, Some, None, List, is_some, inl, inr, refl, sym, ap, ◌∙◌, subst, arith, eq-eqb, leb-true, leb-false}
 use Rattle.std.proofs.lemmas.Option.{same_Some}
 use Rattle.std.proofs.lemmas.Bool.{cond-true, cond-false, cond_both, cases_eq, cases_lt, cases_Bool, and_parts, and_from, true≢false}
-use Rattle.wire_runs.specs.Plan.{Plan, GetNow, event, event_count, node_of, same_node, admits}
-use Rattle.wire_runs.specs.Plan.{Place}
+use Rattle.wire_runs.specs.Plan.{Plan, GetNow, kind, event_count, node_of, same_node, admits, Event}
 use Rattle.wire_runs.specs.State.{State, IsDone}
-use Rattle.wire_runs.specs.Puts.{own, stored}
+use Rattle.wire_runs.specs.Puts.{own, stored, scope_of}
 use Rattle.wire_runs.specs.Fences.{arrivals, is_member, is_complete, is_collecting, has_node}
-use Rattle.wire_runs.specs.Puts.{scope_of}
-use Rattle.wire_runs.specs.Sight.{held, served, for_others, brings, delivered, brought, get_now_sees}
+use Rattle.wire_runs.specs.Sight.{held, served, for_others, has_brought, delivered, brought, get_now_sees}
 use Rattle.wire_runs.specs.Order.{IsArrival, Live, Before}
 use Rattle.wire_runs.specs.Races.{Delivery, ByFence, IsOf, Delivers, ComesSurely, IsSettled}
 use Rattle.wire_runs.proofs.Basics.{arrivals_rise, arrivals_step, event_within}
@@ -52,7 +50,7 @@ module _ (plan : Plan) (settled : IsSettled plan) (s : State) (t key node : ℕ)
       go None e h = absurd (true≢false (sym h))
       go (Some v) e h = sym (came_value v (came plan s t key node v e)) ∙ came_value u c
 
-brings_parts : (plan : Plan) (cut : ℕ → ℕ) (t node : ℕ) (members : List ℕ) (j : ℕ) → brings plan cut t node members j ≡ true → (is_complete plan cut members j ≡ true) × (is_collecting plan members j ≡ true) × (is_member members t ≡ true) × (has_node plan members node ≡ true)
+brings_parts : (plan : Plan) (cut : ℕ → ℕ) (t node : ℕ) (members : List ℕ) (j : ℕ) → has_brought plan cut t node members j ≡ true → (is_complete plan cut members j ≡ true) × (is_collecting plan members j ≡ true) × (is_member members t ≡ true) × (has_node plan members node ≡ true)
 brings_parts plan cut t node members j h =
     let a = and_parts _ _ h in
     let b = and_parts _ _ a.1 in
@@ -60,7 +58,7 @@ brings_parts plan cut t node members j h =
     (a.0, b.0, c.0, c.1)
 
 -- of a fence that is complete in the second of two cuts alone, an arrival that isn't done in the first
-late_arrival : (plan : Plan) (cut later_cut : ℕ → ℕ) (members : List ℕ) (j : ℕ) → 0 < j → is_complete plan cut members j ≡ false → is_complete plan later_cut members j ≡ true → (z : Place) × IsArrival plan members j z × (cut z.proc ≤ z.at)
+late_arrival : (plan : Plan) (cut later_cut : ℕ → ℕ) (members : List ℕ) (j : ℕ) → 0 < j → is_complete plan cut members j ≡ false → is_complete plan later_cut members j ≡ true → (z : Event) × IsArrival plan members j z × (cut z.proc ≤ z.at)
 late_arrival plan cut later_cut members j positive incomplete complete =
     let d = differs (λ m. nat_le j (arrivals plan m members (cut m))) (λ m. nat_le j (arrivals plan m members (later_cut m))) members incomplete complete in
     let few = leb-false _ _ d.2 in
@@ -74,7 +72,7 @@ late_arrival plan cut later_cut members j positive incomplete complete =
       ],
     )
 
-module _ (plan : Plan) (settled : IsSettled plan) (s r : State) (y : Place) (up : (m : ℕ) → s.done m ≤ r.done m) (known : (z : Place) → Before plan z y → IsDone s z) (closed : ClosedCut plan r.done) (not_yet : r.done y.proc ≤ y.at) (live_y : Live plan y) (t key : ℕ) (is : event plan y ≡ Some (GetNow t key)) where
+module _ (plan : Plan) (settled : IsSettled plan) (s r : State) (y : Event) (up : (m : ℕ) → s.done m ≤ r.done m) (known : (z : Event) → Before plan z y → IsDone s z) (closed : ClosedCut plan r.done) (not_yet : r.done y.proc ≤ y.at) (live_y : Live plan y) (t key : ℕ) (is : kind plan y ≡ Some (GetNow t key)) where
   module _ (away : same_node plan t y.proc ≡ false) where
     apart : node_of plan t ≡ node_of plan y.proc → ⊥
     apart e = true≢false (sym (eq-eqb _ _ e) ∙ away)
@@ -87,7 +85,7 @@ module _ (plan : Plan) (settled : IsSettled plan) (s r : State) (y : Place) (up 
       had : (u : ℕ) → Came plan s t key (node_of plan y.proc) u → ⊥
       had u c = let d = came_is plan settled s t key (node_of plan y.proc) apart u c in cc
 
-      sure_came : (d : Delivery) → Delivers plan t key (node_of plan y.proc) d → ((z : Place) → IsOf plan d z → Before plan z y) → ⊥
+      sure_came : (d : Delivery) → Delivers plan t key (node_of plan y.proc) d → ((z : Event) → IsOf plan d z → Before plan z y) → ⊥
       sure_came (ByFence members j) delivers before =
           let d = delivers.brings_it in
           let complete_now = complete_if_arrived plan s.done members j d.full (λ z a. known z (before z a)) in
@@ -96,7 +94,7 @@ module _ (plan : Plan) (settled : IsSettled plan) (s r : State) (y : Place) (up 
             members = members;
             collect = d.arrival.collect;
             is = d.arrival.is;
-            brings_it = subst (λ i. brings plan s.done t (node_of plan y.proc) members i ≡ true) (sym d.arrival.nth) (and_from _ _ complete_now (and_from _ _ d.collecting (and_from _ _ d.member d.reaches)));
+            brings_it = subst (λ i. has_brought plan s.done t (node_of plan y.proc) members i ≡ true) (sym d.arrival.nth) (and_from _ _ complete_now (and_from _ _ d.collecting (and_from _ _ d.member d.reaches)));
             stored_is = d.committed;
             below = event_within plan t d.at _ d.arrival.is;
           }) d.admitted)

@@ -2,7 +2,7 @@
 use Rattle.std.proofs.Common.{◌≡◌, ◌∙◌, ap, refl, subst, ℕ, zero, suc, List, [], ◌∷◌, ◌++◌, length, Some, arith, ◌⊎◌, inl, inr}
 use Rattle.std.specs.Prelude.{slice_get}
 use Rattle.std.proofs.lemmas.Option.{slice_get_within, same_Some}
-use Rattle.wire_runs.specs.Plan.{Place}
+use Rattle.wire_runs.specs.Plan.{Event}
 use Rattle.wire_runs.specs.EventLists.{IsLower, AreAll}
 
 pub not_in_empty : {A : Type 0} (k : ℕ) (z : A) → slice_get [] k ≡ Some z → ⊥
@@ -28,7 +28,7 @@ at_end [] y = refl
 at_end (x ∷ xs) y = at_end xs y
 
 -- all places of which nothing holds
-pub all_of_none : (holds : Place → Type 0) → ((z : Place) → holds z → ⊥) → AreAll holds []
+pub all_of_none : (holds : Event → Type 0) → ((z : Event) → holds z → ⊥) → AreAll holds []
 all_of_none holds never = record {
   only = λ k z is. absurd (not_in_empty k z is);
   all = λ z h. absurd (never z h);
@@ -36,7 +36,7 @@ all_of_none holds never = record {
 }
 
 -- the same of what holds of the same places
-pub all_same : (before after : Place → Type 0) (xs : List Place) → ((z : Place) → before z → after z) → ((z : Place) → after z → before z) → AreAll before xs → AreAll after xs
+pub all_same : (before after : Event → Type 0) (xs : List Event) → ((z : Event) → before z → after z) → ((z : Event) → after z → before z) → AreAll before xs → AreAll after xs
 all_same before after xs there back are = record {
   only = λ k z is. there z (are.only k z is);
   all = λ z h. are.all z (back z h);
@@ -44,7 +44,7 @@ all_same before after xs there back are = record {
 }
 
 -- one more place, behind all others
-pub all_and_one : (before after : Place → Type 0) (xs : List Place) (y : Place) → ((z : Place) → before z → IsLower z y) → ((z : Place) → before z → after z) → after y → ((z : Place) → after z → before z ⊎ (y ≡ z)) → AreAll before xs → AreAll after (xs ++ y ∷ [])
+pub all_and_one : (before after : Event → Type 0) (xs : List Event) (y : Event) → ((z : Event) → before z → IsLower z y) → ((z : Event) → before z → after z) → after y → ((z : Event) → after z → before z ⊎ (y ≡ z)) → AreAll before xs → AreAll after (xs ++ y ∷ [])
 all_and_one before after xs y lower there here back are = record {
   only = λ k z is. elim (in_either xs y k z is) [
     | inl h ↦ there z (are.only k z h)

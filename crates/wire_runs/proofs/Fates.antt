@@ -3,12 +3,11 @@ use Rattle.std.proofs.Common.{◌≢◌, ◌≡◌, ℕ, ◌<◌, ◌≤◌, Lis
 use Rattle.std.specs.Prelude.{slice_get}
 use Rattle.std.proofs.lemmas.Option.{slice_get-get_or}
 use Rattle.std.proofs.lemmas.Bool.{cond-true, cond-false, cases_eq, cases_lt, cases_Bool, true≢false}
-use Rattle.wire_runs.specs.Plan.{Plan, Event, Leave, Get, GetNow, Publish, Lookup, LookupWait, Unpublish, event, event_count}
-use Rattle.wire_runs.specs.Plan.{Place}
-use Rattle.wire_runs.specs.State.{Answer, Duplicate, Success, NotFound, State, start, next_place, IsDone}
+use Rattle.wire_runs.specs.Plan.{Plan, Kind, Leave, Get, GetNow, Publish, Lookup, LookupWait, Unpublish, kind, event_count, Event}
+use Rattle.wire_runs.specs.State.{Answer, Duplicate, Success, NotFound, State, start, next_event, IsDone}
 use Rattle.wire_runs.specs.Names.{calls_name}
 use Rattle.wire_runs.specs.Fences.{arrivals, is_complete}
-use Rattle.wire_runs.specs.Step.{is_seen, may_do, is_enabled, sight_reply, found, reply, is_publisher, step, IsInterleaving, run_from, IsReachable}
+use Rattle.wire_runs.specs.Step.{is_seen, may_do, is_enabled, sight_reply, lookup_reply, reply, is_publisher, step, IsInterleaving, run_from, IsReachable}
 use Rattle.wire_runs.specs.Order.{Edge, Meets, may_come, Live, Before, edge}
 use Rattle.wire_runs.specs.Races.{IsSettled}
 use Rattle.wire_runs.specs.Fate.{IsPast, Fate, Waits, Says, fate_in, HasFate, dead, told, left_by}
@@ -21,53 +20,53 @@ use Rattle.wire_runs.proofs.Known.{Known, known_start, known_step, replies_same,
 use Rattle.wire_runs.proofs.Histories.{Written, written_start, written_step, name_is_past, one_history, no_cycle, before_live, prepend}
 
 -- Two states that both have all that is before y, and not y, with the same under the names that y asks for: y does the same in both
-module _ (plan : Plan) (settled : IsSettled plan) (s r : State) (y : Place) (up : (m : ℕ) → s.done m ≤ r.done m) (known : (z : Place) → Before plan z y → IsDone s z) (closed : ClosedCut plan r.done) (not_yet : r.done y.proc ≤ y.at) (live_y : Live plan y) (names_same : (n : ℕ) → calls_name plan n y (event plan y) ≡ true → r.names n ≡ s.names n) where
-  known_later : (z : Place) → Before plan z y → IsDone r z
+module _ (plan : Plan) (settled : IsSettled plan) (s r : State) (y : Event) (up : (m : ℕ) → s.done m ≤ r.done m) (known : (z : Event) → Before plan z y → IsDone s z) (closed : ClosedCut plan r.done) (not_yet : r.done y.proc ≤ y.at) (live_y : Live plan y) (names_same : (n : ℕ) → calls_name plan n y (kind plan y) ≡ true → r.names n ≡ s.names n) where
+  known_later : (z : Event) → Before plan z y → IsDone r z
   known_later z b = let d = known z b in let u = up z.proc in omega (arith, d, u)
 
-  fence_done : (members : List ℕ) (cut : ℕ → ℕ) → event plan y ≡ Some (Leave members) → ((z : Place) → Before plan z y → z.at < cut z.proc) → is_complete plan cut members (arrivals plan y.proc members y.at) ≡ true
+  fence_done : (members : List ℕ) (cut : ℕ → ℕ) → kind plan y ≡ Some (Leave members) → ((z : Event) → Before plan z y → z.at < cut z.proc) → is_complete plan cut members (arrivals plan y.proc members y.at) ≡ true
   fence_done members cut is all =
       complete_if_arrived plan cut members (arrivals plan y.proc members y.at) (rw is at (live_may live_y))
       (λ z a. let e : Edge plan z y = Meets members is a in all z (edge (live_source live_y e) e live_y))
 
-  may_same : (o : Option Event) → event plan y ≡ o → may_do plan r y o ≡ may_do plan s y o
+  may_same : (o : Option Kind) → kind plan y ≡ o → may_do plan r y o ≡ may_do plan s y o
   may_same None e = refl
   may_same (Some (Get t key)) e = ap is_seen (get_same plan settled s.done r.done y up known closed not_yet live_y t key e)
   may_same (Some (Leave members)) e = fence_done members r.done e known_later ∙ sym (fence_done members s.done e known)
   may_same (Some (LookupWait n)) e = ap is_some (names_same n (rw e (eq-eqb n n refl)))
   may_same (Some _) e = refl
 
-  said_same : (o : Option Event) → event plan y ≡ o → reply plan r y o ≡ reply plan s y o
+  said_same : (o : Option Kind) → kind plan y ≡ o → reply plan r y o ≡ reply plan s y o
   said_same (Some (Get t key)) e = ap (sight_reply t) (get_same plan settled s.done r.done y up known closed not_yet live_y t key e)
   said_same (Some (GetNow t key)) e = ap (sight_reply t) (now_same plan settled s r y up known closed not_yet live_y t key e)
   said_same (Some (Publish n)) e = ap (λ v. cond (is_some v) Duplicate Success) (names_same n (rw e (eq-eqb n n refl)))
-  said_same (Some (Lookup n)) e = ap found (names_same n (rw e (eq-eqb n n refl)))
-  said_same (Some (LookupWait n)) e = ap found (names_same n (rw e (eq-eqb n n refl)))
+  said_same (Some (Lookup n)) e = ap lookup_reply (names_same n (rw e (eq-eqb n n refl)))
+  said_same (Some (LookupWait n)) e = ap lookup_reply (names_same n (rw e (eq-eqb n n refl)))
   said_same (Some (Unpublish n)) e = ap (λ v. cond (is_publisher y.proc v) Success NotFound) (names_same n (rw e (eq-eqb n n refl)))
   said_same (Some _) e = refl
   said_same None e = refl
 
   fate_same : fate_in plan r y ≡ fate_in plan s y
   fate_same =
-      ap (λ b. cond b (Says (reply plan r y (event plan y))) Waits) (may_same (event plan y) refl)
-      ∙ ap (λ a. cond (may_do plan s y (event plan y)) (Says a) Waits) (said_same (event plan y) refl)
+      ap (λ b. cond b (Says (reply plan r y (kind plan y))) Waits) (may_same (kind plan y) refl)
+      ∙ ap (λ a. cond (may_do plan s y (kind plan y)) (Says a) Waits) (said_same (kind plan y) refl)
 
-coming_event : (plan : Plan) (y : Place) (o : Option Event) → may_come plan y o ≡ true → (e : Event) × (o ≡ Some e)
+coming_event : (plan : Plan) (y : Event) (o : Option Kind) → may_come plan y o ≡ true → (e : Kind) × (o ≡ Some e)
 coming_event plan y None h = absurd (true≢false (sym h))
 coming_event plan y (Some e) h = (e, refl)
 
 -- a live place is the place of an event
-pub live_event : (plan : Plan) (y : Place) → Live plan y → (e : Event) × (event plan y ≡ Some e)
-live_event plan y l = coming_event plan y (event plan y) (live_may l)
+pub live_event : (plan : Plan) (y : Event) → Live plan y → (e : Kind) × (kind plan y ≡ Some e)
+live_event plan y l = coming_event plan y (kind plan y) (live_may l)
 
 -- the state of y's past
-module _ (plan : Plan) (settled : IsSettled plan) (y : Place) (live_y : Live plan y) (fate_of : Place → Fate) (past : State) (is_past : IsPast plan y fate_of past) where
+module _ (plan : Plan) (settled : IsSettled plan) (y : Event) (live_y : Live plan y) (fate_of : Event → Fate) (past : State) (is_past : IsPast plan y fate_of past) where
   pub past_closed : ClosedCut plan past.done
   past_closed = record {
     within = λ p. elim (cases_lt (event_count plan p) (past.done p)) [
       | inr le ↦ le
       | inl lt ↦ absurd (
-          let x : Place = record { proc = p; at = event_count plan p } in
+          let x : Event = record { proc = p; at = event_count plan p } in
           let v = live_event plan x (before_live ((is_past.cut x).0 lt)) in
           let w = event_within plan p (event_count plan p) v.0 v.1 in
           omega (arith, w))
@@ -76,7 +75,7 @@ module _ (plan : Plan) (settled : IsSettled plan) (y : Place) (live_y : Live pla
     closed = λ x z e d. (let b = (is_past.cut z).0 d in (is_past.cut x).1 (prepend (live_source (before_live b) e) e b));
   }
 
-  pub past_known : (z : Place) → Before plan z y → IsDone past z
+  pub past_known : (z : Event) → Before plan z y → IsDone past z
   past_known z = (is_past.cut z).1
 
   pub past_not_yet : past.done y.proc ≤ y.at
@@ -86,7 +85,7 @@ module _ (plan : Plan) (settled : IsSettled plan) (y : Place) (live_y : Live pla
   ]
 
 -- the fate of an event whose past is done
-pub told_in : (plan : Plan) → IsSettled plan → (s : State) → Known plan s → ((n : ℕ) → Written plan s n) → (y : Place) → s.done y.proc ≤ y.at → (fate : Fate) → Live plan y → ((z : Place) → Before plan z y → IsDone s z) → HasFate plan y fate → fate ≡ fate_in plan s y
+pub told_in : (plan : Plan) → IsSettled plan → (s : State) → Known plan s → ((n : ℕ) → Written plan s n) → (y : Event) → s.done y.proc ≤ y.at → (fate : Fate) → Live plan y → ((z : Event) → Before plan z y → IsDone s z) → HasFate plan y fate → fate ≡ fate_in plan s y
 told_in plan settled s k w y not_yet fate l known (dead no_ e) = absurd (no_ l)
 told_in plan settled s k w y not_yet fate l known (told m fate_of all past is_past e) =
     e ∙ sym (fate_same plan settled past s y up (past_known plan settled y l fate_of past is_past) (closed_cut k.sound) not_yet l
@@ -110,19 +109,19 @@ one_fate plan y a b settled (told l fate_of all past is_past e) (told m other al
     up : (p : ℕ) → past.done p ≤ past'.done p
     up p = elim (cases_lt (past'.done p) (past.done p)) [
       | inr ge ↦ ge
-      | inl lt ↦ absurd (let x : Place = record { proc = p; at = past'.done p } in let d = (is_past'.cut x).1 ((is_past.cut x).0 lt) in omega (arith, d))
+      | inl lt ↦ absurd (let x : Event = record { proc = p; at = past'.done p } in let d = (is_past'.cut x).1 ((is_past.cut x).0 lt) in omega (arith, d))
     ]
 
 -- what a run keeps, of names and replies
 pub record Kept (plan : Plan) (s : State) : Type 0 where
   pub known : Known plan s
   pub written : (n : ℕ) → Written plan s n
-  pub answers : (z : Place) (a : Answer) (fate : Fate) → slice_get (s.replies z.proc) z.at ≡ Some a → HasFate plan z fate → fate ≡ Says a
+  pub answers : (z : Event) (a : Answer) (fate : Fate) → slice_get (s.replies z.proc) z.at ≡ Some a → HasFate plan z fate → fate ≡ Says a
 
 pub kept_start : (plan : Plan) → Kept plan start
 kept_start plan = record { known = known_start plan; written = written_start plan; answers = λ z a f h. cc }
 
-place_is : (z : Place) (p i : ℕ) → z.proc ≡ p → z.at ≡ i → z ≡ record { proc = p; at = i }
+place_is : (z : Event) (p i : ℕ) → z.proc ≡ p → z.at ≡ i → z ≡ record { proc = p; at = i }
 place_is z p i a b = λ t. record { proc = a t; at = b t }
 
 pub kept_step : (plan : Plan) → IsSettled plan → (s : State) (p : ℕ) → Kept plan s → is_enabled plan s p ≡ true → Kept plan (step plan s p)
@@ -132,14 +131,14 @@ kept_step plan settled s p k h = record {
   answers = λ z a fate r f. elim (cases_eq z.proc p) [
     | inr ne ↦ k.answers z a fate (ap (λ xs. slice_get xs z.at) (sym (replies_other plan s p z.proc ne)) ∙ r) f
     | inl e ↦
-        (let there : slice_get (s.replies p ++ reply plan s (next_place s p) (event plan (next_place s p)) ∷ []) z.at ≡ Some a =
+        (let there : slice_get (s.replies p ++ reply plan s (next_event s p) (kind plan (next_event s p)) ∷ []) z.at ≡ Some a =
         ap (λ xs. slice_get xs z.at) (sym (ap (step plan s p).replies e ∙ replies_same plan s p)) ∙ r in
-        elim (slice_get_push (s.replies p) (reply plan s (next_place s p) (event plan (next_place s p))) z.at a there) [
+        elim (slice_get_push (s.replies p) (reply plan s (next_event s p) (kind plan (next_event s p))) z.at a there) [
           | inl old ↦ k.answers z a fate (ap (λ q. slice_get (s.replies q) z.at) e ∙ old) f
           | inr now ↦
-              (let is : z ≡ next_place s p = place_is z p (s.done p) e (now.0 ∙ k.known.lengths p) in
+              (let is : z ≡ next_event s p = place_is z p (s.done p) e (now.0 ∙ k.known.lengths p) in
               let d = due plan s p k.known.sound h in
-              told_in plan settled s k.known k.written (next_place s p) (omega arith) fate d.is_live d.earlier_done (subst (λ v. HasFate plan v fate) is f)
+              told_in plan settled s k.known k.written (next_event s p) (omega arith) fate d.is_live d.earlier_done (subst (λ v. HasFate plan v fate) is f)
               ∙ cond-true _ _ _ h ∙ ap Says (sym now.1))
         ])
   ];
@@ -156,7 +155,7 @@ pub says_not_waits : (a : Answer) → Says a ≡ Waits → ⊥
 says_not_waits a e = cc
 
 -- what doesn't wait for ever is live
-may_live : {plan : Plan} {y : Place} {fate : Fate} → HasFate plan y fate → fate ≢ Waits → Live plan y
+may_live : {plan : Plan} {y : Event} {fate : Fate} → HasFate plan y fate → fate ≢ Waits → Live plan y
 may_live (dead not_live waits) ne = absurd (ne waits)
 may_live (told l fate_of before past is_past is) ne = l
 
@@ -167,10 +166,10 @@ fates_tell plan s settled r =
       answers = k.answers;
       enabled = λ p fate f. (
         (λ h. let d = due plan s p k.known.sound h in
-            (d.sources_done, λ w. says_not_waits _ (sym (told_in plan settled s k.known k.written (next_place s p) (omega arith) fate d.is_live d.earlier_done f ∙ cond-true _ _ _ h) ∙ w))),
+            (d.sources_done, λ w. says_not_waits _ (sym (told_in plan settled s k.known k.written (next_event s p) (omega arith) fate d.is_live d.earlier_done f ∙ cond-true _ _ _ h) ∙ w))),
         (λ c. elim (cases_Bool (is_enabled plan s p)) [
           | inl t ↦ t
-          | inr no_ ↦ absurd (c.1 (told_in plan settled s k.known k.written (next_place s p) (omega arith) fate (may_live f c.1) (λ z b. chain_to_next plan s k.known.sound c.0 b) f ∙ cond-false _ _ _ no_))
+          | inr no_ ↦ absurd (c.1 (told_in plan settled s k.known k.written (next_event s p) (omega arith) fate (may_live f c.1) (λ z b. chain_to_next plan s k.known.sound c.0 b) f ∙ cond-false _ _ _ no_))
         ]),
       );
     }

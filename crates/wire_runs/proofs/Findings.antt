@@ -1,15 +1,14 @@
 -- The list of the findings.
 use Rattle.std.proofs.Common.{◌≡◌, ℕ, List, [], ◌∷◌, Bool, Some, ◌⊎◌, inl, inr, refl, sym, ap, ◌∙◌, subst, arith}
 use Rattle.std.proofs.lemmas.Bool.{cases_lt}
-use Rattle.wire_runs.specs.Plan.{Plan, GetNow, event}
-use Rattle.wire_runs.specs.Plan.{Place}
-use Rattle.wire_runs.specs.Races.{Delivery, ByFence, IsOf, Brings, IsSettled}
-use Rattle.wire_runs.specs.Findings.{Finding, Rewrite, KeyRace, NameRace, IsFound, IsPairBefore, IsSooner, Has, IsSorted}
+use Rattle.wire_runs.specs.Plan.{Plan, GetNow, kind, Event}
+use Rattle.wire_runs.specs.Races.{Delivery, ByFence, IsOf, Brings, IsUnordered, IsSettled}
+use Rattle.wire_runs.specs.Findings.{Finding, Rewrite, KeyRace, NameRace, IsKeyRace, IsFound, IsPairLower, IsSooner, Has, IsSorted}
 use Rattle.wire_runs.specs.EventLists.{IsLower}
-use Rattle.wire_runs.specs.Laws.{NoFindings, IsOneWay, OneList}
+use Rattle.wire_runs.specs.Laws.{NoFindings, IsOneWay, OneList, RacesAreUnordered}
 
 -- of two places one is lower
-one_lower : (x y : Place) → (x ≡ y → ⊥) → IsLower x y ⊎ IsLower y x
+one_lower : (x y : Event) → (x ≡ y → ⊥) → IsLower x y ⊎ IsLower y x
 one_lower x y ne = elim (cases_lt x.proc y.proc) [
   | inl lt ↦ inl (inl lt)
   | inr ge ↦ elim (cases_lt y.proc x.proc) [
@@ -24,22 +23,22 @@ one_lower x y ne = elim (cases_lt x.proc y.proc) [
   ]
 ]
 
-lower_one_way : (x y : Place) → IsLower x y → IsLower y x → ⊥
+lower_one_way : (x y : Event) → IsLower x y → IsLower y x → ⊥
 lower_one_way x y (inl a) (inl b) = omega (arith, a, b)
 lower_one_way x y (inl a) (inr b) = let e = b.0 in omega (arith, a, e)
 lower_one_way x y (inr a) (inl b) = let e = a.0 in omega (arith, b, e)
 lower_one_way x y (inr a) (inr b) = let i = a.1 in let j = b.1 in omega (arith, i, j)
 
-lower_not_same : (x y : Place) → IsLower x y → y ≡ x → ⊥
+lower_not_same : (x y : Event) → IsLower x y → y ≡ x → ⊥
 lower_not_same x y l e = let m = subst (λ v. IsLower x v) e l in lower_one_way x x m m
 
-pair_one_way : (x y v w : Place) → IsPairBefore x y v w → IsPairBefore v w x y → ⊥
+pair_one_way : (x y v w : Event) → IsPairLower x y v w → IsPairLower v w x y → ⊥
 pair_one_way x y v w (inl a) (inl b) = lower_one_way x v a b
 pair_one_way x y v w (inl a) (inr b) = lower_not_same x v a b.0
 pair_one_way x y v w (inr a) (inl b) = lower_not_same v x b a.0
 pair_one_way x y v w (inr a) (inr b) = lower_one_way y w a.1 b.1
 
-pair_not_same : (x y v w : Place) → IsPairBefore x y v w → v ≡ x → w ≡ y → ⊥
+pair_not_same : (x y v w : Event) → IsPairLower x y v w → v ≡ x → w ≡ y → ⊥
 pair_not_same x y v w (inl a) e f = lower_not_same x v a e
 pair_not_same x y v w (inr a) e f = lower_not_same y w a.1 f
 
@@ -81,7 +80,7 @@ one_list plan lower_name xs ys one a b =
     one_sorted lower_name one xs ys a.sorted b.sorted (λ f i. (b.those f).1 ((a.those f).0 i)) (λ f i. (a.those f).1 ((b.those f).0 i))
 
 -- no event of a delivery is a get-now
-not_of_it : (plan : Plan) (p key node : ℕ) (d : Delivery) (x : Place) (owner k : ℕ) → Brings plan p key node d → IsOf plan d x → event plan x ≡ Some (GetNow owner k) → ⊥
+not_of_it : (plan : Plan) (p key node : ℕ) (d : Delivery) (x : Event) (owner k : ℕ) → Brings plan p key node d → IsOf plan d x → kind plan x ≡ Some (GetNow owner k) → ⊥
 not_of_it plan p key node (ByFence members j) x owner k b of_it e = let i = of_it.is in cc
 
 pub no_findings : NoFindings
@@ -90,15 +89,15 @@ no_findings plan lower_name = (
       let none : (f : Finding) → IsFound plan f → ⊥ = λ f i. (l.those f).1 i in
       record {
         no_rewrite = λ x y r. none (Rewrite x y) r;
-        no_node_race = λ x y key r. elim (one_lower x y (λ e. r.other (ap (λ (v : Place). v.proc) (sym e)))) [
+        no_node_race = λ x y key r. elim (one_lower x y (λ e. r.other (ap (λ (v : Event). v.proc) (sym e)))) [
           | inl low ↦ none (KeyRace x y x.proc key) (low, inl (inl (refl, r)))
           | inr high ↦ none (KeyRace y x x.proc key) (high, inr (inl (refl, r)))
         ];
-        no_delivery_race = λ x y owner key r. elim (one_lower x y (λ e. not_of_it plan owner key _ r.delivery x owner key r.delivers.brings_it r.of_it (ap (event plan) e ∙ r.is))) [
+        no_delivery_race = λ x y owner key r. elim (one_lower x y (λ e. not_of_it plan owner key _ r.delivery x owner key r.delivers.brings_it r.of_it (ap (kind plan) e ∙ r.is))) [
           | inl low ↦ none (KeyRace x y owner key) (low, inl (inr r))
           | inr high ↦ none (KeyRace y x owner key) (high, inr (inr r))
         ];
-        no_name_race = λ x y name r. elim (one_lower x y (λ e. r.others (ap (λ (v : Place). v.proc) e))) [
+        no_name_race = λ x y name r. elim (one_lower x y (λ e. r.others (ap (λ (v : Event). v.proc) e))) [
           | inl low ↦ none (NameRace x y name) (low, inl r)
           | inr high ↦ none (NameRace y x name) (high, inr r)
         ];
@@ -114,3 +113,23 @@ no_findings plan lower_name = (
     found plan s (KeyRace x y owner key) (low, inr (inr r)) = s.no_delivery_race y x owner key r
     found plan s (NameRace x y name) (low, inl r) = s.no_name_race x y name r
     found plan s (NameRace x y name) (low, inr r) = s.no_name_race y x name r
+
+turned : (plan : Plan) (x y : Event) → IsUnordered plan x y → IsUnordered plan y x
+turned plan x y u = record { live_x = u.live_y; live_y = u.live_x; not_before = u.not_after; not_after = u.not_before }
+
+of_key : (plan : Plan) (x y : Event) (owner key : ℕ) → IsKeyRace plan x y owner key → IsUnordered plan x y
+of_key plan x y owner key (inl race) = race.1.unordered
+of_key plan x y owner key (inr race) = record {
+  live_x = race.delivers.all_live x race.of_it;
+  live_y = race.get_live;
+  not_before = race.not_before;
+  not_after = race.before_none x race.of_it;
+}
+
+-- the two calls of a race are live, and no chain orders them
+pub races_are_unordered : RacesAreUnordered
+races_are_unordered plan (Rewrite x y) found = tt
+races_are_unordered plan (KeyRace x y owner key) (lower, inl race) = of_key plan x y owner key race
+races_are_unordered plan (KeyRace x y owner key) (lower, inr race) = turned plan y x (of_key plan y x owner key race)
+races_are_unordered plan (NameRace x y name) (lower, inl race) = race.unordered
+races_are_unordered plan (NameRace x y name) (lower, inr race) = turned plan y x race.unordered

@@ -3,16 +3,14 @@ use Rattle.std.proofs.Common.{◌≡◌, ℕ, zero, suc, ◌<◌, List, [], ◌�
 use Rattle.std.specs.Prelude.{◌↔◌, slice_get}
 use Rattle.std.proofs.lemmas.List.{length_push}
 use Rattle.std.proofs.lemmas.Bool.{cond-true, cond-false, cases_eq, cases_lt, cases_Bool, true≢false}
-use Rattle.wire_runs.specs.Plan.{Plan, event, event_count, process_count}
-use Rattle.wire_runs.specs.Plan.{Place}
+use Rattle.wire_runs.specs.Plan.{Plan, kind, event_count, process_count, Event}
 use Rattle.wire_runs.specs.State.{Answer, Silent, State}
 use Rattle.wire_runs.specs.Names.{writes_name}
 use Rattle.wire_runs.specs.Order.{Edge, Live, live, Before, edge, further}
 use Rattle.wire_runs.specs.Races.{IsSettled}
 use Rattle.wire_runs.specs.Fate.{IsIn, IsInOrder, left_by, IsNameHistory, IsPast, Fate, Waits, Says, fate_in, HasFate, dead, told}
 use Rattle.wire_runs.specs.Laws.{Marks, HaveFates}
-use Rattle.wire_runs.proofs.Basics.{event_within}
-use Rattle.wire_runs.proofs.Basics.{process_within}
+use Rattle.wire_runs.proofs.Basics.{event_within, process_within}
 use Rattle.wire_runs.proofs.Known.{push_keeps, push_last}
 use Rattle.wire_runs.proofs.Diamond.{writes_calls, writes_no_lookup}
 use Rattle.wire_runs.proofs.Histories.{before_live, same_process, joined, same_place}
@@ -64,18 +62,18 @@ abbrev answer_of : Fate → Answer
 answer_of Waits = Silent
 answer_of (Says a) = a
 
-module _ (plan : Plan) (settled : IsSettled plan) (marks : Marks plan) (y : Place) where
-  is_before : (x z : Place) → Before plan x z ⊎ (Before plan x z → ⊥)
+module _ (plan : Plan) (settled : IsSettled plan) (marks : Marks plan) (y : Event) where
+  is_before : (x z : Event) → Before plan x z ⊎ (Before plan x z → ⊥)
   is_before x z = elim (cases_Bool (marks.before x z)) [
     | inl t ↦ inl ((marks.tells_before x z).0 t)
     | inr f ↦ inr (λ b. true≢false (sym ((marks.tells_before x z).1 b) ∙ f))
   ]
 
   -- a call before y that may change the name
-  abbrev Wanted : ℕ → Place → Type 0
-  Wanted n z = Before plan z y × (writes_name plan n z (event plan z) ≡ true)
+  abbrev Wanted : ℕ → Event → Type 0
+  Wanted n z = Before plan z y × (writes_name plan n z (kind plan z) ≡ true)
 
-  wanted_ordered : (n : ℕ) (a b : Place) → Wanted n a → Wanted n b → (a ≡ b → ⊥) → Before plan a b ⊎ Before plan b a
+  wanted_ordered : (n : ℕ) (a b : Event) → Wanted n a → Wanted n b → (a ≡ b → ⊥) → Before plan a b ⊎ Before plan b a
   wanted_ordered n a b wa wb ne = elim (is_before a b) [
     | inl yes_ ↦ inl yes_
     | inr not_ab ↦ elim (is_before b a) [
@@ -90,9 +88,9 @@ module _ (plan : Plan) (settled : IsSettled plan) (marks : Marks plan) (y : Plac
         ]
         | inr others ↦ absurd (settled.no_name_race a b n (record {
           x_writes = wa.1;
-          y_calls = writes_calls plan n b (event plan b) wb.1;
+          y_calls = writes_calls plan n b (kind plan b) wb.1;
           others = others;
-          not_once = λ _. writes_no_lookup plan n n b (event plan b) wb.1;
+          not_once = λ _. writes_no_lookup plan n n b (kind plan b) wb.1;
           unordered = record { live_x = before_live wa.0; live_y = before_live wb.0; not_before = not_ab; not_after = not_ba };
         }))
       ]
@@ -100,10 +98,10 @@ module _ (plan : Plan) (settled : IsSettled plan) (marks : Marks plan) (y : Plac
   ]
 
   -- x put where it belongs
-  abbrev Inserted : ℕ → Place → List Place → Type 0
-  Inserted n x zs = (out : List Place) × ((w : Place) → IsIn w out ↔ ((w ≡ x) ⊎ IsIn w zs)) × IsInOrder plan out
+  abbrev Inserted : ℕ → Event → List Event → Type 0
+  Inserted n x zs = (out : List Event) × ((w : Event) → IsIn w out ↔ ((w ≡ x) ⊎ IsIn w zs)) × IsInOrder plan out
 
-  insert : (n : ℕ) (x : Place) (zs : List Place) → Wanted n x → ((z : Place) → IsIn z zs → Wanted n z × (x ≡ z → ⊥)) → IsInOrder plan zs → Inserted n x zs
+  insert : (n : ℕ) (x : Event) (zs : List Event) → Wanted n x → ((z : Event) → IsIn z zs → Wanted n z × (x ≡ z → ⊥)) → IsInOrder plan zs → Inserted n x zs
   insert n x [] wx all o = (x ∷ [], (λ w. ((λ i. i), (λ i. i))), ((λ z i. absurd i), tt))
   insert n x (z ∷ zs) wx all o = go (wanted_ordered n x z wx (all z (inl refl)).0 (all z (inl refl)).1) (insert n x zs wx (λ w i. all w (inr i)) o.1)
     where
@@ -119,21 +117,21 @@ module _ (plan : Plan) (settled : IsSettled plan) (marks : Marks plan) (y : Plac
       )
 
   -- the first n places, in the order of places
-  abbrev Seen : ℕ → ℕ → Place → Type 0
+  abbrev Seen : ℕ → ℕ → Event → Type 0
   Seen p i z = (z.proc < p) ⊎ ((z.proc ≡ p) × (z.at < i))
 
   record Gathered (n p i : ℕ) : Type 0 where
-    pub calls : List Place
-    pub those : (z : Place) → IsIn z calls ↔ (Wanted n z × Seen p i z)
+    pub calls : List Event
+    pub those : (z : Event) → IsIn z calls ↔ (Wanted n z × Seen p i z)
     pub in_order : IsInOrder plan calls
 
-  event_there : (z : Place) → Before plan z y → (z.at < event_count plan z.proc) × (z.proc < process_count plan)
+  event_there : (z : Event) → Before plan z y → (z.at < event_count plan z.proc) × (z.proc < process_count plan)
   event_there z b = let v = live_event plan z (before_live b) in (event_within plan z.proc z.at v.0 v.1, process_within plan z.proc z.at v.0 v.1)
 
   gather_one : (n p i : ℕ) → Gathered n p i → Gathered n p (suc i)
   gather_one n p i g = elim (is_before x y) [
     | inr not ↦ skip (λ w. not w.0)
-    | inl b ↦ elim (cases_Bool (writes_name plan n x (event plan x))) [
+    | inl b ↦ elim (cases_Bool (writes_name plan n x (kind plan x))) [
       | inr f ↦ skip (λ w. true≢false (sym w.1 ∙ f))
       | inl t ↦
           (let r = insert n x g.calls (b, t) (λ z i'. let h = (g.those z).0 i' in (h.0, λ e. not_seen (subst (λ v. Seen p i v) (sym e) h.1))) g.in_order in
@@ -154,18 +152,18 @@ module _ (plan : Plan) (settled : IsSettled plan) (marks : Marks plan) (y : Plac
     ]
   ]
     where
-      x : Place
+      x : Event
       x = record { proc = p; at = i }
 
       not_seen : Seen p i (record { proc = p; at = i }) → ⊥
       not_seen (inl l) = omega (arith, l)
       not_seen (inr l) = let k = l.1 in omega (arith, k)
 
-      more : (z : Place) → Seen p i z → Seen p (suc i) z
+      more : (z : Event) → Seen p i z → Seen p (suc i) z
       more z (inl l) = inl l
       more z (inr l) = let k = l.1 in inr (l.0, omega (arith, k))
 
-      fewer : (z : Place) → (z ≡ record { proc = p; at = i } → ⊥) → Seen p (suc i) z → Seen p i z
+      fewer : (z : Event) → (z ≡ record { proc = p; at = i } → ⊥) → Seen p (suc i) z → Seen p i z
       fewer z ne (inl l) = inl l
       fewer z ne (inr l) = inr (l.0, (let k = l.1 in elim (cases_eq z.at i) [ inl e ↦ absurd (ne (λ t. record { proc = l.0 t; at = e t })) | inr other ↦ omega (arith, k, other) ]))
 
@@ -209,7 +207,7 @@ module _ (plan : Plan) (settled : IsSettled plan) (marks : Marks plan) (y : Plac
         in_order = g.in_order;
       }
 
-  history : (n : ℕ) → (calls : List Place) × IsNameHistory plan y n calls
+  history : (n : ℕ) → (calls : List Event) × IsNameHistory plan y n calls
   history n =
       let g = gather n (process_count plan) in (
         g.calls,
@@ -222,14 +220,14 @@ module _ (plan : Plan) (settled : IsSettled plan) (marks : Marks plan) (y : Plac
   past_done : ℕ → ℕ
   past_done p = up_to (λ i. marks.before (record { proc = p; at = i }) y) (event_count plan p)
 
-  past_of : (Place → Fate) → State
+  past_of : (Event → Fate) → State
   past_of fate_of = record {
     done = past_done;
     names = λ n. left_by plan n (history n).0;
     replies = λ p. table (λ i. answer_of (fate_of (record { proc = p; at = i }))) (past_done p);
   }
 
-  past_cut : (z : Place) → (z.at < past_done z.proc) ↔ Before plan z y
+  past_cut : (z : Event) → (z.at < past_done z.proc) ↔ Before plan z y
   unfolding past_done
   past_cut z = (
     (λ d. (marks.tells_before z y).0 (up_to_has (λ i. marks.before (record { proc = z.proc; at = i }) y) (λ i j lt h.
@@ -239,7 +237,7 @@ module _ (plan : Plan) (settled : IsSettled plan) (marks : Marks plan) (y : Plac
     (λ b. has_up_to (λ i. marks.before (record { proc = z.proc; at = i }) y) (event_count plan z.proc) z.at (event_there z b).0 ((marks.tells_before z y).1 b)),
   )
 
-  past_is_past : (fate_of : Place → Fate) → IsPast plan y fate_of (past_of fate_of)
+  past_is_past : (fate_of : Event → Fate) → IsPast plan y fate_of (past_of fate_of)
   unfolding past_of
   past_is_past fate_of = record {
     cut = past_cut;
@@ -248,24 +246,24 @@ module _ (plan : Plan) (settled : IsSettled plan) (marks : Marks plan) (y : Plac
   }
 
 -- what is before y, and y, has fates
-record Fated (plan : Plan) (y : Place) : Type 0 where
-  earlier : (z : Place) → Before plan z y → (fate : Fate) × HasFate plan z fate
+record Fated (plan : Plan) (y : Event) : Type 0 where
+  earlier : (z : Event) → Before plan z y → (fate : Fate) × HasFate plan z fate
   own_fate : (fate : Fate) × HasFate plan y fate
 
-earlier_fates : {plan : Plan} {z y : Place} → Before plan z y → ((x : Place) → Edge plan x y → Fated plan x) → (fate : Fate) × HasFate plan z fate
+earlier_fates : {plan : Plan} {z y : Event} → Before plan z y → ((x : Event) → Edge plan x y → Fated plan x) → (fate : Fate) × HasFate plan z fate
 earlier_fates (edge l e m) from = (from _ e).own_fate
 earlier_fates (further b e m) from = (from _ e).earlier _ b
 
 module _ (plan : Plan) (settled : IsSettled plan) (marks : Marks plan) where
-  module _ (y : Place) (l : Live plan y) (from : (x : Place) → Edge plan x y → Fated plan x) where
-    abbrev picked : (z : Place) (b : Bool) → marks.before z y ≡ b → Fate
+  module _ (y : Event) (l : Live plan y) (from : (x : Event) → Edge plan x y → Fated plan x) where
+    abbrev picked : (z : Event) (b : Bool) → marks.before z y ≡ b → Fate
     picked z true e = (earlier_fates ((marks.tells_before z y).0 e) from).0
     picked z false e = Waits
 
-    abbrev fate_before : Place → Fate
+    abbrev fate_before : Event → Fate
     fate_before z = picked z (marks.before z y) refl
 
-    picked_has : (z : Place) → Before plan z y → (b : Bool) (e : marks.before z y ≡ b) → HasFate plan z (picked z b e)
+    picked_has : (z : Event) → Before plan z y → (b : Bool) (e : marks.before z y ≡ b) → HasFate plan z (picked z b e)
     picked_has z before true e = (earlier_fates ((marks.tells_before z y).0 e) from).1
     picked_has z before false e = absurd (true≢false (sym ((marks.tells_before z y).1 before) ∙ e))
 
@@ -278,7 +276,7 @@ module _ (plan : Plan) (settled : IsSettled plan) (marks : Marks plan) where
       );
     }
 
-  fated : {y : Place} → Live plan y → Fated plan y
+  fated : {y : Event} → Live plan y → Fated plan y
   fated (live may from) = with_earlier _ (live may from) (λ x e. fated (from x e))
 
 pub have_fates : HaveFates

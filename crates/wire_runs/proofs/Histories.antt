@@ -1,9 +1,8 @@
 -- The calls on a name, in the order of a run and in the order of chains.
 use Rattle.std.proofs.Common.{◌≡◌, ℕ, zero, suc, ◌+◌, ◌-◌, ◌<◌, ◌≤◌, List, [], ◌∷◌, true, ◌⊎◌, inl, inr, ⊎_elim, refl, sym, ap, ◌∙◌, subst, arith}
 use Rattle.std.proofs.lemmas.Bool.{cases_eq, cases_Bool, true≢false}
-use Rattle.wire_runs.specs.Plan.{Plan, event}
-use Rattle.wire_runs.specs.Plan.{Place}
-use Rattle.wire_runs.specs.State.{State, start, next_place, IsDone}
+use Rattle.wire_runs.specs.Plan.{Plan, kind, Event}
+use Rattle.wire_runs.specs.State.{State, start, next_event, IsDone}
 use Rattle.wire_runs.specs.Step.{name_after, step}
 use Rattle.wire_runs.specs.Order.{Edge, Follows, Announces, Live, live, Before, edge, further}
 use Rattle.wire_runs.specs.Names.{writes_name, calls_name}
@@ -12,20 +11,20 @@ use Rattle.wire_runs.specs.Fate.{IsIn, IsInOrder, left_by, IsNameHistory}
 use Rattle.wire_runs.proofs.Diamond.{name_kept}
 use Rattle.wire_runs.proofs.Due.{Sound, chain_in, closed_cut, live_source, done_kept, done_now, done_was, place_path}
 
-pub prepend : {plan : Plan} {x y z : Place} → Live plan x → Edge plan x y → Before plan y z → Before plan x z
+pub prepend : {plan : Plan} {x y z : Event} → Live plan x → Edge plan x y → Before plan y z → Before plan x z
 prepend l e (edge ly f lz) = further (edge l e ly) f lz
 prepend l e (further b f lz) = further (prepend l e b) f lz
 
 -- no live event is before itself
-pub no_cycle : {plan : Plan} {y : Place} → Live plan y → Before plan y y → ⊥
+pub no_cycle : {plan : Plan} {y : Event} → Live plan y → Before plan y y → ⊥
 no_cycle (live may from) (edge l e m) = no_cycle (from _ e) (edge l e m)
 no_cycle (live may from) (further b e m) = no_cycle (from _ e) (prepend (from _ e) e b)
 
-pub before_live : {plan : Plan} {x y : Place} → Before plan x y → Live plan x
+pub before_live : {plan : Plan} {x y : Event} → Before plan x y → Live plan x
 before_live (edge l e m) = l
 before_live (further b e m) = before_live b
 
-pub joined : {plan : Plan} {x y z : Place} → Before plan x y → Before plan y z → Before plan x z
+pub joined : {plan : Plan} {x y z : Event} → Before plan x y → Before plan y z → Before plan x z
 joined b (edge l e m) = further b e m
 joined b (further c e m) = further (joined b c) e m
 
@@ -38,19 +37,19 @@ earlier_before plan p i (suc n) l =
     let e : Edge plan (record { proc = p; at = suc (i + n) }) (record { proc = p; at = suc (i + suc n) }) = Follows refl (omega arith) in
     further (earlier_before plan p i n (live_source l e)) e l
 
-pub same_process : (plan : Plan) (x y : Place) → Live plan y → x.proc ≡ y.proc → x.at < y.at → Before plan x y
+pub same_process : (plan : Plan) (x y : Event) → Live plan y → x.proc ≡ y.proc → x.at < y.at → Before plan x y
 same_process plan x y l e lt =
     let there : y ≡ record { proc = y.proc; at = suc (x.at + (y.at - suc x.at)) } = place_path y y.proc _ refl (omega (arith, lt)) in
     let here : x ≡ record { proc = y.proc; at = x.at } = place_path x y.proc x.at e refl in
     subst (λ a. Before plan a y) (sym here) (subst (λ b. Before plan (record { proc = y.proc; at = x.at }) b) (sym there) (earlier_before plan y.proc x.at (y.at - suc x.at) (subst (λ b. Live plan b) there l)))
 
 -- as a run makes them, the newest first: none is before one that stands behind it
-abbrev pub IsAsRun : Plan → List Place → Type 0
+abbrev pub IsAsRun : Plan → List Event → Type 0
 IsAsRun plan [] = Unit {0}
-IsAsRun plan (x ∷ xs) = ((z : Place) → IsIn z xs → (Before plan x z → ⊥) × (z ≡ x → ⊥)) × IsAsRun plan xs
+IsAsRun plan (x ∷ xs) = ((z : Event) → IsIn z xs → (Before plan x z → ⊥) × (z ≡ x → ⊥)) × IsAsRun plan xs
 
 -- the two orders of the same calls are one
-pub one_order : (plan : Plan) (xs ys : List Place) → IsAsRun plan xs → IsInOrder plan ys → ((z : Place) → IsIn z xs → IsIn z ys) → ((z : Place) → IsIn z ys → IsIn z xs) → xs ≡ ys
+pub one_order : (plan : Plan) (xs ys : List Event) → IsAsRun plan xs → IsInOrder plan ys → ((z : Event) → IsIn z xs → IsIn z ys) → ((z : Event) → IsIn z ys → IsIn z xs) → xs ≡ ys
 one_order plan [] [] r o into from = refl
 one_order plan [] (y ∷ ys) r o into from = absurd (from y (inl refl))
 one_order plan (x ∷ xs) [] r o into from = absurd (into x (inl refl))
@@ -69,9 +68,9 @@ one_order plan (x ∷ xs) (y ∷ ys) r o into from =
 
 -- what stands under a name is what the done calls left, in the order of the run
 pub record Written (plan : Plan) (s : State) (n : ℕ) : Type 0 where
-  pub calls : List Place
-  pub is_done : (z : Place) → IsIn z calls → IsDone s z × (writes_name plan n z (event plan z) ≡ true)
-  pub all : (z : Place) → IsDone s z → writes_name plan n z (event plan z) ≡ true → IsIn z calls
+  pub calls : List Event
+  pub is_done : (z : Event) → IsIn z calls → IsDone s z × (writes_name plan n z (kind plan z) ≡ true)
+  pub all : (z : Event) → IsDone s z → writes_name plan n z (kind plan z) ≡ true → IsIn z calls
   pub as_run : IsAsRun plan calls
   pub left : s.names n ≡ left_by plan n calls
 
@@ -79,39 +78,39 @@ pub written_start : (plan : Plan) (n : ℕ) → Written plan start n
 written_start plan n = record { calls = []; is_done = λ z i. absurd i; all = λ z d w. absurd (omega (arith, d)); as_run = tt; left = refl }
 
 pub written_step : (plan : Plan) (s : State) (p n : ℕ) → Sound plan s → Written plan s n → Written plan (step plan s p) n
-written_step plan s p n k w = elim (cases_Bool (writes_name plan n (next_place s p) (event plan (next_place s p)))) [
+written_step plan s p n k w = elim (cases_Bool (writes_name plan n (next_event s p) (kind plan (next_event s p)))) [
   | inr f ↦ record {
     calls = w.calls;
     is_done = λ z i. let r = w.is_done z i in (done_kept plan s p z r.0, r.1);
-    all = λ z d t. elim (done_was plan s p z d) [ inl was ↦ w.all z was t | inr e ↦ absurd (true≢false (sym t ∙ ap (λ a. writes_name plan n a (event plan a)) e ∙ f)) ];
+    all = λ z d t. elim (done_was plan s p z d) [ inl was ↦ w.all z was t | inr e ↦ absurd (true≢false (sym t ∙ ap (λ a. writes_name plan n a (kind plan a)) e ∙ f)) ];
     as_run = w.as_run;
-    left = name_kept plan (event plan (next_place s p)) (next_place s p) (s.names n) n (λ z i. (k.named n z i).0) f ∙ w.left;
+    left = name_kept plan (kind plan (next_event s p)) (next_event s p) (s.names n) n (λ z i. (k.named n z i).0) f ∙ w.left;
   }
   | inl t ↦ record {
-    calls = next_place s p ∷ w.calls;
-    is_done = λ z. ⊎_elim (λ e. (subst (λ a. IsDone (step plan s p) a) (sym e) (done_now plan s p), ap (λ a. writes_name plan n a (event plan a)) e ∙ t)) (λ i. let r = w.is_done z i in (done_kept plan s p z r.0, r.1));
+    calls = next_event s p ∷ w.calls;
+    is_done = λ z. ⊎_elim (λ e. (subst (λ a. IsDone (step plan s p) a) (sym e) (done_now plan s p), ap (λ a. writes_name plan n a (kind plan a)) e ∙ t)) (λ i. let r = w.is_done z i in (done_kept plan s p z r.0, r.1));
     all = λ z d u. elim (done_was plan s p z d) [ inl was ↦ inr (w.all z was u) | inr e ↦ inl e ];
     as_run = (
       (λ z i. let r = w.is_done z i in (
         (λ b. let d = chain_in (closed_cut k) b r.0 in omega (arith, d)),
-        (λ e. let d : IsDone s (next_place s p) = subst (λ a. IsDone s a) e r.0 in omega (arith, d)),
+        (λ e. let d : IsDone s (next_event s p) = subst (λ a. IsDone s a) e r.0 in omega (arith, d)),
       )),
       w.as_run,
     );
-    left = ap (λ b. name_after b (next_place s p) (event plan (next_place s p)) n) w.left;
+    left = ap (λ b. name_after b (next_event s p) (kind plan (next_event s p)) n) w.left;
   }
 ]
 
-pub same_place : (x y : Place) → (x ≡ y) ⊎ (x ≡ y → ⊥)
+pub same_place : (x y : Event) → (x ≡ y) ⊎ (x ≡ y → ⊥)
 same_place x y = elim (cases_eq x.proc y.proc) [
-  | inr ne ↦ inr (λ e. ne (ap (λ (z : Place). z.proc) e))
+  | inr ne ↦ inr (λ e. ne (ap (λ (z : Event). z.proc) e))
   | inl p ↦ elim (cases_eq x.at y.at) [
-    | inr ne ↦ inr (λ e. ne (ap (λ (z : Place). z.at) e))
+    | inr ne ↦ inr (λ e. ne (ap (λ (z : Event). z.at) e))
     | inl i ↦ inl (λ t. record { proc = p t; at = i t })
   ]
 ]
 
-pub is_in_or_not : (z : Place) (xs : List Place) → IsIn z xs ⊎ (IsIn z xs → ⊥)
+pub is_in_or_not : (z : Event) (xs : List Event) → IsIn z xs ⊎ (IsIn z xs → ⊥)
 is_in_or_not z [] = inr (λ i. i)
 is_in_or_not z (x ∷ xs) = elim (same_place z x) [
   | inl e ↦ inl (inl e)
@@ -119,10 +118,10 @@ is_in_or_not z (x ∷ xs) = elim (same_place z x) [
 ]
 
 -- the calls that a run has made on a name that y asks for are those before y
-pub name_is_past : (plan : Plan) → IsSettled plan → (s : State) → Sound plan s → (y : Place) → Live plan y → ((z : Place) → Before plan z y → IsDone s z) → s.done y.proc ≤ y.at → (n : ℕ) (calls : List Place) → calls_name plan n y (event plan y) ≡ true → Written plan s n → IsNameHistory plan y n calls → s.names n ≡ left_by plan n calls
+pub name_is_past : (plan : Plan) → IsSettled plan → (s : State) → Sound plan s → (y : Event) → Live plan y → ((z : Event) → Before plan z y → IsDone s z) → s.done y.proc ≤ y.at → (n : ℕ) (calls : List Event) → calls_name plan n y (kind plan y) ≡ true → Written plan s n → IsNameHistory plan y n calls → s.names n ≡ left_by plan n calls
 name_is_past plan settled s k y live_y known not_yet n calls c w h = w.left ∙ ap (left_by plan n) (one_order plan w.calls calls w.as_run h.in_order into from)
   where
-    into : (z : Place) → IsIn z w.calls → IsIn z calls
+    into : (z : Event) → IsIn z w.calls → IsIn z calls
     into z i = elim (is_in_or_not z calls) [
       | inl yes_ ↦ yes_
       | inr no_ ↦ (let r = w.is_done z i in
@@ -139,11 +138,11 @@ name_is_past plan settled s k y live_y known not_yet n calls c w h = w.left ∙ 
           ]))
     ]
 
-    from : (z : Place) → IsIn z calls → IsIn z w.calls
+    from : (z : Event) → IsIn z calls → IsIn z w.calls
     from z i = let r = (h.those z).0 i in w.all z (known z r.0) r.1
 
 -- in the order of chains, none is before one that stands behind it
-in_order_as_run : (plan : Plan) (xs : List Place) → IsInOrder plan xs → IsAsRun plan xs
+in_order_as_run : (plan : Plan) (xs : List Event) → IsInOrder plan xs → IsAsRun plan xs
 in_order_as_run plan [] o = tt
 in_order_as_run plan (x ∷ xs) o = (
   (λ z i. let b = o.0 z i in (
@@ -154,6 +153,6 @@ in_order_as_run plan (x ∷ xs) o = (
 )
 
 -- the history of a name before y is one
-pub one_history : (plan : Plan) (y : Place) (n : ℕ) (xs ys : List Place) → IsNameHistory plan y n xs → IsNameHistory plan y n ys → xs ≡ ys
+pub one_history : (plan : Plan) (y : Event) (n : ℕ) (xs ys : List Event) → IsNameHistory plan y n xs → IsNameHistory plan y n ys → xs ≡ ys
 one_history plan y n xs ys a b =
     one_order plan xs ys (in_order_as_run plan xs a.in_order) b.in_order (λ z i. (b.those z).1 ((a.those z).0 i)) (λ z i. (a.those z).1 ((b.those z).0 i))

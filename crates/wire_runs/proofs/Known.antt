@@ -4,18 +4,18 @@ use Rattle.std.specs.Prelude.{slice_get}
 use Rattle.std.proofs.lemmas.List.{length_push}
 use Rattle.std.proofs.lemmas.Option.{same_Some}
 use Rattle.std.proofs.lemmas.Bool.{cases_eq}
-use Rattle.wire_runs.specs.Plan.{Plan, event}
-use Rattle.wire_runs.specs.State.{Answer, State, start, next_place, next_event}
+use Rattle.wire_runs.specs.Plan.{Plan, kind}
+use Rattle.wire_runs.specs.State.{Answer, State, start, next_event, next_kind}
 use Rattle.wire_runs.specs.Step.{is_enabled, reply, step, IsInterleaving, run_from, IsReachable}
 use Rattle.wire_runs.specs.Races.{IsSettled}
 use Rattle.wire_runs.proofs.Basics.{update_same, update_other}
 use Rattle.wire_runs.proofs.Due.{Sound, sound_start, sound_step, done_same, done_other}
 
-pub replies_same : (plan : Plan) (s : State) (p : ℕ) → (step plan s p).replies p ≡ s.replies p ++ reply plan s (next_place s p) (event plan (next_place s p)) ∷ []
-replies_same plan s p = update_same s.replies p (s.replies p ++ reply plan s (next_place s p) (next_event plan s p) ∷ [])
+pub replies_same : (plan : Plan) (s : State) (p : ℕ) → (step plan s p).replies p ≡ s.replies p ++ reply plan s (next_event s p) (kind plan (next_event s p)) ∷ []
+replies_same plan s p = update_same s.replies p (s.replies p ++ reply plan s (next_event s p) (next_kind plan s p) ∷ [])
 
 pub replies_other : (plan : Plan) (s : State) (p q : ℕ) → (q ≡ p → ⊥) → (step plan s p).replies q ≡ s.replies q
-replies_other plan s p q ne = update_other s.replies p (s.replies p ++ reply plan s (next_place s p) (next_event plan s p) ∷ []) q ne
+replies_other plan s p q ne = update_other s.replies p (s.replies p ++ reply plan s (next_event s p) (next_kind plan s p) ∷ []) q ne
 
 pub slice_get_push : (xs : List Answer) (v : Answer) (i : ℕ) (b : Answer) → slice_get (xs ++ v ∷ []) i ≡ Some b → (slice_get xs i ≡ Some b) ⊎ ((i ≡ length xs) × (b ≡ v))
 slice_get_push [] v zero b h = inr (refl, same_Some _ _ (sym h))
@@ -44,7 +44,7 @@ known_step plan settled s p k h = record {
   sound = sound_step plan s p k.sound h;
   lengths = λ q. elim (cases_eq q p) [
     | inl e ↦ subst (λ r. length ((step plan s p).replies r) ≡ (step plan s p).done r) (sym e)
-        (ap length (replies_same plan s p) ∙ (let l = length_push (s.replies p) (reply plan s (next_place s p) (event plan (next_place s p))) in let m = k.lengths p in let d = done_same plan s p in omega (arith, l, m, d)))
+        (ap length (replies_same plan s p) ∙ (let l = length_push (s.replies p) (reply plan s (next_event s p) (kind plan (next_event s p))) in let m = k.lengths p in let d = done_same plan s p in omega (arith, l, m, d)))
     | inr ne ↦ ap length (replies_other plan s p q ne) ∙ k.lengths q ∙ sym (done_other plan s p q ne)
   ];
 }

@@ -1,8 +1,7 @@
 -- A delivery that comes late makes a race.
 use Rattle.std.proofs.Common.{◌≡◌, ℕ, suc, ◌<◌, ◌≤◌, true, false, Some, is_some, inl, inr, refl, arith}
 use Rattle.std.proofs.lemmas.Bool.{cases_lt}
-use Rattle.wire_runs.specs.Plan.{Plan, GetNow, event, event_count, node_of, same_node}
-use Rattle.wire_runs.specs.Plan.{Place}
+use Rattle.wire_runs.specs.Plan.{Plan, GetNow, kind, event_count, node_of, same_node, Event}
 use Rattle.wire_runs.specs.Puts.{stored}
 use Rattle.wire_runs.specs.Order.{Live, Before}
 use Rattle.wire_runs.specs.Races.{Delivery, IsOf, Brings, ComesSurely, IsSettled}
@@ -13,10 +12,10 @@ use Rattle.wire_runs.proofs.Brought.{no_least}
 
 -- Two cuts, the second later and closed, and an event y that is in neither: all that is before y is in both. A delivery that has come in the
 -- second cut, and surely none has come in the first, would make a race
-module _ (plan : Plan) (settled : IsSettled plan) (later_cut : ℕ → ℕ) (y : Place) (closed : ClosedCut plan later_cut) (not_yet : later_cut y.proc ≤ y.at) (live_y : Live plan y) (t key : ℕ) (is : event plan y ≡ Some (GetNow t key)) (away : same_node plan t y.proc ≡ false) (stored_once : is_some (stored plan t key (event_count plan t)) ≡ true) (not_sure : ComesSurely plan t key (node_of plan y.proc) y → ⊥) (d : Delivery) (brings_it : Brings plan t key (node_of plan y.proc) d) (its_done : (z : Place) → IsOf plan d z → z.at < later_cut z.proc) where
+module _ (plan : Plan) (settled : IsSettled plan) (later_cut : ℕ → ℕ) (y : Event) (closed : ClosedCut plan later_cut) (not_yet : later_cut y.proc ≤ y.at) (live_y : Live plan y) (t key : ℕ) (is : kind plan y ≡ Some (GetNow t key)) (away : same_node plan t y.proc ≡ false) (stored_once : is_some (stored plan t key (event_count plan t)) ≡ true) (not_sure : ComesSurely plan t key (node_of plan y.proc) y → ⊥) (d : Delivery) (brings_it : Brings plan t key (node_of plan y.proc) d) (its_done : (z : Event) → IsOf plan d z → z.at < later_cut z.proc) where
   -- an event of it that isn't before y, of the process with this number
   abbrev Late : ℕ → Type 0
-  Late r = (z : Place) × IsOf plan d z × (Before plan z y → ⊥) × (z.proc ≡ r)
+  Late r = (z : Event) × IsOf plan d z × (Before plan z y → ⊥) × (z.proc ≡ r)
 
   no_first : (r : ℕ) → Late r → ((i : ℕ) → i < r → Late i → ⊥) → ⊥
   no_first r late least = settled.no_delivery_race late.0 y t key (record {
@@ -36,5 +35,5 @@ module _ (plan : Plan) (settled : IsSettled plan) (later_cut : ℕ → ℕ) (y :
     ];
   })
 
-  pub no_late : (z : Place) → IsOf plan d z → (Before plan z y → ⊥) → ⊥
+  pub no_late : (z : Event) → IsOf plan d z → (Before plan z y → ⊥) → ⊥
   no_late z a not = no_least Late no_first (suc z.proc) z.proc (omega arith) (z, a, not, refl)

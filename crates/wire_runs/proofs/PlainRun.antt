@@ -3,11 +3,11 @@ use Rattle.std.proofs.Common.{◌≡◌, ℕ, zero, suc, ◌<◌, ◌≤◌, [],
 use Rattle.std.proofs.lemmas.Bool.{cond-true, cond-false, cases_eq, cases_Bool, true≢false, false_from_ne_true}
 use Rattle.std.proofs.lemmas.Option.{same_Some, slice_get_within}
 use Rattle.std.specs.Prelude.{slice_get}
-use Rattle.wire_runs.specs.Laws.{event_total}
-use Rattle.wire_runs.specs.Plan.{Plan, process_count}
-use Rattle.wire_runs.specs.State.{State, start, next_event}
+use Rattle.wire_runs.specs.Plan.{Plan, event_total, process_count}
+use Rattle.wire_runs.specs.State.{State, start, next_kind}
 use Rattle.wire_runs.specs.Step.{is_enabled, step, IsInterleaving, run_from, IsEnd}
-use Rattle.wire_runs.specs.PlainRun.{or_else, lowest, go_on, plain_from, plain_run, PlainRuns}
+use Rattle.wire_runs.specs.PlainRun.{or_else, lowest, go_on, plain_from, plain_run}
+use Rattle.wire_runs.specs.Laws.{PlainRuns}
 use Rattle.wire_runs.proofs.Basics.{process_within}
 use Rattle.wire_runs.proofs.Due.{has_event}
 use Rattle.wire_runs.proofs.Length.{left_from, left_falls, left_at_start}
@@ -15,7 +15,7 @@ use Rattle.wire_runs.proofs.OneEnd.{settled_one_end}
 
 -- a process that may go on is one of the plan's
 pub enabled_within : (plan : Plan) (s : State) (p : ℕ) → is_enabled plan s p ≡ true → p < process_count plan
-enabled_within plan s p h = let v = has_event plan s p (next_event plan s p) refl h in process_within plan p (s.done p) v.0 v.1
+enabled_within plan s p h = let v = has_event plan s p (next_kind plan s p) refl h in process_within plan p (s.done p) v.0 v.1
 
 pub lowest_enabled : (plan : Plan) (s : State) (n p : ℕ) → lowest plan s n ≡ Some p → is_enabled plan s p ≡ true
 lowest_enabled plan s zero p h = cc

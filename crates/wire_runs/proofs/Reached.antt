@@ -2,9 +2,8 @@
 use Rattle.std.proofs.Common.{◌≡◌, ℕ, zero, suc, ◌<◌, ◌≤◌, List, [], ◌∷◌, length, Bool, true, false, nat_lt, ◌⊎◌, inl, inr, refl, sym, ap, ◌∙◌, subst, arith}
 use Rattle.std.proofs.lemmas.Bool.{cond-false, cases_eq, cases_lt, cases_Bool, ltb-true, ltb-false, true≢false}
 use Rattle.std.proofs.lemmas.Option.{slice_get_past}
-use Rattle.wire_runs.specs.Plan.{Plan, events, process_events, event_count, process_count}
-use Rattle.wire_runs.specs.Plan.{Place}
-use Rattle.wire_runs.specs.State.{State, start, next_place, IsDone}
+use Rattle.wire_runs.specs.Plan.{Plan, kinds, process_kinds, event_count, process_count, Event}
+use Rattle.wire_runs.specs.State.{State, start, next_event, IsDone}
 use Rattle.wire_runs.specs.Step.{is_enabled, step, IsInterleaving, run_from}
 use Rattle.wire_runs.specs.Order.{Edge, Live, live, Before, edge, further}
 use Rattle.wire_runs.specs.Races.{IsSettled}
@@ -31,7 +30,7 @@ find f (suc n) = go (find f n)
 
 module _ (plan : Plan) (settled : IsSettled plan) (marks : Marks plan) (cut : ℕ → ℕ) (sound : IsSoundCut plan cut) where
   -- an event of the cut is live
-  live_in : (x : Place) → x.at < cut x.proc → Live plan x
+  live_in : (x : Event) → x.at < cut x.proc → Live plan x
   live_in x d = elim (cases_Bool (marks.alive x)) [
     | inl t ↦ (marks.tells_live x).0 t
     | inr f ↦ absurd (sound.comes x d (dead (λ l. true≢false (sym ((marks.tells_live x).1 l) ∙ f)) refl))
@@ -45,33 +44,33 @@ module _ (plan : Plan) (settled : IsSettled plan) (marks : Marks plan) (cut : �
     abbrev Onward : Type 0
     Onward = (q : ℕ) × (s.done q < cut q) × (is_enabled plan s q ≡ true)
 
-    abbrev FromHere : Place → Type 0
+    abbrev FromHere : Event → Type 0
     FromHere y = s.done y.proc ≡ y.at → y.at < cut y.proc → Onward
 
-    record Down (y : Place) : Type 0 where
-      earlier : (z : Place) → Before plan z y → FromHere z
+    record Down (y : Event) : Type 0 where
+      earlier : (z : Event) → Before plan z y → FromHere z
       here : FromHere y
 
-    earlier_down : {z y : Place} → Before plan z y → ((x : Place) → Edge plan x y → Down x) → FromHere z
+    earlier_down : {z y : Event} → Before plan z y → ((x : Event) → Edge plan x y → Down x) → FromHere z
     earlier_down (edge l e m) from = (from _ e).here
     earlier_down (further b e m) from = (from _ e).earlier _ b
 
     -- where all that is before it is done, it may go on
-    enabled_there : (p : ℕ) → s.done p < cut p → ((z : Place) → Before plan z (next_place s p) → IsDone s z) → is_enabled plan s p ≡ true
+    enabled_there : (p : ℕ) → s.done p < cut p → ((z : Event) → Before plan z (next_event s p) → IsDone s z) → is_enabled plan s p ≡ true
     enabled_there p lt known = elim (cases_Bool (is_enabled plan s p)) [
       | inl t ↦ t
       | inr f ↦ absurd (
-          let h = have_fates plan settled marks (next_place s p) in
-          let waits : h.0 ≡ Waits = told_in plan settled s k.known k.written (next_place s p) (omega arith) h.0 (live_in (next_place s p) lt) known h.1 ∙ cond-false _ _ _ f in
-          sound.comes (next_place s p) lt (subst (λ v. HasFate plan (next_place s p) v) waits h.1))
+          let h = have_fates plan settled marks (next_event s p) in
+          let waits : h.0 ≡ Waits = told_in plan settled s k.known k.written (next_event s p) (omega arith) h.0 (live_in (next_event s p) lt) known h.1 ∙ cond-false _ _ _ f in
+          sound.comes (next_event s p) lt (subst (λ v. HasFate plan (next_event s p) v) waits h.1))
     ]
 
-    at_next : (y : Place) → s.done y.proc ≡ y.at → y ≡ next_place s y.proc
+    at_next : (y : Event) → s.done y.proc ≡ y.at → y ≡ next_event s y.proc
     at_next y e = λ t. record { proc = y.proc; at = sym e t }
 
-    here_from : (y : Place) → ((z : Place) → Before plan z y → FromHere z) → FromHere y
-    here_from y earlier e d = elim (find (λ p. marks.before (next_place s p) y) (process_count plan)) [
-      | inl r ↦ (let b = (marks.tells_before (next_place s r.0) y).0 r.1 in earlier (next_place s r.0) b refl (chain_in closed_in b d))
+    here_from : (y : Event) → ((z : Event) → Before plan z y → FromHere z) → FromHere y
+    here_from y earlier e d = elim (find (λ p. marks.before (next_event s p) y) (process_count plan)) [
+      | inl r ↦ (let b = (marks.tells_before (next_event s r.0) y).0 r.1 in earlier (next_event s r.0) b refl (chain_in closed_in b d))
       | inr none ↦ (
         y.proc,
         omega (arith, e, d),
@@ -80,7 +79,7 @@ module _ (plan : Plan) (settled : IsSettled plan) (marks : Marks plan) (cut : �
             elim (cases_lt z.at (s.done z.proc)) [
               | inl lt ↦ lt
               | inr ge ↦ absurd (
-                  let w = next_place s z.proc in
+                  let w = next_event s z.proc in
                   let wb : Before plan w y = elim (cases_eq (s.done z.proc) z.at) [
                     | inl same ↦ subst (λ v. Before plan v y) (at_next z same) b
                     | inr ne ↦ joined (same_process plan w z (before_live b) refl (omega (arith, ge, ne))) b
@@ -91,18 +90,18 @@ module _ (plan : Plan) (settled : IsSettled plan) (marks : Marks plan) (cut : �
       )
     ]
 
-    down : {y : Place} → Live plan y → Down y
+    down : {y : Event} → Live plan y → Down y
     down (live may from) = build _ (λ x e. down (from x e))
       where
-        build : (y : Place) → ((x : Place) → Edge plan x y → Down x) → Down y
+        build : (y : Event) → ((x : Event) → Edge plan x y → Down x) → Down y
         build y from' = record { earlier = λ z b. earlier_down b from'; here = here_from y (λ z b. earlier_down b from') }
 
     onward : (p : ℕ) → s.done p < cut p → Onward
-    onward p lt = (down (live_in (next_place s p) lt)).here refl lt
+    onward p lt = (down (live_in (next_event s p) lt)).here refl lt
 
   past_end : (p : ℕ) → process_count plan ≤ p → event_count plan p ≡ 0
-  unfolding event_count events
-  past_end p ge = ap (λ o. length (process_events o)) (slice_get_past plan.processes p ge)
+  unfolding event_count kinds
+  past_end p ge = ap (λ o. length (process_kinds o)) (slice_get_past plan.processes p ge)
 
   abbrev Reaches : State → Type 0
   Reaches s = (w : List ℕ) × IsInterleaving plan s w × ((p : ℕ) → (run_from plan s w).done p ≡ cut p)

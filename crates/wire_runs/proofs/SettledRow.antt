@@ -1,6 +1,6 @@
 -- A plan that is settled: a put, a commit, and a get by the node's other process.
 use Rattle.std.proofs.Common.{◌≡◌, ℕ, zero, suc, [], ◌∷◌, true, Option, Some, None, refl, arith}
-use Rattle.wire_runs.specs.Plan.{Plan, CallPut, CallCommit, CallGet, Event, Put, Commit, Get, GetNow, events, event_at}
+use Rattle.wire_runs.specs.Plan.{Plan, CallPut, CallCommit, CallGet, Kind, Put, Commit, Get, GetNow, kinds, kind_at}
 use Rattle.wire_types.specs.declared.Scope.{Scope}
 use Rattle.wire_types.specs.declared.Scope.TheVariants.{Global}
 use Rattle.wire_runs.specs.Names.{writes_name}
@@ -10,8 +10,8 @@ pub row : Plan
 row = record { processes = record { node = 0; calls = CallPut 7 Global ∷ (CallCommit ∷ []) } ∷ (record { node = 0; calls = CallGet 0 7 ∷ [] } ∷ []) }
 
 -- the events of the plan, one by one: what holds of each of them and of nothing holds of all
-each_event : (P : Option Event → Type 0) → P None → P (Some (Put 7 Global)) → P (Some Commit) → P (Some (Get 0 7)) → (p i : ℕ) → P (event_at row p i)
-unfolding row events event_at
+each_event : (P : Option Kind → Type 0) → P None → P (Some (Put 7 Global)) → P (Some Commit) → P (Some (Get 0 7)) → (p i : ℕ) → P (kind_at row p i)
+unfolding row kinds kind_at
 each_event P n a b c zero zero = a
 each_event P n a b c zero (suc zero) = b
 each_event P n a b c zero (suc (suc i)) = n
@@ -20,8 +20,8 @@ each_event P n a b c (suc zero) (suc i) = n
 each_event P n a b c (suc (suc p)) i = n
 
 -- a put stands at the number 0
-put_at_zero : (p i key : ℕ) (scope : Scope) → event_at row p i ≡ Some (Put key scope) → i ≡ 0
-unfolding row events event_at
+put_at_zero : (p i key : ℕ) (scope : Scope) → kind_at row p i ≡ Some (Put key scope) → i ≡ 0
+unfolding row kinds kind_at
 put_at_zero zero zero key scope e = refl
 put_at_zero zero (suc zero) key scope e = cc
 put_at_zero zero (suc (suc i)) key scope e = cc

@@ -1,22 +1,21 @@
 -- What a state says became of every call.
 use Rattle.std.specs.Prelude.{ℕ, zero, suc, ◌-◌, List, [], ◌∷◌, ◌++◌, Bool, true, false, not, ◌&&◌, Option, Some, None, is_some, length, take, map, replicate, nat_lt, slice_get, if◌then◌else◌}
 use Rattle.std.specs.List.{flat_map}
-use Rattle.wire_runs.specs.Plan.{Plan, Process, Call, events_of, process_count}
+use Rattle.wire_runs.specs.Plan.{Plan, Process, Call, kinds_of, process_count, Event}
 use Rattle.wire_types.specs.Outcome.{Ends}
 use Rattle.wire_types.specs.Replies.{bare, success_with}
 use Rattle.wire_types.specs.declared.CallAt.{CallAt}
 use Rattle.wire_types.specs.declared.CallEnd.{CallEnd}
 use Rattle.wire_types.specs.declared.CallEnd.TheVariants.{Replied, Waiting, Ready, Unreached}
-use Rattle.wire_runs.specs.Plan.{Place}
 use Rattle.wire_types.specs.declared.Reply.{Reply}
 use Rattle.wire_types.specs.declared.Status.TheVariants as status
 use Rattle.wire_types.specs.declared.Value.TheVariants as value
-use Rattle.wire_runs.specs.State.{Answer, Silent, Success, NotFound, ExistsOutside, Duplicate, BadParam, Value, Published, Reserved, State, next_event}
+use Rattle.wire_runs.specs.State.{Answer, Silent, Success, NotFound, ExistsOutside, Duplicate, Value, Published, Reserved, State, next_kind}
 use Rattle.wire_runs.specs.Step.{is_enabled}
 
 -- how many events a call is
 abbrev pub call_size : Call → ℕ
-call_size call = length (events_of (call ∷ []))
+call_size call = length (kinds_of (call ∷ []))
 
 -- the number of the call to which an event belongs, among these calls
 abbrev pub call_number : List Call → ℕ → ℕ
@@ -31,12 +30,12 @@ abbrev pub calls_of : Plan → ℕ → List Call
 calls_of plan p = process_calls (slice_get plan.processes p)
 
 -- the call to which an event belongs
-abbrev pub call_of : Plan → Place → CallAt
+abbrev pub call_of : Plan → Event → CallAt
 call_of plan x = record { proc = record { number = x.proc }; call = call_number (calls_of plan x.proc) x.at }
 
 -- the first event of a call: the number of the events of the calls before it
-abbrev pub first_event : Plan → CallAt → Place
-first_event plan call = record { proc = call.proc.number; at = length (events_of (take call.call (calls_of plan call.proc.number))) }
+abbrev pub first_event : Plan → CallAt → Event
+first_event plan call = record { proc = call.proc.number; at = length (kinds_of (take call.call (calls_of plan call.proc.number))) }
 
 -- the reply that an answer gives to a call; the first half of a fence gives none
 abbrev pub given : Plan → Answer → List Reply
@@ -45,7 +44,6 @@ given plan Success = bare status.Success ∷ []
 given plan NotFound = bare status.NotFound ∷ []
 given plan ExistsOutside = bare status.ExistsOutsideScope ∷ []
 given plan Duplicate = bare status.DuplicateKey ∷ []
-given plan BadParam = bare status.BadParam ∷ []
 given plan (Value put) = success_with (value.Put (call_of plan put)) ∷ []
 given plan (Published publish) = success_with (value.Published (call_of plan publish)) ∷ []
 given plan (Reserved reply) = reply ∷ []
@@ -72,7 +70,7 @@ row plan s p =
 
 -- the process stands at a call, and may not go on
 abbrev pub is_waiting : Plan → State → ℕ → Bool
-is_waiting plan s p = is_some (next_event plan s p) && not (is_enabled plan s p)
+is_waiting plan s p = is_some (next_kind plan s p) && not (is_enabled plan s p)
 
 -- of the first n processes
 abbrev pub rows_below : Plan → State → ℕ → List (List CallEnd)

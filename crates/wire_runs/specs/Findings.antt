@@ -1,18 +1,17 @@
 -- The list of what the checker finds.
 use Rattle.std.specs.Prelude.{◌≡◌, ℕ, List, [], ◌∷◌, Bool, true, ◌⊎◌, ◌↔◌}
-use Rattle.wire_runs.specs.Plan.{Plan}
-use Rattle.wire_runs.specs.Plan.{Place}
+use Rattle.wire_runs.specs.Plan.{Plan, Event}
 use Rattle.wire_runs.specs.EventLists.{IsLower}
 use Rattle.wire_runs.specs.Races.{IsRewrite, IsNodeRace, IsDeliveryRace, IsNameRace}
 
 -- the lower place stands first
 pub data Finding : Type 0 where
-  Rewrite : (first later : Place) → Finding
-  KeyRace : (lower higher : Place) → (owner key : ℕ) → Finding
-  NameRace : (lower higher : Place) → (name : ℕ) → Finding
+  Rewrite : (first later : Event) → Finding
+  KeyRace : (lower higher : Event) → (owner key : ℕ) → Finding
+  NameRace : (lower higher : Event) → (name : ℕ) → Finding
 
 -- a race on a key, told by either of its places first
-abbrev pub IsKeyRace : Plan → Place → Place → ℕ → ℕ → Type 0
+abbrev pub IsKeyRace : Plan → Event → Event → ℕ → ℕ → Type 0
 IsKeyRace plan x y owner key = ((x.proc ≡ owner) × IsNodeRace plan x y key) ⊎ IsDeliveryRace plan x y owner key
 
 abbrev pub IsFound : Plan → Finding → Type 0
@@ -21,18 +20,18 @@ IsFound plan (KeyRace x y owner key) = IsLower x y × (IsKeyRace plan x y owner 
 IsFound plan (NameRace x y name) = IsLower x y × (IsNameRace plan x y name ⊎ IsNameRace plan y x name)
 
 -- by the lower place, then by the higher
-abbrev pub IsPairBefore : Place → Place → Place → Place → Type 0
-IsPairBefore x y v w = IsLower x v ⊎ ((x ≡ v) × IsLower y w)
+abbrev pub IsPairLower : Event → Event → Event → Event → Type 0
+IsPairLower x y v w = IsLower x v ⊎ ((x ≡ v) × IsLower y w)
 
 -- the order of the findings: rewrites by the later put, then races by their places, those of one pair by their names in the order that is given
 abbrev pub IsSooner : (ℕ → ℕ → Bool) → Finding → Finding → Type 0
 IsSooner lower_name (Rewrite x y) (Rewrite v w) = IsLower y w
 IsSooner lower_name (Rewrite x y) _ = Unit {0}
 IsSooner lower_name _ (Rewrite v w) = ⊥
-IsSooner lower_name (KeyRace x y p key) (KeyRace v w q other) = IsPairBefore x y v w
-IsSooner lower_name (KeyRace x y p key) (NameRace v w name) = IsPairBefore x y v w
-IsSooner lower_name (NameRace x y name) (KeyRace v w q other) = IsPairBefore x y v w
-IsSooner lower_name (NameRace x y name) (NameRace v w other) = IsPairBefore x y v w ⊎ ((x ≡ v) × (y ≡ w) × (lower_name name other ≡ true))
+IsSooner lower_name (KeyRace x y p key) (KeyRace v w q other) = IsPairLower x y v w
+IsSooner lower_name (KeyRace x y p key) (NameRace v w name) = IsPairLower x y v w
+IsSooner lower_name (NameRace x y name) (KeyRace v w q other) = IsPairLower x y v w
+IsSooner lower_name (NameRace x y name) (NameRace v w other) = IsPairLower x y v w ⊎ ((x ≡ v) × (y ≡ w) × (lower_name name other ≡ true))
 
 abbrev pub Has : List Finding → Finding → Type 0
 Has [] f = ⊥

@@ -1,31 +1,28 @@
--- The laws of runs.
-use Rattle.std.specs.Prelude.{slice_get, ◌↔◌, Some, ◌≡◌, ◌≢◌, ℕ, ◌≤◌, List, [], Bool, true, length, sum_by}
-use Rattle.wire_runs.specs.Plan.{Plan, events_of}
-use Rattle.wire_runs.specs.Plan.{Place}
-use Rattle.wire_runs.specs.State.{Answer, State, start, next_place, IsDone}
+-- The laws of runs: what the definitions before this file entail, for every plan. Each is the contract of a function of src/laws.rt.
+use Rattle.std.specs.Prelude.{slice_get, ◌↔◌, Some, ◌≡◌, ◌≢◌, ℕ, ◌≤◌, ◌<◌, List, [], Bool, true, false, length, take}
+use Rattle.wire_runs.specs.Plan.{Plan, Event, event_total}
+use Rattle.wire_runs.specs.State.{Answer, State, start, next_event, IsDone}
 use Rattle.wire_runs.specs.Step.{is_enabled, step, IsInterleaving, run, IsEnd, IsReachable}
+use Rattle.wire_runs.specs.PlainRun.{plain_run}
 use Rattle.wire_runs.specs.Fate.{Fate, Waits, Says, HasFate, IsSoundCut}
 use Rattle.wire_runs.specs.Order.{Edge, Live, Before}
-use Rattle.wire_runs.specs.Races.{IsSettled}
-use Rattle.wire_runs.specs.Findings.{Finding, IsFindings}
-
-abbrev pub event_total : Plan → ℕ
-event_total plan = sum_by (λ process. length (events_of process.calls)) plan.processes
+use Rattle.wire_runs.specs.Races.{IsUnordered, IsSettled}
+use Rattle.wire_runs.specs.Findings.{Finding, Rewrite, KeyRace, NameRace, IsFound, IsFindings}
 
 -- no run is longer than the number of events
 abbrev pub RunsEnd : Type 0
 RunsEnd = (plan : Plan) (w : List ℕ) → IsInterleaving plan start w → length w ≤ event_total plan
 
--- where a process may go on, its next event is live and all its sources are done
-pub record IsDue (plan : Plan) (s : State) (y : Place) : Type 0 where
+-- where a process is enabled, its next event is live, and all its sources and all that is before it are done
+pub record IsDue (plan : Plan) (s : State) (y : Event) : Type 0 where
   pub is_live : Live plan y
-  pub sources_done : (x : Place) → Edge plan x y → IsDone s x
-  pub earlier_done : (x : Place) → Before plan x y → IsDone s x
+  pub sources_done : (x : Event) → Edge plan x y → IsDone s x
+  pub earlier_done : (x : Event) → Before plan x y → IsDone s x
 
 abbrev pub EnabledIsDue : Type 0
-EnabledIsDue = (plan : Plan) (s : State) (p : ℕ) → IsReachable plan s → is_enabled plan s p ≡ true → IsDue plan s (next_place s p)
+EnabledIsDue = (plan : Plan) (s : State) (p : ℕ) → IsReachable plan s → is_enabled plan s p ≡ true → IsDue plan s (next_event s p)
 
--- two processes that may both go on don't disturb each other
+-- two processes that are both enabled don't disturb each other
 pub record Commute (plan : Plan) (s : State) (p q : ℕ) : Type 0 where
   pub first_stays : is_enabled plan (step plan s q) p ≡ true
   pub second_stays : is_enabled plan (step plan s p) q ≡ true
@@ -39,17 +36,25 @@ EnabledCommute = (plan : Plan) (s : State) (p q : ℕ) → IsSettled plan → Is
 abbrev pub OneEnd : Type 0
 OneEnd = (plan : Plan) (v w : List ℕ) → IsSettled plan → IsInterleaving plan start v → IsInterleaving plan start w → IsEnd plan (run plan v) → IsEnd plan (run plan w) → run plan v ≡ run plan w
 
--- replies are fates, and who may go on is told by fates
+-- the plain run is an interleaving that can't go on, at each step of it nobody below is enabled, and in a settled plan every
+-- interleaving that can't go on ends in its state
+pub record PlainRuns (plan : Plan) : Type 0 where
+  pub is_run : IsInterleaving plan start (plain_run plan)
+  pub ends : IsEnd plan (run plan (plain_run plan))
+  pub is_lowest : (n p q : ℕ) → slice_get (plain_run plan) n ≡ Some p → q < p → is_enabled plan (run plan (take n (plain_run plan))) q ≡ false
+  pub is_the_end : (w : List ℕ) → IsSettled plan → IsInterleaving plan start w → IsEnd plan (run plan w) → run plan w ≡ run plan (plain_run plan)
+
+-- replies are fates, and who is enabled is told by fates
 pub record FatesHold (plan : Plan) (s : State) : Type 0 where
-  pub answers : (z : Place) (a : Answer) (fate : Fate) → slice_get (s.replies z.proc) z.at ≡ Some a → HasFate plan z fate → fate ≡ Says a
-  pub enabled : (p : ℕ) (fate : Fate) → HasFate plan (next_place s p) fate → (is_enabled plan s p ≡ true) ↔ (((x : Place) → Edge plan x (next_place s p) → IsDone s x) × (fate ≢ Waits))
+  pub answers : (z : Event) (a : Answer) (fate : Fate) → slice_get (s.replies z.proc) z.at ≡ Some a → HasFate plan z fate → fate ≡ Says a
+  pub enabled : (p : ℕ) (fate : Fate) → HasFate plan (next_event s p) fate → (is_enabled plan s p ≡ true) ↔ (((x : Event) → Edge plan x (next_event s p) → IsDone s x) × (fate ≢ Waits))
 
 abbrev pub FatesTell : Type 0
 FatesTell = (plan : Plan) (s : State) → IsSettled plan → IsReachable plan s → FatesHold plan s
 
 -- the fate of an event is one
 abbrev pub OneFate : Type 0
-OneFate = (plan : Plan) (y : Place) (a b : Fate) → IsSettled plan → HasFate plan y a → HasFate plan y b → a ≡ b
+OneFate = (plan : Plan) (y : Event) (a b : Fate) → IsSettled plan → HasFate plan y a → HasFate plan y b → a ≡ b
 
 -- what a run of a settled plan has come to is a sound cut
 abbrev pub RunsAreSound : Type 0
@@ -58,6 +63,15 @@ RunsAreSound = (plan : Plan) (s : State) → IsSettled plan → IsReachable plan
 -- the list of findings is empty exactly where the plan is settled
 abbrev pub NoFindings : Type 0
 NoFindings = (plan : Plan) (lower_name : ℕ → ℕ → Bool) → IsFindings plan lower_name [] ↔ IsSettled plan
+
+-- the two calls of a race that is found, each by its event (of a fence its arrival), are live, and no chain orders them
+abbrev pub AreUnordered : Plan → Finding → Type 0
+AreUnordered plan (Rewrite x y) = Unit {0}
+AreUnordered plan (KeyRace x y owner key) = IsUnordered plan x y
+AreUnordered plan (NameRace x y name) = IsUnordered plan x y
+
+abbrev pub RacesAreUnordered : Type 0
+RacesAreUnordered = (plan : Plan) (f : Finding) → IsFound plan f → AreUnordered plan f
 
 -- no two names stand before each other
 abbrev pub IsOneWay : (ℕ → ℕ → Bool) → Type 0
@@ -69,14 +83,14 @@ OneList = (plan : Plan) (lower_name : ℕ → ℕ → Bool) (xs ys : List Findin
 
 -- marks that tell which events are live, and which are before which
 pub record Marks (plan : Plan) : Type 0 where
-  pub alive : Place → Bool
-  pub before : Place → Place → Bool
-  pub tells_live : (y : Place) → (alive y ≡ true) ↔ Live plan y
-  pub tells_before : (x y : Place) → (before x y ≡ true) ↔ Before plan x y
+  pub alive : Event → Bool
+  pub before : Event → Event → Bool
+  pub tells_live : (y : Event) → (alive y ≡ true) ↔ Live plan y
+  pub tells_before : (x y : Event) → (before x y ≡ true) ↔ Before plan x y
 
 -- each event of a settled plan has a fate
 abbrev pub HaveFates : Type 0
-HaveFates = (plan : Plan) → IsSettled plan → Marks plan → (y : Place) → (fate : Fate) × HasFate plan y fate
+HaveFates = (plan : Plan) → IsSettled plan → Marks plan → (y : Event) → (fate : Fate) × HasFate plan y fate
 
 -- a sound cut of a settled plan is what some run has come to
 abbrev pub SoundIsReached : Type 0

@@ -1,38 +1,37 @@
 -- Which events wait for which, by edges and by chains of them.
 use Rattle.std.specs.Prelude.{◌≡◌, ◌≢◌, ℕ, suc, List, Bool, true, false, ◌||◌, Option, Some, None, is_some, ◌==◌, nat_le, if◌then◌else◌}
-use Rattle.wire_runs.specs.Plan.{Plan, Event, Arrive, Leave, Get, Publish, LookupWait, event, event_count}
-use Rattle.wire_runs.specs.Plan.{Place}
+use Rattle.wire_runs.specs.Plan.{Plan, Kind, Arrive, Leave, Get, Publish, LookupWait, kind, event_count, Event}
 use Rattle.wire_runs.specs.Names.{takes_name}
 use Rattle.wire_runs.specs.Puts.{own, stored, put_count}
 use Rattle.wire_runs.specs.Fences.{arrivals, is_member, is_full}
 
 -- the event at x is the first commit after the first put of the key
-pub record Stores (plan : Plan) (x : Place) (key : ℕ) : Type 0 where
+pub record Stores (plan : Plan) (x : Event) (key : ℕ) : Type 0 where
   pub nothing_before : stored plan x.proc key x.at ≡ None
   pub something_after : is_some (stored plan x.proc key (suc x.at)) ≡ true
 
 -- z is a member's arrival at the j-th fence over these members
-pub record IsArrival (plan : Plan) (members : List ℕ) (j : ℕ) (z : Place) : Type 0 where
+pub record IsArrival (plan : Plan) (members : List ℕ) (j : ℕ) (z : Event) : Type 0 where
   pub collect : Bool
-  pub is : event plan z ≡ Some (Arrive members collect)
+  pub is : kind plan z ≡ Some (Arrive members collect)
   pub member : is_member members z.proc ≡ true
   pub nth : arrivals plan z.proc members (suc z.at) ≡ j
 
 -- x is the one publish of a name that nobody unpublishes
-pub record PublishesOnce (plan : Plan) (x : Place) (name : ℕ) : Type 0 where
-  pub is : event plan x ≡ Some (Publish name)
-  pub only : (y : Place) → event plan y ≡ Some (Publish name) → y ≡ x
-  pub stays : (y : Place) → takes_name plan name y (event plan y) ≡ false
+pub record PublishesOnce (plan : Plan) (x : Event) (name : ℕ) : Type 0 where
+  pub is : kind plan x ≡ Some (Publish name)
+  pub only : (y : Event) → kind plan y ≡ Some (Publish name) → y ≡ x
+  pub stays : (y : Event) → takes_name plan name y (kind plan y) ≡ false
 
 -- x is a source of y: y waits for x
-pub data Edge (plan : Plan) (x y : Place) : Type 0 where
+pub data Edge (plan : Plan) (x y : Event) : Type 0 where
   Follows : x.proc ≡ y.proc → suc x.at ≡ y.at → Edge plan x y
-  Meets : (members : List ℕ) → event plan y ≡ Some (Leave members) → IsArrival plan members (arrivals plan y.proc members y.at) x → Edge plan x y
-  Feeds : (key : ℕ) → event plan y ≡ Some (Get x.proc key) → x.proc ≢ y.proc → put_count plan x.proc key (event_count plan x.proc) ≡ 1 → Stores plan x key → Edge plan x y
-  Announces : (name : ℕ) → event plan y ≡ Some (LookupWait name) → PublishesOnce plan x name → Edge plan x y
+  Meets : (members : List ℕ) → kind plan y ≡ Some (Leave members) → IsArrival plan members (arrivals plan y.proc members y.at) x → Edge plan x y
+  Feeds : (key : ℕ) → kind plan y ≡ Some (Get x.proc key) → x.proc ≢ y.proc → put_count plan x.proc key (event_count plan x.proc) ≡ 1 → Stores plan x key → Edge plan x y
+  Announces : (name : ℕ) → kind plan y ≡ Some (LookupWait name) → PublishesOnce plan x name → Edge plan x y
 
 -- whether an event is there and, its sources aside, isn't ruled out by the scripts
-abbrev pub may_come : Plan → Place → Option Event → Bool
+abbrev pub may_come : Plan → Event → Option Kind → Bool
 may_come plan y None = false
 may_come plan y (Some (Get owner key)) =
     if y.proc == owner then is_some (own plan owner key y.at)
@@ -41,10 +40,10 @@ may_come plan y (Some (Leave members)) = is_full plan members (arrivals plan y.p
 may_come plan y (Some _) = true
 
 -- the least set of places that has each event which may come and whose sources are in it
-pub data Live (plan : Plan) : Place → Type 0 where
-  live : {y : Place} → may_come plan y (event plan y) ≡ true → ((x : Place) → Edge plan x y → Live plan x) → Live plan y
+pub data Live (plan : Plan) : Event → Type 0 where
+  live : {y : Event} → may_come plan y (kind plan y) ≡ true → ((x : Event) → Edge plan x y → Live plan x) → Live plan y
 
 -- a chain: a path of one edge or more through live events
-pub data Before (plan : Plan) : Place → Place → Type 0 where
-  edge : {x y : Place} → Live plan x → Edge plan x y → Live plan y → Before plan x y
-  further : {x y z : Place} → Before plan x y → Edge plan y z → Live plan z → Before plan x z
+pub data Before (plan : Plan) : Event → Event → Type 0 where
+  edge : {x y : Event} → Live plan x → Edge plan x y → Live plan y → Before plan x y
+  further : {x y z : Event} → Before plan x y → Edge plan y z → Live plan z → Before plan x z

@@ -1,16 +1,14 @@
--- The plain run: the lowest process that may go on, at each step.
-use Rattle.std.specs.Prelude.{◌≡◌, ◌<◌, ℕ, zero, suc, List, [], ◌∷◌, false, Option, Some, None, slice_get, take, if◌then◌else◌}
-use Rattle.wire_runs.specs.Plan.{Plan, process_count}
+-- The plain run: at each step the lowest process that is enabled takes it.
+use Rattle.std.specs.Prelude.{ℕ, zero, suc, List, [], ◌∷◌, Option, Some, None, if◌then◌else◌}
+use Rattle.wire_runs.specs.Plan.{Plan, process_count, event_total}
 use Rattle.wire_runs.specs.State.{State, start}
-use Rattle.wire_runs.specs.Step.{is_enabled, step, IsInterleaving, run, IsEnd}
-use Rattle.wire_runs.specs.Laws.{event_total}
-use Rattle.wire_runs.specs.Races.{IsSettled}
+use Rattle.wire_runs.specs.Step.{is_enabled, step}
 
 abbrev pub or_else : Option ℕ → Option ℕ → Option ℕ
 or_else None o = o
 or_else (Some p) o = Some p
 
--- the lowest of the first n processes that may go on
+-- the lowest of the first n processes that is enabled
 abbrev pub lowest : Plan → State → ℕ → Option ℕ
 lowest plan s zero = None
 lowest plan s (suc n) = or_else (lowest plan s n) (if is_enabled plan s n then Some n else None)
@@ -26,9 +24,3 @@ plain_from plan (suc fuel) s = go_on (lowest plan s (process_count plan)) (λ p.
 
 abbrev pub plain_run : Plan → List ℕ
 plain_run plan = plain_from plan (event_total plan) start
-
-pub record PlainRuns (plan : Plan) : Type 0 where
-  pub is_run : IsInterleaving plan start (plain_run plan)
-  pub ends : IsEnd plan (run plan (plain_run plan))
-  pub is_lowest : (n p q : ℕ) → slice_get (plain_run plan) n ≡ Some p → q < p → is_enabled plan (run plan (take n (plain_run plan))) q ≡ false
-  pub is_the_end : (w : List ℕ) → IsSettled plan → IsInterleaving plan start w → IsEnd plan (run plan w) → run plan w ≡ run plan (plain_run plan)

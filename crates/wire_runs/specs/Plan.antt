@@ -1,21 +1,21 @@
 -- Plans: processes with their calls, and the events that the calls are made of.
--- Keys, names, nodes and processes are numbers. A value is named by the place of its put.
-use Rattle.std.specs.Prelude.{ℕ, List, [], ◌∷◌, Bool, true, not, Option, Some, None, slice_get, length, ◌==◌, nat_lt, if◌then◌else◌}
-use Rattle.wire_types.specs.declared.place.Event.{Event as EventPlace}
-use Rattle.wire_types.specs.declared.call.Scope.{Scope}
-use Rattle.wire_types.specs.declared.call.Scope.TheVariants.{Local, Remote, Global}
-use Rattle.wire_types.specs.declared.reply.Reply.{Reply}
+-- Keys, names, nodes and processes are numbers. A value is named by the event that puts it.
+use Rattle.std.specs.Prelude.{ℕ, List, [], ◌∷◌, Bool, true, not, Option, Some, None, slice_get, length, ◌==◌, nat_lt, sum_by, if◌then◌else◌}
+use Rattle.wire_types.specs.declared.Event.{Event as CodeEvent}
+use Rattle.wire_types.specs.declared.Scope.{Scope}
+use Rattle.wire_types.specs.declared.Scope.TheVariants.{Local, Remote, Global}
+use Rattle.wire_types.specs.declared.Reply.{Reply}
 
--- the place of an event: the number of its process, and its number among the events of that process, from 0
-pub record Place : Type 0 where
+-- an event: the number of its process, and its number among the events of that process, from 0. What it does is its kind
+pub record Event : Type 0 where
   pub proc : ℕ
   pub at : ℕ
 
--- what the code calls an Event
-abbrev pub place_of : EventPlace → Place
-place_of e = record { proc = e.proc.number; at = e.at }
+-- an event as the code has it
+abbrev pub event_of : CodeEvent → Event
+event_of e = record { proc = e.proc.number; at = e.at }
 
--- a call. Fixed is a call of a reserved key, whose reply is known at once
+-- a call. CallFixed is a call of a reserved key or name, whose reply is known from the start
 pub data Call : Type 0 where
   CallPut : (key : ℕ) → Scope → Call
   CallCommit : Call
@@ -28,19 +28,19 @@ pub data Call : Type 0 where
   CallUnpublish : (name : ℕ) → Call
   CallFixed : Reply → Call
 
--- an event: a call, or one of the two halves of a fence over a set of processes
-pub data Event : Type 0 where
-  Put : (key : ℕ) → Scope → Event
-  Commit : Event
-  Arrive : (members : List ℕ) → (collect : Bool) → Event
-  Leave : (members : List ℕ) → Event
-  Get : (owner key : ℕ) → Event
-  GetNow : (owner key : ℕ) → Event
-  Publish : (name : ℕ) → Event
-  Lookup : (name : ℕ) → Event
-  LookupWait : (name : ℕ) → Event
-  Unpublish : (name : ℕ) → Event
-  Fixed : Reply → Event
+-- what an event does: a call, or one of the two halves of a fence over a set of processes
+pub data Kind : Type 0 where
+  Put : (key : ℕ) → Scope → Kind
+  Commit : Kind
+  Arrive : (members : List ℕ) → (collect : Bool) → Kind
+  Leave : (members : List ℕ) → Kind
+  Get : (owner key : ℕ) → Kind
+  GetNow : (owner key : ℕ) → Kind
+  Publish : (name : ℕ) → Kind
+  Lookup : (name : ℕ) → Kind
+  LookupWait : (name : ℕ) → Kind
+  Unpublish : (name : ℕ) → Kind
+  Fixed : Reply → Kind
 
 pub record Process : Type 0 where
   pub node : ℕ
@@ -61,46 +61,51 @@ abbrev pub set_of : List ℕ → List ℕ
 set_of [] = []
 set_of (m ∷ ms) = with_member m (set_of ms)
 
--- the events of these calls, in order
-abbrev pub events_of : List Call → List Event
-events_of [] = []
-events_of (CallPut key scope ∷ calls) = Put key scope ∷ events_of calls
-events_of (CallCommit ∷ calls) = Commit ∷ events_of calls
-events_of (CallFence members collect ∷ calls) = Arrive (set_of members) collect ∷ (Leave (set_of members) ∷ events_of calls)
-events_of (CallGet owner key ∷ calls) = Get owner key ∷ events_of calls
-events_of (CallGetNow owner key ∷ calls) = GetNow owner key ∷ events_of calls
-events_of (CallPublish name ∷ calls) = Publish name ∷ events_of calls
-events_of (CallLookup name ∷ calls) = Lookup name ∷ events_of calls
-events_of (CallLookupWait name ∷ calls) = LookupWait name ∷ events_of calls
-events_of (CallUnpublish name ∷ calls) = Unpublish name ∷ events_of calls
-events_of (CallFixed reply ∷ calls) = Fixed reply ∷ events_of calls
+-- the kinds of the events of these calls, in order
+abbrev pub kinds_of : List Call → List Kind
+kinds_of [] = []
+kinds_of (CallPut key scope ∷ calls) = Put key scope ∷ kinds_of calls
+kinds_of (CallCommit ∷ calls) = Commit ∷ kinds_of calls
+kinds_of (CallFence members collect ∷ calls) = Arrive (set_of members) collect ∷ (Leave (set_of members) ∷ kinds_of calls)
+kinds_of (CallGet owner key ∷ calls) = Get owner key ∷ kinds_of calls
+kinds_of (CallGetNow owner key ∷ calls) = GetNow owner key ∷ kinds_of calls
+kinds_of (CallPublish name ∷ calls) = Publish name ∷ kinds_of calls
+kinds_of (CallLookup name ∷ calls) = Lookup name ∷ kinds_of calls
+kinds_of (CallLookupWait name ∷ calls) = LookupWait name ∷ kinds_of calls
+kinds_of (CallUnpublish name ∷ calls) = Unpublish name ∷ kinds_of calls
+kinds_of (CallFixed reply ∷ calls) = Fixed reply ∷ kinds_of calls
 
-abbrev pub process_events : Option Process → List Event
-process_events None = []
-process_events (Some process) = events_of process.calls
+abbrev pub process_kinds : Option Process → List Kind
+process_kinds None = []
+process_kinds (Some process) = kinds_of process.calls
 
 abbrev pub process_node : Option Process → ℕ
 process_node None = 0
 process_node (Some process) = process.node
 
--- the events of a process, none where there is no such process
-unfoldable pub events : Plan → ℕ → List Event
-events plan p = process_events (slice_get plan.processes p)
+-- the kinds of a process's events, none where there is no such process
+unfoldable pub kinds : Plan → ℕ → List Kind
+kinds plan p = process_kinds (slice_get plan.processes p)
 
 -- the node of a process, 0 where there is no such process
 unfoldable pub node_of : Plan → ℕ → ℕ
 node_of plan p = process_node (slice_get plan.processes p)
 
--- a process's event by its number, from 0
-unfoldable pub event_at : Plan → ℕ → ℕ → Option Event
-event_at plan p i = slice_get (events plan p) i
+-- the kind of a process's event, by the event's number from 0
+unfoldable pub kind_at : Plan → ℕ → ℕ → Option Kind
+kind_at plan p i = slice_get (kinds plan p) i
 
+-- how many events a process has
 unfoldable pub event_count : Plan → ℕ → ℕ
-event_count plan p = length (events plan p)
+event_count plan p = length (kinds plan p)
 
--- the event at a place
-abbrev pub event : Plan → Place → Option Event
-event plan x = event_at plan x.proc x.at
+-- how many events all processes have
+abbrev pub event_total : Plan → ℕ
+event_total plan = sum_by (λ process. length (kinds_of process.calls)) plan.processes
+
+-- what an event does, if there is such an event
+abbrev pub kind : Plan → Event → Option Kind
+kind plan x = kind_at plan x.proc x.at
 
 abbrev pub same_node : Plan → ℕ → ℕ → Bool
 same_node plan p q = node_of plan p == node_of plan q

@@ -1,27 +1,25 @@
 -- What the checker reports.
 use Rattle.std.specs.Prelude.{◌≡◌, ◌≢◌, ℕ, ◌<◌, ◌≤◌, List, true, false, Some, None}
-use Rattle.wire_runs.specs.Plan.{Plan, Put, GetNow, LookupWait, event, event_count, node_of, same_node, admits}
+use Rattle.wire_runs.specs.Plan.{Plan, Put, GetNow, LookupWait, kind, event_count, node_of, same_node, admits, Event}
 use Rattle.wire_types.specs.declared.Scope.{Scope}
-use Rattle.wire_runs.specs.Plan.{Place}
-use Rattle.wire_runs.specs.Puts.{own, stored, put_count}
+use Rattle.wire_runs.specs.Puts.{own, stored, put_count, scope_of}
 use Rattle.wire_runs.specs.Fences.{is_member, is_full, is_collecting, has_node}
 use Rattle.wire_runs.specs.Names.{writes_name, calls_name}
-use Rattle.wire_runs.specs.Puts.{scope_of}
 use Rattle.wire_runs.specs.Order.{Stores, IsArrival, PublishesOnce, Live, Before}
 
 -- y puts again the key that x put first
-pub record IsRewrite (plan : Plan) (x y : Place) : Type 0 where
+pub record IsRewrite (plan : Plan) (x y : Event) : Type 0 where
   pub key : ℕ
   pub first_scope : Scope
   pub later_scope : Scope
-  pub first_is : event plan x ≡ Some (Put key first_scope)
-  pub later_is : event plan y ≡ Some (Put key later_scope)
+  pub first_is : kind plan x ≡ Some (Put key first_scope)
+  pub later_is : kind plan y ≡ Some (Put key later_scope)
   pub first : own plan x.proc key x.at ≡ None
   pub same : x.proc ≡ y.proc
   pub later : x.at < y.at
 
 -- both are live, and no chain orders them
-pub record IsUnordered (plan : Plan) (x y : Place) : Type 0 where
+pub record IsUnordered (plan : Plan) (x y : Event) : Type 0 where
   pub live_x : Live plan x
   pub live_y : Live plan y
   pub not_before : ¬ (Before plan x y)
@@ -32,8 +30,8 @@ abbrev pub IsPutOnce : Plan → ℕ → ℕ → Type 0
 IsPutOnce plan p key = put_count plan p key (event_count plan p) ≡ 1
 
 -- a get-now on the owner's node, and the commit that stores the key
-pub record IsNodeRace (plan : Plan) (commit get : Place) (key : ℕ) : Type 0 where
-  pub is : event plan get ≡ Some (GetNow commit.proc key)
+pub record IsNodeRace (plan : Plan) (commit get : Event) (key : ℕ) : Type 0 where
+  pub is : kind plan get ≡ Some (GetNow commit.proc key)
   pub other : get.proc ≢ commit.proc
   pub node : same_node plan commit.proc get.proc ≡ true
   pub once : IsPutOnce plan commit.proc key
@@ -45,7 +43,7 @@ pub data Delivery : Type 0 where
   ByFence : (members : List ℕ) → (j : ℕ) → Delivery
 
 -- the events of a delivery
-abbrev pub IsOf : Plan → Delivery → Place → Type 0
+abbrev pub IsOf : Plan → Delivery → Event → Type 0
 IsOf plan (ByFence members j) z = IsArrival plan members j z
 
 -- the j-th fence over these members brings p's key to the node
@@ -66,39 +64,39 @@ Brings plan p key node (ByFence members j) = FenceDelivers plan p key node membe
 -- a delivery of p's key to the node, all its events live
 pub record Delivers (plan : Plan) (p key node : ℕ) (delivery : Delivery) : Type 0 where
   pub brings_it : Brings plan p key node delivery
-  pub all_live : (z : Place) → IsOf plan delivery z → Live plan z
+  pub all_live : (z : Event) → IsOf plan delivery z → Live plan z
 
 -- a delivery comes before the get in every run
-pub record ComesSurely (plan : Plan) (p key node : ℕ) (get : Place) : Type 0 where
+pub record ComesSurely (plan : Plan) (p key node : ℕ) (get : Event) : Type 0 where
   pub delivery : Delivery
   pub delivers : Delivers plan p key node delivery
-  pub all_before : (z : Place) → IsOf plan delivery z → Before plan z get
+  pub all_before : (z : Event) → IsOf plan delivery z → Before plan z get
 
 -- a get-now from another node, and the first event that isn't before it, of a delivery that comes in some runs before it and in some after
-pub record IsDeliveryRace (plan : Plan) (source get : Place) (owner key : ℕ) : Type 0 where
-  pub is : event plan get ≡ Some (GetNow owner key)
+pub record IsDeliveryRace (plan : Plan) (source get : Event) (owner key : ℕ) : Type 0 where
+  pub is : kind plan get ≡ Some (GetNow owner key)
   pub other : same_node plan owner get.proc ≡ false
   pub once : IsPutOnce plan owner key
   pub get_live : Live plan get
   pub not_sure : ¬ (ComesSurely plan owner key (node_of plan get.proc) get)
   pub delivery : Delivery
   pub delivers : Delivers plan owner key (node_of plan get.proc) delivery
-  pub before_none : (z : Place) → IsOf plan delivery z → ¬ (Before plan get z)
+  pub before_none : (z : Event) → IsOf plan delivery z → ¬ (Before plan get z)
   pub of_it : IsOf plan delivery source
   pub not_before : ¬ (Before plan source get)
-  pub first : (z : Place) → IsOf plan delivery z → ¬ (Before plan z get) → source.proc ≤ z.proc
+  pub first : (z : Event) → IsOf plan delivery z → ¬ (Before plan z get) → source.proc ≤ z.proc
 
 -- two calls on a name, x one that may change it; not the publish and a lookup-wait of a name that is published once
-pub record IsNameRace (plan : Plan) (x y : Place) (name : ℕ) : Type 0 where
-  pub x_writes : writes_name plan name x (event plan x) ≡ true
-  pub y_calls : calls_name plan name y (event plan y) ≡ true
+pub record IsNameRace (plan : Plan) (x y : Event) (name : ℕ) : Type 0 where
+  pub x_writes : writes_name plan name x (kind plan x) ≡ true
+  pub y_calls : calls_name plan name y (kind plan y) ≡ true
   pub others : x.proc ≢ y.proc
-  pub not_once : PublishesOnce plan x name → event plan y ≢ Some (LookupWait name)
+  pub not_once : PublishesOnce plan x name → kind plan y ≢ Some (LookupWait name)
   pub unordered : IsUnordered plan x y
 
 -- the checker finds nothing
 pub record IsSettled (plan : Plan) : Type 0 where
-  pub no_rewrite : (x y : Place) → ¬ (IsRewrite plan x y)
-  pub no_node_race : (x y : Place) (key : ℕ) → ¬ (IsNodeRace plan x y key)
-  pub no_delivery_race : (x y : Place) (owner key : ℕ) → ¬ (IsDeliveryRace plan x y owner key)
-  pub no_name_race : (x y : Place) (name : ℕ) → ¬ (IsNameRace plan x y name)
+  pub no_rewrite : (x y : Event) → ¬ (IsRewrite plan x y)
+  pub no_node_race : (x y : Event) (key : ℕ) → ¬ (IsNodeRace plan x y key)
+  pub no_delivery_race : (x y : Event) (owner key : ℕ) → ¬ (IsDeliveryRace plan x y owner key)
+  pub no_name_race : (x y : Event) (name : ℕ) → ¬ (IsNameRace plan x y name)

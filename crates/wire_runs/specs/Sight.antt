@@ -1,6 +1,6 @@
 -- What a get sees.
 use Rattle.std.specs.Prelude.{ℕ, zero, suc, List, Bool, true, false, ◌&&◌, Option, Some, None, ◌==◌, if◌then◌else◌}
-use Rattle.wire_runs.specs.Plan.{Plan, Event, Arrive, event_at, event_count, node_of, same_node, admits}
+use Rattle.wire_runs.specs.Plan.{Plan, Kind, Arrive, kind_at, event_count, node_of, same_node, admits}
 use Rattle.wire_runs.specs.State.{State}
 use Rattle.wire_runs.specs.Puts.{own, stored, scope_of}
 use Rattle.wire_runs.specs.Fences.{arrivals, is_member, is_complete, is_collecting, has_node}
@@ -27,24 +27,24 @@ for_others plan p None = None
 for_others plan p (Some put) = if admits (scope_of plan p put) false then Some put else None
 
 -- whether in this cut the j-th fence over these members has brought p's data to the node
-abbrev pub brings : Plan → (ℕ → ℕ) → ℕ → ℕ → List ℕ → ℕ → Bool
-brings plan cut p node members j =
+abbrev pub has_brought : Plan → (ℕ → ℕ) → ℕ → ℕ → List ℕ → ℕ → Bool
+has_brought plan cut p node members j =
     is_complete plan cut members j && (is_collecting plan members j && (is_member members p && has_node plan members node))
 
 abbrev pub stored_at_with : Bool → Option ℕ → Option ℕ → Option ℕ
 stored_at_with true here before = here
 stored_at_with false here before = before
 
-abbrev pub delivered_with : Plan → (ℕ → ℕ) → ℕ → ℕ → ℕ → ℕ → Option ℕ → Option Event → Option ℕ
+abbrev pub delivered_with : Plan → (ℕ → ℕ) → ℕ → ℕ → ℕ → ℕ → Option ℕ → Option Kind → Option ℕ
 delivered_with plan cut p node key n before (Some (Arrive members collect)) =
-    stored_at_with (brings plan cut p node members (arrivals plan p members (suc n))) (stored plan p key n) before
+    stored_at_with (has_brought plan cut p node members (arrivals plan p members (suc n))) (stored plan p key n) before
 delivered_with plan cut p node key n before _ = before
 
 -- what p had stored under the key at its last arrival, among its first n events, at a fence that has brought p's data to the node
 abbrev pub delivered : Plan → (ℕ → ℕ) → ℕ → ℕ → ℕ → ℕ → Option ℕ
 delivered plan cut p node key zero = None
 delivered plan cut p node key (suc n) =
-    delivered_with plan cut p node key n (delivered plan cut p node key n) (event_at plan p n)
+    delivered_with plan cut p node key n (delivered plan cut p node key n) (kind_at plan p n)
 
 -- what a get by q, its event number i, sees of p's key
 abbrev pub get_sees : Plan → (ℕ → ℕ) → ℕ → ℕ → ℕ → ℕ → Sight

@@ -1,9 +1,8 @@
 -- States, steps and runs.
 use Rattle.std.specs.Prelude.{◌≡◌, ℕ, suc, List, [], ◌∷◌, ◌++◌, Bool, true, false, Option, Some, None, is_some, ◌==◌, if◌then◌else◌}
-use Rattle.wire_runs.specs.Plan.{Plan, Event, Put, Commit, Arrive, Leave, Get, GetNow, Publish, Lookup, LookupWait, Unpublish, Fixed, update}
-use Rattle.wire_runs.specs.Plan.{Place}
+use Rattle.wire_runs.specs.Plan.{Plan, Kind, Put, Commit, Arrive, Leave, Get, GetNow, Publish, Lookup, LookupWait, Unpublish, Fixed, update, Event}
 use Rattle.wire_runs.specs.Fences.{arrivals, is_complete}
-use Rattle.wire_runs.specs.State.{Answer, Silent, Success, NotFound, ExistsOutside, Duplicate, Value, Published, Reserved, State, start, next_place, next_event}
+use Rattle.wire_runs.specs.State.{Answer, Silent, Success, NotFound, ExistsOutside, Duplicate, Value, Published, Reserved, State, start, next_event, next_kind}
 use Rattle.wire_runs.specs.Sight.{Sight, Nothing, Outside, Shown, get_sees, get_now_sees}
 
 abbrev pub is_seen : Sight → Bool
@@ -12,7 +11,7 @@ is_seen Outside = true
 is_seen (Shown put) = true
 
 -- whether the event at this place, which is this one, may happen
-abbrev pub may_do : Plan → State → Place → Option Event → Bool
+abbrev pub may_do : Plan → State → Event → Option Kind → Bool
 may_do plan s x None = false
 may_do plan s x (Some (Get owner key)) = is_seen (get_sees plan s.done x.proc x.at owner key)
 may_do plan s x (Some (Leave members)) = is_complete plan s.done members (arrivals plan x.proc members x.at)
@@ -20,23 +19,23 @@ may_do plan s x (Some (LookupWait name)) = is_some (s.names name)
 may_do plan s x (Some _) = true
 
 abbrev pub is_enabled : Plan → State → ℕ → Bool
-is_enabled plan s p = may_do plan s (next_place s p) (next_event plan s p)
+is_enabled plan s p = may_do plan s (next_event s p) (next_kind plan s p)
 
 abbrev pub sight_reply : ℕ → Sight → Answer
 sight_reply owner Nothing = NotFound
 sight_reply owner Outside = ExistsOutside
 sight_reply owner (Shown put) = Value (record { proc = owner; at = put })
 
-abbrev pub found : Option Place → Answer
-found None = NotFound
-found (Some publish) = Published publish
+abbrev pub lookup_reply : Option Event → Answer
+lookup_reply None = NotFound
+lookup_reply (Some publish) = Published publish
 
-abbrev pub is_publisher : ℕ → Option Place → Bool
+abbrev pub is_publisher : ℕ → Option Event → Bool
 is_publisher p None = false
 is_publisher p (Some publish) = publish.proc == p
 
 -- what it replies
-abbrev pub reply : Plan → State → Place → Option Event → Answer
+abbrev pub reply : Plan → State → Event → Option Kind → Answer
 reply plan s x None = Silent
 reply plan s x (Some (Put key scope)) = Success
 reply plan s x (Some Commit) = Success
@@ -45,13 +44,13 @@ reply plan s x (Some (Leave members)) = Success
 reply plan s x (Some (Get owner key)) = sight_reply owner (get_sees plan s.done x.proc x.at owner key)
 reply plan s x (Some (GetNow owner key)) = sight_reply owner (get_now_sees plan s x.proc x.at owner key)
 reply plan s x (Some (Publish name)) = if is_some (s.names name) then Duplicate else Success
-reply plan s x (Some (Lookup name)) = found (s.names name)
-reply plan s x (Some (LookupWait name)) = found (s.names name)
+reply plan s x (Some (Lookup name)) = lookup_reply (s.names name)
+reply plan s x (Some (LookupWait name)) = lookup_reply (s.names name)
 reply plan s x (Some (Unpublish name)) = if is_publisher x.proc (s.names name) then Success else NotFound
 reply plan s x (Some (Fixed r)) = Reserved r
 
 -- what stands under the name after this event
-abbrev pub name_after : Option Place → Place → Option Event → ℕ → Option Place
+abbrev pub name_after : Option Event → Event → Option Kind → ℕ → Option Event
 name_after before x (Some (Publish n)) name = if n == name then (if is_some before then before else Some x) else before
 name_after before x (Some (Unpublish n)) name = if n == name then (if is_publisher x.proc before then None else before) else before
 name_after before x _ name = before
@@ -60,8 +59,8 @@ name_after before x _ name = before
 abbrev pub step : Plan → State → ℕ → State
 step plan s p = record {
   done = update s.done p (suc (s.done p));
-  names = λ n. name_after (s.names n) (next_place s p) (next_event plan s p) n;
-  replies = update s.replies p (s.replies p ++ reply plan s (next_place s p) (next_event plan s p) ∷ []);
+  names = λ n. name_after (s.names n) (next_event s p) (next_kind plan s p) n;
+  replies = update s.replies p (s.replies p ++ reply plan s (next_event s p) (next_kind plan s p) ∷ []);
 }
 
 -- each process of the list is enabled when it comes

@@ -1,8 +1,7 @@
 //! The laws of runs of a plan. Each is the contract of a function that does nothing.
 
 ghost use Rattle.wire_runs.specs.Plan.{Plan};
-ghost use Rattle.wire_runs.specs.PlainRun.{PlainRuns};
-ghost use Rattle.wire_runs.specs.Laws.{RunsEnd, EnabledIsDue, EnabledCommute, OneEnd, FatesTell, OneFate, RunsAreSound, NoFindings, OneList, HaveFates, SoundIsReached};
+ghost use Rattle.wire_runs.specs.Laws.{PlainRuns, RacesAreUnordered, RunsEnd, EnabledIsDue, EnabledCommute, OneEnd, FatesTell, OneFate, RunsAreSound, NoFindings, OneList, HaveFates, SoundIsReached};
 
 /// No run is longer than the number of events.
 pub fn runs_end()
@@ -54,6 +53,12 @@ pub fn runs_are_sound()
 /// The list of findings is empty exactly where the plan is settled.
 pub fn no_findings()
     ensures { NoFindings }
+{}
+
+/// The two calls of each race that is found are live, and neither is before the other.
+#[tactic(auto, using(crate::proofs::Findings::races_are_unordered))]
+pub fn races_are_unordered()
+    ensures { RacesAreUnordered }
 {}
 
 /// For each order of the names there is at most one list of findings.

@@ -13,7 +13,7 @@ use Rattle.wire_lines.proofs.Colon.{and_left, and_right}
 use Rattle.wire_rehearsal.specs.Scripts.{Process, text_at}
 use Rattle.wire_rehearsal.specs.Canonical.{process_at, job_of, set_said, call_said, process_said, jobs_said, lines_said}
 use Rattle.wire_script.specs.FirstPass.{Name, Started, Declared, is_among, number_or_count}
-use Rattle.wire_script.specs.Reads.{Seen, is_proc, proc_number, has_proc, is_in, members_of, is_declared_call, is_with_caller, first_fault, keys_in, names_in, values_in, sets_in, in_calls, first_seen, seen_in, numbered, process_of, scripts_with, scripts_of}
+use Rattle.wire_script.specs.Reads.{Seen, is_proc, proc_number, has_proc, is_in, set_members, is_declared_call, is_with_caller, first_fault, keys_in, names_in, values_in, sets_in, in_calls, first_seen, seen_in, numbered, process_of, scripts_with, scripts_of}
 use Rattle.wire_script.proofs.Seen.{seen_among, among_flat, text_at_number}
 use Rattle.wire_script.proofs.Changed.{changed_call, changed_process, changed_declaration, IsFit, CallsAre, AllCalls}
 use Rattle.wire_script.proofs.Order.{process_lines, of_job, jobs_lines, declared_lines}
@@ -101,7 +101,7 @@ publish_same k l v w a b = cc
 
 -- a fence as the scripts say it
 abbrev pub fence_again : Declared → ℕ → Set → Bool → Call
-fence_again d job set collect = Fence (set_said (scripts_of d) job (members_of d job set)) collect
+fence_again d job set collect = Fence (set_said (scripts_of d) job (set_members d job set)) collect
 
 -- a call is said as it was, or it is a fence
 abbrev pub IsSaid : Declared → ℕ → Call → Type 0
@@ -113,7 +113,7 @@ call_is_said d job (Put scope key value) g h m =
 call_is_said d job Commit g h m = inl refl
 call_is_said d job (Fence set collect) g h m =
     let sets = (seen_in d).sets in
-    let members = members_of d job set in
+    let members = set_members d job set in
     inr (set, collect, refl, ap (λ m. Fence (set_said (scripts_of d) job m) collect) (text_back sets (members ∷ []) members h.sets (alone members)))
 call_is_said d job (Get name rank key) g h m =
     let p = proc_named d (seen_in d) name rank g m in
@@ -135,7 +135,7 @@ fence_is_again d g job set collect = record {
   sets = ap (λ m. m ∷ []) (members_kept d (seen_in d) g job set);
   number = λ s. ap (λ m. numbered_fence s m) (members_kept d (seen_in d) g job set);
   declared = λ h. set_declared d (seen_in d) g job set;
-  caller = λ k p at e. subst (λ j. is_in d j (set_said (scripts_of d) job (members_of d job set)) p ≡ is_in d j set p) (sym e) (set_kept d (seen_in d) g job set k p at);
+  caller = λ k p at e. subst (λ j. is_in d j (set_said (scripts_of d) job (set_members d job set)) p ≡ is_in d j set p) (sym e) (set_kept d (seen_in d) g job set k p at);
 }
   where
     numbered_fence : Seen → List ℕ → call.Call

@@ -14,7 +14,7 @@ use Rattle.wire_rehearsal.specs.Scripts.{Process, Scripts, text_at}
 use Rattle.wire_rehearsal.specs.Canonical as text
 use Rattle.wire_rehearsal.specs.Canonical.{process_at, job_of, members_from, is_whole, process_items, member_items, set_items, set_said}
 use Rattle.wire_script.specs.FirstPass.{Name, Started, Declared, is_among, number_or_count, is_short_name, is_short_item, is_short_set}
-use Rattle.wire_script.specs.Reads.{Seen, is_proc, proc_number, has_proc, names_it, is_in, places_from, members_of, is_declared_item, is_declared_set, process_of, scripts_with}
+use Rattle.wire_script.specs.Reads.{Seen, is_proc, proc_number, has_proc, names_it, is_in, places_from, set_members, is_declared_item, is_declared_set, process_of, scripts_with}
 use Rattle.wire_script.proofs.Ranked.{IsGood, text_among, number_at, name_at, below_at, rank_most, one_process, first_process}
 
 same_bools : (a b : Bool) → (a ≡ true → b ≡ true) → (b ≡ true → a ≡ true) → a ≡ b
@@ -211,7 +211,7 @@ module _ (d : Declared) (s : Seen) (g : IsGood d) (job : ℕ) (set : Set) where
   scripts = scripts_with d s
 
   abbrev members : List ℕ
-  members = members_of d job set
+  members = set_members d job set
 
   abbrev is_whole_job : ℕ → Bool
   is_whole_job j = is_whole scripts.processes members j
@@ -280,7 +280,7 @@ module _ (d : Declared) (s : Seen) (g : IsGood d) (job : ℕ) (set : Set) where
         | false ↦ λ e. listed_is k p at ∙ place_at (is_in d job set) d.processes k p at
       ] refl
 
-  pub members_kept : members_of d job (set_said scripts job members) ≡ members
+  pub members_kept : set_members d job (set_said scripts job members) ≡ members
   members_kept = places_agree (is_in d job (set_said scripts job members)) (is_in d job set) 0 d.processes set_kept
 
   pub set_declared : is_declared_set d (set_said scripts job members) ≡ true

@@ -15,7 +15,7 @@ use Rattle.wire_types.specs.declared.Call.TheVariants.{Fence}
 use Rattle.wire_lines.specs.Said as said
 use Rattle.wire_rehearsal.specs.Scripts.{Process, call_at, calls_in, set_at, name_in, AreSets, AreMembers, AreNamed, IsSound}
 use Rattle.wire_script.specs.FirstPass.{Started, Declared, is_among, number_or_count}
-use Rattle.wire_script.specs.Reads.{Seen, seen_in, in_calls, names_in, sets_in, members_of, places_from, is_in, is_declared_call, is_with_caller, call_fault, first_of, fault_in, first_fault, numbered, process_of, scripts_with, scripts_of, unless_fault, second_pass}
+use Rattle.wire_script.specs.Reads.{Seen, seen_in, in_calls, names_in, sets_in, set_members, places_from, is_in, is_declared_call, is_with_caller, call_fault, first_of, fault_in, first_fault, numbered, process_of, scripts_with, scripts_of, unless_fault, second_pass}
 use Rattle.wire_script.specs.Within.{IsWithinLimits}
 use Rattle.wire_script.proofs.Places.{places_canonical, places_within, places_hold}
 use Rattle.wire_script.proofs.Seen.{Each, each_seen, each_at, each_flat, seen_apart, apart_once, seen_among, among_flat, text_at_number}
@@ -81,7 +81,7 @@ no_fault true false line e = absurd (cc)
 no_fault false b line e = absurd (cc)
 
 -- what a fence with numbers was said as
-fence_said : (d : Declared) (s : Seen) (job : ℕ) (c : said.Call) (set : ℕ) (collect : Bool) → numbered d s job c ≡ Fence set collect → (said_set : said.Set) × (said_collect : Bool) × (c ≡ said.Fence said_set said_collect) × (set ≡ number_or_count s.sets (members_of d job said_set))
+fence_said : (d : Declared) (s : Seen) (job : ℕ) (c : said.Call) (set : ℕ) (collect : Bool) → numbered d s job c ≡ Fence set collect → (said_set : said.Set) × (said_collect : Bool) × (c ≡ said.Fence said_set said_collect) × (set ≡ number_or_count s.sets (set_members d job said_set))
 fence_said d s own (said.Put scope k v) n b e = absurd (cc)
 fence_said d s own said.Commit n b e = absurd (cc)
 fence_said d s own (said.Fence x y) n b e = (x, y, refl, cc)
@@ -97,17 +97,17 @@ alone x = let same : bytes_eq x x ≡ true = (bytes_eq-Decides x x).1 refl in rw
 
 -- the set of a fence of a caller that is in it: it is in the table, and the caller is a member
 member : (d : Declared) (i j : ℕ) (p : Started) (line : ℕ) (set : said.Set) (collect : Bool) → slice_get d.processes i ≡ Some p → slice_get p.calls j ≡ Some (line, said.Fence set collect)
-    → is_in d p.job set p ≡ true → (number_or_count (seen_in d).sets (members_of d p.job set) < length (seen_in d).sets)
-    × (is_member (set_at (seen_in d).sets (number_or_count (seen_in d).sets (members_of d p.job set))) i ≡ true)
+    → is_in d p.job set p ≡ true → (number_or_count (seen_in d).sets (set_members d p.job set) < length (seen_in d).sets)
+    × (is_member (set_at (seen_in d).sets (number_or_count (seen_in d).sets (set_members d p.job set))) i ≡ true)
 member d i j p line set collect at call in_it =
-    let own : is_among (sets_in d p.job (said.Fence set collect)) (members_of d p.job set) ≡ true = alone (members_of d p.job set) in
-    let here : is_among (in_calls (sets_in d) d.processes) (members_of d p.job set) ≡ true =
-    among_flat (λ p. flat_map (λ c. sets_in d p.job c.1) p.calls) d.processes i p (members_of d p.job set) at
-    (among_flat (λ c. sets_in d p.job c.1) p.calls j (line, said.Fence set collect) (members_of d p.job set) call own) in
-    let found = text_at_number (seen_in d).sets (members_of d p.job set) (seen_among (in_calls (sets_in d) d.processes) (members_of d p.job set) here) in
-    let holds : is_member (members_of d p.job set) (0 + i) ≡ true = places_hold (is_in d p.job set) 0 d.processes i p at in_it in
+    let own : is_among (sets_in d p.job (said.Fence set collect)) (set_members d p.job set) ≡ true = alone (set_members d p.job set) in
+    let here : is_among (in_calls (sets_in d) d.processes) (set_members d p.job set) ≡ true =
+    among_flat (λ p. flat_map (λ c. sets_in d p.job c.1) p.calls) d.processes i p (set_members d p.job set) at
+    (among_flat (λ c. sets_in d p.job c.1) p.calls j (line, said.Fence set collect) (set_members d p.job set) call own) in
+    let found = text_at_number (seen_in d).sets (set_members d p.job set) (seen_among (in_calls (sets_in d) d.processes) (set_members d p.job set) here) in
+    let holds : is_member (set_members d p.job set) (0 + i) ≡ true = places_hold (is_in d p.job set) 0 d.processes i p at in_it in
     let same : 0 + i ≡ i = omega arith in
-    (found.0, rw found.1 (subst (λ m. is_member (members_of d p.job set) m ≡ true) same holds))
+    (found.0, rw found.1 (subst (λ m. is_member (set_members d p.job set) m ≡ true) same holds))
 
 -- a call with numbers comes of one that was said
 call_from : (d : Declared) (s : Seen) (i j : ℕ) (call : Call) → call_at (map (process_of d s) d.processes) i j ≡ Some call

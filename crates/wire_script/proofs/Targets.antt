@@ -8,7 +8,7 @@ use borrow.Author.Tests.{eqb-true, ltb-true, ltb-false}
 use Rattle.std.proofs.lemmas.List.Folds.{list_any-append, list_all-append}
 use Rattle.wire_lines.specs.Said as said
 use Rattle.wire_script.specs.FirstPass.{Started, Declared, is_among, number_or_count}
-use Rattle.wire_script.specs.Reads.{names_it, is_in, has_proc, is_declared_item, places_from, members_of}
+use Rattle.wire_script.specs.Reads.{names_it, is_in, has_proc, is_declared_item, places_from, set_members}
 use Rattle.wire_script.specs.Targets.{is_target, is_any_target, is_declared_target, same_target, target_by}
 use Rattle.wire_script.specs.declared.members.Target.{Target}
 use Rattle.wire_script.specs.declared.members.Target.TheVariants.{One, Every}
@@ -168,5 +168,5 @@ module _ {A : Type 0} (f : A → said.Item) (d : Declared) (ts : List Target) (x
 
 -- where targets name what is in a set, they name its members
 pub targets_members : (d : Declared) (job : ℕ) (set : said.Set) (ts : List Target) → ((p : Started) → is_any_target ts p ≡ is_in d job set p)
-    → places_from (is_any_target ts) 0 d.processes ≡ members_of d job set
+    → places_from (is_any_target ts) 0 d.processes ≡ set_members d job set
 targets_members d job set ts same = places_same (is_any_target ts) (is_in d job set) same 0 d.processes

@@ -5,8 +5,8 @@ use Rattle.wire_script.specs.Statements.{Statement, statements_from}
 use Rattle.wire_script.specs.declared.lines.Cursor.{Cursor}
 use Rattle.wire_script.specs.declared.lines.Statement.{Statement as Shown}
 
-abbrev pub left : Cursor → List Statement
-left c = statements_from c.line (lines_of c.rest.now)
+abbrev pub statements_left : Cursor → List Statement
+statements_left c = statements_from c.line (lines_of c.rest.now)
 
 -- the number of the first line past the end
 abbrev pub end_of : Cursor → ℕ

@@ -41,8 +41,8 @@ places_from test n [] = []
 places_from test n (p ∷ ps) = if test p then n ∷ places_from test (n + 1) ps else places_from test (n + 1) ps
 
 -- the members of a set that a process of this job names
-abbrev pub members_of : Declared → ℕ → said.Set → List ℕ
-members_of d own_job set = places_from (is_in d own_job set) 0 d.processes
+abbrev pub set_members : Declared → ℕ → said.Set → List ℕ
+set_members d own_job set = places_from (is_in d own_job set) 0 d.processes
 
 -- whether what an item names is declared: a process, or only its job
 abbrev pub is_declared_item : Declared → said.Item → Bool
@@ -138,7 +138,7 @@ values_in (said.Unpublish name) = []
 abbrev pub sets_in : Declared → ℕ → said.Call → List (List ℕ)
 sets_in d own_job (said.Put scope key value) = []
 sets_in d own_job said.Commit = []
-sets_in d own_job (said.Fence set collect) = members_of d own_job set ∷ []
+sets_in d own_job (said.Fence set collect) = set_members d own_job set ∷ []
 sets_in d own_job (said.Get job rank key) = []
 sets_in d own_job (said.GetNow job rank key) = []
 sets_in d own_job (said.Publish name value) = []
@@ -174,7 +174,7 @@ seen_in d = record {
 abbrev pub numbered : Declared → Seen → ℕ → said.Call → Call
 numbered d s own_job (said.Put scope key value) = Put scope (number_or_count s.keys key) (number_or_count s.values value)
 numbered d s own_job said.Commit = Commit
-numbered d s own_job (said.Fence set collect) = Fence (number_or_count s.sets (members_of d own_job set)) collect
+numbered d s own_job (said.Fence set collect) = Fence (number_or_count s.sets (set_members d own_job set)) collect
 numbered d s own_job (said.Get job rank key) = Get (record { number = proc_number d job rank }) (number_or_count s.keys key)
 numbered d s own_job (said.GetNow job rank key) = GetNow (record { number = proc_number d job rank }) (number_or_count s.keys key)
 numbered d s own_job (said.Publish name value) = Publish (number_or_count s.names name) (number_or_count s.values value)

@@ -3,7 +3,7 @@ use Rattle.std.specs.Prelude.{◌≡◌, ℕ, ◌+◌, List, [], ◌∷◌, ◌+
 use Rattle.wire_lines.specs.Said as said
 use Rattle.wire_rehearsal.specs.declared.Tables.{Tables}
 use Rattle.wire_script.specs.FirstPass.{is_among, Started, Declared}
-use Rattle.wire_script.specs.Reads.{Seen, members_of}
+use Rattle.wire_script.specs.Reads.{Seen, set_members}
 
 abbrev pub seen_of : Tables → Seen
 seen_of t = record { keys = t.keys; names = t.names; values = t.values; sets = t.sets }
@@ -23,7 +23,7 @@ with_text texts text = if is_among texts text then texts else texts ++ text ∷ 
 abbrev pub seen_with : Declared → Seen → ℕ → said.Call → Seen
 seen_with d s own_job (said.Put scope key value) = record s { keys = with_text s.keys key; values = with_text s.values value }
 seen_with d s own_job said.Commit = s
-seen_with d s own_job (said.Fence set collect) = record s { sets = with_text s.sets (members_of d own_job set) }
+seen_with d s own_job (said.Fence set collect) = record s { sets = with_text s.sets (set_members d own_job set) }
 seen_with d s own_job (said.Get job rank key) = record s { keys = with_text s.keys key }
 seen_with d s own_job (said.GetNow job rank key) = record s { keys = with_text s.keys key }
 seen_with d s own_job (said.Publish name value) = record s { names = with_text s.names name; values = with_text s.values value }

@@ -6,7 +6,7 @@ ghost use Rattle.wire_lines.specs.Text.{lines_of};
 ghost use Rattle.wire_lines.specs.Shown.{said_by, call_by, item_by, set_by};
 ghost use Rattle.wire_script.specs.Limits as limit;
 ghost use Rattle.wire_script.specs.Statements.{statements};
-ghost use Rattle.wire_script.specs.Left.{left};
+ghost use Rattle.wire_script.specs.Left.{statements_left};
 ghost use Rattle.wire_script.specs.FirstPass as spec;
 ghost use Rattle.wire_script.specs.FirstPass.{judged, after, nothing, Judges, JudgesAll, FirstPass};
 ghost use Rattle.wire_script.specs.Drafted.{declared_of};
@@ -231,8 +231,8 @@ fn take<'a>(
 /// The lines after the header.
 fn declare_all<'a>(alloc: Global, cursor: &mut Cursor<'a>) -> Result<Draft<'a>, Fault>
     requires { cursor.old.line + length cursor.old.rest.now < 2 ^ 64 }
-    ensures ok { IfOk result (λ d. JudgesAll nothing (left cursor.old) (Ok (declared_of d))) }
-    ensures err { IfErr result (λ e. (e ≡ Fault.Memory) ⊎ JudgesAll nothing (left cursor.old) (Err e)) }
+    ensures ok { IfOk result (λ d. JudgesAll nothing (statements_left cursor.old) (Ok (declared_of d))) }
+    ensures err { IfErr result (λ e. (e ≡ Fault.Memory) ⊎ JudgesAll nothing (statements_left cursor.old) (Err e)) }
 {
     let mut draft = new_draft(alloc);
     'statements: while let Some(statement) = cursor.next_line(alloc)? {

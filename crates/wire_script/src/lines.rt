@@ -2,7 +2,7 @@
 
 ghost use Rattle.std.specs.Prelude.{◌≡◌, ◌+◌, ◌<◌, ◌≤◌, ◌^◌, ◌∷◌, [], length, map, MatchOption, OnOk, OnErr, IfOk};
 ghost use Rattle.wire_script.specs.Statements.{is_skipped, statements};
-ghost use Rattle.wire_script.specs.Left.{left, end_of, stated};
+ghost use Rattle.wire_script.specs.Left.{statements_left, end_of, stated};
 
 use std::alloc::{AllocError, Global};
 use wire_lines::{cut_piece, trim_return, words};
@@ -32,7 +32,7 @@ fn is_skipped_line(words: &[&[u8]]) -> bool
 
 impl<'a> Cursor<'a> {
     pub fn new(bytes: &'a [u8]) -> Cursor<'a>
-        ensures left { left result ≡ statements bytes.now }
+        ensures left { statements_left result ≡ statements bytes.now }
         ensures start { result.line ≡ 1 }
         ensures rest { result.rest.now ≡ bytes.now }
     {
@@ -45,8 +45,8 @@ impl<'a> Cursor<'a> {
     /// The next line that isn't skipped. Where memory runs out, the cursor is as it was.
     pub fn next_line(&mut self, alloc: Global) -> Result<Option<Statement<'a>>, AllocError>
         requires { self.old.line + length self.old.rest.now < 2 ^ 64 }
-        ensures left { IfOk result (λ next. MatchOption next (left self.old ≡ []) (λ l. left self.old
-            ≡ stated l ∷ left self.new)) }
+        ensures left { IfOk result (λ next. MatchOption next (statements_left self.old ≡ []) (λ l. statements_left self.old
+            ≡ stated l ∷ statements_left self.new)) }
         ensures end { OnOk result (end_of self.new ≡ end_of self.old) }
         ensures last { IfOk result (λ next. MatchOption next (self.new.line
             ≡ end_of self.new) (λ l. l.number < self.new.line)) }

@@ -4,7 +4,7 @@ ghost use Rattle.std.specs.Prelude.{◌≡◌, ◌⊎◌, ◌+◌, ◌*◌, ◌�
 ghost use Rattle.wire_lines.specs.Shown.{call_by, set_by};
 ghost use Rattle.wire_script.specs.FirstPass.{number_or_count};
 ghost use Rattle.wire_script.specs.Reads as spec;
-ghost use Rattle.wire_script.specs.Reads.{Seen, is_declared_set, is_in, members_of, has_proc, proc_number, numbered, process_of, call_fault, fault_in, first_fault, second_pass};
+ghost use Rattle.wire_script.specs.Reads.{Seen, is_declared_set, is_in, set_members, has_proc, proc_number, numbered, process_of, call_fault, fault_in, first_fault, second_pass};
 ghost use Rattle.wire_script.specs.Within.{IsWithinLimits};
 ghost use Rattle.wire_script.specs.Drafted.{declared_of, started_of, placed_of};
 ghost use Rattle.wire_script.specs.Tabled.{seen_of, seen_with, seen_after, all_seen, nothing_seen, entry_count, with_text, GoesOn, GoOn};

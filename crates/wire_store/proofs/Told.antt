@@ -3,7 +3,7 @@ use Rattle.std.proofs.Common.{◌≡◌, ◌∙◌, ℕ, zero, suc, ◌≤◌, B
 use Rattle.std.specs.Prelude.{⊤}
 use Rattle.std.proofs.lemmas.Bool.{cases_Bool, cases_eq, ltb-true, lt-ltb, le-ltb}
 use Rattle.std.proofs.lemmas.List.{reverse-append, map-append}
-use Rattle.wire_runs.specs.Plan.{Event, Put, Commit, admits}
+use Rattle.wire_runs.specs.Plan.{Kind, Put, Commit, admits}
 use Rattle.wire_runs.specs.Puts.{own_with, own_put, stored_with, stored_put, scope_in}
 use Rattle.wire_types.specs.declared.Scope.{Scope}
 use Rattle.wire_types.specs.declared.CallAt.{CallAt}
@@ -122,11 +122,11 @@ shown-store : (at : ℕ) (o : Option KeptPut) → option_map shown (option_map (
 shown-store at None = refl
 shown-store at (Some put) = refl
 
-module _ (event_of : ℕ → Option Event) (call_of : ℕ → CallAt) where
+module _ (event_of : ℕ → Option Kind) (call_of : ℕ → CallAt) where
   abbrev shown_at : ℕ → CallAt × Scope
   shown_at i = (call_of i, scope_in (event_of i))
 
-  own_step : (key n : ℕ) (puts : List KeptPut) (before : Option ℕ) (o : Option Event) → event_of n ≡ o → option_map shown (last_put key puts) ≡ option_map shown_at before → option_map shown (last_put key (kept_with n (call_of n) puts o)) ≡ option_map shown_at (own_with key n before o)
+  own_step : (key n : ℕ) (puts : List KeptPut) (before : Option ℕ) (o : Option Kind) → event_of n ≡ o → option_map shown (last_put key puts) ≡ option_map shown_at before → option_map shown (last_put key (kept_with n (call_of n) puts o)) ≡ option_map shown_at (own_with key n before o)
   own_step key n puts before (Some (Put k scope)) e same =
       let put : KeptPut = record { at = n; key = k; scope = scope; call = call_of n; stored_by = None } in
       ap (option_map shown) (last_put-push key puts put)
@@ -141,7 +141,7 @@ module _ (event_of : ℕ → Option Event) (call_of : ℕ → CallAt) where
   own_shown key zero = refl
   own_shown key (suc n) = own_step key n (kept_after event_of call_of n) (own_put event_of key n) (event_of n) refl (own_shown key n)
 
-  stored_step : (key n : ℕ) (puts : List KeptPut) (before committed : Option ℕ) (o : Option Event) → option_map shown (last_put key puts) ≡ option_map shown_at committed → option_map shown (last_stored key puts) ≡ option_map shown_at before → option_map shown (last_stored key (kept_with n (call_of n) puts o)) ≡ option_map shown_at (stored_with committed before o)
+  stored_step : (key n : ℕ) (puts : List KeptPut) (before committed : Option ℕ) (o : Option Kind) → option_map shown (last_put key puts) ≡ option_map shown_at committed → option_map shown (last_stored key puts) ≡ option_map shown_at before → option_map shown (last_stored key (kept_with n (call_of n) puts o)) ≡ option_map shown_at (stored_with committed before o)
   stored_step key n puts before committed (Some (Put k scope)) own same =
       let put : KeptPut = record { at = n; key = k; scope = scope; call = call_of n; stored_by = None } in
       ap (option_map shown) (last_stored-push key puts put refl) ∙ same
@@ -157,7 +157,7 @@ module _ (event_of : ℕ → Option Event) (call_of : ℕ → CallAt) where
   kept_before zero = tt
   kept_before (suc n) = go (event_of n) (kept_before n)
     where
-      go : (o : Option Event) → AreBefore n (kept_after event_of call_of n) → AreBefore (suc n) (kept_with n (call_of n) (kept_after event_of call_of n) o)
+      go : (o : Option Kind) → AreBefore n (kept_after event_of call_of n) → AreBefore (suc n) (kept_with n (call_of n) (kept_after event_of call_of n) o)
       go (Some (Put k scope)) all = AreBefore-append (suc n) (kept_after event_of call_of n) _ (AreBefore-later n (kept_after event_of call_of n) all) (refl, tt)
       go (Some Commit) all = AreBefore-store n (kept_after event_of call_of n) all
       go _ all = AreBefore-later n (kept_after event_of call_of n) all
@@ -167,7 +167,7 @@ module _ (event_of : ℕ → Option Event) (call_of : ℕ → CallAt) where
       ap (option_map shown) (found_alike key n (reverse (kept_after event_of call_of n)) (AreBefore-reverse n (kept_after event_of call_of n) (kept_before n)))
       ∙ stored_shown key n
 
-  before_step : (key a n : ℕ) (puts : List KeptPut) (o : Option Event) → a ≤ n → option_map shown (last_stored_before key a (kept_with n (call_of n) puts o)) ≡ option_map shown (last_stored_before key a puts)
+  before_step : (key a n : ℕ) (puts : List KeptPut) (o : Option Kind) → a ≤ n → option_map shown (last_stored_before key a (kept_with n (call_of n) puts o)) ≡ option_map shown (last_stored_before key a puts)
   before_step key a n puts (Some (Put k scope)) le =
       ap (option_map shown) (last_before-push key a puts (record { at = n; key = k; scope = scope; call = call_of n; stored_by = None }) refl)
   before_step key a n puts (Some Commit) le = ap (option_map shown) (last_before-store key a n puts le) ∙ shown-store n (last_stored_before key a puts)
@@ -213,7 +213,7 @@ module _ (event_of : ℕ → Option Event) (call_of : ℕ → CallAt) where
       ∙ ap (seen_shown same) (stored_shown key n)
       ∙ shown_is_seen same (stored_put event_of key n)
 
-pub tells_before : (event_of : ℕ → Option Event) (call_of : ℕ → CallAt) (key n a : ℕ) → a ≤ n → seen false (last_stored_before key a (kept_after event_of call_of n)) ≡ seen_put event_of call_of false (stored_put event_of key a)
+pub tells_before : (event_of : ℕ → Option Kind) (call_of : ℕ → CallAt) (key n a : ℕ) → a ≤ n → seen false (last_stored_before key a (kept_after event_of call_of n)) ≡ seen_put event_of call_of false (stored_put event_of key a)
 tells_before event_of call_of key n a le =
     seen_is_shown event_of call_of false (last_stored_before key a (kept_after event_of call_of n))
     ∙ ap (seen_shown event_of call_of false) (before_shown event_of call_of key a n le)

@@ -1,7 +1,7 @@
 -- What a store keeps of one process's puts and commits (PMIx Standard 5.0, Posting Key-Value Pairs).
 -- A put is held until its process's next commit, which stores all puts that no commit has stored before.
 use Rattle.std.specs.Prelude.{ℕ, zero, suc, List, [], ◌∷◌, ◌++◌, map, reverse, find, Bool, false, ◌&&◌, ◌==◌, nat_lt, is_some, Option, Some, None, if◌then◌else◌}
-use Rattle.wire_runs.specs.Plan.{Event, Put, Commit, admits}
+use Rattle.wire_runs.specs.Plan.{Kind, Put, Commit, admits}
 use Rattle.wire_types.specs.declared.Scope.{Scope}
 use Rattle.wire_types.specs.declared.CallAt.{CallAt}
 use Rattle.wire_store.specs.declared.seen.Seen.{Seen}
@@ -52,13 +52,13 @@ seen same None = Nothing
 seen same (Some put) = if admits put.scope same then Value put.call else Outside
 
 -- the puts after event number n
-abbrev pub kept_with : ℕ → CallAt → List KeptPut → Option Event → List KeptPut
+abbrev pub kept_with : ℕ → CallAt → List KeptPut → Option Kind → List KeptPut
 kept_with n call before (Some (Put key scope)) =
     before ++ record { at = n; key = key; scope = scope; call = call; stored_by = None } ∷ []
 kept_with n call before (Some Commit) = map (store_by n) before
 kept_with n call before _ = before
 
 -- what a store keeps that is told of the puts and commits among the first n events
-abbrev pub kept_after : (ℕ → Option Event) → (ℕ → CallAt) → ℕ → List KeptPut
+abbrev pub kept_after : (ℕ → Option Kind) → (ℕ → CallAt) → ℕ → List KeptPut
 kept_after event_of call_of zero = []
 kept_after event_of call_of (suc n) = kept_with n (call_of n) (kept_after event_of call_of n) (event_of n)

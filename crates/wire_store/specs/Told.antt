@@ -1,6 +1,6 @@
 -- What a store tells, against the puts and commits that it was told of.
 use Rattle.std.specs.Prelude.{◌≡◌, ℕ, ◌≤◌, Bool, false, Option, Some, None, option_map, if◌then◌else◌}
-use Rattle.wire_runs.specs.Plan.{Event, admits}
+use Rattle.wire_runs.specs.Plan.{Kind, admits}
 use Rattle.wire_runs.specs.Puts.{own_put, stored_put, scope_in}
 use Rattle.wire_types.specs.declared.CallAt.{CallAt}
 use Rattle.wire_store.specs.declared.seen.Seen.{Seen}
@@ -8,16 +8,16 @@ use Rattle.wire_store.specs.declared.seen.Seen.TheVariants.{Value, Outside, Noth
 use Rattle.wire_store.specs.Kept.{last_put, last_stored, last_stored_before, seen, kept_after}
 
 -- what the put of this event number shows to a process that is, or isn't, on the owner's node
-abbrev pub seen_put : (ℕ → Option Event) → (ℕ → CallAt) → Bool → Option ℕ → Seen
+abbrev pub seen_put : (ℕ → Option Kind) → (ℕ → CallAt) → Bool → Option ℕ → Seen
 seen_put event_of call_of same None = Nothing
 seen_put event_of call_of same (Some i) = if admits (scope_in (event_of i)) same then Value (call_of i) else Outside
 
 -- the owner sees its last put of the key, and others see its last put that a commit follows; and processes of other
 -- nodes are shown what was so before any event that came
-pub record TellsPuts (event_of : ℕ → Option Event) (call_of : ℕ → CallAt) (key n : ℕ) : Type 0 where
+pub record TellsPuts (event_of : ℕ → Option Kind) (call_of : ℕ → CallAt) (key n : ℕ) : Type 0 where
   pub own : option_map (λ put. put.call) (last_put key (kept_after event_of call_of n)) ≡ option_map call_of (own_put event_of key n)
   pub others : (same : Bool) → seen same (last_stored key (kept_after event_of call_of n)) ≡ seen_put event_of call_of same (stored_put event_of key n)
   pub before : (a : ℕ) → a ≤ n → seen false (last_stored_before key a (kept_after event_of call_of n)) ≡ seen_put event_of call_of false (stored_put event_of key a)
 
 abbrev pub StoreTells : Type 0
-StoreTells = (event_of : ℕ → Option Event) (call_of : ℕ → CallAt) (key n : ℕ) → TellsPuts event_of call_of key n
+StoreTells = (event_of : ℕ → Option Kind) (call_of : ℕ → CallAt) (key n : ℕ) → TellsPuts event_of call_of key n

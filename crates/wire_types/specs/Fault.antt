@@ -73,5 +73,5 @@ carried_text None = []
 carried_text (Some n) = 32 ∷ decimal n
 
 -- the line on standard error
-abbrev pub line_of : Fault → List ℕ
-line_of f = codes "wire_up: fault " ++ decimal (number_of f) ++ codes " " ++ name_of f ++ carried_text (carried_by f) ++ codes "\n"
+abbrev pub fault_line : Fault → List ℕ
+fault_line f = codes "wire_up: fault " ++ decimal (number_of f) ++ codes " " ++ name_of f ++ carried_text (carried_by f) ++ codes "\n"

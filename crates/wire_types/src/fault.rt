@@ -4,7 +4,7 @@ ghost use Rattle.wire_types.specs.Counting.{one_more};
 ghost use Rattle.wire_types.specs.Front.{WritesFront};
 ghost use Rattle.std.specs.Prelude.{take, ◌≡◌, ℕ, ◌+◌, ◌<◌, ◌≤◌, ◌++◌, length, decimal, codes, Some, None, OnOk, OnErr, IfErr, option_map};
 ghost use Rattle.std.specs.Io.KnownBytes.{Appends, Keeps};
-ghost use Rattle.wire_types.specs.Fault.{number_of, name_of, carried_by, status_of, line_of};
+ghost use Rattle.wire_types.specs.Fault.{number_of, name_of, carried_by, status_of, fault_line};
 
 use crate::sink::{Sink, write_out};
 use itoa::Buffer;
@@ -122,9 +122,9 @@ impl Fault {
     /// Writes the line of this fault. It takes no memory, and fails by `Fault::Write` alone, with the
     /// number of bytes that went out.
     pub fn write_line<S: Sink>(self, sink: &mut S) -> Result<(), Fault>
-        ensures ok { OnOk result (Appends (S.written sink.old) (S.written sink.new) (line_of self)) }
+        ensures ok { OnOk result (Appends (S.written sink.old) (S.written sink.new) (fault_line self)) }
         ensures quiet { OnOk result (S.failures sink.new ≡ S.failures sink.old) }
-        ensures err { IfErr result (λ e. WritesFront (S.written sink.old) (S.written sink.new) (line_of self) e) }
+        ensures err { IfErr result (λ e. WritesFront (S.written sink.old) (S.written sink.new) (fault_line self) e) }
         ensures failed { OnErr result (S.failures sink.new ≡ one_more (S.failures sink.old)) }
     {
         let mut line = [0u8; 128];
@@ -136,7 +136,7 @@ impl Fault {
     fn line(self, buffer: &mut [u8]) -> usize
         requires { length buffer.old ≡ 128 }
         ensures len { result ≤ 128 }
-        ensures text { take result buffer.new ≡ line_of self }
+        ensures text { take result buffer.new ≡ fault_line self }
     {
         let mut digits = Buffer::new();
         let mut len = put(buffer, 0, "wire_up: fault ");

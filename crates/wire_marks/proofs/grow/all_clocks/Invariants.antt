@@ -1,7 +1,7 @@
 use Rattle.std.proofs.Common.{◌≡◌, ◌<◌, ◌+◌, false, ℕ, if◌then◌else◌}
 use Rattle.wire_runs.specs.Plan.{process_count}
 use Rattle.wire_rehearsal.specs.Planned.{plan_of}
-use Rattle.wire_marks.specs.Marking.{IsStuckAt, left}
+use Rattle.wire_marks.specs.Marking.{IsStuckAt, unmarked}
 use Rattle.wire_marks.specs.Meeting.{AreGrowing}
 use Rattle.wire_marks.proofs.grow.all_clocks.Given as goal
 
@@ -12,4 +12,4 @@ invariant-passes l = record {
 }
 
 abbrev pub decreases-passes : goal.decreases-passes
-decreases-passes l = left (plan_of l.plan) l.clocks + (if l.moved then 1 else 0)
+decreases-passes l = unmarked (plan_of l.plan) l.clocks + (if l.moved then 1 else 0)

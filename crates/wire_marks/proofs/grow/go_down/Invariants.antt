@@ -1,11 +1,11 @@
 use Rattle.std.proofs.Common.{◌≤◌}
 use Rattle.wire_rehearsal.specs.Planned.{plan_of}
-use Rattle.wire_marks.specs.Marking.{left}
+use Rattle.wire_marks.specs.Marking.{unmarked}
 use Rattle.wire_marks.specs.Meeting.{AreGrowing}
 use Rattle.wire_marks.proofs.grow.go_down.Given as goal
 
 abbrev pub invariant-loop-step : goal.invariant-loop-step
 invariant-loop-step l = record {
   growing : AreGrowing (plan_of l.plan) l.fences l.clocks l.meetings.items;
-  not_more : left (plan_of l.plan) l.clocks ≤ left (plan_of l.plan) l.initial.clocks;
+  not_more : unmarked (plan_of l.plan) l.clocks ≤ unmarked (plan_of l.plan) l.initial.clocks;
 }

@@ -2,7 +2,7 @@ use Rattle.std.proofs.Common.{◌<◌, subst, arith}
 use Rattle.wire_rehearsal.specs.Planned.{plan_of}
 use Rattle.wire_marks.proofs.Growing.{left_falls, left_same, next_there, stuck_same}
 use Rattle.wire_marks.proofs.Joining.{growing_added}
-use Rattle.wire_marks.specs.Marking.{left}
+use Rattle.wire_marks.specs.Marking.{unmarked}
 use Rattle.wire_marks.proofs.grow.mark_next.Goals as goal
 
 pub returns-clause-growing : goal.returns-clause-growing
@@ -13,7 +13,7 @@ returns-clause-growing c =
 pub returns-clause-falls : goal.returns-clause-falls
 returns-clause-falls c =
     let next = rw c.in-Some.is at c.in_ok-number.ensures.next in
-    subst (λ n. left (plan_of c.args.plan.now) c.mark.new.self < n) (left_same (plan_of c.args.plan.now) c.args.clocks.now c.next_base.new.clocks c.in_ok-number.ensures.same)
+    subst (λ n. unmarked (plan_of c.args.plan.now) c.mark.new.self < n) (left_same (plan_of c.args.plan.now) c.args.clocks.now c.next_base.new.clocks c.in_ok-number.ensures.same)
     (left_falls (plan_of c.args.plan.now) c.next_base.new.clocks c.mark.new.self c.args.proc.number c.in-Some.number (next_there (plan_of c.args.plan.now) c.next_base.new.clocks c.args.proc.number c.in-Some.number next) c.in_ok-number.ensures.growing.marked next c.in_ok-mark.ensures)
 
 pub returns-in_default-clause-stuck : goal.returns-in_default-clause-stuck

@@ -1,16 +1,16 @@
 use Rattle.std.proofs.Common.{◌≡◌, ◌<◌, ◌≤◌, true, false}
 use Rattle.wire_rehearsal.specs.Planned.{plan_of}
-use Rattle.wire_marks.specs.Marking.{left}
+use Rattle.wire_marks.specs.Marking.{unmarked}
 use Rattle.wire_marks.specs.Meeting.{AreGrowing}
 use Rattle.wire_marks.proofs.grow.mark_run.Given as goal
 
 abbrev pub invariant-events : goal.invariant-events
 invariant-events l = record {
   growing : AreGrowing (plan_of l.plan) l.fences l.clocks l.meetings.items;
-  not_more : left (plan_of l.plan) l.clocks ≤ left (plan_of l.plan) l.initial.clocks;
-  falls : l.moved ≡ true → left (plan_of l.plan) l.clocks < left (plan_of l.plan) l.initial.clocks;
+  not_more : unmarked (plan_of l.plan) l.clocks ≤ unmarked (plan_of l.plan) l.initial.clocks;
+  falls : l.moved ≡ true → unmarked (plan_of l.plan) l.clocks < unmarked (plan_of l.plan) l.initial.clocks;
   same : l.moved ≡ false → l.clocks.numbers.items ≡ l.initial.clocks.numbers.items;
 }
 
 abbrev pub decreases-events : goal.decreases-events
-decreases-events l = left (plan_of l.plan) l.clocks
+decreases-events l = unmarked (plan_of l.plan) l.clocks

@@ -1,13 +1,13 @@
 use Rattle.std.proofs.Common.{◌≡◌, ◌<◌, ◌≤◌, true, false, ℕ}
 use Rattle.wire_rehearsal.specs.Planned.{plan_of}
-use Rattle.wire_marks.specs.Marking.{IsStuckAt, left}
+use Rattle.wire_marks.specs.Marking.{IsStuckAt, unmarked}
 use Rattle.wire_marks.specs.Meeting.{AreGrowing}
 use Rattle.wire_marks.proofs.grow.pass.Given as goal
 
 abbrev pub invariant-loop-number : goal.invariant-loop-number
 invariant-loop-number l = record {
   growing : AreGrowing (plan_of l.plan) l.fences l.clocks l.meetings.items;
-  not_more : left (plan_of l.plan) l.clocks ≤ left (plan_of l.plan) l.initial.clocks;
-  falls : l.moved ≡ true → left (plan_of l.plan) l.clocks < left (plan_of l.plan) l.initial.clocks;
+  not_more : unmarked (plan_of l.plan) l.clocks ≤ unmarked (plan_of l.plan) l.initial.clocks;
+  falls : l.moved ≡ true → unmarked (plan_of l.plan) l.clocks < unmarked (plan_of l.plan) l.initial.clocks;
   stuck : l.moved ≡ false → (p : ℕ) → p < l.number → IsStuckAt (plan_of l.plan) l.clocks p;
 }

@@ -1,5 +1,5 @@
 use Rattle.std.proofs.Common.{List, map, reverse, ◌++◌}
-use Rattle.wire_runs.specs.Plan.{Place, place_of, process_count}
+use Rattle.wire_runs.specs.Plan.{Event, event_of, process_count}
 use Rattle.wire_rehearsal.specs.Planned.{plan_of}
 use Rattle.wire_marks.specs.Clocks.{LeadsTo, clock_of}
 use Rattle.wire_marks.specs.Shown.{IsShown}
@@ -8,9 +8,9 @@ use Rattle.wire_marks.proofs.steps.chain_between.Given as goal
 
 abbrev pub invariant-walk : goal.invariant-walk
 invariant-walk l = record {
-  leads : LeadsTo (plan_of l.plan) (place_of l.x) (place_of l.event);
-  rest : (start : List Place) → IsShown (plan_of l.plan) (place_of l.x) (place_of l.event) start → IsShown (plan_of l.plan) (place_of l.x) (place_of l.fn.y) (start ++ reverse (map place_of l.chain.items));
+  leads : LeadsTo (plan_of l.plan) (event_of l.x) (event_of l.event);
+  rest : (start : List Event) → IsShown (plan_of l.plan) (event_of l.x) (event_of l.event) start → IsShown (plan_of l.plan) (event_of l.x) (event_of l.fn.y) (start ++ reverse (map event_of l.chain.items));
 }
 
 abbrev pub decreases-walk : goal.decreases-walk
-decreases-walk l = sum_to (process_count (plan_of l.plan)) (clock_of l.marks (place_of l.event))
+decreases-walk l = sum_to (process_count (plan_of l.plan)) (clock_of l.marks (event_of l.event))

@@ -1,7 +1,7 @@
 use Rattle.std.proofs.Common.{◌∙◌, sym, subst}
 use Rattle.std.proofs.lemmas.Bool.{true≢false}
 use Rattle.std.proofs.lemmas.Result.{on_ok_weaker}
-use Rattle.wire_runs.specs.Plan.{place_of}
+use Rattle.wire_runs.specs.Plan.{event_of}
 use Rattle.wire_rehearsal.specs.Planned.{plan_of}
 use Rattle.wire_runs.specs.Races.{ComesSurely}
 use Rattle.wire_runs.proofs.Basics.{process_within}
@@ -14,8 +14,8 @@ node_of-node-requires c = process_within (plan_of c.args.plan.now) c.args.look.p
 pub returns : goal.returns
 returns c =
     let plan = plan_of c.args.plan.now in
-    on_ok_weaker c.add_all_late.result (λ h. adds_late plan (place_of c.args.look) c.args.owner.number c.args.key (record {
+    on_ok_weaker c.add_all_late.result (λ h. adds_late plan (event_of c.args.look) c.args.owner.number c.args.key (record {
       opened = c.requires.get;
       other = c.requires.node;
-      not_sure = λ s. true≢false (sym (c.comes_surely.ensures.1 (subst (λ n. ComesSurely plan c.args.owner.number c.args.key n (place_of c.args.look)) (sym c.node_of-node.ensures) s)) ∙ c.if-comes_surely.false);
+      not_sure = λ s. true≢false (sym (c.comes_surely.ensures.1 (subst (λ n. ComesSurely plan c.args.owner.number c.args.key n (event_of c.args.look)) (sym c.node_of-node.ensures) s)) ∙ c.if-comes_surely.false);
     }) c.args.found.now c.add_all_late.new.found h) c.add_all_late.ensures

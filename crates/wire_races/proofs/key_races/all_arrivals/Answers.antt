@@ -1,5 +1,5 @@
 use Rattle.std.proofs.Common.{ap, subst, map}
-use Rattle.wire_runs.specs.Plan.{place_of}
+use Rattle.wire_runs.specs.Plan.{event_of}
 use Rattle.wire_rehearsal.specs.Planned.{plan_of}
 use Rattle.wire_plan.specs.Index.{AreArrivals}
 use Rattle.wire_runs.proofs.Basics.{event_within}
@@ -13,6 +13,6 @@ pub returns : goal.returns
 returns c = λ members j a.
     let plan = plan_of c.args.plan.now in
     let leave = c.end_of.ensures.leave members j a in
-    subst (λ i. AreArrivals plan members i (map place_of c.sources.result.arrivals.now))
-    (ended plan (place_of c.args.arrival) (place_of c.end_of.result) members j a (ap (λ q. q.number) c.end_of.ensures.proc) c.end_of.ensures.next leave)
+    subst (λ i. AreArrivals plan members i (map event_of c.sources.result.arrivals.now))
+    (ended plan (event_of c.args.arrival) (event_of c.end_of.result) members j a (ap (λ q. q.number) c.end_of.ensures.proc) c.end_of.ensures.next leave)
     (c.sources.ensures.leave members leave)

@@ -1,7 +1,7 @@
 use Rattle.std.proofs.Common.{◌+◌, ◌∙◌, sym, refl, map, arith}
 use Rattle.std.proofs.lemmas.List.{length-map}
 use Rattle.std.proofs.lemmas.Bool.{true≢false}
-use Rattle.wire_runs.specs.Plan.{place_of}
+use Rattle.wire_runs.specs.Plan.{event_of}
 use Rattle.wire_runs.specs.Order.{Live}
 use Rattle.wire_races.proofs.Arriving.{item, one_more, all_places}
 use Rattle.wire_races.proofs.key_races.all_live.Goals as goal
@@ -14,13 +14,13 @@ returns-then-not-live c = λ plan m. (
 
 pub loop-x-preserved : goal.loop-x-preserved
 loop-x-preserved c = λ plan m.
-    one_more (Live plan) (map place_of c.args.events.now) c.loop-x.x-index (c.loop-x.x-index + 1) _ (omega arith) (item c.args.events.now c.loop-x.x-index _ c.loop-x-test.true) (c.loop-x.invariant plan m) ((c.live.ensures plan m).0 c.if-not-live.false)
+    one_more (Live plan) (map event_of c.args.events.now) c.loop-x.x-index (c.loop-x.x-index + 1) _ (omega arith) (item c.args.events.now c.loop-x.x-index _ c.loop-x-test.true) (c.loop-x.invariant plan m) ((c.live.ensures plan m).0 c.if-not-live.false)
 
 pub returns : goal.returns
 returns c = λ plan m. (
   (λ t. (
-      let size = length-map c.args.events.now place_of in
+      let size = length-map c.args.events.now event_of in
       let end = c.loop-x-test.false in
-      all_places (Live plan) (map place_of c.args.events.now) c.loop-x.x-index (omega (arith, size, end)) (c.loop-x.invariant plan m))),
+      all_places (Live plan) (map event_of c.args.events.now) c.loop-x.x-index (omega (arith, size, end)) (c.loop-x.invariant plan m))),
   (λ a. refl),
 )

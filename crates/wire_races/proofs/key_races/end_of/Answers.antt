@@ -1,5 +1,5 @@
 use Rattle.std.proofs.Common.{◌≡◌, ◌+◌, ◌∙◌, suc, ap, arith}
-use Rattle.wire_runs.specs.Plan.{event_at}
+use Rattle.wire_runs.specs.Plan.{kind_at}
 use Rattle.wire_rehearsal.specs.Planned.{plan_of}
 use Rattle.wire_runs.proofs.Basics.{event_within}
 use Rattle.wire_plan.proofs.Planning.{count_fits}
@@ -16,4 +16,4 @@ overflow_add-result c =
 pub returns-clause-leave : goal.returns-clause-leave
 returns-clause-leave c = λ members j a.
     let one : c.args.arrival.at + 1 ≡ suc c.args.arrival.at = omega arith in
-    ap (event_at (plan_of c.args.plan.now) c.args.arrival.proc.number) one ∙ leave_next (plan_of c.args.plan.now) c.args.arrival.proc.number c.args.arrival.at members a.collect a.is
+    ap (kind_at (plan_of c.args.plan.now) c.args.arrival.proc.number) one ∙ leave_next (plan_of c.args.plan.now) c.args.arrival.proc.number c.args.arrival.at members a.collect a.is

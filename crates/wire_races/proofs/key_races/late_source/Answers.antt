@@ -1,5 +1,5 @@
 use Rattle.std.proofs.Common.{map}
-use Rattle.wire_runs.specs.Plan.{place_of}
+use Rattle.wire_runs.specs.Plan.{event_of}
 use Rattle.wire_rehearsal.specs.Planned.{plan_of}
 use Rattle.wire_races.proofs.Arriving.{late_tells, may_live, may_none_after}
 use Rattle.wire_races.proofs.key_races.late_source.Goals as goal
@@ -7,9 +7,9 @@ use Rattle.wire_races.proofs.key_races.late_source.Goals as goal
 pub returns : goal.returns
 returns c =
     let plan = plan_of c.args.plan.now in
-    let get = place_of c.args.look in
-    let arrival = place_of c.args.arrival in
+    let get = event_of c.args.look in
+    let arrival = event_of c.args.arrival in
     let fence = c.requires.may.fence in
-    let places = map place_of c.all_arrivals.result.now in
+    let places = map event_of c.all_arrivals.result.now in
     let those = c.all_arrivals.ensures in
     late_tells plan get arrival fence places those c.first_not_before.result (c.first_not_before.ensures plan c.requires.marks) (may_live plan get arrival fence places those c.requires.may) (may_none_after plan get arrival fence places those c.requires.may)

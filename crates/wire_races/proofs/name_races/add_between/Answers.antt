@@ -1,5 +1,5 @@
 use Rattle.std.proofs.Common.{◌<◌, ◌≤◌, map, length, sym, subst, arith}
-use Rattle.wire_runs.specs.Plan.{place_of}
+use Rattle.wire_runs.specs.Plan.{event_of}
 use Rattle.wire_rehearsal.specs.Planned.{plan_of}
 use Rattle.wire_runs.specs.Findings.{IsFound}
 use Rattle.wire_races.specs.Collected.{IsAdded}
@@ -21,18 +21,18 @@ add-requires-clause-found c =
     let fits : c.loop-k.k < length c.args.run.now = omega (arith, lt, within) in
     let above : c.count_below-from.result ≤ c.loop-k.k = omega arith in
     let plan = plan_of c.args.plan.now in
-    let x = place_of c.args.x in
+    let x = event_of c.args.x in
     let p = c.args.proc.number in
     let n = c.args.name in
     let first = c.count_below-from.ensures.cut plan n p c.requires.marks c.requires.calls c.requires.run in
     let last = c.count_below-to.ensures.cut plan n p c.requires.marks c.requires.calls c.requires.run in
     subst (λ f. IsFound plan f) (sym c.race_of.ensures)
     (race_found plan x _ n
-    (is_race plan n p x (map place_of c.args.run.now) _ _ c.requires.writes c.requires.live c.requires.other c.requires.calls c.requires.run first last c.loop-k.k _
+    (is_race plan n p x (map event_of c.args.run.now) _ _ c.requires.writes c.requires.live c.requires.other c.requires.calls c.requires.run first last c.loop-k.k _
     (place_at c.args.run.now c.loop-k.k _ fits) above lt))
 
 pub loop-k-init : goal.loop-k-init
-loop-k-init c = adds_none (plan_of c.args.plan.now) c.args.found.now _ c.requires.found (among_none c.args.name (place_of c.args.x) (map place_of c.args.run.now) c.count_below-from.result c.count_below-to.result)
+loop-k-init c = adds_none (plan_of c.args.plan.now) c.args.found.now _ c.requires.found (among_none c.args.name (event_of c.args.x) (map event_of c.args.run.now) c.count_below-from.result c.count_below-to.result)
 
 pub loop-k-preserved : goal.loop-k-preserved
 loop-k-preserved c =
@@ -41,25 +41,25 @@ loop-k-preserved c =
     let fits : c.loop-k.k < length c.args.run.now = omega (arith, lt, within) in
     let above : c.count_below-from.result ≤ c.loop-k.k = omega arith in
     let plan = plan_of c.args.plan.now in
-    let x = place_of c.args.x in
+    let x = event_of c.args.x in
     let p = c.args.proc.number in
     let n = c.args.name in
     let first = c.count_below-from.ensures.cut plan n p c.requires.marks c.requires.calls c.requires.run in
     let last = c.count_below-to.ensures.cut plan n p c.requires.marks c.requires.calls c.requires.run in
     let at = place_at c.args.run.now c.loop-k.k _ fits in
-    let race = is_race plan n p x (map place_of c.args.run.now) _ _ c.requires.writes c.requires.live c.requires.other c.requires.calls c.requires.run first last c.loop-k.k _ at above lt in
+    let race = is_race plan n p x (map event_of c.args.run.now) _ _ c.requires.writes c.requires.live c.requires.other c.requires.calls c.requires.run first last c.loop-k.k _ at above lt in
     let told = subst (λ f. IsAdded c.loop-k.found c.add.new.self f) c.race_of.ensures c.in_ok-add.ensures in
-    among_more plan n x (map place_of c.args.run.now) _ _ c.loop-k.k _ c.args.found.now c.loop-k.found c.add.new.self at above lt (race_found plan x _ n race) c.loop-k.invariant told
+    among_more plan n x (map event_of c.args.run.now) _ _ c.loop-k.k _ c.args.found.now c.loop-k.found c.add.new.self at above lt (race_found plan x _ n race) c.loop-k.invariant told
 
 pub returns : goal.returns
 returns c =
     let plan = plan_of c.args.plan.now in
-    let x = place_of c.args.x in
+    let x = event_of c.args.x in
     let p = c.args.proc.number in
     let n = c.args.name in
     let first = c.count_below-from.ensures.cut plan n p c.requires.marks c.requires.calls c.requires.run in
     let last = c.count_below-to.ensures.cut plan n p c.requires.marks c.requires.calls c.requires.run in
     adds_same plan c.args.found.now c.loop-k.found _ _
-    (among_race plan n p x (map place_of c.args.run.now) _ _ c.requires.writes c.requires.live c.requires.other c.requires.calls c.requires.run first last c.loop-k.k)
-    (race_among plan n p x (map place_of c.args.run.now) _ _ c.requires.writes c.requires.live c.requires.other c.requires.calls c.requires.run first last c.loop-k.k c.loop-k-test.false)
+    (among_race plan n p x (map event_of c.args.run.now) _ _ c.requires.writes c.requires.live c.requires.other c.requires.calls c.requires.run first last c.loop-k.k)
+    (race_among plan n p x (map event_of c.args.run.now) _ _ c.requires.writes c.requires.live c.requires.other c.requires.calls c.requires.run first last c.loop-k.k c.loop-k-test.false)
     c.loop-k.invariant

@@ -1,9 +1,9 @@
 use Rattle.std.proofs.Common.{map}
-use Rattle.wire_runs.specs.Plan.{place_of}
+use Rattle.wire_runs.specs.Plan.{event_of}
 use Rattle.wire_rehearsal.specs.Planned.{plan_of}
 use Rattle.wire_races.specs.Adding.{Adds}
 use Rattle.wire_races.proofs.Racing.{IsAmong}
 use Rattle.wire_races.proofs.name_races.add_between.Given as goal
 
 abbrev pub invariant-loop-k : goal.invariant-loop-k
-invariant-loop-k l = Adds (plan_of l.plan) l.initial.found l.found (IsAmong l.name (place_of l.x) (map place_of l.run) l.from l.to l.k)
+invariant-loop-k l = Adds (plan_of l.plan) l.initial.found l.found (IsAmong l.name (event_of l.x) (map event_of l.run) l.from l.to l.k)

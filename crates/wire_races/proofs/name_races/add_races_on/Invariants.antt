@@ -1,5 +1,5 @@
 use Rattle.std.proofs.Common.{map, length}
-use Rattle.wire_runs.specs.Plan.{place_of}
+use Rattle.wire_runs.specs.Plan.{event_of}
 use Rattle.wire_rehearsal.specs.Planned.{plan_of}
 use Rattle.wire_races.specs.Collected.{AreFound}
 use Rattle.wire_races.specs.NameRaces.{AreCallsOn}
@@ -9,8 +9,8 @@ use Rattle.wire_races.proofs.name_races.add_races_on.Given as goal
 abbrev pub invariant-runs : goal.invariant-runs
 invariant-runs l = record {
   found : AreFound (plan_of l.plan) l.found;
-  calls : AreCallsOn (plan_of l.plan) l.name (map place_of l.rest);
-  left : IsLeft (plan_of l.plan) l.name l.initial.found l.found (map place_of l.rest);
+  calls : AreCallsOn (plan_of l.plan) l.name (map event_of l.rest);
+  left : IsLeft (plan_of l.plan) l.name l.initial.found l.found (map event_of l.rest);
 }
 
 abbrev pub decreases-runs : goal.decreases-runs

@@ -1,6 +1,6 @@
 use Rattle.std.proofs.Common.{◌≡◌, map, take, sym, subst, arith}
 use Rattle.std.proofs.lemmas.List.{map_more, take_all}
-use Rattle.wire_runs.specs.Plan.{place_of}
+use Rattle.wire_runs.specs.Plan.{event_of}
 use Rattle.wire_rehearsal.specs.Planned.{plan_of}
 use Rattle.wire_runs.specs.Fate.{IsIn}
 use Rattle.wire_races.specs.Adding.{Adds}
@@ -19,10 +19,10 @@ pub loop-x-preserved : goal.loop-x-preserved
 loop-x-preserved c =
     let plan = plan_of c.args.plan.now in
     let calls = c.name_calls-calls.result.now in
-    let run = map place_of c.args.run.now in
+    let run = map event_of c.args.run.now in
     let n = c.loop-x.x-index in
-    subst (λ l. Adds plan c.args.found.now c.add_races_of.new.found (IsRaceAmong plan c.args.name run l)) (sym (map_more place_of calls n _ c.loop-x-test.true))
-    (with_more plan c.args.name run (map place_of (take n calls)) _ c.args.found.now c.loop-x.found c.add_races_of.new.found c.loop-x.invariant c.in_ok-add_races_of.ensures)
+    subst (λ l. Adds plan c.args.found.now c.add_races_of.new.found (IsRaceAmong plan c.args.name run l)) (sym (map_more event_of calls n _ c.loop-x-test.true))
+    (with_more plan c.args.name run (map event_of (take n calls)) _ c.args.found.now c.loop-x.found c.add_races_of.new.found c.loop-x.invariant c.in_ok-add_races_of.ensures)
 
 pub returns : goal.returns
 returns c =
@@ -31,5 +31,5 @@ returns c =
     let all : take c.loop-x.x-index calls ≡ calls = take_all c.loop-x.x-index calls (omega arith) in
     adds_same plan c.args.found.now c.loop-x.found _ _
     (λ f r. (r.0, r.2))
-    (λ f r. (r.0, subst (λ l. IsIn r.0 (map place_of l)) (sym all) (writer_in plan c.args.name (map place_of calls) c.name_calls-calls.ensures r.0 r.1.race.x_writes), r.1))
+    (λ f r. (r.0, subst (λ l. IsIn r.0 (map event_of l)) (sym all) (writer_in plan c.args.name (map event_of calls) c.name_calls-calls.ensures r.0 r.1.race.x_writes), r.1))
     c.loop-x.invariant

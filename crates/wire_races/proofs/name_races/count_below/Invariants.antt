@@ -1,5 +1,5 @@
 use Rattle.std.proofs.Common.{◌-◌, ◌≤◌, ℕ, length, map}
-use Rattle.wire_runs.specs.Plan.{Plan, place_of}
+use Rattle.wire_runs.specs.Plan.{Plan, event_of}
 use Rattle.wire_marks.specs.Clocks.{AreMarks}
 use Rattle.wire_races.specs.NameRaces.{AreCallsOn, AreOf, IsBelow}
 use Rattle.wire_races.proofs.Racing.{IsNarrowed}
@@ -9,7 +9,7 @@ abbrev pub invariant-bisection : goal.invariant-bisection
 invariant-bisection l = record {
   order : l.low ≤ l.high;
   within : l.high ≤ length l.run;
-  narrowed : (plan : Plan) (name p : ℕ) → AreMarks plan l.marks → AreCallsOn plan name (map place_of l.run) → AreOf p (map place_of l.run) → IsNarrowed (IsBelow plan (place_of l.x) l.border) (map place_of l.run) l.low l.high;
+  narrowed : (plan : Plan) (name p : ℕ) → AreMarks plan l.marks → AreCallsOn plan name (map event_of l.run) → AreOf p (map event_of l.run) → IsNarrowed (IsBelow plan (event_of l.x) l.border) (map event_of l.run) l.low l.high;
 }
 
 abbrev pub decreases-bisection : goal.decreases-bisection

@@ -2,14 +2,14 @@ use Rattle.std.proofs.Common.{◌<◌, ◌+◌, ◌^◌, length, Result}
 use Rattle.wire_types.specs.declared.Fault.{Fault}
 use Rattle.wire_script.specs.FirstPass.{Declared, JudgesAll, nothing}
 use Rattle.wire_script.specs.Drafted.{declared_of}
-use Rattle.wire_script.specs.Left.{left}
+use Rattle.wire_script.specs.Left.{statements_left}
 use Rattle.wire_script.proofs.first_pass.declare_all.Given as goal
 
 abbrev pub invariant-statements : goal.invariant-statements
 invariant-statements l = record {
-  so_far : (r : Result Declared Fault) → JudgesAll (declared_of l.draft) (left l.cursor) r → JudgesAll nothing (left l.initial.cursor) r;
+  so_far : (r : Result Declared Fault) → JudgesAll (declared_of l.draft) (statements_left l.cursor) r → JudgesAll nothing (statements_left l.initial.cursor) r;
   room : l.cursor.line + length l.cursor.rest.now < 2 ^ 64;
 }
 
 abbrev pub decreases-statements : goal.decreases-statements
-decreases-statements l = length (left l.cursor)
+decreases-statements l = length (statements_left l.cursor)

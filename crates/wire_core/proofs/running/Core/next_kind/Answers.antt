@@ -7,7 +7,7 @@ use Rattle.wire_core.proofs.running.Core.next_kind.Goals as goal
 
 pub returns-else-event-event_count-clause-kind : goal.returns-else-event-event_count-clause-kind
 returns-else-event-event_count-clause-kind c =
-    let at = ap (λ x. x.at) c.next_place-event.ensures in
+    let at = ap (λ x. x.at) c.next_event-event.ensures in
     let count = rw (ap (λ course. course.scripts) c.self.view_is) at c.event_count.ensures in
     let over = c.if-event-event_count.false in
     let past : event_count (plan_of c.args.self.now.scripts) c.args.proc.number ≤ (state_of c.args.self.now).done c.args.proc.number = omega (arith, at, count, over) in

@@ -3,7 +3,7 @@ use Rattle.wire_runs.specs.Plan.{process_count}
 use Rattle.wire_rehearsal.specs.Planned.{plan_of}
 use Rattle.wire_runs.specs.State.{start}
 use Rattle.wire_runs.specs.PlainRun.{plain_from}
-use Rattle.wire_runs.specs.Laws.{event_total}
+use Rattle.wire_runs.specs.Plan.{event_total}
 use Rattle.wire_runs.proofs.PlainRun.{lowest_enabled}
 use Rattle.wire_core.specs.Course.{state_of}
 use Rattle.wire_core.proofs.Looks.{nobody}

@@ -3,7 +3,7 @@ use Rattle.wire_rehearsal.specs.Planned.{plan_of}
 use Rattle.wire_runs.specs.State.{start}
 use Rattle.wire_runs.specs.Step.{IsInterleaving}
 use Rattle.wire_runs.specs.PlainRun.{plain_from}
-use Rattle.wire_runs.specs.Laws.{event_total}
+use Rattle.wire_runs.specs.Plan.{event_total}
 use Rattle.wire_core.specs.Course.{state_of}
 use Rattle.wire_core.proofs.running.Core.run_lowest.Given as goal
 

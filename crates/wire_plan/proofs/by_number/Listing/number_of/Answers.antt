@@ -1,13 +1,13 @@
 use Rattle.std.proofs.Common.{◌∙◌, Some, ap}
-use Rattle.wire_plan.specs.Kinds.{event_of}
+use Rattle.wire_plan.specs.Kinds.{kind_of}
 use Rattle.wire_plan.specs.Tables.{is_listed}
 use Rattle.wire_plan.proofs.by_number.Listing.number_of.Goals as goal
 
 pub returns-in-Publishes : goal.returns-in-Publishes
-returns-in-Publishes c = λ plan sets number x same. ap (λ l. is_listed plan l number x (Some (event_of sets c.args.kind))) c.in-Publishes.is ∙ c.name_published.ensures plan sets number x
+returns-in-Publishes c = λ plan sets number x same. ap (λ l. is_listed plan l number x (Some (kind_of sets c.args.kind))) c.in-Publishes.is ∙ c.name_published.ensures plan sets number x
 
 pub returns-in-Takes : goal.returns-in-Takes
-returns-in-Takes c = λ plan sets number x same. ap (λ l. is_listed plan l number x (Some (event_of sets c.args.kind))) c.in-Takes.is ∙ c.name_taken.ensures plan sets number x
+returns-in-Takes c = λ plan sets number x same. ap (λ l. is_listed plan l number x (Some (kind_of sets c.args.kind))) c.in-Takes.is ∙ c.name_taken.ensures plan sets number x
 
 pub returns-in-Looks : goal.returns-in-Looks
-returns-in-Looks c = λ plan sets number x same. ap (λ l. is_listed plan l number x (Some (event_of sets c.args.kind))) c.in-Looks.is ∙ c.key_looked_at.ensures plan sets number x same
+returns-in-Looks c = λ plan sets number x same. ap (λ l. is_listed plan l number x (Some (kind_of sets c.args.kind))) c.in-Looks.is ∙ c.key_looked_at.ensures plan sets number x same

@@ -2,7 +2,7 @@ use Rattle.std.proofs.Common.{◌<◌, ◌∙◌, ap, sym, refl, length, map, ar
 use Rattle.std.proofs.lemmas.Option.{slice_get_read, slice_get_within, same_Some}
 use Rattle.wire_runs.specs.Plan.{event_count}
 use Rattle.wire_rehearsal.specs.Planned.{plan_of}
-use Rattle.wire_plan.specs.Kinds.{event_of}
+use Rattle.wire_plan.specs.Kinds.{kind_of}
 use Rattle.wire_plan.proofs.Planning.{row_within, call_shown}
 use Rattle.wire_plan.proofs.events.Events.call_of.Goals as goal
 
@@ -10,7 +10,7 @@ pub index-row-requires : goal.index-row-requires
 index-row-requires c =
     let s = c.self.inside.scripts in
     let there : c.args.event.proc.number < length c.self.inside.rows.items =
-    row_within (λ row. map (event_of s.sets) row.kinds.items) s c.self.inside.rows.items c.self.invariant.0.events c.args.event.proc.number c.args.event.at (rw (c.self.view_is) c.requires) in
+    row_within (λ row. map (kind_of s.sets) row.kinds.items) s c.self.inside.rows.items c.self.invariant.0.events c.args.event.proc.number c.args.event.at (rw (c.self.view_is) c.requires) in
     let index = c.index.ensures in
     let len = c.self.inside.rows.ok.0 in
     omega (arith, there, index, len)
@@ -21,7 +21,7 @@ index-requires-2 c =
     let rows = c.self.inside.rows.items in
     let p = c.args.event.proc.number in
     let lt : c.args.event.at < event_count (plan_of s) p = rw (c.self.view_is) c.requires in
-    let there : p < length rows = row_within (λ row. map (event_of s.sets) row.kinds.items) s rows c.self.invariant.0.events p c.args.event.at lt in
+    let there : p < length rows = row_within (λ row. map (kind_of s.sets) row.kinds.items) s rows c.self.invariant.0.events p c.args.event.at lt in
     let row = c.index-row.result.now in
     let read = rw c.index.ensures at c.index-row.ensures in
     let is = slice_get_read rows (length rows) p row refl there read in
@@ -36,7 +36,7 @@ returns c =
     let rows = c.self.inside.rows.items in
     let p = c.args.event.proc.number in
     let lt : c.args.event.at < event_count (plan_of s) p = rw (c.self.view_is) c.requires in
-    let there : p < length rows = row_within (λ row. map (event_of s.sets) row.kinds.items) s rows c.self.invariant.0.events p c.args.event.at lt in
+    let there : p < length rows = row_within (λ row. map (kind_of s.sets) row.kinds.items) s rows c.self.invariant.0.events p c.args.event.at lt in
     let row = c.index-row.result.now in
     let read = rw c.index.ensures at c.index-row.ensures in
     let is = slice_get_read rows (length rows) p row refl there read in

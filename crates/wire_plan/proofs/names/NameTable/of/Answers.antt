@@ -1,11 +1,11 @@
 use Rattle.wire_rehearsal.specs.Planned.{plan_of}
-use Rattle.wire_plan.specs.Tables.{places_at}
+use Rattle.wire_plan.specs.Tables.{events_listed}
 use Rattle.wire_plan.proofs.Numbered.{publishes_listed}
 use Rattle.wire_plan.proofs.names.NameTable.of.Goals as goal
 
 pub returns : goal.returns
 returns c = record {
   calls = c.in_ok-of.ensures;
-  publishes = λ name. publishes_listed (plan_of c.args.events.now) name (places_at c.in_ok-of-2.field-0 name) (c.in_ok-of-2.ensures name);
+  publishes = λ name. publishes_listed (plan_of c.args.events.now) name (events_listed c.in_ok-of-2.field-0 name) (c.in_ok-of-2.ensures name);
   takes = c.in_ok-of-3.ensures;
 }

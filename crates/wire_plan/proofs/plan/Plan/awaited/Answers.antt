@@ -1,8 +1,8 @@
 use Rattle.std.proofs.Common.{◌∙◌, ap, sym, subst, Some, eq-eqb}
 use Rattle.std.proofs.lemmas.Bool.{true≢false, eqb-true}
-use Rattle.wire_runs.specs.Plan.{place_of}
+use Rattle.wire_runs.specs.Plan.{event_of}
 use Rattle.wire_rehearsal.specs.Planned.{plan_of}
-use Rattle.wire_plan.specs.Kinds.{event_of}
+use Rattle.wire_plan.specs.Kinds.{kind_of}
 use Rattle.wire_plan.specs.Keys.{AreKeysOf}
 use Rattle.wire_plan.specs.Tables.{AreNamesOf}
 use Rattle.wire_plan.proofs.Awaited.{own_key, key_of_other, once_name, awaits_other}
@@ -10,22 +10,22 @@ use Rattle.wire_plan.proofs.plan.Plan.awaited.Goals as goal
 
 pub returns-then-eq : goal.returns-then-eq
 returns-then-eq c =
-    own_key (plan_of c.args.self.now) (place_of c.args.event) c.in-Get.owner.number c.in-Get.key
-    (c.kind.ensures ∙ ap (λ k. Some (event_of c.args.self.now.sets k)) c.in-Get.is)
+    own_key (plan_of c.args.self.now) (event_of c.args.event) c.in-Get.owner.number c.in-Get.key
+    (c.kind.ensures ∙ ap (λ k. Some (kind_of c.args.self.now.sets k)) c.in-Get.is)
     (eqb-true c.in-Get.owner.number c.args.event.proc.number (sym c.if-eq.ensures))
 
 pub returns-else-eq : goal.returns-else-eq
 returns-else-eq c =
-    key_of_other (plan_of c.args.self.now) (place_of c.args.event) c.in-Get.owner c.in-Get.key c.feeding.result
-    (c.kind.ensures ∙ ap (λ k. Some (event_of c.args.self.now.sets k)) c.in-Get.is)
+    key_of_other (plan_of c.args.self.now) (event_of c.args.event) c.in-Get.owner c.in-Get.key c.feeding.result
+    (c.kind.ensures ∙ ap (λ k. Some (kind_of c.args.self.now.sets k)) c.in-Get.is)
     (λ same. true≢false (sym (eq-eqb c.in-Get.owner.number c.args.event.proc.number same) ∙ sym c.if-eq.ensures))
     (c.feeding.ensures (plan_of c.args.self.now) (subst (λ s. AreKeysOf (plan_of s) c.self.inside.index.keys) c.self.view_is c.self.invariant.1.keys))
 
 pub returns-in-LookupWait : goal.returns-in-LookupWait
 returns-in-LookupWait c =
-    once_name (plan_of c.args.self.now) (place_of c.args.event) c.in-LookupWait.name c.once_published.result
-    (c.kind.ensures ∙ ap (λ k. Some (event_of c.args.self.now.sets k)) c.in-LookupWait.is)
+    once_name (plan_of c.args.self.now) (event_of c.args.event) c.in-LookupWait.name c.once_published.result
+    (c.kind.ensures ∙ ap (λ k. Some (kind_of c.args.self.now.sets k)) c.in-LookupWait.is)
     (c.once_published.ensures (plan_of c.args.self.now) (subst (λ s. AreNamesOf (plan_of s) c.self.inside.index.names) c.self.view_is c.self.invariant.1.names))
 
 pub returns-in_default : goal.returns-in_default
-returns-in_default c = awaits_other (plan_of c.args.self.now) (place_of c.args.event) c.args.self.now.sets c.kind.result c.kind.ensures c.in_default.not-Get c.in_default.not-LookupWait
+returns-in_default c = awaits_other (plan_of c.args.self.now) (event_of c.args.event) c.args.self.now.sets c.kind.result c.kind.ensures c.in_default.not-Get c.in_default.not-LookupWait

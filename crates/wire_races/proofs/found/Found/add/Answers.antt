@@ -1,5 +1,5 @@
 use Rattle.std.proofs.Common.{sym, subst}
-use Rattle.wire_runs.specs.Plan.{place_of}
+use Rattle.wire_runs.specs.Plan.{event_of}
 use Rattle.wire_rehearsal.specs.Planned.{plan_of}
 use Rattle.wire_runs.specs.Findings.{Rewrite, IsFound}
 use Rattle.wire_runs.specs.Ends.{first_event}
@@ -32,5 +32,5 @@ add_rewrite-requires c = λ x has.
     let low = c.first_event.ensures in
     let high = c.first_event-in-Rewrite.ensures in
     let found = subst (λ f. IsFound plan (shown plan f)) c.in-Rewrite.is c.requires.found in
-    one_first plan x (place_of c.first_event.result) (place_of c.first_event-in-Rewrite.result) (c.requires.there (Rewrite x (place_of c.first_event-in-Rewrite.result)) has)
-    (subst (λ y. IsFound plan (Rewrite (place_of c.first_event.result) y)) (sym high) (subst (λ z. IsFound plan (Rewrite z (first_event plan c.in-Rewrite.later))) (sym low) found))
+    one_first plan x (event_of c.first_event.result) (event_of c.first_event-in-Rewrite.result) (c.requires.there (Rewrite x (event_of c.first_event-in-Rewrite.result)) has)
+    (subst (λ y. IsFound plan (Rewrite (event_of c.first_event.result) y)) (sym high) (subst (λ z. IsFound plan (Rewrite z (first_event plan c.in-Rewrite.later))) (sym low) found))

@@ -1,10 +1,10 @@
 use Rattle.std.proofs.Common.{◌≡◌, ◌≤◌, ◌+◌, length}
-use Rattle.wire_script.specs.Left.{left, end_of}
+use Rattle.wire_script.specs.Left.{statements_left, end_of}
 use Rattle.wire_script.proofs.lines.Cursor.next_line.Given as goal
 
 abbrev pub invariant-lines : goal.invariant-lines
 invariant-lines l = record {
-  left : left l.initial.self ≡ left l.at;
+  statements_left : statements_left l.initial.self ≡ statements_left l.at;
   end : end_of l.at ≡ end_of l.initial.self;
   room : l.at.line + length l.at.rest.now ≤ l.initial.self.line + length l.initial.self.rest.now;
   kept : l.self ≡ l.initial.self;
