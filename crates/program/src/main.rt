@@ -2,10 +2,13 @@
 //! with a status: 0 done without findings, 1 findings, 2 refused, 3 memory, 4 reading or writing, 5 usage.
 #![tactic(auto)]
 
+mod help;
+
 use clap::error::ErrorKind;
 use clap::{Arg, ArgMatches, Command, Error};
 use std::alloc::{AllocError, Global};
 use std::fs::File;
+use std::io::Read;
 use std::process::ExitCode;
 use std::rt::{Env, Files};
 use std::thread::Threads;
@@ -13,15 +16,18 @@ use std::{env, io};
 use wire_types::{Fault, FromRead, ToWrite, write_out};
 use wire_up::{Ended, check, follow, plain, why};
 
-/// The exit status of a command line that says nothing that the program does.
+/// What `--version` shows behind the program's name.
+const VERSION: &str = "0.1.0";
+
+/// The exit status of a command line that can't be read.
 const USAGE: u8 = 5;
 
-/// Why the program didn't do what it was asked for.
+/// Why the program didn't do what it was asked to do.
 #[derive(Clone, Copy)]
 enum Failure {
     /// A fault of the library, not yet told.
     Fault(Fault),
-    /// A command line that can't be read, of which the user was told.
+    /// A command line that can't be read. The user was told already.
     Usage,
 }
 
@@ -50,16 +56,16 @@ fn check_command<'a>(alloc: Global) -> Result<Command<'a>, AllocError> {
 
 fn replay_command<'a>(alloc: Global) -> Result<Command<'a>, AllocError> {
     Command::new(alloc, "replay")
-        .about("Replays the scripts, and writes what became of every call")
+        .about("Runs the scripts once, the lowest rank first, and shows what became of every call")
         .arg(file_argument(alloc))
 }
 
 fn follow_command<'a>(alloc: Global) -> Result<Command<'a>, AllocError> {
     let order = Arg::new(alloc, "ORDER")
-        .help("The file of the order: on each line the process that takes the next step")
+        .help("The file of the order: each line names the process that takes the next step")
         .required(true);
     Command::new(alloc, "follow")
-        .about("Takes the steps of an order, and writes what became of every call")
+        .about("Runs the scripts in the order of a file, and shows what became of every call")
         .arg(order)?
         .arg(file_argument(alloc))
 }
@@ -70,10 +76,9 @@ fn question_argument<'a>(alloc: Global, name: &'a str, help: &'a str) -> Arg<'a>
 }
 
 fn why_command<'a>(alloc: Global) -> Result<Command<'a>, AllocError> {
-    let about =
-        "Tells whether a chain of events leads from one call to another, and shows the chain";
-    let first = "The process of the first call: its job, a colon, and its rank";
-    let number = "The number of that call among those of its process, from 1";
+    let about = "Tells whether a chain of events orders two calls, and shows the chain";
+    let first = "The process of the first call: its job, a colon and its rank, as app:0";
+    let number = "The number of that call among the calls of its process, from 1";
     Command::new(alloc, "why")
         .about(about)
         .arg(question_argument(alloc, "P", first))?
@@ -86,7 +91,11 @@ fn why_command<'a>(alloc: Global) -> Result<Command<'a>, AllocError> {
 /// The command line of the program.
 fn command_line<'a>(alloc: Global) -> Result<Command<'a>, AllocError> {
     Command::new(alloc, "wire_up")
-        .about("Rehearses the wire-up of a PMIx job")
+        .about(
+            "Rehearses the wire-up of a PMIx job: finds every race between its ranks, and replays it",
+        )
+        .version(VERSION)
+        .after_help(help::FAULTS_AND_STATUSES)
         .subcommand_required(true)
         .subcommand(check_command(alloc)?)?
         .subcommand(replay_command(alloc)?)?
@@ -117,7 +126,7 @@ fn words<'a>(alloc: Global, arguments: &'a [String]) -> Result<Vec<&'a str>, All
     Ok(words)
 }
 
-/// Does what the words ask for, and tells how that ended.
+/// Does what the words ask for, and answers how that ended.
 fn obey<'a>(
     rt: &(impl Files + Input + Print + Eprint + AllocGlobal + Threads + Sync),
     words: &'a [&'a str],
@@ -165,7 +174,7 @@ fn word_of<'a>(matches: &ArgMatches<'a>, name: &str) -> &'a str {
     matches.get_str(name).unwrap_or("")
 }
 
-/// Tells why there is nothing to do: help was asked for, or the words can't be read.
+/// Tells why there is nothing to do: the user asked for help or the version, or the words can't be read.
 fn tell(rt: &(impl Print + Eprint + AllocGlobal), error: &Error) -> Result<(), Failure> {
     if error.kind() == ErrorKind::OutOfMemory {
         return Err(Fault::Memory.into());
@@ -210,7 +219,7 @@ fn replay_file(
 }
 
 /// Follows the order of a file on the scripts of a file, or on those of standard input where none is
-/// named. The file of the scripts is opened first.
+/// named. The scripts are opened first.
 fn follow_file(
     rt: &(impl Files + Input + Print + AllocGlobal),
     order: &str,
@@ -229,10 +238,14 @@ fn follow_file(
             )
         }
         None => {
+            let mut input = rt.reader();
+            // Where standard input is closed, the order would be opened in its place, and be read as the
+            // scripts. A read of no bytes fails there, and takes nothing anywhere else.
+            input.read(&mut [0; 0]).map_err(|_| Fault::Read)?;
             let order = File::open(rt, order).map_err(|_| Fault::Read)?;
             follow(
                 rt.alloc(),
-                &mut FromRead::new(rt.reader()),
+                &mut FromRead::new(input),
                 &mut FromRead::new(order),
                 &mut writer,
             )

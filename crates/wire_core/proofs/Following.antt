@@ -10,7 +10,7 @@ use Rattle.wire_runs.specs.PlainRun.{plain_run}
 use Rattle.wire_runs.specs.Races.{IsSettled}
 use Rattle.wire_runs.proofs.PlainRun.{plain_runs}
 use Rattle.wire_core.specs.Course.{Course, plan_in, state_of}
-use Rattle.wire_core.specs.Stops.{Follows}
+use Rattle.wire_core.specs.Following.{Follows}
 use Rattle.wire_core.proofs.Steps.{legal_push, run_append}
 
 take_more : (xs : List ℕ) (n x : ℕ) → slice_get xs n ≡ Some x → take (suc n) xs ≡ take n xs ++ x ∷ []
@@ -46,4 +46,4 @@ ends_plainly old new order follows is_new settled ended =
     let legal : IsInterleaving (plan_in old) start old.history = subst (IsInterleaving (plan_in old) start) (sym is_new) tt in
     let all : IsInterleaving (plan_in new) start new.history =
     subst (λ (c : Course). IsInterleaving (plan_in c) start c.history) (sym follows.taken) (legal_after (plan_in old) start old.history order legal follows.enabled) in
-    (plain_runs (plan_in new)).is_the_end new.history settled all ended
+    (plain_runs (plan_in new)).is_the_end settled new.history all ended

@@ -1,6 +1,6 @@
-pub mod Meet
+pub mod Met
 pub mod Bring
 pub mod Shared
-pub mod Looks
+pub mod Ranks
 pub mod Steps
 pub mod Following

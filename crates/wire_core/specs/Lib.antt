@@ -1,6 +1,6 @@
 pub mod Puts
 pub mod Course
-pub mod Shown
+pub mod Sight
 pub mod Met
 pub mod Ranks
-pub mod Stops
+pub mod Following

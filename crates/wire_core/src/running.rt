@@ -12,9 +12,9 @@ ghost use Rattle.wire_runs.specs.Races.{IsSettled};
 ghost use Rattle.wire_runs.specs.Plan.{event_total};
 ghost use Rattle.wire_runs.specs.Ends.{given, is_waiting, outcome, row};
 ghost use Rattle.wire_core.specs.Course.{plan_in, state_of};
-ghost use Rattle.wire_core.specs.Shown.{replies_in};
+ghost use Rattle.wire_core.specs.Sight.{replies_in};
 ghost use Rattle.wire_core.specs.Ranks.{AreRanksOf};
-ghost use Rattle.wire_core.specs.Stops.{Follows, StopsAt};
+ghost use Rattle.wire_core.specs.Following.{Follows, StopsAt};
 
 use crate::ends::{add_unanswered, replied};
 use crate::met::{arrived_at, is_complete, note_arrival};

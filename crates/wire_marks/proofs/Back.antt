@@ -9,7 +9,7 @@ use Rattle.wire_runs.specs.Order.{Before}
 use Rattle.wire_runs.specs.Fate.{IsIn}
 use Rattle.wire_plan.specs.Index.{AreSources}
 use Rattle.wire_marks.specs.Clocks.{LeadsTo}
-use Rattle.wire_marks.specs.Shown.{AtMost, IsStepBack, IsShown, begins, goes_on, IsLowest, Lowest}
+use Rattle.wire_marks.specs.Chain.{AtMost, IsStepBack, IsShown, begins, goes_on, IsLowest, Lowest}
 use Rattle.wire_marks.proofs.Marking.{last_source}
 
 at_most_through : (x y z : Event) → AtMost x y → AtMost y z → AtMost x z

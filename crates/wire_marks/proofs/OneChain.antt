@@ -3,7 +3,7 @@ use Rattle.std.proofs.Common.{◌≡◌, inl, inr, List, [], ◌∷◌, ◌++◌
 use Rattle.wire_runs.specs.Plan.{Plan, Event}
 use Rattle.wire_runs.specs.Order.{Edge, Live, edge, further}
 use Rattle.wire_runs.proofs.Histories.{no_cycle, before_live}
-use Rattle.wire_marks.specs.Shown.{AtMost, IsStepBack, IsShown, begins, goes_on, OneShown}
+use Rattle.wire_marks.specs.Chain.{AtMost, IsStepBack, IsShown, begins, goes_on, OneShown}
 
 at_most_both : (x y : Event) → AtMost x y → AtMost y x → x ≡ y
 at_most_both x y (inl a) (inl b) = absurd (omega (arith, a, b))

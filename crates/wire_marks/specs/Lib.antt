@@ -1,4 +1,4 @@
 pub mod Clocks
-pub mod Shown
+pub mod Chain
 pub mod Marking
-pub mod Meeting
+pub mod Joins

@@ -6,7 +6,7 @@ ghost use Rattle.wire_runs.specs.Plan as runs;
 ghost use Rattle.wire_rehearsal.specs.Planned.{plan_of};
 ghost use Rattle.wire_runs.specs.Order.{Live, Before};
 ghost use Rattle.wire_marks.specs.Clocks.{AreMarks, IsClockOf};
-ghost use Rattle.wire_marks.specs.Shown.{IsShown};
+ghost use Rattle.wire_marks.specs.Chain.{IsShown};
 
 use crate::clocks::Clocks;
 use crate::grow::all_clocks;

@@ -6,7 +6,7 @@ ghost use Rattle.wire_runs.specs.Plan as runs;
 ghost use Rattle.wire_rehearsal.specs.Planned.{plan_of};
 ghost use Rattle.wire_runs.specs.Order.{Before};
 ghost use Rattle.wire_marks.specs.Clocks.{AreMarks, LeadsTo};
-ghost use Rattle.wire_marks.specs.Shown.{AtMost, IsStepBack, IsShown, Lowest};
+ghost use Rattle.wire_marks.specs.Chain.{AtMost, IsStepBack, IsShown, Lowest};
 
 use crate::marks::Marks;
 use std::alloc::{AllocError, Global};

@@ -11,16 +11,16 @@ use Rattle.wire_plan.specs.declared.code.Kind.TheVariants as code
 use Rattle.wire_plan.specs.Kinds.{kind_of}
 use Rattle.wire_runs.specs.Order.{Stores, PublishesOnce}
 use Rattle.wire_runs.specs.Races.{IsPutOnce}
-use Rattle.wire_plan.specs.Index.{Awaits, Stored, Published, IsAwaited}
+use Rattle.wire_plan.specs.Index.{Awaits, AwaitsCommit, AwaitsPublish, IsAwaited}
 use Rattle.wire_plan.proofs.KeyFacts.{stores_once}
 
--- all that is awaited, from what a get awaits and what a waiting look-up does
+-- all that is awaited, from what a get awaits and what a waiting lookup does
 all_awaited : (plan : Plan) (y : Event) (found : Option Event) → ((z : Event) (key : ℕ) → kind plan y ≡ Some (Get z.proc key) → z.proc ≢ y.proc → IsPutOnce plan z.proc key → Stores plan z key → found ≡ Some z)
     → ((z : Event) (name : ℕ) → kind plan y ≡ Some (LookupWait name) → PublishesOnce plan z name → found ≡ Some z) → (z : Event) → Awaits plan y z → found ≡ Some z
-all_awaited plan y found stored published z (Stored key is other once stores) = stored z key is other once stores
-all_awaited plan y found stored published z (Published name is once) = published z name is once
+all_awaited plan y found stored published z (AwaitsCommit key is other once stores) = stored z key is other once stores
+all_awaited plan y found stored published z (AwaitsPublish name is once) = published z name is once
 
--- an event that is no get of another process's key and no waiting look-up waits for neither
+-- an event that is no get of another process's key and no waiting lookup waits for neither
 nothing_awaited : (plan : Plan) (y : Event) → ((z : Event) (key : ℕ) → kind plan y ≡ Some (Get z.proc key) → z.proc ≢ y.proc → ⊥) → ((name : ℕ) → kind plan y ≡ Some (LookupWait name) → ⊥) → IsAwaited plan y None
 nothing_awaited plan y no_get no_lookup = record {
   only = λ z is. absurd (cc);
@@ -67,7 +67,7 @@ key_of_other plan y owner key (Some x) is other (whose, once_put, stored_there) 
   only = λ z at.
       let here : event_of x ≡ z = same_Some _ _ at in
       let its : x.proc.number ≡ owner.number = ap (λ p. p.number) whose in
-      subst (λ w. Awaits plan y w) here (Stored key (is ∙ ap (λ p. Some (Get p key)) (sym its)) (λ e. other (sym its ∙ e)) (subst (λ p. IsPutOnce plan p key) (sym its) once_put) stored_there);
+      subst (λ w. Awaits plan y w) here (AwaitsCommit key (is ∙ ap (λ p. Some (Get p key)) (sym its)) (λ e. other (sym its ∙ e)) (subst (λ p. IsPutOnce plan p key) (sym its) once_put) stored_there);
   all = all_awaited plan y (Some (event_of x))
       (λ z k at differs once stores.
       let same : Get owner.number key ≡ Get z.proc k = same_Some _ _ (sym is ∙ at) in
@@ -77,7 +77,7 @@ key_of_other plan y owner key (Some x) is other (whose, once_put, stored_there) 
       (λ z name at once. let same : Get owner.number key ≡ LookupWait name = same_Some _ _ (sym is ∙ at) in absurd (cc));
 }
 
--- a waiting look-up waits for the publish of a name that is published once
+-- a waiting lookup waits for the publish of a name that is published once
 pub once_name : (plan : Plan) (y : Event) (name : ℕ) (found : Option CodeEvent) → kind plan y ≡ Some (LookupWait name)
     → MatchOption found ((x : Event) → PublishesOnce plan x name → ⊥) (λ x. PublishesOnce plan (event_of x) name)
     → IsAwaited plan y (option_map event_of found)
@@ -91,7 +91,7 @@ once_name plan y name None is none = record {
       absurd (none z (subst (PublishesOnce plan z) (sym n_is) once)));
 }
 once_name plan y name (Some x) is published = record {
-  only = λ z at. let here : event_of x ≡ z = same_Some _ _ at in subst (λ w. Awaits plan y w) here (Published name is published);
+  only = λ z at. let here : event_of x ≡ z = same_Some _ _ at in subst (λ w. Awaits plan y w) here (AwaitsPublish name is published);
   all = all_awaited plan y (Some (event_of x))
       (λ z key at other once stores. let same : LookupWait name ≡ Get z.proc key = same_Some _ _ (sym is ∙ at) in absurd (cc))
       (λ z n at once.

@@ -26,11 +26,11 @@ previous_of y = previous_at y.proc y.at
 abbrev pub source_list : Option CodeEvent → Option CodeEvent → List CodeEvent → List Event
 source_list previous single arrivals = option_to_list (option_map event_of previous) ++ (option_to_list (option_map event_of single) ++ map event_of arrivals)
 
--- y is a get of another process's key that is put once, and z the commit that stores the key; or y is a waiting look-up of a
+-- y is a get of another process's key that is put once, and z the commit that stores the key; or y is a waiting lookup of a
 -- name that is published once, and z that publish
 pub data Awaits (plan : Plan) (y z : Event) : Type 0 where
-  Stored : (key : ℕ) → kind plan y ≡ Some (Get z.proc key) → z.proc ≢ y.proc → IsPutOnce plan z.proc key → Stores plan z key → Awaits plan y z
-  Published : (name : ℕ) → kind plan y ≡ Some (LookupWait name) → PublishesOnce plan z name → Awaits plan y z
+  AwaitsCommit : (key : ℕ) → kind plan y ≡ Some (Get z.proc key) → z.proc ≢ y.proc → IsPutOnce plan z.proc key → Stores plan z key → Awaits plan y z
+  AwaitsPublish : (name : ℕ) → kind plan y ≡ Some (LookupWait name) → PublishesOnce plan z name → Awaits plan y z
 
 -- what is found, if anything, is that commit or that publish
 pub record IsAwaited (plan : Plan) (y : Event) (found : Option Event) : Type 0 where
@@ -52,13 +52,13 @@ abbrev pub AreNameCalls : Plan → ℕ → List Event → Type 0
 AreNameCalls plan name places = AreAll (λ x. calls_name plan name x (kind plan x) ≡ true) places
 
 -- x asks another process for the key and is answered at once
-pub record IsLook (plan : Plan) (key : ℕ) (x : Event) : Type 0 where
+pub record IsGetNow (plan : Plan) (key : ℕ) (x : Event) : Type 0 where
   pub owner : ℕ
   pub is : kind plan x ≡ Some (GetNow owner key)
   pub other : x.proc ≢ owner
 
-abbrev pub AreLooks : Plan → ℕ → List Event → Type 0
-AreLooks plan key places = AreAll (IsLook plan key) places
+abbrev pub AreGetsNow : Plan → ℕ → List Event → Type 0
+AreGetsNow plan key places = AreAll (IsGetNow plan key) places
 
 -- p's event number `at` is its arrival at a fence that brings its key to the node
 pub record IsDelivering (plan : Plan) (p key node at : ℕ) : Type 0 where

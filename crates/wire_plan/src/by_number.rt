@@ -23,7 +23,7 @@ pub(crate) enum Listing {
     /// The calls that may take a name away, by the name.
     Takes,
     /// The gets that are answered at once and ask another process, by the key.
-    Looks,
+    GetsNow,
 }
 
 impl Listing {
@@ -35,7 +35,7 @@ impl Listing {
             Listing::NameCalls => name_called(kind),
             Listing::Publishes => name_published(kind),
             Listing::Takes => name_taken(kind),
-            Listing::Looks => key_looked_at(proc, kind),
+            Listing::GetsNow => key_looked_at(proc, kind),
         }
     }
 }
@@ -75,7 +75,7 @@ fn name_taken(kind: Kind) -> Option<u32>
 
 // The key of a get that is answered at once and asks another process.
 fn key_looked_at(proc: Proc, kind: Kind) -> Option<u32>
-    ensures { (plan : runs.Plan) (sets : List (List ℕ)) (number : ℕ) (x : runs.Event) → x.proc ≡ proc.number → is_listed plan Listing.Looks number x (Some (kind_of sets kind)) ≡ is_number result number }
+    ensures { (plan : runs.Plan) (sets : List (List ℕ)) (number : ℕ) (x : runs.Event) → x.proc ≡ proc.number → is_listed plan Listing.GetsNow number x (Some (kind_of sets kind)) ≡ is_number result number }
 {
     match kind {
         Kind::GetNow { owner, key } => {

@@ -6,7 +6,7 @@ ghost use Rattle.wire_plan.specs.Indexed.{IsIndexed};
 
 use crate::events::Events;
 use crate::keys::KeyTable;
-use crate::looks::LookTable;
+use crate::gets_now::GetNowTable;
 use crate::meetings::Meetings;
 use crate::names::NameTable;
 use std::alloc::{AllocError, Global};
@@ -19,7 +19,7 @@ pub(crate) struct Index {
     pub meetings: Meetings,
     pub keys: KeyTable,
     pub names: NameTable,
-    pub looks: LookTable,
+    pub gets_now: GetNowTable,
 }
 
 impl Index {
@@ -32,7 +32,7 @@ impl Index {
             meetings: Meetings::of(alloc, events, fences)?,
             keys: KeyTable::of(alloc, events)?,
             names: NameTable::of(alloc, events)?,
-            looks: LookTable::of(alloc, events)?,
+            gets_now: GetNowTable::of(alloc, events)?,
         })
     }
 }

@@ -32,9 +32,9 @@ pub enum Kind {
     GetNow { owner: Proc, key: u32 },
     /// The publication of a name.
     Publish { name: u32 },
-    /// A look-up of a name that is answered at once.
+    /// A lookup of a name that is answered at once.
     Lookup { name: u32 },
-    /// A look-up that waits for the name.
+    /// A lookup that waits for the name.
     LookupWait { name: u32 },
     /// The end of a name that its caller published.
     Unpublish { name: u32 },

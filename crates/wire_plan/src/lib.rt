@@ -8,7 +8,7 @@ mod index;
 mod keys;
 mod kind;
 pub mod laws;
-mod looks;
+mod gets_now;
 mod meetings;
 mod names;
 mod plan;

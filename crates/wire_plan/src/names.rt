@@ -46,7 +46,7 @@ impl NameTable {
         })
     }
 
-    /// The calls on a name, in process order: publishes, look-ups and unpublishes (PMIx Standard 5.0,
+    /// The calls on a name, in process order: publishes, lookups and unpublishes (PMIx Standard 5.0,
     /// PMIx_Publish, PMIx_Lookup, PMIx_Unpublish). None where no event calls it.
     pub(crate) fn calls(&self, name: u32) -> &[Event]
         ensures { (plan : runs.Plan) → AreNamesOf plan self.now → AreNameCalls plan name (map event_of result.now) }

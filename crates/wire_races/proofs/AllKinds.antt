@@ -2,10 +2,10 @@
 use Rattle.std.proofs.Common.{◌≡◌, sym, refl, subst, ℕ, Bool, List, inl, inr}
 use Rattle.wire_runs.specs.Plan.{Plan}
 use Rattle.wire_runs.specs.Findings.{Finding, Rewrite, KeyRace, NameRace, IsFound, Has, IsSorted}
-use Rattle.wire_races.specs.Shown.{all_shown, AreFindings}
+use Rattle.wire_races.specs.Findings.{all_shown, AreFindings}
 use Rattle.wire_races.specs.declared.finding.Finding.{Finding as Told}
-use Rattle.wire_races.specs.Collected.{AreFound}
-use Rattle.wire_races.specs.Kinds.{IsOfRewrite, IsOfKey, IsOfName, AllAdded}
+use Rattle.wire_races.specs.Found.{AreFound}
+use Rattle.wire_races.specs.FindingKinds.{IsOfRewrite, IsOfKey, IsOfName, AllAdded}
 
 each_kind : (plan : Plan) (a b c d : List Finding) → AllAdded plan IsOfRewrite a b → AllAdded plan IsOfKey b c → AllAdded plan IsOfName c d → (f : Finding) → IsFound plan f → Has d f
 each_kind plan a b c d r k n (Rewrite x y) h =

@@ -11,20 +11,20 @@ use Rattle.wire_rehearsal.specs.Scripts.{Scripts, IsSound}
 use Rattle.wire_rehearsal.specs.Planned.{plan_of}
 use Rattle.wire_runs.specs.Findings.{Finding, IsFound, Has}
 use Rattle.wire_races.specs.declared.finding.Finding.{Finding as Told}
-use Rattle.wire_races.specs.Shown.{shown, all_shown}
-use Rattle.wire_races.specs.Collected.{AreFound, IsAdded}
-use Rattle.wire_races.specs.Kinds.{AllAdded, IsOfKey, IsOfName}
+use Rattle.wire_races.specs.Findings.{shown, all_shown}
+use Rattle.wire_races.specs.Found.{AreFound, IsAdded}
+use Rattle.wire_races.specs.FindingKinds.{AllAdded, IsOfKey, IsOfName}
 use Rattle.wire_races.specs.Adding.{Adds, OfKind}
-use Rattle.wire_races.specs.Racing.{IsKeyRaceOf}
+use Rattle.wire_races.specs.KeyRaces.{IsKeyRaceOf}
 use Rattle.wire_races.specs.NameRaces.{IsRaceOn}
 use Rattle.wire_races.specs.Pieces.{IsPiece, ArePieces, IsInSome, AreAllFound}
 use Rattle.wire_races.proofs.Adding.{has_front, has_back, has_either}
 use Rattle.wire_races.proofs.Growing.{adds_one, adds_both, adds_same, all_added}
-use Rattle.wire_races.proofs.Starting.{writes_calls}
-use Rattle.wire_races.proofs.Named.{named_within}
-use Rattle.wire_races.proofs.Racing.{found_on, on_name, race_on}
+use Rattle.wire_races.proofs.Calls.{writes_calls}
+use Rattle.wire_races.proofs.Names.{named_within}
+use Rattle.wire_races.proofs.NameRaces.{found_on, on_name, race_on}
 use Rattle.wire_races.proofs.Gathered.{gathered}
-use Rattle.wire_races.proofs.Delivered.{race_within, race_below, race_told, race_by}
+use Rattle.wire_races.proofs.Deliveries.{race_within, race_below, race_told, race_by}
 
 -- what is added to nothing is a piece
 pub piece_of : (plan : Plan) (those : Finding → Type 0) (old new : List Finding) (piece : Vec Told Global) → old ≡ [] → Adds plan old new those → all_shown plan piece.items ≡ new → IsPiece plan those piece

@@ -1,8 +1,8 @@
-pub mod Shown
-pub mod Collected
-pub mod Kinds
+pub mod Findings
+pub mod Found
+pub mod FindingKinds
 pub mod Adding
-pub mod Rewriting
-pub mod Racing
+pub mod Rewrites
+pub mod KeyRaces
 pub mod NameRaces
 pub mod Pieces

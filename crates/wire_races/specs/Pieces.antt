@@ -4,8 +4,8 @@ use Rattle.std.specs.declared.alloc.Global.{Global}
 use Rattle.wire_runs.specs.Plan.{Plan}
 use Rattle.wire_runs.specs.Findings.{Finding, Has}
 use Rattle.wire_races.specs.declared.finding.Finding.{Finding as Told}
-use Rattle.wire_races.specs.Shown.{all_shown}
-use Rattle.wire_races.specs.Collected.{AreFound}
+use Rattle.wire_races.specs.Findings.{all_shown}
+use Rattle.wire_races.specs.Found.{AreFound}
 
 -- a piece tells exactly these findings, and they are of the plan
 pub record IsPiece (plan : Plan) (those : Finding → Type 0) (piece : Vec Told Global) : Type 0 where

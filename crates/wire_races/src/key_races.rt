@@ -10,12 +10,12 @@ ghost use Rattle.wire_runs.specs.Races.{IsUnordered, IsPutOnce, ComesSurely};
 ghost use Rattle.wire_runs.specs.Findings.{IsKeyRace};
 ghost use Rattle.wire_plan.specs.Index.{AreArrivals, IsDelivering};
 ghost use Rattle.wire_marks.specs.Clocks.{AreMarks};
-ghost use Rattle.wire_races.specs.Shown.{shown};
-ghost use Rattle.wire_races.specs.Collected.{AreFound};
-ghost use Rattle.wire_races.specs.Kinds.{IsOfKey, AllAdded};
+ghost use Rattle.wire_races.specs.Findings.{shown};
+ghost use Rattle.wire_races.specs.Found.{AreFound};
+ghost use Rattle.wire_races.specs.FindingKinds.{IsOfKey, AllAdded};
 ghost use Rattle.wire_races.specs.Adding.{Adds, ToldIn};
 ghost use Rattle.wire_races.specs.Pieces.{IsPiece, ArePieces};
-ghost use Rattle.wire_races.specs.Racing.{IsRaceOf, IsKeyRaceBy, IsKeyRaceOf, IsOpen, Arrives, IsSure, MayBeLate, IsLate, IsLateBy, AreLateBelow, AllLive, NoneAfter, IsFirstLate, IsUnsure, IsNextArrival};
+ghost use Rattle.wire_races.specs.KeyRaces.{IsRaceOf, IsKeyRaceBy, IsKeyRaceOf, IsOpen, Arrives, IsSure, MayBeLate, IsLate, IsLateBy, AreLateBelow, AllLive, NoneAfter, IsFirstLate, IsUnsure, IsNextArrival};
 
 use crate::finding::Finding;
 use crate::found::Found;
@@ -42,13 +42,13 @@ fn are_unordered(marks: &Marks, x: Event, y: Event) -> bool
 }
 
 /// The race of a get with an event, the lower call first.
-fn race_of(plan: &Plan, source: Event, look: Event, owner: Proc, key: u32) -> Finding
-    requires { IsKeyRace (plan_of plan.now) (event_of source) (event_of look) owner.number key }
-    ensures { IsRaceOf (event_of source) (event_of look) owner.number key (shown (plan_of plan.now) result) }
+fn race_of(plan: &Plan, source: Event, get_now: Event, owner: Proc, key: u32) -> Finding
+    requires { IsKeyRace (plan_of plan.now) (event_of source) (event_of get_now) owner.number key }
+    ensures { IsRaceOf (event_of source) (event_of get_now) owner.number key (shown (plan_of plan.now) result) }
 {
     let first = plan.call_of(source);
-    let second = plan.call_of(look);
-    if is_lower(source, look) {
+    let second = plan.call_of(get_now);
+    if is_lower(source, get_now) {
         Finding::KeyRace(first, second, owner, key)
     } else {
         Finding::KeyRace(second, first, owner, key)
@@ -60,15 +60,15 @@ fn add_race(
     plan: &Plan,
     found: &mut Found,
     source: Event,
-    look: Event,
+    get_now: Event,
     owner: Proc,
     key: u32,
 ) -> Result<(), AllocError>
-    requires race { IsKeyRace (plan_of plan.now) (event_of source) (event_of look) owner.number key }
+    requires race { IsKeyRace (plan_of plan.now) (event_of source) (event_of get_now) owner.number key }
     requires found { AreFound (plan_of plan.now) found.old }
-    ensures { OnOk result (Adds (plan_of plan.now) found.old found.new (IsRaceOf (event_of source) (event_of look) owner.number key)) }
+    ensures { OnOk result (Adds (plan_of plan.now) found.old found.new (IsRaceOf (event_of source) (event_of get_now) owner.number key)) }
 {
-    found.add(plan, race_of(plan, source, look, owner, key))
+    found.add(plan, race_of(plan, source, get_now, owner, key))
 }
 
 /// Adds the race of a get with the commit that stores its key on the same node, if they race.
@@ -76,21 +76,21 @@ fn add_node_race(
     plan: &Plan,
     marks: &Marks,
     found: &mut Found,
-    look: Event,
+    get_now: Event,
     owner: Proc,
     key: u32,
 ) -> Result<(), AllocError>
     requires marks { AreMarks (plan_of plan.now) marks.now }
     requires found { AreFound (plan_of plan.now) found.old }
-    requires get { IsOpen (plan_of plan.now) (event_of look) owner.number key }
-    requires node { same_node (plan_of plan.now) owner.number look.proc.number ≡ true }
-    ensures { OnOk result (Adds (plan_of plan.now) found.old found.new (IsKeyRaceBy (plan_of plan.now) (event_of look))) }
+    requires get { IsOpen (plan_of plan.now) (event_of get_now) owner.number key }
+    requires node { same_node (plan_of plan.now) owner.number get_now.proc.number ≡ true }
+    ensures { OnOk result (Adds (plan_of plan.now) found.old found.new (IsKeyRaceBy (plan_of plan.now) (event_of get_now))) }
 {
     let Some(commit) = plan.store_of(owner, key) else {
         return Ok(());
     };
-    if are_unordered(marks, commit, look) {
-        add_race(plan, found, commit, look, owner, key)
+    if are_unordered(marks, commit, get_now) {
+        add_race(plan, found, commit, get_now, owner, key)
     } else {
         Ok(())
     }
@@ -132,11 +132,11 @@ fn all_live(marks: &Marks, events: &[Event]) -> bool
 }
 
 /// Whether a get is before none of these events.
-fn is_before_none(marks: &Marks, look: Event, events: &[Event]) -> bool
-    ensures { (plan : runs.Plan) → AreMarks plan marks.now → (IsTrue result ↔ NoneAfter plan (event_of look) (map event_of events.now)) }
+fn is_before_none(marks: &Marks, get_now: Event, events: &[Event]) -> bool
+    ensures { (plan : runs.Plan) → AreMarks plan marks.now → (IsTrue result ↔ NoneAfter plan (event_of get_now) (map event_of events.now)) }
 {
     for x in events {
-        if marks.before(look, *x) {
+        if marks.before(get_now, *x) {
             return false;
         }
     }
@@ -144,11 +144,11 @@ fn is_before_none(marks: &Marks, look: Event, events: &[Event]) -> bool
 }
 
 /// The first of these events that isn't before a get.
-fn first_not_before(marks: &Marks, events: &[Event], look: Event) -> Option<Event>
-    ensures { (plan : runs.Plan) → AreMarks plan marks.now → IsFirstLate plan (event_of look) (map event_of events.now) result }
+fn first_not_before(marks: &Marks, events: &[Event], get_now: Event) -> Option<Event>
+    ensures { (plan : runs.Plan) → AreMarks plan marks.now → IsFirstLate plan (event_of get_now) (map event_of events.now) result }
 {
     for x in events {
-        if !marks.before(*x, look) {
+        if !marks.before(*x, get_now) {
             return Some(*x);
         }
     }
@@ -156,33 +156,33 @@ fn first_not_before(marks: &Marks, events: &[Event], look: Event) -> Option<Even
 }
 
 /// Whether all arrivals at the fence of an arrival are live and before a get.
-fn is_sure(plan: &Plan, marks: &Marks, look: Event, arrival: Event) -> bool
+fn is_sure(plan: &Plan, marks: &Marks, get_now: Event, arrival: Event) -> bool
     requires marks { AreMarks (plan_of plan.now) marks.now }
     requires fence { Arrives (plan_of plan.now) (event_of arrival) }
-    ensures { IsTrue result ↔ IsSure (plan_of plan.now) (event_of look) (event_of arrival) }
+    ensures { IsTrue result ↔ IsSure (plan_of plan.now) (event_of get_now) (event_of arrival) }
 {
     let arrivals = all_arrivals(plan, arrival);
-    all_live(marks, arrivals) && first_not_before(marks, arrivals, look).is_none()
+    all_live(marks, arrivals) && first_not_before(marks, arrivals, get_now).is_none()
 }
 
 /// Whether all arrivals at the fence of an arrival are live, and a get is before none of them.
-fn may_be_late(plan: &Plan, marks: &Marks, look: Event, arrival: Event) -> bool
+fn may_be_late(plan: &Plan, marks: &Marks, get_now: Event, arrival: Event) -> bool
     requires marks { AreMarks (plan_of plan.now) marks.now }
     requires fence { Arrives (plan_of plan.now) (event_of arrival) }
-    ensures { IsTrue result ↔ MayBeLate (plan_of plan.now) (event_of look) (event_of arrival) }
+    ensures { IsTrue result ↔ MayBeLate (plan_of plan.now) (event_of get_now) (event_of arrival) }
 {
     let arrivals = all_arrivals(plan, arrival);
-    all_live(marks, arrivals) && is_before_none(marks, look, arrivals)
+    all_live(marks, arrivals) && is_before_none(marks, get_now, arrivals)
 }
 
 /// The first arrival, in process order, at the fence of an arrival that isn't before a get. All
 /// arrivals there are live, and the get is before none of them.
-fn late_source(plan: &Plan, marks: &Marks, look: Event, arrival: Event) -> Option<Event>
+fn late_source(plan: &Plan, marks: &Marks, get_now: Event, arrival: Event) -> Option<Event>
     requires marks { AreMarks (plan_of plan.now) marks.now }
-    requires may { MayBeLate (plan_of plan.now) (event_of look) (event_of arrival) }
-    ensures { MatchOption result ((x : runs.Event) → IsLate (plan_of plan.now) (event_of look) (event_of arrival) x → ⊥) (λ x. IsLate (plan_of plan.now) (event_of look) (event_of arrival) (event_of x)) }
+    requires may { MayBeLate (plan_of plan.now) (event_of get_now) (event_of arrival) }
+    ensures { MatchOption result ((x : runs.Event) → IsLate (plan_of plan.now) (event_of get_now) (event_of arrival) x → ⊥) (λ x. IsLate (plan_of plan.now) (event_of get_now) (event_of arrival) (event_of x)) }
 {
-    first_not_before(marks, all_arrivals(plan, arrival), look)
+    first_not_before(marks, all_arrivals(plan, arrival), get_now)
 }
 
 /// The next arrival of a process, from its event of this number on, that brings its key to a node.
@@ -195,13 +195,13 @@ fn next_arrival(plan: &Plan, owner: Proc, key: u32, node: u32, from: u32) -> Opt
 
 /// Whether a delivery of a key to a node comes before a get in every run. If any does, the first one
 /// does: all arrivals at its fence are before each later arrival of the owner.
-fn comes_surely(plan: &Plan, marks: &Marks, look: Event, owner: Proc, key: u32, node: u32) -> bool
+fn comes_surely(plan: &Plan, marks: &Marks, get_now: Event, owner: Proc, key: u32, node: u32) -> bool
     requires marks { AreMarks (plan_of plan.now) marks.now }
     requires once { IsPutOnce (plan_of plan.now) owner.number key }
-    ensures { IsTrue result ↔ ComesSurely (plan_of plan.now) owner.number key node (event_of look) }
+    ensures { IsTrue result ↔ ComesSurely (plan_of plan.now) owner.number key node (event_of get_now) }
 {
     match next_arrival(plan, owner, key, node, 0) {
-        Some(first) => is_sure(plan, marks, look, first),
+        Some(first) => is_sure(plan, marks, get_now, first),
         None => false,
     }
 }
@@ -211,21 +211,21 @@ fn add_late(
     plan: &Plan,
     marks: &Marks,
     found: &mut Found,
-    look: Event,
+    get_now: Event,
     owner: Proc,
     key: u32,
     arrival: Event,
 ) -> Result<(), AllocError>
     requires marks { AreMarks (plan_of plan.now) marks.now }
     requires found { AreFound (plan_of plan.now) found.old }
-    requires late { IsUnsure (plan_of plan.now) (event_of look) owner.number key }
-    requires may { MayBeLate (plan_of plan.now) (event_of look) (event_of arrival) }
+    requires late { IsUnsure (plan_of plan.now) (event_of get_now) owner.number key }
+    requires may { MayBeLate (plan_of plan.now) (event_of get_now) (event_of arrival) }
     requires proc { arrival.proc ≡ owner }
-    requires delivers { IsDelivering (plan_of plan.now) owner.number key (node_of (plan_of plan.now) look.proc.number) arrival.at }
-    ensures { OnOk result (Adds (plan_of plan.now) found.old found.new (IsLateBy (plan_of plan.now) (event_of look) owner.number key (node_of (plan_of plan.now) look.proc.number) arrival.at)) }
+    requires delivers { IsDelivering (plan_of plan.now) owner.number key (node_of (plan_of plan.now) get_now.proc.number) arrival.at }
+    ensures { OnOk result (Adds (plan_of plan.now) found.old found.new (IsLateBy (plan_of plan.now) (event_of get_now) owner.number key (node_of (plan_of plan.now) get_now.proc.number) arrival.at)) }
 {
-    match late_source(plan, marks, look, arrival) {
-        Some(source) => add_race(plan, found, source, look, owner, key),
+    match late_source(plan, marks, get_now, arrival) {
+        Some(source) => add_race(plan, found, source, get_now, owner, key),
         None => Ok(()),
     }
 }
@@ -237,16 +237,16 @@ fn add_all_late(
     plan: &Plan,
     marks: &Marks,
     found: &mut Found,
-    look: Event,
+    get_now: Event,
     owner: Proc,
     key: u32,
     node: u32,
 ) -> Result<(), AllocError>
     requires marks { AreMarks (plan_of plan.now) marks.now }
     requires found { AreFound (plan_of plan.now) found.old }
-    requires late { IsUnsure (plan_of plan.now) (event_of look) owner.number key }
-    requires node { node ≡ node_of (plan_of plan.now) look.proc.number }
-    ensures { OnOk result (Adds (plan_of plan.now) found.old found.new (AreLateBelow (plan_of plan.now) (event_of look) owner.number key (node_of (plan_of plan.now) look.proc.number) (event_count (plan_of plan.now) owner.number))) }
+    requires late { IsUnsure (plan_of plan.now) (event_of get_now) owner.number key }
+    requires node { node ≡ node_of (plan_of plan.now) get_now.proc.number }
+    ensures { OnOk result (Adds (plan_of plan.now) found.old found.new (AreLateBelow (plan_of plan.now) (event_of get_now) owner.number key (node_of (plan_of plan.now) get_now.proc.number) (event_count (plan_of plan.now) owner.number))) }
 {
     let count = plan.event_count(owner);
     let mut from = 0;
@@ -254,10 +254,10 @@ fn add_all_late(
         let Some(arrival) = next_arrival(plan, owner, key, node, from) else {
             return Ok(());
         };
-        if !may_be_late(plan, marks, look, arrival) {
+        if !may_be_late(plan, marks, get_now, arrival) {
             return Ok(());
         }
-        add_late(plan, marks, found, look, owner, key, arrival)?;
+        add_late(plan, marks, found, get_now, owner, key, arrival)?;
         from = arrival.at + 1;
     }
     Ok(())
@@ -268,55 +268,55 @@ fn add_delivery_races(
     plan: &Plan,
     marks: &Marks,
     found: &mut Found,
-    look: Event,
+    get_now: Event,
     owner: Proc,
     key: u32,
 ) -> Result<(), AllocError>
     requires marks { AreMarks (plan_of plan.now) marks.now }
     requires found { AreFound (plan_of plan.now) found.old }
-    requires get { IsOpen (plan_of plan.now) (event_of look) owner.number key }
-    requires node { same_node (plan_of plan.now) owner.number look.proc.number ≡ false }
-    ensures { OnOk result (Adds (plan_of plan.now) found.old found.new (IsKeyRaceBy (plan_of plan.now) (event_of look))) }
+    requires get { IsOpen (plan_of plan.now) (event_of get_now) owner.number key }
+    requires node { same_node (plan_of plan.now) owner.number get_now.proc.number ≡ false }
+    ensures { OnOk result (Adds (plan_of plan.now) found.old found.new (IsKeyRaceBy (plan_of plan.now) (event_of get_now))) }
 {
-    let node = plan.node_of(look.proc);
-    if comes_surely(plan, marks, look, owner, key, node) {
+    let node = plan.node_of(get_now.proc);
+    if comes_surely(plan, marks, get_now, owner, key, node) {
         return Ok(());
     }
-    add_all_late(plan, marks, found, look, owner, key, node)
+    add_all_late(plan, marks, found, get_now, owner, key, node)
 }
 
 /// Whether a get that is answered at once is live, and of a key that another process puts once.
-fn is_open(plan: &Plan, marks: &Marks, look: Event, owner: Proc, key: u32) -> bool
+fn is_open(plan: &Plan, marks: &Marks, get_now: Event, owner: Proc, key: u32) -> bool
     requires marks { AreMarks (plan_of plan.now) marks.now }
-    requires get { kind (plan_of plan.now) (event_of look) ≡ Some (GetNow owner.number key) }
-    ensures { IsTrue result ↔ IsOpen (plan_of plan.now) (event_of look) owner.number key }
+    requires get { kind (plan_of plan.now) (event_of get_now) ≡ Some (GetNow owner.number key) }
+    ensures { IsTrue result ↔ IsOpen (plan_of plan.now) (event_of get_now) owner.number key }
 {
-    look.proc.number != owner.number && plan.put_count(owner, key) == 1 && marks.live(look)
+    get_now.proc.number != owner.number && plan.put_count(owner, key) == 1 && marks.live(get_now)
 }
 
 /// Adds the races of a get that is answered at once.
-fn add_look(
+fn add_get_now(
     plan: &Plan,
     marks: &Marks,
     found: &mut Found,
-    look: Event,
+    get_now: Event,
     owner: Proc,
     key: u32,
 ) -> Result<(), AllocError>
     requires marks { AreMarks (plan_of plan.now) marks.now }
     requires found { AreFound (plan_of plan.now) found.old }
-    requires get { kind (plan_of plan.now) (event_of look) ≡ Some (GetNow owner.number key) }
-    ensures { OnOk result (Adds (plan_of plan.now) found.old found.new (IsKeyRaceBy (plan_of plan.now) (event_of look))) }
+    requires get { kind (plan_of plan.now) (event_of get_now) ≡ Some (GetNow owner.number key) }
+    ensures { OnOk result (Adds (plan_of plan.now) found.old found.new (IsKeyRaceBy (plan_of plan.now) (event_of get_now))) }
 {
-    if !is_open(plan, marks, look, owner, key) {
+    if !is_open(plan, marks, get_now, owner, key) {
         return Ok(());
     }
     let home = plan.node_of(owner);
-    let away = plan.node_of(look.proc);
+    let away = plan.node_of(get_now.proc);
     if home == away {
-        add_node_race(plan, marks, found, look, owner, key)
+        add_node_race(plan, marks, found, get_now, owner, key)
     } else {
-        add_delivery_races(plan, marks, found, look, owner, key)
+        add_delivery_races(plan, marks, found, get_now, owner, key)
     }
 }
 
@@ -328,7 +328,7 @@ fn add_event(plan: &Plan, marks: &Marks, found: &mut Found, event: Event) -> Res
     ensures { OnOk result (Adds (plan_of plan.now) found.old found.new (IsKeyRaceBy (plan_of plan.now) (event_of event))) }
 {
     match plan.kind(event) {
-        Kind::GetNow { owner, key } => add_look(plan, marks, found, event, owner, key),
+        Kind::GetNow { owner, key } => add_get_now(plan, marks, found, event, owner, key),
         _ => Ok(()),
     }
 }

@@ -4,7 +4,7 @@ ghost use Rattle.std.specs.Prelude.{◌≡◌, ◌↔◌, List, []};
 ghost use Rattle.wire_runs.specs.Plan.{Plan};
 ghost use Rattle.wire_runs.specs.Races.{IsSettled};
 ghost use Rattle.wire_races.specs.declared.finding.Finding.{Finding as Told};
-ghost use Rattle.wire_races.specs.Shown.{AreFindings};
+ghost use Rattle.wire_races.specs.Findings.{AreFindings};
 
 /// The list of a plan's findings is empty exactly where the plan is settled.
 pub fn settled_exactly()

@@ -7,9 +7,9 @@ ghost use Rattle.wire_rehearsal.specs.Planned.{plan_of};
 ghost use Rattle.wire_runs.specs.Names.{calls_name, writes_name};
 ghost use Rattle.wire_runs.specs.Order.{Live};
 ghost use Rattle.wire_marks.specs.Clocks.{AreMarks};
-ghost use Rattle.wire_races.specs.Shown.{shown};
-ghost use Rattle.wire_races.specs.Kinds.{IsOfName, AllAdded};
-ghost use Rattle.wire_races.specs.Collected.{AreFound};
+ghost use Rattle.wire_races.specs.Findings.{shown};
+ghost use Rattle.wire_races.specs.FindingKinds.{IsOfName, AllAdded};
+ghost use Rattle.wire_races.specs.Found.{AreFound};
 ghost use Rattle.wire_races.specs.Adding.{Adds};
 ghost use Rattle.wire_races.specs.Pieces.{IsPiece, ArePieces};
 ghost use Rattle.wire_races.specs.NameRaces.{name_race, IsRaceOn, IsRaceWith, IsRaceIn, AreCallsOn, AreOf, IsBelow, IsCut};
@@ -88,7 +88,7 @@ fn count_below(marks: &Marks, x: Event, border: Border, run: &[Event]) -> usize
 }
 
 // Adds the races of a live call that may change a name with the calls of another process on it.
-// The one publish of a name and a look-up that waits for it are in order where both are live, so
+// The one publish of a name and a lookup that waits for it are in order where both are live, so
 // they aren't between the borders.
 fn add_between(
     plan: &Plan,

@@ -1,11 +1,11 @@
-//! The pieces in which threads look for findings. Each piece is looked for by itself, and all are
+//! The pieces in which threads get_now for findings. Each piece is looked for by itself, and all are
 //! added one after another, so that what is found is the same whatever pieces the threads take.
 
 ghost use Rattle.std.specs.Prelude.{OnOk};
 ghost use Rattle.wire_rehearsal.specs.Planned.{plan_of};
 ghost use Rattle.wire_runs.specs.Findings.{Has};
-ghost use Rattle.wire_races.specs.Shown.{all_shown};
-ghost use Rattle.wire_races.specs.Collected.{AreFound};
+ghost use Rattle.wire_races.specs.Findings.{all_shown};
+ghost use Rattle.wire_races.specs.Found.{AreFound};
 ghost use Rattle.wire_races.specs.Adding.{Adds};
 ghost use Rattle.wire_races.specs.Pieces.{IsInSome, AreAllFound};
 

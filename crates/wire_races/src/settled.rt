@@ -5,12 +5,11 @@ ghost use Rattle.wire_runs.specs.Plan as runs;
 ghost use Rattle.wire_rehearsal.specs.Planned.{plan_of};
 ghost use Rattle.wire_runs.specs.State.{State, start};
 ghost use Rattle.wire_runs.specs.Step.{is_enabled, IsInterleaving, run, IsEnd, IsReachable};
-ghost use Rattle.wire_runs.specs.PlainRun.{plain_run};
 ghost use Rattle.wire_runs.specs.Fate.{Fate, HasFate};
-ghost use Rattle.wire_runs.specs.Laws.{Commute, FatesHold};
+ghost use Rattle.wire_runs.specs.Laws.{Commute, FatesHold, HasOneEnd};
 ghost use Rattle.wire_runs.specs.Races.{IsSettled};
 ghost use Rattle.wire_marks.specs.Clocks.{AreMarks};
-ghost use Rattle.wire_races.specs.Shown.{AreFindings};
+ghost use Rattle.wire_races.specs.Findings.{AreFindings};
 
 use crate::finding::Finding;
 use std::marker::Model;
@@ -84,24 +83,24 @@ impl Settled {
 /// The laws of a settled plan. Each is the contract of a function that does nothing: its body only
 /// names the field whose facts the law rests on.
 impl Settled {
-    /// Two processes that may both go on, whatever has happened so far, don't disturb each other:
-    /// each stays able to go on after the other, and both orders come to the same state.
+    /// Two processes that are both enabled in a state that a run can reach don't disturb each other: each
+    /// stays enabled after the other's step, and both orders lead to the same state.
     pub fn enabled_commute(&self)
         ensures { let plan = plan_of self.now in (s : State) (p q : ℕ) → IsReachable plan s → p ≢ q → is_enabled plan s p ≡ true → is_enabled plan s q ≡ true → Commute plan s p q }
     {
         let _ = &self.plan;
     }
 
-    /// All runs that can't go on end in one state, names, replies and who waits: that of the plain
-    /// run, in which at each step the lowest process goes on that may.
+    /// Every interleaving that can't go on ends in one state, with the same replies, the same names and
+    /// the same processes waiting: that of the plain run.
     pub fn one_end(&self)
         ensures one { let plan = plan_of self.now in (v w : List ℕ) → IsInterleaving plan start v → IsInterleaving plan start w → IsEnd plan (run plan v) → IsEnd plan (run plan w) → run plan v ≡ run plan w }
-        ensures plain { let plan = plan_of self.now in (w : List ℕ) → IsInterleaving plan start w → IsEnd plan (run plan w) → run plan w ≡ run plan (plain_run plan) }
+        ensures plain { HasOneEnd (plan_of self.now) }
     {
         let _ = &self.plan;
     }
 
-    /// Each event has one fate: what it answers where it comes, or that it waits.
+    /// Each event has exactly one fate: its reply, or that it waits.
     pub fn has_fates(&self)
         ensures some { (y : runs.Event) → (fate : Fate) × HasFate (plan_of self.now) y fate }
         ensures one { let plan = plan_of self.now in (y : runs.Event) (a b : Fate) → HasFate plan y a → HasFate plan y b → a ≡ b }
@@ -109,8 +108,8 @@ impl Settled {
         let _ = &self.plan;
     }
 
-    /// In a state that a run has come to, what has been answered is the fate of its event, and who
-    /// may go on is told by fates.
+    /// In a state that a run can reach, each reply is the fate of its event, and fates tell who is
+    /// enabled.
     pub fn fates_tell(&self)
         ensures { let plan = plan_of self.now in (s : State) → IsReachable plan s → FatesHold plan s }
     {

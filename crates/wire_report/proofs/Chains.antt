@@ -12,7 +12,7 @@ use Rattle.wire_runs.proofs.Basics.{event_within}
 use Rattle.wire_runs.proofs.Fates.{live_event}
 use Rattle.wire_runs.proofs.Histories.{before_live}
 use Rattle.wire_marks.specs.Clocks.{LeadsTo}
-use Rattle.wire_marks.specs.Shown.{IsShown, begins, goes_on, OneShown}
+use Rattle.wire_marks.specs.Chain.{IsShown, begins, goes_on, OneShown}
 use Rattle.wire_runs.specs.Ends.{first_event}
 use Rattle.wire_report.specs.Chain.{event_lines, IsCallBefore, IsDeadLine, Dead, Alive, AreDeadLines, OfOne, OfTwo, IsCallChain, IsChainText, TellsBefore, TellsAfter, TellsUnordered, OneChainText}
 use Rattle.wire_report.specs.There.{AreThere}

@@ -8,7 +8,7 @@ use Rattle.wire_rehearsal.specs.Scripts.{Scripts, Process, call_at}
 use Rattle.wire_rehearsal.specs.Planned.{plan_of}
 use Rattle.wire_runs.specs.Order.{Live, Before}
 use Rattle.wire_runs.specs.Ends.{call_of, first_event}
-use Rattle.wire_marks.specs.Shown.{IsShown}
+use Rattle.wire_marks.specs.Chain.{IsShown}
 use Rattle.wire_report.specs.Report.{proc_text, verb_of}
 
 -- the text of a process, empty where there is none

@@ -1,4 +1,4 @@
--- Where a process may go on, its next event is live and its sources are done.
+-- Where a process is enabled, its next event is live and its sources are done.
 use Rattle.std.proofs.Common.{◌≡◌, ℕ, suc, ◌<◌, ◌≤◌, List, [], ◌∷◌, Bool, true, ◌==◌, Option, Some, None, is_some, ◌⊎◌, inl, inr, refl, sym, ap, ◌∙◌, subst, arith, eq-eqb, ne_eqb, eqb-true, leb-true, le-leb}
 use Rattle.std.proofs.lemmas.Bool.{cond-true, cond-false, cond_both, cases_eq, cases_lt, or_left, true≢false}
 use Rattle.std.proofs.lemmas.Option.{same_Some}
@@ -44,7 +44,7 @@ pub served_seen : (plan : Plan) (p : ℕ) (same : Bool) (o : Option ℕ) → is_
 served_seen plan p same None h = h
 served_seen plan p same (Some put) h = refl
 
--- a get of another's key that may go on finds it stored
+-- a get of another's key that is enabled finds it stored
 pub other_seen : (plan : Plan) (cut : ℕ → ℕ) (q i p key : ℕ) → (q ≡ p → ⊥) → is_seen (get_sees plan cut q i p key) ≡ true → is_some (stored plan p key (cut p)) ≡ true
 other_seen plan cut q i p key ne h =
     let e : get_sees plan cut q i p key ≡ served plan p (same_node plan p q) (stored plan p key (cut p)) = cond-false _ _ _ (ne_eqb q p ne) in
@@ -59,7 +59,7 @@ pub has_event : (plan : Plan) (s : State) (p : ℕ) (o : Option Kind) → next_k
 has_event plan s p None e h = absurd (true≢false (sym h))
 has_event plan s p (Some v) e h = (v, e)
 
--- an event that may happen may come
+-- an event that can happen may come
 comes : (plan : Plan) (s : State) (p : ℕ) (o : Option Kind) → Sound plan s → may_do plan s (next_event s p) o ≡ true → may_come plan (next_event s p) o ≡ true
 comes plan s p None k h = h
 comes plan s p (Some (Get owner key)) k h =
@@ -205,7 +205,7 @@ due plan s p k h = record {
   earlier_done = λ x b. chain_to_next plan s k (sources plan s p k h) b;
 }
 
--- an event that may happen is before no other that may
+-- an event that can happen is before no other that may
 pub never_before : (plan : Plan) (s : State) (p q : ℕ) → Sound plan s → is_enabled plan s q ≡ true → Before plan (next_event s p) (next_event s q) → ⊥
 never_before plan s p q k hq b = let d = (due plan s q k hq).earlier_done _ b in omega (arith, d)
 

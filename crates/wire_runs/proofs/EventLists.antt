@@ -1,4 +1,4 @@
--- Lists of all places of which something holds, as they grow.
+-- Lists of all events of which something holds, as they grow.
 use Rattle.std.proofs.Common.{◌≡◌, ◌∙◌, ap, refl, subst, ℕ, zero, suc, List, [], ◌∷◌, ◌++◌, length, Some, arith, ◌⊎◌, inl, inr}
 use Rattle.std.specs.Prelude.{slice_get}
 use Rattle.std.proofs.lemmas.Option.{slice_get_within, same_Some}
@@ -27,7 +27,7 @@ pub at_end : {A : Type 0} (xs : List A) (y : A) → slice_get (xs ++ y ∷ []) (
 at_end [] y = refl
 at_end (x ∷ xs) y = at_end xs y
 
--- all places of which nothing holds
+-- all events of which nothing holds
 pub all_of_none : (holds : Event → Type 0) → ((z : Event) → holds z → ⊥) → AreAll holds []
 all_of_none holds never = record {
   only = λ k z is. absurd (not_in_empty k z is);
@@ -35,7 +35,7 @@ all_of_none holds never = record {
   rising = λ k l y z lt first second. absurd (not_in_empty k y first);
 }
 
--- the same of what holds of the same places
+-- the same of what holds of the same events
 pub all_same : (before after : Event → Type 0) (xs : List Event) → ((z : Event) → before z → after z) → ((z : Event) → after z → before z) → AreAll before xs → AreAll after xs
 all_same before after xs there back are = record {
   only = λ k z is. there z (are.only k z is);
@@ -43,7 +43,7 @@ all_same before after xs there back are = record {
   rising = are.rising;
 }
 
--- one more place, behind all others
+-- one more event, behind all others
 pub all_and_one : (before after : Event → Type 0) (xs : List Event) (y : Event) → ((z : Event) → before z → IsLower z y) → ((z : Event) → before z → after z) → after y → ((z : Event) → after z → before z ⊎ (y ≡ z)) → AreAll before xs → AreAll after (xs ++ y ∷ [])
 all_and_one before after xs y lower there here back are = record {
   only = λ k z is. elim (in_either xs y k z is) [

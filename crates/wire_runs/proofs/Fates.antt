@@ -55,7 +55,7 @@ coming_event : (plan : Plan) (y : Event) (o : Option Kind) → may_come plan y o
 coming_event plan y None h = absurd (true≢false (sym h))
 coming_event plan y (Some e) h = (e, refl)
 
--- a live place is the place of an event
+-- a live event is one of the plan
 pub live_event : (plan : Plan) (y : Event) → Live plan y → (e : Kind) × (kind plan y ≡ Some e)
 live_event plan y l = coming_event plan y (kind plan y) (live_may l)
 

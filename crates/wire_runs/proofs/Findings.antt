@@ -7,7 +7,7 @@ use Rattle.wire_runs.specs.Findings.{Finding, Rewrite, KeyRace, NameRace, IsKeyR
 use Rattle.wire_runs.specs.EventLists.{IsLower}
 use Rattle.wire_runs.specs.Laws.{NoFindings, IsOneWay, OneList, RacesAreUnordered}
 
--- of two places one is lower
+-- of two events one is lower
 one_lower : (x y : Event) → (x ≡ y → ⊥) → IsLower x y ⊎ IsLower y x
 one_lower x y ne = elim (cases_lt x.proc y.proc) [
   | inl lt ↦ inl (inl lt)

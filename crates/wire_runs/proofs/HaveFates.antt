@@ -116,7 +116,7 @@ module _ (plan : Plan) (settled : IsSettled plan) (marks : Marks plan) (y : Even
         ((λ w i. elim ((rest.1 w).0 i) [ inl e ↦ subst (λ v. Before plan v z) (sym e) b | inr j ↦ o.0 w j ]), rest.2),
       )
 
-  -- the first n places, in the order of places
+  -- the first n events, in the order of events
   abbrev Seen : ℕ → ℕ → Event → Type 0
   Seen p i z = (z.proc < p) ⊎ ((z.proc ≡ p) × (z.at < i))
 

@@ -13,7 +13,7 @@ use Rattle.wire_runs.proofs.Due.{has_event}
 use Rattle.wire_runs.proofs.Length.{left_from, left_falls, left_at_start}
 use Rattle.wire_runs.proofs.OneEnd.{settled_one_end}
 
--- a process that may go on is one of the plan's
+-- a process that is enabled is one of the plan's
 pub enabled_within : (plan : Plan) (s : State) (p : ℕ) → is_enabled plan s p ≡ true → p < process_count plan
 enabled_within plan s p h = let v = has_event plan s p (next_kind plan s p) refl h in process_within plan p (s.done p) v.0 v.1
 
@@ -78,7 +78,7 @@ none_below plan s (suc n) p q h lt = go (lowest plan s n) refl h (none_below pla
       | inr f ↦ (let r : None ≡ Some p = sym (cond-false _ _ _ f) ∙ h in cc)
     ]
 
--- at each step of the plain run nobody below may go on
+-- at each step of the plain run nobody below is enabled
 plain_is_lowest : (plan : Plan) (fuel : ℕ) (s : State) (n p q : ℕ) → slice_get (plain_from plan fuel s) n ≡ Some p → q < p → is_enabled plan (run_from plan s (take n (plain_from plan fuel s))) q ≡ false
 plain_is_lowest plan zero s n p q h lt = absurd (nothing n h)
   where
@@ -97,4 +97,4 @@ pub plain_runs : (plan : Plan) → PlainRuns plan
 plain_runs plan =
     let ends : IsEnd plan (run_from plan start (plain_run plan)) = plain_ends plan _ start (left_at_start plan.processes 0) in
     let is_run : IsInterleaving plan start (plain_run plan) = plain_is_run plan _ start in
-    record { is_run = is_run; ends = ends; is_lowest = plain_is_lowest plan (event_total plan) start; is_the_end = λ w settled h e. settled_one_end plan w (plain_run plan) settled h is_run e ends }
+    record { is_run = is_run; ends = ends; is_lowest = plain_is_lowest plan (event_total plan) start; is_the_end = λ settled w h e. settled_one_end plan w (plain_run plan) settled h is_run e ends }

@@ -40,7 +40,7 @@ module _ (plan : Plan) (settled : IsSettled plan) (marks : Marks plan) (cut : �
   closed_in = record { within = sound.within; all_live = live_in; closed = sound.closed }
 
   module _ (s : State) (k : Kept plan s) where
-    -- a process that may go on within the cut
+    -- a process that is enabled within the cut
     abbrev Onward : Type 0
     Onward = (q : ℕ) × (s.done q < cut q) × (is_enabled plan s q ≡ true)
 
@@ -55,7 +55,7 @@ module _ (plan : Plan) (settled : IsSettled plan) (marks : Marks plan) (cut : �
     earlier_down (edge l e m) from = (from _ e).here
     earlier_down (further b e m) from = (from _ e).earlier _ b
 
-    -- where all that is before it is done, it may go on
+    -- where all that is before it is done, it is enabled
     enabled_there : (p : ℕ) → s.done p < cut p → ((z : Event) → Before plan z (next_event s p) → IsDone s z) → is_enabled plan s p ≡ true
     enabled_there p lt known = elim (cases_Bool (is_enabled plan s p)) [
       | inl t ↦ t
@@ -106,7 +106,7 @@ module _ (plan : Plan) (settled : IsSettled plan) (marks : Marks plan) (cut : �
   abbrev Reaches : State → Type 0
   Reaches s = (w : List ℕ) × IsInterleaving plan s w × ((p : ℕ) → (run_from plan s w).done p ≡ cut p)
 
-  -- where nobody may go on within the cut, it is reached
+  -- where nobody is enabled within the cut, it is reached
   all_there : (s : State) → ((p : ℕ) → s.done p ≤ cut p) → ((i : ℕ) → i < process_count plan → nat_lt (s.done i) (cut i) ≡ false) → (p : ℕ) → s.done p ≡ cut p
   all_there s le none p = elim (cases_lt p (process_count plan)) [
     | inl lt ↦ (let a = ltb-false _ _ (none p lt) in let b = le p in omega (arith, a, b))

@@ -1,4 +1,4 @@
--- What a state says became of every call.
+-- What became of every call in a state: its reply, or how far its process has come.
 use Rattle.std.specs.Prelude.{ℕ, zero, suc, ◌-◌, List, [], ◌∷◌, ◌++◌, Bool, true, false, not, ◌&&◌, Option, Some, None, is_some, length, take, map, replicate, nat_lt, slice_get, if◌then◌else◌}
 use Rattle.std.specs.List.{flat_map}
 use Rattle.wire_runs.specs.Plan.{Plan, Process, Call, kinds_of, process_count, Event}
@@ -68,7 +68,7 @@ row plan s p =
     map Replied (replies_of plan (s.replies p))
     ++ unanswered (is_enabled plan s p) (length (calls_of plan p) - length (replies_of plan (s.replies p)))
 
--- the process stands at a call, and may not go on
+-- the process stands at a call, and isn't enabled
 abbrev pub is_waiting : Plan → State → ℕ → Bool
 is_waiting plan s p = is_some (next_kind plan s p) && not (is_enabled plan s p)
 

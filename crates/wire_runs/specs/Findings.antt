@@ -1,16 +1,16 @@
--- The list of what the checker finds.
+-- The list of findings.
 use Rattle.std.specs.Prelude.{◌≡◌, ℕ, List, [], ◌∷◌, Bool, true, ◌⊎◌, ◌↔◌}
 use Rattle.wire_runs.specs.Plan.{Plan, Event}
 use Rattle.wire_runs.specs.EventLists.{IsLower}
 use Rattle.wire_runs.specs.Races.{IsRewrite, IsNodeRace, IsDeliveryRace, IsNameRace}
 
--- the lower place stands first
+-- what the checker reports: of two events the lower comes first
 pub data Finding : Type 0 where
   Rewrite : (first later : Event) → Finding
   KeyRace : (lower higher : Event) → (owner key : ℕ) → Finding
   NameRace : (lower higher : Event) → (name : ℕ) → Finding
 
--- a race on a key, told by either of its places first
+-- a race on a key: x is the commit or the arrival, y the get-now
 abbrev pub IsKeyRace : Plan → Event → Event → ℕ → ℕ → Type 0
 IsKeyRace plan x y owner key = ((x.proc ≡ owner) × IsNodeRace plan x y key) ⊎ IsDeliveryRace plan x y owner key
 
@@ -19,11 +19,12 @@ IsFound plan (Rewrite x y) = IsRewrite plan x y
 IsFound plan (KeyRace x y owner key) = IsLower x y × (IsKeyRace plan x y owner key ⊎ IsKeyRace plan y x owner key)
 IsFound plan (NameRace x y name) = IsLower x y × (IsNameRace plan x y name ⊎ IsNameRace plan y x name)
 
--- by the lower place, then by the higher
+-- the order of pairs: by the lower event, then by the higher
 abbrev pub IsPairLower : Event → Event → Event → Event → Type 0
 IsPairLower x y v w = IsLower x v ⊎ ((x ≡ v) × IsLower y w)
 
--- the order of the findings: rewrites by the later put, then races by their places, those of one pair by their names in the order that is given
+-- the order of findings: rewrites by the later put, then races by their events; two races of one pair by their names, in the order
+-- that is given
 abbrev pub IsSooner : (ℕ → ℕ → Bool) → Finding → Finding → Type 0
 IsSooner lower_name (Rewrite x y) (Rewrite v w) = IsLower y w
 IsSooner lower_name (Rewrite x y) _ = Unit {0}
@@ -37,12 +38,12 @@ abbrev pub Has : List Finding → Finding → Type 0
 Has [] f = ⊥
 Has (g ∷ found) f = (f ≡ g) ⊎ Has found f
 
--- each stands before all behind it
+-- each comes sooner than all that follow it
 abbrev pub IsSorted : (ℕ → ℕ → Bool) → List Finding → Type 0
 IsSorted lower_name [] = Unit {0}
 IsSorted lower_name (g ∷ found) = ((f : Finding) → Has found f → IsSooner lower_name g f) × IsSorted lower_name found
 
--- a finding stands in the list exactly where its race, or rewrite, is there
+-- the list of findings: a finding is in it exactly where the definition of its kind holds, and the list is in order
 pub record IsFindings (plan : Plan) (lower_name : ℕ → ℕ → Bool) (found : List Finding) : Type 0 where
   pub those : (f : Finding) → Has found f ↔ IsFound plan f
   pub sorted : IsSorted lower_name found

@@ -36,13 +36,17 @@ EnabledCommute = (plan : Plan) (s : State) (p q : ℕ) → IsSettled plan → Is
 abbrev pub OneEnd : Type 0
 OneEnd = (plan : Plan) (v w : List ℕ) → IsSettled plan → IsInterleaving plan start v → IsInterleaving plan start w → IsEnd plan (run plan v) → IsEnd plan (run plan w) → run plan v ≡ run plan w
 
--- the plain run is an interleaving that can't go on, at each step of it nobody below is enabled, and in a settled plan every
--- interleaving that can't go on ends in its state
+-- every interleaving of the plan that can't go on ends in one state, the plain run's: the same reply to every call, the same
+-- names, and the same processes waiting
+abbrev pub HasOneEnd : Plan → Type 0
+HasOneEnd plan = (w : List ℕ) → IsInterleaving plan start w → IsEnd plan (run plan w) → run plan w ≡ run plan (plain_run plan)
+
+-- the plain run is an interleaving that can't go on, at each step of it nobody below is enabled, and a settled plan has one end
 pub record PlainRuns (plan : Plan) : Type 0 where
   pub is_run : IsInterleaving plan start (plain_run plan)
   pub ends : IsEnd plan (run plan (plain_run plan))
   pub is_lowest : (n p q : ℕ) → slice_get (plain_run plan) n ≡ Some p → q < p → is_enabled plan (run plan (take n (plain_run plan))) q ≡ false
-  pub is_the_end : (w : List ℕ) → IsSettled plan → IsInterleaving plan start w → IsEnd plan (run plan w) → run plan w ≡ run plan (plain_run plan)
+  pub is_the_end : IsSettled plan → HasOneEnd plan
 
 -- replies are fates, and who is enabled is told by fates
 pub record FatesHold (plan : Plan) (s : State) : Type 0 where

@@ -2,12 +2,12 @@
 use Rattle.std.specs.Prelude.{ℕ, Bool, false, Option, Some, ◌==◌}
 use Rattle.wire_runs.specs.Plan.{Plan, Kind, Publish, Lookup, LookupWait, Unpublish, Event}
 
--- whether it may take the name away (which calls do may depend on the plan and the place in later versions of the file)
+-- whether it can take the name away (in later versions of the file this can depend on the plan and the event)
 abbrev pub takes_name : Plan → ℕ → Event → Option Kind → Bool
 takes_name plan name x (Some (Unpublish n)) = n == name
 takes_name plan name x _ = false
 
--- whether it may change what stands under the name
+-- whether it can change what is published under the name
 abbrev pub writes_name : Plan → ℕ → Event → Option Kind → Bool
 writes_name plan name x (Some (Publish n)) = n == name
 writes_name plan name x o = takes_name plan name x o

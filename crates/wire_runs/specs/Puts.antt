@@ -1,5 +1,5 @@
--- Puts and commits, by places in the scripts (PMIx Standard 5.0, Posting Key-Value Pairs).
--- They are told of any numbered events, so that a server's store and a process's script share them.
+-- Puts and commits, as functions of the scripts (PMIx Standard 5.0, Posting Key-Value Pairs).
+-- They speak of any numbered events, so that a server's store and a process's script share them.
 use Rattle.std.specs.Prelude.{ℕ, zero, suc, Option, Some, None, ◌==◌, if◌then◌else◌}
 use Rattle.wire_runs.specs.Plan.{Plan, Kind, Put, Commit, kind_at}
 use Rattle.wire_types.specs.declared.Scope.{Scope}

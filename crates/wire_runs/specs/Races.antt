@@ -1,4 +1,4 @@
--- What the checker reports.
+-- What the checker looks for: keys that are put twice, and pairs of live calls that no chain orders.
 use Rattle.std.specs.Prelude.{◌≡◌, ◌≢◌, ℕ, ◌<◌, ◌≤◌, List, true, false, Some, None}
 use Rattle.wire_runs.specs.Plan.{Plan, Put, GetNow, LookupWait, kind, event_count, node_of, same_node, admits, Event}
 use Rattle.wire_types.specs.declared.Scope.{Scope}
@@ -66,13 +66,14 @@ pub record Delivers (plan : Plan) (p key node : ℕ) (delivery : Delivery) : Typ
   pub brings_it : Brings plan p key node delivery
   pub all_live : (z : Event) → IsOf plan delivery z → Live plan z
 
--- a delivery comes before the get in every run
+-- all events of some delivery are before the get
 pub record ComesSurely (plan : Plan) (p key node : ℕ) (get : Event) : Type 0 where
   pub delivery : Delivery
   pub delivers : Delivers plan p key node delivery
   pub all_before : (z : Event) → IsOf plan delivery z → Before plan z get
 
--- a get-now from another node, and the first event that isn't before it, of a delivery that comes in some runs before it and in some after
+-- a live get-now from another node, and the lowest event that isn't before it of a delivery; the get is before no event of that delivery,
+-- and no delivery surely comes first
 pub record IsDeliveryRace (plan : Plan) (source get : Event) (owner key : ℕ) : Type 0 where
   pub is : kind plan get ≡ Some (GetNow owner key)
   pub other : same_node plan owner get.proc ≡ false
@@ -86,7 +87,8 @@ pub record IsDeliveryRace (plan : Plan) (source get : Event) (owner key : ℕ) :
   pub not_before : ¬ (Before plan source get)
   pub first : (z : Event) → IsOf plan delivery z → ¬ (Before plan z get) → source.proc ≤ z.proc
 
--- two calls on a name, x one that may change it; not the publish and a lookup-wait of a name that is published once
+-- two calls on a name by different processes, x one that can change it; not the publish and a lookup-wait of a name that is published
+-- once
 pub record IsNameRace (plan : Plan) (x y : Event) (name : ℕ) : Type 0 where
   pub x_writes : writes_name plan name x (kind plan x) ≡ true
   pub y_calls : calls_name plan name y (kind plan y) ≡ true

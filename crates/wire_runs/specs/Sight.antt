@@ -1,4 +1,4 @@
--- What a get sees.
+-- What a get sees (PMIx Standard 5.0: PMIx_Get, Scope of Put Data, PMIX_COLLECT_DATA).
 use Rattle.std.specs.Prelude.{ℕ, zero, suc, List, Bool, true, false, ◌&&◌, Option, Some, None, ◌==◌, if◌then◌else◌}
 use Rattle.wire_runs.specs.Plan.{Plan, Kind, Arrive, kind_at, event_count, node_of, same_node, admits}
 use Rattle.wire_runs.specs.State.{State}
@@ -26,7 +26,8 @@ abbrev pub for_others : Plan → ℕ → Option ℕ → Option ℕ
 for_others plan p None = None
 for_others plan p (Some put) = if admits (scope_of plan p put) false then Some put else None
 
--- whether in this cut the j-th fence over these members has brought p's data to the node
+-- whether in this cut the j-th fence over these members has brought p's data to the node: it is complete, it collects, p is a member
+-- and so is a process of the node
 abbrev pub has_brought : Plan → (ℕ → ℕ) → ℕ → ℕ → List ℕ → ℕ → Bool
 has_brought plan cut p node members j =
     is_complete plan cut members j && (is_collecting plan members j && (is_member members p && has_node plan members node))

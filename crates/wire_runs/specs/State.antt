@@ -1,4 +1,4 @@
--- Answers and states.
+-- Replies, and the state of a run.
 use Rattle.std.specs.Prelude.{ℕ, ◌<◌, List, [], Option, None}
 use Rattle.wire_runs.specs.Plan.{Plan, Kind, kind_at, Event}
 use Rattle.wire_types.specs.declared.Reply.{Reply}
@@ -22,7 +22,7 @@ pub record State : Type 0 where
 abbrev pub start : State
 start = record { done = λ p. 0; names = λ n. None; replies = λ p. [] }
 
--- the place of p's next event
+-- p's next event
 abbrev pub next_event : State → ℕ → Event
 next_event s p = record { proc = p; at = s.done p }
 

@@ -1,4 +1,5 @@
--- States, steps and runs.
+-- What a step does: who is enabled, what an event replies, what an interleaving is (PMIx Standard 5.0: PMIx_Put, PMIx_Commit,
+-- PMIx_Get, PMIx_Fence, PMIx_Publish, PMIx_Lookup, PMIx_Unpublish).
 use Rattle.std.specs.Prelude.{◌≡◌, ℕ, suc, List, [], ◌∷◌, ◌++◌, Bool, true, false, Option, Some, None, is_some, ◌==◌, if◌then◌else◌}
 use Rattle.wire_runs.specs.Plan.{Plan, Kind, Put, Commit, Arrive, Leave, Get, GetNow, Publish, Lookup, LookupWait, Unpublish, Fixed, update, Event}
 use Rattle.wire_runs.specs.Fences.{arrivals, is_complete}
@@ -10,7 +11,7 @@ is_seen Nothing = false
 is_seen Outside = true
 is_seen (Shown put) = true
 
--- whether the event at this place, which is this one, may happen
+-- whether the event x, of this kind, can happen in the state
 abbrev pub may_do : Plan → State → Event → Option Kind → Bool
 may_do plan s x None = false
 may_do plan s x (Some (Get owner key)) = is_seen (get_sees plan s.done x.proc x.at owner key)
@@ -49,13 +50,13 @@ reply plan s x (Some (LookupWait name)) = lookup_reply (s.names name)
 reply plan s x (Some (Unpublish name)) = if is_publisher x.proc (s.names name) then Success else NotFound
 reply plan s x (Some (Fixed r)) = Reserved r
 
--- what stands under the name after this event
+-- what is published under the name after this event
 abbrev pub name_after : Option Event → Event → Option Kind → ℕ → Option Event
 name_after before x (Some (Publish n)) name = if n == name then (if is_some before then before else Some x) else before
 name_after before x (Some (Unpublish n)) name = if n == name then (if is_publisher x.proc before then None else before) else before
 name_after before x _ name = before
 
--- one event of p
+-- the state after p's next event
 abbrev pub step : Plan → State → ℕ → State
 step plan s p = record {
   done = update s.done p (suc (s.done p));

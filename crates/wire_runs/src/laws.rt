@@ -8,32 +8,33 @@ pub fn runs_end()
     ensures { RunsEnd }
 {}
 
-/// In a state that a run has come to: where a process may go on, its next event is live, and all that
-/// comes before it has happened.
+/// In a state that a run can reach: where a process is enabled, its next event is live, and its sources
+/// and all that is before it are done.
 pub fn enabled_is_due()
     ensures { EnabledIsDue }
 {}
 
-/// In a settled plan, in a state that a run has come to, two processes that may both go on don't disturb
-/// each other.
+/// In a settled plan, in a state that a run can reach, two processes that are both enabled don't disturb
+/// each other: each stays enabled after the other's step, and both orders lead to one state.
 pub fn enabled_commute()
     ensures { EnabledCommute }
 {}
 
-/// Every two runs of a settled plan that can't go on end in the same state.
+/// Every two interleavings of a settled plan that can't go on end in the same state.
 #[tactic(auto, using(crate::proofs::OneEnd::settled_one_end))]
 pub fn one_end()
     ensures { OneEnd }
 {}
 
-/// In a settled plan, in a state that a run has come to, replies are fates, and a process may go on
-/// exactly where its sources are done and its fate isn't to wait.
+/// In a settled plan, in a state that a run can reach, replies are fates, and a process is enabled exactly
+/// where the sources of its next event are done and the fate of that event isn't to wait.
 #[tactic(auto, using(crate::proofs::Fates::fates_tell))]
 pub fn fates_tell()
     ensures { FatesTell }
 {}
 
-/// The plain run is a run that can't go on, and where the plan is settled every such run ends as it does.
+/// The plain run is an interleaving that can't go on, and in a settled plan every such interleaving ends
+/// in its state.
 pub fn plain_runs()
     ensures { (plan : Plan) → PlainRuns plan }
 {}
@@ -44,7 +45,7 @@ pub fn one_fate()
     ensures { OneFate }
 {}
 
-/// What a run of a settled plan has come to is a sound cut.
+/// The cut of a state that a run of a settled plan can reach is sound.
 #[tactic(auto, using(crate::proofs::Fates::runs_are_sound))]
 pub fn runs_are_sound()
     ensures { RunsAreSound }
@@ -72,7 +73,7 @@ pub fn have_fates()
     ensures { HaveFates }
 {}
 
-/// A sound cut of a settled plan is what some run has come to, given such marks.
+/// A run of a settled plan can reach each sound cut, given such marks.
 pub fn sound_is_reached()
     ensures { SoundIsReached }
 {}

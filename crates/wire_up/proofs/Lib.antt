@@ -1,8 +1,8 @@
 pub mod Came
 pub mod FileFaults
 pub mod Limited
-pub mod Told
-pub mod Followed
-pub mod Asked
+pub mod Replaying
+pub mod Following
+pub mod Asking
 pub mod Texts
-pub mod Verdicts
+pub mod Checking

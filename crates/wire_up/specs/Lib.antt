@@ -1,4 +1,4 @@
-pub mod Replay
-pub mod Follow
-pub mod Why
-pub mod Check
+pub mod Replaying
+pub mod Following
+pub mod Asking
+pub mod Checking

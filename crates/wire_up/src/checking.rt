@@ -1,12 +1,13 @@
 //! The findings of a file of scripts.
 
-ghost use Rattle.std.specs.Prelude.{◌≡◌, ◌≢◌, ◌⊎◌, ℕ, Err, OnOk, IfOk, IfErr};
+ghost use Rattle.std.specs.Prelude.{◌≡◌, ◌≢◌, ◌⊎◌, ℕ, Ok, Err, OnOk, IfOk, IfErr};
 ghost use Rattle.wire_types.specs.declared.Fault.TheVariants.{Memory, Read};
 ghost use Rattle.wire_types.specs.Counting.{one_more};
-ghost use Rattle.wire_up.specs.Check as spec;
-ghost use Rattle.wire_up.specs.Check.{IsVerdict, WritesFindings, BreaksOffFindings, StopsBeforeFindings};
+ghost use Rattle.wire_up.specs.declared.checking.Ended.TheVariants.{Clean};
+ghost use Rattle.wire_up.specs.Checking as spec;
+ghost use Rattle.wire_up.specs.Checking.{IsVerdict, WritesFindings, EndsInOneState, BreaksOffFindings, StopsBeforeFindings};
 
-use crate::replay::read_scripts;
+use crate::replaying::read_scripts;
 use crate::writing::write_text;
 use std::alloc::Global;
 use std::thread::Threads;
@@ -74,10 +75,11 @@ fn verdict(
     judged
 }
 
-/// Checks a file of scripts: reads it to its end, and writes all that the checker finds in its plan: each put
-/// of a key that its process has put before, and each pair of calls that race, on a key or on a name. It
-/// answers `Clean` exactly where the plan is settled; then every run that goes on until nobody can ends
-/// with the same replies and the same processes waiting, by the law `one_end`.
+/// Checks a file of scripts: reads it to its end, and writes every finding of its plan: each put of a key
+/// that its process has put before, and each pair of calls that race, on a key or on a name.
+///
+/// It answers `Clean` exactly where there is nothing to find. Then every interleaving that can't go on
+/// ends with the same reply to every call and the same processes waiting.
 ///
 /// The fault of a file is the first that it has. After the fault `Write` the front of the text that it
 /// counts is written, after any other fault nothing. `Memory` may come in place of any other answer. What is
@@ -90,6 +92,9 @@ pub fn check<R: Source, W: Sink>(
 ) -> Result<Ended, Fault>
     ensures ok { IfOk result (λ ended. WritesFindings (R.coming reader.old) ended (W.written writer.old) (W.written writer.new)) }
     ensures quiet { OnOk result ((R.failures reader.new ≡ R.failures reader.old) × (W.failures writer.new ≡ W.failures writer.old)) }
+
+    // The headline: where it finds nothing, every interleaving that can't go on ends in one state, the plain run's.
+    ensures one_end { result ≡ Ok Clean → EndsInOneState (R.coming reader.old) }
 
     // Either nothing was written, or the front of the findings that the fault counts.
     ensures err { IfErr result (λ e. (StopsBeforeFindings (R.coming reader.old) e × (writer.new ≡ writer.old))

@@ -1,14 +1,14 @@
 //! Rehearsals of the wire-up of a PMIx job, from bytes to bytes.
 #![tactic(auto)]
 
+mod asking;
 mod checking;
-mod order;
-mod question;
+mod following;
 mod reading;
-mod replay;
+mod replaying;
 mod writing;
 
+pub use asking::why;
 pub use checking::{Ended, check};
-pub use order::follow;
-pub use question::why;
-pub use replay::plain;
+pub use following::follow;
+pub use replaying::plain;

@@ -2,7 +2,7 @@ use Rattle.std.proofs.Common.{List, map, reverse, ◌++◌}
 use Rattle.wire_runs.specs.Plan.{Event, event_of, process_count}
 use Rattle.wire_rehearsal.specs.Planned.{plan_of}
 use Rattle.wire_marks.specs.Clocks.{LeadsTo, clock_of}
-use Rattle.wire_marks.specs.Shown.{IsShown}
+use Rattle.wire_marks.specs.Chain.{IsShown}
 use Rattle.wire_marks.specs.Marking.{sum_to}
 use Rattle.wire_marks.proofs.steps.chain_between.Given as goal
 

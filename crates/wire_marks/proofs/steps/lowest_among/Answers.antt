@@ -2,7 +2,7 @@ use Rattle.std.proofs.Common.{◌≡◌, ◌∙◌, ◌++◌, ◌∷◌, [], map
 use Rattle.std.specs.Prelude.{option_map}
 use Rattle.std.proofs.lemmas.List.{append-nil, map_more, take_all}
 use Rattle.wire_runs.specs.Plan.{event_of}
-use Rattle.wire_marks.specs.Shown.{Lowest}
+use Rattle.wire_marks.specs.Chain.{Lowest}
 use Rattle.wire_marks.proofs.steps.lowest_among.Goals as goal
 
 pub loop-z-preserved : goal.loop-z-preserved

@@ -2,7 +2,7 @@ use Rattle.std.proofs.Common.{◌++◌, List, map, take}
 use Rattle.std.specs.Prelude.{option_map}
 use Rattle.wire_runs.specs.Plan.{Plan, Event, event_of}
 use Rattle.wire_marks.specs.Clocks.{AreMarks}
-use Rattle.wire_marks.specs.Shown.{Lowest}
+use Rattle.wire_marks.specs.Chain.{Lowest}
 use Rattle.wire_marks.proofs.steps.lowest_among.Given as goal
 
 abbrev pub invariant-loop-z : goal.invariant-loop-z

@@ -1,5 +1,5 @@
 use Rattle.wire_rehearsal.specs.Planned.{plan_of}
-use Rattle.wire_plan.proofs.Meet.{has_fence, of_fence_within}
+use Rattle.wire_plan.proofs.FenceOf.{has_fence, of_fence_within}
 use Rattle.wire_plan.proofs.meetings.fence_at.Goals as goal
 
 pub call_of-requires : goal.call_of-requires

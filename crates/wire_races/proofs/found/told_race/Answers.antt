@@ -1,8 +1,8 @@
 use Rattle.wire_runs.specs.Plan.{event_of}
 use Rattle.wire_rehearsal.specs.Planned.{plan_of}
 use Rattle.wire_races.specs.declared.found.Race.TheVariants.{OnKey, OnName}
-use Rattle.wire_races.proofs.Told.{race_low_starts, race_high_starts, race_back}
-use Rattle.wire_races.proofs.Starting.{starts_within}
+use Rattle.wire_races.proofs.Findings.{race_low_starts, race_high_starts, race_back}
+use Rattle.wire_races.proofs.Calls.{starts_within}
 use Rattle.wire_races.proofs.found.told_race.Goals as goal
 
 pub call_of-lower-requires : goal.call_of-lower-requires

@@ -3,7 +3,7 @@ use Rattle.wire_runs.specs.Plan.{Event, event_of}
 use Rattle.wire_rehearsal.specs.Planned.{plan_of}
 use Rattle.wire_runs.specs.Ends.{first_event}
 use Rattle.wire_runs.specs.Findings.{Rewrite}
-use Rattle.wire_races.proofs.Starting.{starts_back, starts_within, low_starts, high_starts}
+use Rattle.wire_races.proofs.Calls.{starts_back, starts_within, low_starts, high_starts}
 use Rattle.wire_races.proofs.found.told_rewrite.Goals as goal
 
 pub call_of-requires : goal.call_of-requires

@@ -2,11 +2,11 @@ use Rattle.std.proofs.Common.{◌-◌}
 use Rattle.wire_runs.specs.Plan.{event_of, node_of}
 use Rattle.wire_rehearsal.specs.Planned.{plan_of}
 use Rattle.wire_races.specs.Adding.{Adds}
-use Rattle.wire_races.specs.Racing.{AreLateBelow}
+use Rattle.wire_races.specs.KeyRaces.{AreLateBelow}
 use Rattle.wire_races.proofs.key_races.add_all_late.Given as goal
 
 abbrev pub invariant-deliveries : goal.invariant-deliveries
-invariant-deliveries l = Adds (plan_of l.plan) l.initial.found l.found (AreLateBelow (plan_of l.plan) (event_of l.look) l.owner.number l.key (node_of (plan_of l.plan) l.look.proc.number) l.from)
+invariant-deliveries l = Adds (plan_of l.plan) l.initial.found l.found (AreLateBelow (plan_of l.plan) (event_of l.get_now) l.owner.number l.key (node_of (plan_of l.plan) l.get_now.proc.number) l.from)
 
 abbrev pub decreases-deliveries : goal.decreases-deliveries
 decreases-deliveries l = l.count - l.from

@@ -1,6 +1,6 @@
 use Rattle.wire_rehearsal.specs.Planned.{plan_of}
 use Rattle.wire_races.specs.Adding.{Adds, ToldIn}
-use Rattle.wire_races.specs.Racing.{IsKeyRaceBy}
+use Rattle.wire_races.specs.KeyRaces.{IsKeyRaceBy}
 use Rattle.wire_races.proofs.key_races.add_process.Given as goal
 
 abbrev pub invariant-loop-at : goal.invariant-loop-at

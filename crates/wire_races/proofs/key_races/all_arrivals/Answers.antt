@@ -3,7 +3,7 @@ use Rattle.wire_runs.specs.Plan.{event_of}
 use Rattle.wire_rehearsal.specs.Planned.{plan_of}
 use Rattle.wire_plan.specs.Index.{AreArrivals}
 use Rattle.wire_runs.proofs.Basics.{event_within}
-use Rattle.wire_races.proofs.Arriving.{ended}
+use Rattle.wire_races.proofs.Arrivals.{ended}
 use Rattle.wire_races.proofs.key_races.all_arrivals.Goals as goal
 
 pub sources-requires : goal.sources-requires

@@ -3,7 +3,7 @@ use Rattle.std.proofs.lemmas.List.{length-map}
 use Rattle.std.proofs.lemmas.Bool.{true≢false}
 use Rattle.wire_runs.specs.Plan.{event_of}
 use Rattle.wire_runs.specs.Order.{Live}
-use Rattle.wire_races.proofs.Arriving.{item, one_more, all_places}
+use Rattle.wire_races.proofs.Arrivals.{item, one_more, all_places}
 use Rattle.wire_races.proofs.key_races.all_live.Goals as goal
 
 pub returns-then-not-live : goal.returns-then-not-live

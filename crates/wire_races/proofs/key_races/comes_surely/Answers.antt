@@ -2,20 +2,20 @@ use Rattle.std.proofs.Common.{sym, subst}
 use Rattle.std.proofs.lemmas.Bool.{true≢false}
 use Rattle.wire_runs.specs.Plan.{event_of}
 use Rattle.wire_rehearsal.specs.Planned.{plan_of}
-use Rattle.wire_races.specs.Racing.{IsSure}
-use Rattle.wire_races.proofs.Delivered.{surely, first_sure, never_sure}
+use Rattle.wire_races.specs.KeyRaces.{IsSure}
+use Rattle.wire_races.proofs.Deliveries.{surely, first_sure, never_sure}
 use Rattle.wire_races.proofs.key_races.comes_surely.Goals as goal
 
 pub returns-in-Some : goal.returns-in-Some
 returns-in-Some c =
     let plan = plan_of c.args.plan.now in
     let at = c.in-Some.first.at in (
-      (λ t. surely plan (event_of c.args.look) c.args.owner.number c.args.key c.args.node at c.in-Some.ensures.delivers (subst (λ q. IsSure plan (event_of c.args.look) (record { proc = q; at = at })) c.in-Some.ensures.proc (c.is_sure.ensures.0 t))),
-      (λ s. c.is_sure.ensures.1 (subst (λ q. IsSure plan (event_of c.args.look) (record { proc = q; at = at })) (sym c.in-Some.ensures.proc) (first_sure plan (event_of c.args.look) c.args.owner.number c.args.key c.args.node at c.in-Some.ensures.delivers c.in-Some.ensures.others s))),
+      (λ t. surely plan (event_of c.args.get_now) c.args.owner.number c.args.key c.args.node at c.in-Some.ensures.delivers (subst (λ q. IsSure plan (event_of c.args.get_now) (record { proc = q; at = at })) c.in-Some.ensures.proc (c.is_sure.ensures.0 t))),
+      (λ s. c.is_sure.ensures.1 (subst (λ q. IsSure plan (event_of c.args.get_now) (record { proc = q; at = at })) (sym c.in-Some.ensures.proc) (first_sure plan (event_of c.args.get_now) c.args.owner.number c.args.key c.args.node at c.in-Some.ensures.delivers c.in-Some.ensures.others s))),
     )
 
 pub returns-in-None : goal.returns-in-None
 returns-in-None c = (
   (λ t. absurd (true≢false (sym t))),
-  (λ s. absurd (never_sure (plan_of c.args.plan.now) (event_of c.args.look) c.args.owner.number c.args.key c.args.node c.in-None.ensures s)),
+  (λ s. absurd (never_sure (plan_of c.args.plan.now) (event_of c.args.get_now) c.args.owner.number c.args.key c.args.node c.in-None.ensures s)),
 )

@@ -6,4 +6,4 @@ use Rattle.wire_marks.specs.Clocks.{AreMarks}
 use Rattle.wire_races.proofs.key_races.first_not_before.Given as goal
 
 abbrev pub invariant-loop-x : goal.invariant-loop-x
-invariant-loop-x l = (plan : Plan) → AreMarks plan l.marks → (k : ℕ) (z : Event) → k < l.x-index → slice_get (map event_of l.events) k ≡ Some z → Before plan z (event_of l.look)
+invariant-loop-x l = (plan : Plan) → AreMarks plan l.marks → (k : ℕ) (z : Event) → k < l.x-index → slice_get (map event_of l.events) k ≡ Some z → Before plan z (event_of l.get_now)

@@ -2,14 +2,14 @@ use Rattle.std.proofs.Common.{◌∙◌, sym, map}
 use Rattle.std.proofs.lemmas.Bool.{true≢false}
 use Rattle.wire_runs.specs.Plan.{event_of}
 use Rattle.wire_rehearsal.specs.Planned.{plan_of}
-use Rattle.wire_races.proofs.Arriving.{sure_tells, sure_live}
+use Rattle.wire_races.proofs.Arrivals.{sure_tells, sure_live}
 use Rattle.wire_races.proofs.key_races.is_sure.Goals as goal
 
 pub returns-then-all_live : goal.returns-then-all_live
 returns-then-all_live c =
     let plan = plan_of c.args.plan.now in
     let m = c.requires.marks in
-    sure_tells plan (event_of c.args.look) (event_of c.args.arrival) c.requires.fence (map event_of c.all_arrivals-arrivals.result.now) c.all_arrivals-arrivals.ensures c.first_not_before.result c.is_none.result c.is_none.ensures
+    sure_tells plan (event_of c.args.get_now) (event_of c.args.arrival) c.requires.fence (map event_of c.all_arrivals-arrivals.result.now) c.all_arrivals-arrivals.ensures c.first_not_before.result c.is_none.result c.is_none.ensures
     (c.first_not_before.ensures plan m) ((c.all_live.ensures plan m).0 c.if-all_live.true)
 
 pub returns-else-all_live : goal.returns-else-all_live
@@ -17,5 +17,5 @@ returns-else-all_live c =
     let plan = plan_of c.args.plan.now in
     let m = c.requires.marks in (
       (λ t. absurd (true≢false (sym t ∙ c.if-all_live.false))),
-      (λ s. (c.all_live.ensures plan m).1 (sure_live plan (event_of c.args.look) (event_of c.args.arrival) c.requires.fence (map event_of c.all_arrivals-arrivals.result.now) c.all_arrivals-arrivals.ensures s)),
+      (λ s. (c.all_live.ensures plan m).1 (sure_live plan (event_of c.args.get_now) (event_of c.args.arrival) c.requires.fence (map event_of c.all_arrivals-arrivals.result.now) c.all_arrivals-arrivals.ensures s)),
     )

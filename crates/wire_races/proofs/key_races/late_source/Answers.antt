@@ -1,13 +1,13 @@
 use Rattle.std.proofs.Common.{map}
 use Rattle.wire_runs.specs.Plan.{event_of}
 use Rattle.wire_rehearsal.specs.Planned.{plan_of}
-use Rattle.wire_races.proofs.Arriving.{late_tells, may_live, may_none_after}
+use Rattle.wire_races.proofs.Arrivals.{late_tells, may_live, may_none_after}
 use Rattle.wire_races.proofs.key_races.late_source.Goals as goal
 
 pub returns : goal.returns
 returns c =
     let plan = plan_of c.args.plan.now in
-    let get = event_of c.args.look in
+    let get = event_of c.args.get_now in
     let arrival = event_of c.args.arrival in
     let fence = c.requires.may.fence in
     let places = map event_of c.all_arrivals.result.now in

@@ -2,14 +2,14 @@ use Rattle.std.proofs.Common.{◌∙◌, sym, map}
 use Rattle.std.proofs.lemmas.Bool.{true≢false}
 use Rattle.wire_runs.specs.Plan.{event_of}
 use Rattle.wire_rehearsal.specs.Planned.{plan_of}
-use Rattle.wire_races.proofs.Arriving.{may_there, may_live, may_none_after}
+use Rattle.wire_races.proofs.Arrivals.{may_there, may_live, may_none_after}
 use Rattle.wire_races.proofs.key_races.may_be_late.Goals as goal
 
 pub returns-then-all_live : goal.returns-then-all_live
 returns-then-all_live c =
     let plan = plan_of c.args.plan.now in
     let m = c.requires.marks in
-    let get = event_of c.args.look in
+    let get = event_of c.args.get_now in
     let arrival = event_of c.args.arrival in
     let places = map event_of c.all_arrivals-arrivals.result.now in (
       (λ t. may_there plan get arrival c.requires.fence places c.all_arrivals-arrivals.ensures ((c.all_live.ensures plan m).0 c.if-all_live.true) ((c.is_before_none.ensures plan m).0 t)),
@@ -21,5 +21,5 @@ returns-else-all_live c =
     let plan = plan_of c.args.plan.now in
     let m = c.requires.marks in (
       (λ t. absurd (true≢false (sym t ∙ c.if-all_live.false))),
-      (λ l. (c.all_live.ensures plan m).1 (may_live plan (event_of c.args.look) (event_of c.args.arrival) c.requires.fence (map event_of c.all_arrivals-arrivals.result.now) c.all_arrivals-arrivals.ensures l)),
+      (λ l. (c.all_live.ensures plan m).1 (may_live plan (event_of c.args.get_now) (event_of c.args.arrival) c.requires.fence (map event_of c.all_arrivals-arrivals.result.now) c.all_arrivals-arrivals.ensures l)),
     )

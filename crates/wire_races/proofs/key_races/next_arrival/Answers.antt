@@ -1,5 +1,5 @@
 use Rattle.wire_rehearsal.specs.Planned.{plan_of}
-use Rattle.wire_races.proofs.Delivered.{next_from}
+use Rattle.wire_races.proofs.Deliveries.{next_from}
 use Rattle.wire_races.proofs.key_races.next_arrival.Goals as goal
 
 pub returns : goal.returns

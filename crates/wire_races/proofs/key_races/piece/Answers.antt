@@ -1,6 +1,6 @@
 use Rattle.std.proofs.lemmas.Result.{IfOk-weaker}
 use Rattle.wire_rehearsal.specs.Planned.{plan_of}
-use Rattle.wire_races.specs.Racing.{IsKeyRaceOf}
+use Rattle.wire_races.specs.KeyRaces.{IsKeyRaceOf}
 use Rattle.wire_races.proofs.Together.{piece_of}
 use Rattle.wire_races.proofs.key_races.piece.Goals as goal
 

@@ -4,7 +4,7 @@ use Rattle.wire_runs.specs.Plan.{event_of}
 use Rattle.wire_rehearsal.specs.Planned.{plan_of}
 use Rattle.wire_races.proofs.Lists.{in_index}
 use Rattle.wire_races.proofs.Growing.{adds_none}
-use Rattle.wire_races.proofs.Starting.{starts_within, starts_named}
+use Rattle.wire_races.proofs.Calls.{starts_within, starts_named}
 use Rattle.wire_races.proofs.name_races.add_races_of.Goals as goal
 use Rattle.wire_races.proofs.name_races.add_races_of.Goals.{else-x-proc-via-then-x-proc+then-writes+else-live, else-x-proc-via-then-x-proc+else-writes, else-x-proc-via-else-x-proc}
 

@@ -3,7 +3,7 @@ use Rattle.wire_runs.specs.Plan.{event_of}
 use Rattle.wire_rehearsal.specs.Planned.{plan_of}
 use Rattle.wire_races.specs.NameRaces.{AreCallsOn}
 use Rattle.wire_races.proofs.Lists.{both_parts, first_calls, other_calls}
-use Rattle.wire_races.proofs.Racing.{IsLeft, all_left, less_left}
+use Rattle.wire_races.proofs.NameRaces.{IsLeft, all_left, less_left}
 use Rattle.wire_races.proofs.name_races.add_races_on.Goals as goal
 
 pub runs-init : goal.runs-init

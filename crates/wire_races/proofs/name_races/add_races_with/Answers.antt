@@ -6,7 +6,7 @@ use Rattle.wire_runs.specs.Fate.{IsIn}
 use Rattle.wire_races.specs.Adding.{Adds}
 use Rattle.wire_races.proofs.Lists.{place_at}
 use Rattle.wire_races.proofs.Growing.{adds_none, adds_same}
-use Rattle.wire_races.proofs.Racing.{IsRaceAmong, with_more, writer_in}
+use Rattle.wire_races.proofs.NameRaces.{IsRaceAmong, with_more, writer_in}
 use Rattle.wire_races.proofs.name_races.add_races_with.Goals as goal
 
 pub add_races_of-requires-clause-x : goal.add_races_of-requires-clause-x

@@ -2,7 +2,7 @@ use Rattle.std.proofs.Common.{map, take}
 use Rattle.wire_runs.specs.Plan.{event_of}
 use Rattle.wire_rehearsal.specs.Planned.{plan_of}
 use Rattle.wire_races.specs.Adding.{Adds}
-use Rattle.wire_races.proofs.Racing.{IsRaceAmong}
+use Rattle.wire_races.proofs.NameRaces.{IsRaceAmong}
 use Rattle.wire_races.proofs.name_races.add_races_with.Given as goal
 
 abbrev pub invariant-loop-x : goal.invariant-loop-x

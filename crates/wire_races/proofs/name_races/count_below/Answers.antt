@@ -2,7 +2,7 @@ use Rattle.std.proofs.Common.{◌∙◌, ◌+◌, ◌-◌, ◌/◌, ◌<◌, map
 use Rattle.std.proofs.lemmas.Bool.{true≢false}
 use Rattle.wire_runs.specs.Plan.{event_of}
 use Rattle.wire_races.proofs.Lists.{place_at}
-use Rattle.wire_races.proofs.Racing.{low_rises, high_falls, narrowed_cut}
+use Rattle.wire_races.proofs.NameRaces.{low_rises, high_falls, narrowed_cut}
 use Rattle.wire_races.proofs.name_races.count_below.Goals as goal
 
 pub bisection-preserved-then-is_below : goal.bisection-preserved-then-is_below

@@ -2,7 +2,7 @@ use Rattle.std.proofs.Common.{◌-◌, ◌≤◌, ℕ, length, map}
 use Rattle.wire_runs.specs.Plan.{Plan, event_of}
 use Rattle.wire_marks.specs.Clocks.{AreMarks}
 use Rattle.wire_races.specs.NameRaces.{AreCallsOn, AreOf, IsBelow}
-use Rattle.wire_races.proofs.Racing.{IsNarrowed}
+use Rattle.wire_races.proofs.NameRaces.{IsNarrowed}
 use Rattle.wire_races.proofs.name_races.count_below.Given as goal
 
 abbrev pub invariant-bisection : goal.invariant-bisection

@@ -4,7 +4,7 @@ use Rattle.wire_runs.specs.Plan.{event_of}
 use Rattle.wire_rehearsal.specs.Planned.{plan_of}
 use Rattle.wire_runs.specs.Ends.{first_event}
 use Rattle.wire_runs.specs.Findings.{NameRace}
-use Rattle.wire_races.proofs.Starting.{starts_back, starts_within, starts_named}
+use Rattle.wire_races.proofs.Calls.{starts_back, starts_within, starts_named}
 use Rattle.wire_races.proofs.name_races.race_of.Goals as goal
 
 pub call_of-first-requires : goal.call_of-first-requires

@@ -3,7 +3,7 @@ use Rattle.std.proofs.lemmas.List.{map_more}
 use Rattle.std.proofs.lemmas.Option.{slice_get-get_or}
 use Rattle.wire_rehearsal.specs.Planned.{plan_of}
 use Rattle.wire_runs.specs.Findings.{Has}
-use Rattle.wire_races.specs.Shown.{shown, all_shown}
+use Rattle.wire_races.specs.Findings.{shown, all_shown}
 use Rattle.wire_races.specs.Adding.{Adds}
 use Rattle.wire_races.proofs.Together.{found_at, one_more}
 use Rattle.wire_races.proofs.pieces.add_piece.Goals as goal

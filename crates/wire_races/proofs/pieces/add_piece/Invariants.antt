@@ -1,7 +1,7 @@
 use Rattle.std.proofs.Common.{take}
 use Rattle.wire_rehearsal.specs.Planned.{plan_of}
 use Rattle.wire_runs.specs.Findings.{Has}
-use Rattle.wire_races.specs.Shown.{all_shown}
+use Rattle.wire_races.specs.Findings.{all_shown}
 use Rattle.wire_races.specs.Adding.{Adds}
 use Rattle.wire_races.proofs.pieces.add_piece.Given as goal
 

@@ -2,7 +2,7 @@ use Rattle.std.proofs.Common.{◌≡◌, ◌+◌, length, arith, subst, refl}
 use Rattle.std.proofs.lemmas.Option.{slice_get_read}
 use Rattle.wire_rehearsal.specs.Planned.{plan_of}
 use Rattle.wire_runs.specs.Findings.{Has}
-use Rattle.wire_races.specs.Shown.{all_shown}
+use Rattle.wire_races.specs.Findings.{all_shown}
 use Rattle.wire_races.specs.Adding.{Adds}
 use Rattle.wire_races.proofs.Together.{piece_more, in_some}
 use Rattle.wire_races.proofs.pieces.add_pieces.Goals as goal

@@ -1,6 +1,6 @@
 use Rattle.wire_rehearsal.specs.Planned.{plan_of}
 use Rattle.wire_core.specs.Course.{state_of}
-use Rattle.wire_core.proofs.Looks.{ended_tells}
+use Rattle.wire_core.proofs.Ranks.{ended_tells}
 use Rattle.wire_core.proofs.running.Core.ended.Goals as goal
 
 pub returns : goal.returns

@@ -1,7 +1,7 @@
 use Rattle.std.proofs.Common.{◌≡◌, ◌∙◌, ◌+◌, ap, sym, subst, suc, map, take, arith}
 use Rattle.std.specs.Prelude.{option_map}
 use Rattle.std.proofs.lemmas.Option.{slice_get-map, slice_get-get_or}
-use Rattle.wire_core.specs.Stops.{Follows}
+use Rattle.wire_core.specs.Following.{Follows}
 use Rattle.wire_core.proofs.Following.{follows_more, ends_plainly}
 use Rattle.wire_core.proofs.running.Core.follow.Goals as goal
 

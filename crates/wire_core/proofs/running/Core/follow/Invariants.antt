@@ -1,5 +1,5 @@
 use Rattle.std.proofs.Common.{map, take}
-use Rattle.wire_core.specs.Stops.{Follows}
+use Rattle.wire_core.specs.Following.{Follows}
 use Rattle.wire_core.proofs.running.Core.follow.Given as goal
 
 abbrev pub invariant-loop-step : goal.invariant-loop-step

@@ -6,7 +6,7 @@ use Rattle.wire_runs.specs.PlainRun.{plain_from}
 use Rattle.wire_runs.specs.Plan.{event_total}
 use Rattle.wire_runs.proofs.PlainRun.{lowest_enabled}
 use Rattle.wire_core.specs.Course.{state_of}
-use Rattle.wire_core.proofs.Looks.{nobody}
+use Rattle.wire_core.proofs.Ranks.{nobody}
 use Rattle.wire_core.proofs.Steps.{step_history, legal_push, length_push, ahead_step}
 use Rattle.wire_core.proofs.running.Core.run_lowest.Goals as goal
 

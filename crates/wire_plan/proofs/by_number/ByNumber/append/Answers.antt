@@ -2,7 +2,7 @@ use Rattle.std.proofs.Common.{◌<◌, ◌∙◌, ◌++◌, ◌∷◌, [], lengt
 use Rattle.std.proofs.lemmas.List.{length-map}
 use Rattle.wire_runs.specs.Plan.{event_of}
 use Rattle.wire_plan.specs.Tables.{events_listed}
-use Rattle.wire_plan.proofs.Numbered.{places_in, append_here, append_others}
+use Rattle.wire_plan.proofs.Tables.{places_in, append_here, append_others}
 use Rattle.wire_plan.proofs.by_number.ByNumber.append.Goals as goal
 
 pub returns-clause-here : goal.returns-clause-here

@@ -1,6 +1,6 @@
 use Rattle.std.proofs.Common.{◌≡◌, ℕ, [], length, map, get_or}
 use Rattle.wire_plan.specs.Tables.{events_listed}
-use Rattle.wire_plan.proofs.Numbered.{places_in}
+use Rattle.wire_plan.proofs.Tables.{places_in}
 use Rattle.wire_plan.proofs.by_number.ByNumber.reach.Given as goal
 
 abbrev pub invariant-loop : goal.invariant-loop

@@ -1,7 +1,7 @@
 use Rattle.std.proofs.Common.{◌∙◌, refl, ap}
 use Rattle.wire_plan.specs.Tables.{is_listed, is_number}
 use Rattle.wire_plan.proofs.Grown.{place}
-use Rattle.wire_plan.proofs.Numbered.{listed_more, listed_other}
+use Rattle.wire_plan.proofs.Tables.{listed_more, listed_other}
 use Rattle.wire_plan.proofs.by_number.ByNumber.read.Goals as goal
 
 pub returns-in_ok-add : goal.returns-in_ok-add

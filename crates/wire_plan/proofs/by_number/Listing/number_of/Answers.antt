@@ -9,5 +9,5 @@ returns-in-Publishes c = λ plan sets number x same. ap (λ l. is_listed plan l 
 pub returns-in-Takes : goal.returns-in-Takes
 returns-in-Takes c = λ plan sets number x same. ap (λ l. is_listed plan l number x (Some (kind_of sets c.args.kind))) c.in-Takes.is ∙ c.name_taken.ensures plan sets number x
 
-pub returns-in-Looks : goal.returns-in-Looks
-returns-in-Looks c = λ plan sets number x same. ap (λ l. is_listed plan l number x (Some (kind_of sets c.args.kind))) c.in-Looks.is ∙ c.key_looked_at.ensures plan sets number x same
+pub returns-in-GetsNow : goal.returns-in-GetsNow
+returns-in-GetsNow c = λ plan sets number x same. ap (λ l. is_listed plan l number x (Some (kind_of sets c.args.kind))) c.in-GetsNow.is ∙ c.key_looked_at.ensures plan sets number x same

@@ -1,4 +1,4 @@
-use Rattle.wire_plan.proofs.Numbered.{once_of}
+use Rattle.wire_plan.proofs.Tables.{once_of}
 use Rattle.wire_plan.proofs.names.NameTable.once_published.Goals as goal
 
 pub returns : goal.returns

@@ -3,9 +3,9 @@ use Rattle.wire_runs.specs.Plan.{event_of}
 use Rattle.wire_rehearsal.specs.Planned.{plan_of}
 use Rattle.wire_runs.specs.Findings.{Rewrite, IsFound}
 use Rattle.wire_runs.specs.Ends.{first_event}
-use Rattle.wire_races.specs.Shown.{shown}
+use Rattle.wire_races.specs.Findings.{shown}
 use Rattle.wire_races.specs.declared.finding.Finding.TheVariants as told
-use Rattle.wire_races.proofs.Told.{shown_low, shown_high, one_first}
+use Rattle.wire_races.proofs.Findings.{shown_low, shown_high, one_first}
 use Rattle.wire_races.proofs.found.Found.add.Goals as goal
 
 pub first_event-requires : goal.first_event-requires

@@ -9,4 +9,4 @@ pub returns-clause-one : goal.returns-clause-one
 returns-clause-one c = λ v w. settled_one_end (plan_of c.args.self.now) v w (subst (λ s. IsSettled (plan_of s)) c.self.view_is c.self.invariant.0)
 
 pub returns-clause-plain : goal.returns-clause-plain
-returns-clause-plain c = λ w. (plain_runs (plan_of c.args.self.now)).is_the_end w (subst (λ s. IsSettled (plan_of s)) c.self.view_is c.self.invariant.0)
+returns-clause-plain c = (plain_runs (plan_of c.args.self.now)).is_the_end (subst (λ s. IsSettled (plan_of s)) c.self.view_is c.self.invariant.0)

@@ -1,0 +1,135 @@
+-- Lists by number: what is added to one of them, and what the lists of a plan's events say.
+use Rattle.std.proofs.Common.{◌≡◌, ◌≢◌, ◌∙◌, ℕ, zero, suc, ◌<◌, ◌≤◌, ◌==◌, List, [], ◌∷◌, ◌++◌, Vec, length, map, get_or, slice_set, slice_get, Option, Some, None, MatchOption, true, false, inl, inr, refl, sym, ap, subst, arith, eq-eqb, ne_eqb, eqb-true, not}
+use Rattle.std.specs.declared.alloc.Global.{Global}
+use Rattle.std.proofs.lemmas.Bool.{cases_eq, cases_Bool, true≢false, and_parts, and_from}
+use Rattle.std.proofs.lemmas.List.{map_push}
+use Rattle.std.proofs.lemmas.Option.{none-some, same_Some}
+use Rattle.wire_runs.specs.Plan.{Plan, Event, Kind as TheEvent, Publish, GetNow, kind, kind_at, event_count, process_count, event_of}
+use Rattle.wire_types.specs.declared.place.Event.{Event as CodeEvent}
+use Rattle.wire_plan.specs.declared.by_number.Listing.{Listing}
+use Rattle.wire_plan.specs.declared.by_number.Listing.TheVariants.{NameCalls, Publishes, Takes, GetsNow}
+use Rattle.wire_plan.specs.Index.{IsGetNow}
+use Rattle.wire_runs.specs.Order.{PublishesOnce}
+use Rattle.wire_runs.specs.Names.{takes_name}
+use Rattle.wire_runs.specs.EventLists.{IsLower, AreAll}
+use Rattle.wire_plan.specs.Tables.{is_listed, is_number, events_listed, only_of, AreListed, AreListedTo}
+use Rattle.wire_runs.proofs.Basics.{event_within, process_within}
+use Rattle.wire_plan.proofs.Grown.{place, Earlier, all_same, one_more, one_other, whole_process, whole_plan}
+
+abbrev pub places_in : Vec CodeEvent Global → List Event
+places_in list = map event_of list.items
+
+-- a list more, with nothing in it
+pub reach_more : (lists : List (Vec CodeEvent Global)) (new : Vec CodeEvent Global) (n : ℕ) → new.items ≡ [] → get_or (map places_in (lists ++ new ∷ [])) n [] ≡ get_or (map places_in lists) n []
+reach_more [] new zero none_there = ap (map event_of) none_there
+reach_more [] new (suc n) none_there = refl
+reach_more (list ∷ lists) new zero none_there = refl
+reach_more (list ∷ lists) new (suc n) none_there = reach_more lists new n none_there
+
+-- one of the lists has one more
+pub append_here : (lists : List (Vec CodeEvent Global)) (i : ℕ) (was now : Vec CodeEvent Global) (e : CodeEvent) → i < length lists → was ≡ get_or lists i was → now.items ≡ was.items ++ e ∷ [] → get_or (map places_in (slice_set lists i now)) i [] ≡ get_or (map places_in lists) i [] ++ event_of e ∷ []
+append_here [] i was now e lt is push = absurd (omega (arith, lt))
+append_here (list ∷ lists) zero was now e lt is push = ap (map event_of) push ∙ map_push event_of was.items e ∙ ap (λ (v : Vec CodeEvent Global). map event_of v.items ++ event_of e ∷ []) is
+append_here (list ∷ lists) (suc i) was now e lt is push = append_here lists i was now e (omega (arith, lt)) is push
+
+-- and the others stay
+pub append_others : (lists : List (Vec CodeEvent Global)) (i n : ℕ) (now : Vec CodeEvent Global) → n ≢ i → get_or (map places_in (slice_set lists i now)) n [] ≡ get_or (map places_in lists) n []
+append_others [] i n now ne = refl
+append_others (list ∷ lists) zero zero now ne = absurd (ne refl)
+append_others (list ∷ lists) zero (suc n) now ne = refl
+append_others (list ∷ lists) (suc i) zero now ne = refl
+append_others (list ∷ lists) (suc i) (suc n) now ne = append_others lists i n now (λ e. ne (ap suc e))
+
+module _ (plan : Plan) (listing : Listing) where
+  abbrev pub IsListed : ℕ → Event → Type 0
+  IsListed number x = is_listed plan listing number x (kind plan x) ≡ true
+
+  -- an event that is listed under this number, and under no other
+  pub listed_more : (p i m : ℕ) (old new : List (List Event)) → ((number : ℕ) → is_listed plan listing number (place p i) (kind_at plan p i) ≡ is_number (Some m) number)
+      → events_listed new m ≡ events_listed old m ++ place p i ∷ [] → ((n : ℕ) → n ≢ m → events_listed new n ≡ events_listed old n)
+      → AreListedTo plan listing p i old → AreListedTo plan listing p (suc i) new
+  listed_more p i m old new told here others are = λ number. elim (cases_eq number m) [
+    | inl e ↦ subst (λ k. AreAll (Earlier (IsListed k) p (suc i)) (events_listed new k)) (sym e)
+        (subst (AreAll (Earlier (IsListed m) p (suc i))) (sym here) (one_more (IsListed m) p i (events_listed old m) (told m ∙ eq-eqb m m refl) (are m)))
+    | inr ne ↦ subst (AreAll (Earlier (IsListed number) p (suc i))) (sym (others number ne))
+        (one_other (IsListed number) p i (events_listed old number) (λ h. ne (sym (eqb-true m number (sym (told number) ∙ h)))) (are number))
+  ]
+
+  -- an event that isn't listed
+  pub listed_other : (p i : ℕ) (lists : List (List Event)) → ((number : ℕ) → is_listed plan listing number (place p i) (kind_at plan p i) ≡ is_number None number)
+      → AreListedTo plan listing p i lists → AreListedTo plan listing p (suc i) lists
+  listed_other p i lists told are = λ number. one_other (IsListed number) p i (events_listed lists number) (λ h. true≢false (sym h ∙ told number)) (are number)
+
+  -- what is listed is an event
+  is_event : (number : ℕ) (x : Event) (o : Option TheEvent) → is_listed plan listing number x o ≡ true → (e : TheEvent) × (o ≡ Some e)
+  is_event number x (Some e) h = (e, refl)
+  is_event number x None h = absurd (true≢false (sym h ∙ nothing listing))
+    where
+      nothing : (l : Listing) → is_listed plan l number x None ≡ false
+      nothing NameCalls = refl
+      nothing Publishes = refl
+      nothing Takes = refl
+      nothing GetsNow = refl
+
+  -- all events of a process, and of all processes
+  pub listed_process : (p n : ℕ) (lists : List (List Event)) → event_count plan p ≤ n → AreListedTo plan listing p n lists → AreListedTo plan listing (suc p) 0 lists
+  listed_process p n lists le are = λ number. whole_process (IsListed number) p n (events_listed lists number)
+      (λ i h. let e = is_event number (place p i) (kind_at plan p i) h in let lt = event_within plan p i e.0 e.1 in omega (arith, lt, le))
+      (are number)
+
+  pub listed_plan : (n : ℕ) (lists : List (List Event)) → process_count plan ≤ n → AreListedTo plan listing n 0 lists → AreListed plan listing lists
+  listed_plan n lists le are = λ number. whole_plan (IsListed number) n (events_listed lists number)
+      (λ x h. let e = is_event number x (kind plan x) h in let lt = process_within plan x.proc x.at e.0 e.1 in omega (arith, lt, le))
+      (are number)
+
+look_is : (plan : Plan) (key : ℕ) (x : Event) (o : Option TheEvent) → kind plan x ≡ o → is_listed plan GetsNow key x o ≡ true → IsGetNow plan key x
+look_is plan key x (Some (GetNow owner k)) is h =
+    let parts = and_parts (k == key) (not (x.proc == owner)) h in
+    record {
+      owner = owner;
+      is = is ∙ ap (λ n. Some (GetNow owner n)) (eqb-true k key parts.0);
+      other = λ e. true≢false (sym parts.1 ∙ ap not (eq-eqb x.proc owner e));
+    }
+look_is plan key x _ is h = absurd (true≢false (sym h))
+
+is_look : (plan : Plan) (key : ℕ) (x : Event) → IsGetNow plan key x → is_listed plan GetsNow key x (kind plan x) ≡ true
+is_look plan key x get_now = ap (is_listed plan GetsNow key x) get_now.is ∙ and_from (key == key) (not (x.proc == get_now.owner)) (eq-eqb key key refl) (ap not (ne_eqb x.proc get_now.owner get_now.other))
+
+pub looks_listed : (plan : Plan) (key : ℕ) (places : List Event) → AreAll (λ x. is_listed plan GetsNow key x (kind plan x) ≡ true) places → AreAll (IsGetNow plan key) places
+looks_listed plan key places are = all_same _ _ places (λ x h. look_is plan key x (kind plan x) refl h) (λ x h. is_look plan key x h) are
+
+publish_is : (plan : Plan) (name : ℕ) (x : Event) (o : Option TheEvent) → kind plan x ≡ o → is_listed plan Publishes name x o ≡ true → kind plan x ≡ Some (Publish name)
+publish_is plan name x (Some (Publish n)) is h = is ∙ ap (λ m. Some (Publish m)) (eqb-true n name h)
+publish_is plan name x _ is h = absurd (true≢false (sym h))
+
+pub publishes_listed : (plan : Plan) (name : ℕ) (places : List Event) → AreAll (λ x. is_listed plan Publishes name x (kind plan x) ≡ true) places → AreAll (λ x. kind plan x ≡ Some (Publish name)) places
+publishes_listed plan name places are = all_same _ _ places
+    (λ x h. publish_is plan name x (kind plan x) refl h)
+    (λ x h. ap (is_listed plan Publishes name x) h ∙ eq-eqb name name refl)
+    are
+
+not_below_itself : (x : Event) → IsLower x x → ⊥
+not_below_itself x (inl lt) = omega (arith, lt)
+not_below_itself x (inr (e, lt)) = omega (arith, lt)
+
+-- the publish of a name that is published once and that nobody unpublishes
+pub once_of : (plan : Plan) (name : ℕ) (publishes takes : List CodeEvent) → AreAll (λ x. kind plan x ≡ Some (Publish name)) (map event_of publishes) → AreAll (λ x. takes_name plan name x (kind plan x) ≡ true) (map event_of takes)
+    → MatchOption (only_of publishes takes) ((x : Event) → PublishesOnce plan x name → ⊥) (λ x. PublishesOnce plan (event_of x) name)
+once_of plan name [] takes ps ts = λ x once. let found = ps.all x once.is in none-some x found.1
+once_of plan name (a ∷ []) [] ps ts = record {
+  is = ps.only 0 (event_of a) refl;
+  only = λ y h. alone y (ps.all y h).0 (ps.all y h).1;
+  stays = λ y. elim (cases_Bool (takes_name plan name y (kind plan y))) [
+    | inl t ↦ absurd (none-some y (ts.all y t).1)
+    | inr f ↦ f
+  ];
+}
+  where
+    alone : (y : Event) (k : ℕ) → slice_get (map event_of (a ∷ [])) k ≡ Some y → y ≡ event_of a
+    alone y zero h = sym (same_Some (event_of a) y h)
+    alone y (suc k) h = absurd (none-some y h)
+once_of plan name (a ∷ []) (b ∷ takes) ps ts = λ x once. true≢false (sym (ts.only 0 (event_of b) refl) ∙ once.stays (event_of b))
+once_of plan name (a ∷ (b ∷ publishes)) takes ps ts = λ x once.
+    let first : event_of a ≡ x = once.only (event_of a) (ps.only 0 (event_of a) refl) in
+    let second : event_of b ≡ x = once.only (event_of b) (ps.only 1 (event_of b) refl) in
+    not_below_itself (event_of a) (subst (λ y. IsLower (event_of a) y) (second ∙ sym first) (ps.rising 0 1 (event_of a) (event_of b) (omega arith) refl refl))

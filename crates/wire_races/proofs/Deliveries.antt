@@ -1,0 +1,226 @@
+-- The races of a get with the deliveries of its key from another node.
+use Rattle.std.proofs.Common.{◌≡◌, ◌∙◌, ap, sym, subst, ℕ, suc, ◌<◌, ◌≤◌, List, true, Option, Some, None, arith, inl, inr}
+use Rattle.std.specs.Prelude.{IfSome, option_map}
+use Rattle.std.proofs.lemmas.Bool.{true≢false, cases_lt, cases_eq}
+use Rattle.wire_runs.specs.Plan.{Plan, Event, event_count, process_count, node_of, same_node}
+use Rattle.wire_types.specs.declared.Proc.{Proc}
+use Rattle.wire_types.specs.declared.place.Event.{Event as CodeEvent}
+use Rattle.wire_runs.specs.Order.{IsArrival, Before}
+use Rattle.wire_runs.specs.Races.{Delivery, ByFence, IsOf, Delivers, ComesSurely}
+use Rattle.wire_runs.specs.Findings.{Finding, IsFound, IsKeyRace}
+use Rattle.wire_plan.specs.Index.{IsDelivering, IsNextDelivery}
+use Rattle.wire_runs.proofs.Basics.{event_within, process_within}
+use Rattle.wire_races.specs.Found.{AreFound}
+use Rattle.wire_races.specs.FindingKinds.{IsOfKey}
+use Rattle.wire_races.specs.Adding.{Adds, OfKind}
+use Rattle.wire_races.specs.KeyRaces.{IsRaceOf, IsKeyRaceBy, Arrives, IsSure, MayBeLate, IsLate, IsLateBy, AreLateBelow, IsUnsure, IsNextArrival}
+use Rattle.wire_races.proofs.Growing.{adds_none, adds_same, adds_both}
+use Rattle.wire_runs.proofs.Histories.{joined}
+use Rattle.wire_races.proofs.Arrivals.{arrival_of, late_once}
+use Rattle.wire_races.proofs.Sooner.{sooner_live, sooner_before}
+use Rattle.wire_races.proofs.KeyRaces.{race_with, race_open, race_found, get_there}
+
+abbrev pub here : ℕ → ℕ → Event
+here p at = record { proc = p; at = at }
+
+pub arrives : (plan : Plan) (p key node at : ℕ) → IsDelivering plan p key node at → Arrives plan (here p at)
+arrives plan p key node at d = record { members = d.members; j = d.j; arrival = d.arrival }
+
+delivering_within : (plan : Plan) (p key node at : ℕ) → IsDelivering plan p key node at → at < event_count plan p
+delivering_within plan p key node at d = event_within plan p at _ d.arrival.is
+
+-- the next delivery, told by its event
+pub next_from : (plan : Plan) (owner : Proc) (key node from : ℕ) (found : Option CodeEvent) → IfSome found (λ e. e.proc ≡ owner) → IsNextDelivery plan owner.number key node from (option_map (λ e. e.at) found) → IsNextArrival plan owner.number key node from found
+next_from plan owner key node from None owned next = next
+next_from plan owner key node from (Some e) owned next = record {
+  proc = ap (λ q. q.number) owned;
+  after = next.0;
+  there = delivering_within plan owner.number key node e.at next.1;
+  delivers = next.1;
+  others = next.2;
+}
+
+module _ (plan : Plan) (get : Event) (p key node : ℕ) where
+  -- a sure delivery, by the owner's arrival at its fence
+  pub surely : (at : ℕ) → IsDelivering plan p key node at → IsSure plan get (here p at) → ComesSurely plan p key node get
+  surely at d s = record {
+    delivery = ByFence d.members d.j;
+    delivers = record {
+      brings_it = d.brings;
+      all_live = λ z a. s.all_live z (arrival_of plan (here p at) z d.members s.fence.members d.j s.fence.j d.arrival s.fence.arrival a);
+    };
+    all_before = λ z a. s.all_before z (arrival_of plan (here p at) z d.members s.fence.members d.j s.fence.j d.arrival s.fence.arrival a);
+  }
+
+  pub sure_at : ComesSurely plan p key node get → (at : ℕ) × IsDelivering plan p key node at × IsSure plan get (here p at)
+  sure_at s = go s.delivery s.delivers s.all_before
+    where
+      go : (d : Delivery) → Delivers plan p key node d → ((z : Event) → IsOf plan d z → Before plan z get) → (at : ℕ) × IsDelivering plan p key node at × IsSure plan get (here p at)
+      go (ByFence members j) d before = (
+        d.brings_it.at,
+        record { members = members; j = j; arrival = d.brings_it.arrival; brings = d.brings_it },
+        record { fence = record { members = members; j = j; arrival = d.brings_it.arrival }; all_live = d.all_live; all_before = before },
+      )
+
+  -- where a delivery is sure, an earlier one is
+  sure_sooner : (a b : ℕ) → a < b → IsDelivering plan p key node a → IsSure plan get (here p b) → IsSure plan get (here p a)
+  sure_sooner a b lt d s =
+      let later = s.all_live (here p b) s.fence.arrival in record {
+        fence = record { members = d.members; j = d.j; arrival = d.arrival };
+        all_live = λ z h. sooner_live plan p a b d.members d.j d.arrival lt later z h;
+        all_before = λ z h. joined (sooner_before plan p a b d.members d.j d.arrival lt later z h) (s.all_before (here p b) s.fence.arrival);
+      }
+
+  -- so the first one is
+  pub first_sure : (at : ℕ) → IsDelivering plan p key node at → ((k : ℕ) → 0 ≤ k → k < at → IsDelivering plan p key node k → ⊥) → ComesSurely plan p key node get → IsSure plan get (here p at)
+  first_sure at d others s =
+      let w = sure_at s in
+      elim (cases_lt w.0 at) [
+        | inl lt ↦ absurd (others w.0 (omega arith) lt w.1)
+        | inr ge ↦ elim (cases_eq w.0 at) [
+          | inl same ↦ subst (λ n. IsSure plan get (here p n)) same w.2
+          | inr other ↦ sure_sooner at w.0 (omega (arith, ge, other)) d w.2
+        ]
+      ]
+
+  -- none at all
+  pub never_sure : ((k : ℕ) → 0 ≤ k → IsDelivering plan p key node k → ⊥) → ComesSurely plan p key node get → ⊥
+  never_sure none s = let w = sure_at s in none w.0 (omega arith) w.1
+
+pub past_all : (plan : Plan) (p key node from count : ℕ) → count ≡ event_count plan p → count ≤ from → (k : ℕ) → from ≤ k → IsDelivering plan p key node k → ⊥
+past_all plan p key node from count is end k ge d = let lt = delivering_within plan p key node k d in omega (arith, lt, is, end, ge)
+
+module _ (plan : Plan) (get : Event) (owner key : ℕ) (n : IsUnsure plan get owner key) where
+  -- a late arrival is a race
+  pub late_race : (at : ℕ) (x : Event) → IsDelivering plan owner key (node_of plan get.proc) at → IsLate plan get (here owner at) x → IsKeyRace plan x get owner key
+  late_race at x d l =
+      let there : (z : Event) → IsArrival plan d.members d.j z → IsArrival plan l.fence.members l.fence.j z =
+      λ z a. arrival_of plan (here owner at) z d.members l.fence.members d.j l.fence.j d.arrival l.fence.arrival a in
+      inr (record {
+        is = n.opened.is;
+        other = n.other;
+        once = n.opened.once;
+        get_live = n.opened.get_live;
+        not_sure = n.not_sure;
+        delivery = ByFence d.members d.j;
+        delivers = record { brings_it = d.brings; all_live = λ z a. l.all_live z (there z a) };
+        before_none = λ z a. l.before_none z (there z a);
+        of_it = arrival_of plan (here owner at) x l.fence.members d.members l.fence.j d.j l.fence.arrival d.arrival l.of_it;
+        not_before = l.not_before;
+        first = λ z a late. l.first z (there z a) late;
+      })
+
+  -- each race is a late arrival
+  race_late : (f : Finding) → IsKeyRaceBy plan get f → (at : ℕ) × IsLateBy plan get owner key (node_of plan get.proc) at f
+  race_late f t = let w = race_with plan get owner key f n.opened.is t in go w.source w.race w.is
+    where
+      delivered : (x : Event) → IsRaceOf x get owner key f → (d : Delivery) → Delivers plan owner key (node_of plan get.proc) d → ((z : Event) → IsOf plan d z → ¬ (Before plan get z)) → IsOf plan d x → ¬ (Before plan x get) → ((z : Event) → IsOf plan d z → ¬ (Before plan z get) → x.proc ≤ z.proc) → (at : ℕ) × IsLateBy plan get owner key (node_of plan get.proc) at f
+      delivered x is (ByFence members j) d before_none of_it not_before first = (
+        d.brings_it.at,
+        record {
+          source = x;
+          delivers = record { members = members; j = j; arrival = d.brings_it.arrival; brings = d.brings_it };
+          late = record {
+            fence = record { members = members; j = j; arrival = d.brings_it.arrival };
+            all_live = d.all_live;
+            before_none = before_none;
+            of_it = of_it;
+            not_before = not_before;
+            first = first;
+          };
+          is = is;
+        },
+      )
+
+      go : (x : Event) → IsKeyRace plan x get owner key → IsRaceOf x get owner key f → (at : ℕ) × IsLateBy plan get owner key (node_of plan get.proc) at f
+      go x (inl r) is = absurd (true≢false (sym (subst (λ q. same_node plan q get.proc ≡ true) r.0 r.1.node) ∙ n.other))
+      go x (inr r) is = delivered x is r.delivery r.delivers r.before_none r.of_it r.not_before r.first
+
+  -- the late arrivals are all races of the get
+  pub adds_late : (old new : List Finding) → Adds plan old new (AreLateBelow plan get owner key (node_of plan get.proc) (event_count plan owner)) → Adds plan old new (IsKeyRaceBy plan get)
+  adds_late old new h =
+      adds_same plan old new (AreLateBelow plan get owner key (node_of plan get.proc) (event_count plan owner)) (IsKeyRaceBy plan get)
+      (λ f t. record { source = t.2.source; owner = owner; key = key; race = late_race t.0 t.2.source t.2.delivers t.2.late; is = t.2.is })
+      (λ f t. let w = race_late f t in (w.0, delivering_within plan owner key _ w.0 w.1.delivers, w.1))
+      h
+
+module _ (plan : Plan) (get : Event) (owner key node : ℕ) where
+  -- one arrival is looked at
+  pub one_late : (old new : List Finding) (at : ℕ) (x : Event) → IsDelivering plan owner key node at → IsLate plan get (here owner at) x → Adds plan old new (IsRaceOf x get owner key) → Adds plan old new (IsLateBy plan get owner key node at)
+  one_late old new at x d l h =
+      adds_same plan old new (IsRaceOf x get owner key) (IsLateBy plan get owner key node at)
+      (λ f i. record { source = x; delivers = d; late = l; is = i })
+      (λ f t. subst (λ z. IsRaceOf z get owner key f) (late_once plan get (here owner at) x t.source l t.late) t.is)
+      h
+
+  pub not_late : (found : List Finding) (at : ℕ) → ((x : Event) → IsLate plan get (here owner at) x → ⊥) → AreFound plan found → Adds plan found found (IsLateBy plan get owner key node at)
+  not_late found at never are = adds_none plan found (IsLateBy plan get owner key node at) are (λ f t. never t.source t.late)
+
+  pub late_more : (old mid new : List Finding) (from at next : ℕ) → from ≤ at → next ≡ suc at → ((k : ℕ) → from ≤ k → k < at → IsDelivering plan owner key node k → ⊥) → Adds plan old mid (AreLateBelow plan get owner key node from) → Adds plan mid new (IsLateBy plan get owner key node at) → Adds plan old new (AreLateBelow plan get owner key node next)
+  late_more old mid new from at next le one others first second =
+      adds_both plan old mid new (AreLateBelow plan get owner key node from) (IsLateBy plan get owner key node at) (AreLateBelow plan get owner key node next)
+      (λ f t. let lt = t.1 in (t.0, omega (arith, lt, le, one), t.2))
+      (λ f t. (at, omega (arith, one), t))
+      (λ f t. elim (cases_lt t.0 from) [
+        | inl lt ↦ inl (t.0, lt, t.2)
+        | inr ge ↦ elim (cases_eq t.0 at) [
+          | inl same ↦ inr (subst (λ k. IsLateBy plan get owner key node k f) same t.2)
+          | inr other ↦ (let lt = t.1 in absurd (others t.0 ge (omega (arith, lt, one, other)) t.2.delivers))
+        ]
+      ])
+      first second
+
+  -- where a delivery can't be late, no later one is
+  pub no_later : (from at : ℕ) → ((k : ℕ) → from ≤ k → k < at → IsDelivering plan owner key node k → ⊥) → IsDelivering plan owner key node at → (MayBeLate plan get (here owner at) → ⊥) → (k : ℕ) → from ≤ k → (f : Finding) → IsLateBy plan get owner key node k f → ⊥
+  no_later from at others d never k ge f t = elim (cases_lt k at) [
+    | inl lt ↦ others k ge lt t.delivers
+    | inr le ↦ elim (cases_eq k at) [
+      | inl same ↦ never (subst (λ n. MayBeLate plan get (here owner n)) same (record { fence = t.late.fence; all_live = t.late.all_live; before_none = t.late.before_none }))
+      | inr other ↦ (
+          let lt : at < k = omega (arith, le, other) in
+          let later = t.late.all_live (here owner k) t.late.fence.arrival in
+          never (record {
+            fence = record { members = d.members; j = d.j; arrival = d.arrival };
+            all_live = λ z h. sooner_live plan owner at k d.members d.j d.arrival lt later z h;
+            before_none = λ z h b. t.late.before_none (here owner k) t.late.fence.arrival (joined b (sooner_before plan owner at k d.members d.j d.arrival lt later z h));
+          }))
+    ]
+  ]
+
+  pub late_done : (old new : List Finding) (from count : ℕ) → count ≡ event_count plan owner → ((k : ℕ) → from ≤ k → (f : Finding) → IsLateBy plan get owner key node k f → ⊥) → Adds plan old new (AreLateBelow plan get owner key node from) → Adds plan old new (AreLateBelow plan get owner key node count)
+  late_done old new from count is never h =
+      adds_same plan old new (AreLateBelow plan get owner key node from) (AreLateBelow plan get owner key node count)
+      (λ f t. let lt = delivering_within plan owner key node t.0 t.2.delivers in (t.0, omega (arith, lt, is), t.2))
+      (λ f t. elim (cases_lt t.0 from) [ inl lt ↦ (t.0, lt, t.2) | inr ge ↦ absurd (never t.0 ge f t.2) ])
+      h
+
+  pub late_whole : (old new : List Finding) (from count : ℕ) → count ≡ event_count plan owner → ((k : ℕ) → from ≤ k → IsDelivering plan owner key node k → ⊥) → Adds plan old new (AreLateBelow plan get owner key node from) → Adds plan old new (AreLateBelow plan get owner key node count)
+  late_whole old new from count is later h =
+      adds_same plan old new (AreLateBelow plan get owner key node from) (AreLateBelow plan get owner key node count)
+      (λ f t. let lt = delivering_within plan owner key node t.0 t.2.delivers in (t.0, omega (arith, lt, is), t.2))
+      (λ f t. elim (cases_lt t.0 from) [ inl lt ↦ (t.0, lt, t.2) | inr ge ↦ absurd (later t.0 ge t.2.delivers) ])
+      h
+
+-- races stand among the events
+pub race_within : (plan : Plan) (y : Event) (f : Finding) → IsKeyRaceBy plan y f → y.at < event_count plan y.proc
+race_within plan y f t = get_there plan t.source y t.owner t.key t.race
+
+pub race_below : (plan : Plan) (y : Event) (f : Finding) → IsKeyRaceBy plan y f → y.proc < process_count plan
+race_below plan y f t = process_within plan y.proc y.at _ (race_open plan t.source y t.owner t.key t.race).is
+
+pub race_told : (plan : Plan) (y : Event) (f : Finding) → IsKeyRaceBy plan y f → OfKind plan IsOfKey f
+race_told plan y f t = (of_kind t.source y t.owner t.key f t.is, race_found plan t.source y t.owner t.key f t.race t.is)
+  where
+    of_kind : (x y : Event) (p k : ℕ) (f : Finding) → IsRaceOf x y p k f → IsOfKey f
+    of_kind x y p k f (inl a) = (x, y, p, k, a.1)
+    of_kind x y p k f (inr a) = (y, x, p, k, a.1)
+
+pub race_by : (plan : Plan) (f : Finding) → OfKind plan IsOfKey f → (y : Event) × IsKeyRaceBy plan y f
+race_by plan f k =
+    let x = k.0.0 in
+    let y = k.0.1 in
+    let found = subst (IsFound plan) k.0.4 k.1 in
+    elim found.1 [
+      | inl r ↦ (y, record { source = x; owner = k.0.2; key = k.0.3; race = r; is = inl (found.0, k.0.4) })
+      | inr r ↦ (x, record { source = y; owner = k.0.2; key = k.0.3; race = r; is = inr (found.0, k.0.4) })
+    ]

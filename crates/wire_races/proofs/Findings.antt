@@ -1,0 +1,134 @@
+-- Findings as they are told, and what a race of two events is on.
+use Rattle.std.proofs.Common.{◌≡◌, ◌∙◌, ap, sym, refl, subst, ℕ, ◌<◌, true, Option, Some, length, arith, inl, inr, eqb-true, lt-ltb}
+use Rattle.std.specs.Prelude.{is_some}
+use Rattle.std.proofs.lemmas.Bool.{cases_lt, true≢false}
+use Rattle.wire_runs.specs.Plan.{Plan, Event, Kind, Put, GetNow, Publish, Lookup, LookupWait, Unpublish, kind}
+use Rattle.wire_types.specs.declared.CallAt.{CallAt}
+use Rattle.wire_runs.specs.Names.{calls_name}
+use Rattle.wire_runs.specs.Races.{IsRewrite}
+use Rattle.wire_plan.specs.Index.{IsFirstPut}
+use Rattle.wire_runs.specs.Findings.{Finding, KeyRace, NameRace, IsFound}
+use Rattle.wire_runs.specs.Ends.{call_of, calls_of, first_event}
+use Rattle.wire_plan.proofs.KeyFacts.{put_exactly}
+use Rattle.wire_races.specs.Findings.{shown}
+use Rattle.wire_races.specs.Found.{race_between}
+use Rattle.wire_races.specs.declared.finding.Finding.{Finding as Told}
+use Rattle.wire_races.specs.declared.finding.Finding.TheVariants as told_as
+use Rattle.wire_races.specs.declared.found.Race.{Race}
+use Rattle.wire_races.specs.declared.found.Race.TheVariants.{OnKey, OnName}
+use Rattle.wire_races.proofs.Calls.{Starts, call_within, low_starts, high_starts, starts_back, node_commit, delivery_arrives, writes_calls}
+
+pub race_low_starts : (plan : Plan) (x y : Event) (race : Race) → IsFound plan (race_between x y race) → Starts plan x
+race_low_starts plan x y (OnKey owner key) f = low_starts plan (KeyRace x y owner.number key) f
+race_low_starts plan x y (OnName name) f = low_starts plan (NameRace x y name) f
+
+pub race_high_starts : (plan : Plan) (x y : Event) (race : Race) → IsFound plan (race_between x y race) → Starts plan y
+race_high_starts plan x y (OnKey owner key) f = high_starts plan (KeyRace x y owner.number key) f
+race_high_starts plan x y (OnName name) f = high_starts plan (NameRace x y name) f
+
+pub race_back : (plan : Plan) (x y : Event) (race found : Race) (v w : CallAt) → race ≡ found → IsFound plan (race_between x y race) → v ≡ call_of plan x → w ≡ call_of plan y → race_between (first_event plan v) (first_event plan w) found ≡ race_between x y race
+race_back plan x y race found v w is f a b =
+    let low : first_event plan v ≡ x = ap (first_event plan) a ∙ starts_back plan x (race_low_starts plan x y race f) in
+    let high : first_event plan w ≡ y = ap (first_event plan) b ∙ starts_back plan y (race_high_starts plan x y race f) in
+    ap (λ (z : Event). race_between z (first_event plan w) found) low ∙ (ap (λ (z : Event). race_between x z found) high ∙ ap (race_between x y) (sym is))
+
+-- the name that an event is a call on
+abbrev pub name_of : Option Kind → ℕ
+name_of (Some (Publish n)) = n
+name_of (Some (Lookup n)) = n
+name_of (Some (LookupWait n)) = n
+name_of (Some (Unpublish n)) = n
+name_of _ = 0
+
+abbrev pub told_by : Event → Event → ℕ → Option Kind → Finding
+told_by x y name (Some (GetNow owner key)) = KeyRace x y owner key
+told_by x y name _ = NameRace x y name
+
+-- the race that two events may be
+abbrev pub told : Event → Event → Option Kind → Option Kind → Finding
+told x y (Some (GetNow owner key)) p = KeyRace x y owner key
+told x y o p = told_by x y (name_of o) p
+
+named_by : (plan : Plan) (x y z : Event) (n name : ℕ) (p : Option Kind) → calls_name plan name z p ≡ true → told_by x y n p ≡ NameRace x y n
+named_by plan x y z n name (Some (GetNow owner key)) h = absurd (true≢false (sym h))
+named_by plan x y z n name _ h = refl
+
+named : (plan : Plan) (x y v w : Event) (name : ℕ) (o p : Option Kind) → calls_name plan name v o ≡ true → calls_name plan name w p ≡ true → told x y o p ≡ NameRace x y name
+named plan x y v w name (Some (Publish n)) p h i = named_by plan x y w n name p i ∙ ap (NameRace x y) (eqb-true n name h)
+named plan x y v w name (Some (Lookup n)) p h i = named_by plan x y w n name p i ∙ ap (NameRace x y) (eqb-true n name h)
+named plan x y v w name (Some (LookupWait n)) p h i = named_by plan x y w n name p i ∙ ap (NameRace x y) (eqb-true n name h)
+named plan x y v w name (Some (Unpublish n)) p h i = named_by plan x y w n name p i ∙ ap (NameRace x y) (eqb-true n name h)
+named plan x y v w name _ p h i = absurd (true≢false (sym h))
+
+-- the events tell which race it is
+by_events : (plan : Plan) (x y : Event) (a b : Option Kind) (f : Finding) → kind plan x ≡ a → kind plan y ≡ b → told x y a b ≡ f → told x y (kind plan x) (kind plan y) ≡ f
+by_events plan x y a b f e h t = ap (λ (o : Option Kind). told x y o (kind plan y)) e ∙ (ap (told x y a) h ∙ t)
+
+race_told : (plan : Plan) (x y : Event) (race : Race) → IsFound plan (race_between x y race) → told x y (kind plan x) (kind plan y) ≡ race_between x y race
+race_told plan x y (OnKey owner key) (low, inl (inl r)) = by_events plan x y _ _ _ (node_commit plan x y key r.1) (r.1.is) (ap (λ (p : ℕ). KeyRace x y p key) r.0)
+race_told plan x y (OnKey owner key) (low, inl (inr r)) = let a = delivery_arrives plan x y owner.number key r in by_events plan x y _ _ _ a.is r.is refl
+race_told plan x y (OnKey owner key) (low, inr (inl r)) = by_events plan x y _ _ _ r.1.is (node_commit plan y x key r.1) (ap (λ (p : ℕ). KeyRace x y p key) r.0)
+race_told plan x y (OnKey owner key) (low, inr (inr r)) = let a = delivery_arrives plan y x owner.number key r in by_events plan x y _ _ _ r.is a.is refl
+race_told plan x y (OnName name) (low, inl r) = named plan x y x y name (kind plan x) (kind plan y) (writes_calls plan name x (kind plan x) r.x_writes) r.y_calls
+race_told plan x y (OnName name) (low, inr r) = named plan x y x y name (kind plan x) (kind plan y) r.y_calls (writes_calls plan name y (kind plan y) r.x_writes)
+
+-- a pair of calls is one race
+pub one_race : (plan : Plan) (x y : Event) (a b : Race) → IsFound plan (race_between x y a) → IsFound plan (race_between x y b) → race_between x y a ≡ race_between x y b
+one_race plan x y a b f g = sym (race_told plan x y a f) ∙ race_told plan x y b g
+
+not_sooner : (plan : Plan) (p key i j : ℕ) → IsFirstPut plan (record { proc = p; at = i }) key → IsFirstPut plan (record { proc = p; at = j }) key → i < j → ⊥
+not_sooner plan p key i j a b lt = true≢false (sym (put_exactly plan p key i j a ∙ lt-ltb i j lt) ∙ ap is_some b.first)
+
+-- a process puts a key first once
+pub first_once : (plan : Plan) (p key i j : ℕ) → IsFirstPut plan (record { proc = p; at = i }) key → IsFirstPut plan (record { proc = p; at = j }) key → i ≡ j
+first_once plan p key i j a b = elim (cases_lt i j) [
+  | inl lt ↦ absurd (not_sooner plan p key i j a b lt)
+  | inr ge ↦ elim (cases_lt j i) [
+    | inl gt ↦ absurd (not_sooner plan p key j i b a gt)
+    | inr le ↦ omega (arith, ge, le)
+  ]
+]
+
+abbrev pub put_key : Option Kind → ℕ
+put_key (Some (Put key scope)) = key
+put_key _ = 0
+
+first_at : (plan : Plan) (x : Event) (p key k : ℕ) → x.proc ≡ p → k ≡ key → IsFirstPut plan x k → IsFirstPut plan (record { proc = p; at = x.at }) key
+first_at plan x p key k e h f = subst (λ (m : ℕ). IsFirstPut plan (record { proc = p; at = x.at }) m) h (subst (λ (q : ℕ). IsFirstPut plan (record { proc = q; at = x.at }) k) e f)
+
+-- a later put has one first put
+pub one_first : (plan : Plan) (x z y : Event) → IsRewrite plan x y → IsRewrite plan z y → x ≡ z
+one_first plan x z y a b =
+    let procs : z.proc ≡ x.proc = b.same ∙ sym a.same in
+    let keys : b.key ≡ a.key = ap put_key (sym b.later_is ∙ a.later_is) in
+    let second : IsFirstPut plan z b.key = record { scope = b.first_scope; is = b.first_is; first = b.first } in
+    let moved = first_at plan z x.proc a.key b.key procs keys second in
+    let at : x.at ≡ z.at = first_once plan x.proc a.key x.at z.at (record { scope = a.first_scope; is = a.first_is; first = a.first }) moved in
+    λ t. record { proc = sym procs t; at = at t }
+
+abbrev pub low_call : Told → CallAt
+low_call (told_as.Rewrite v w) = v
+low_call (told_as.KeyRace v w owner key) = v
+low_call (told_as.NameRace v w name) = v
+
+abbrev pub high_call : Told → CallAt
+high_call (told_as.Rewrite v w) = w
+high_call (told_as.KeyRace v w owner key) = w
+high_call (told_as.NameRace v w name) = w
+
+told_low : (plan : Plan) (f : Told) → IsFound plan (shown plan f) → (low_call f).call < length (calls_of plan (low_call f).proc.number)
+told_low plan (told_as.Rewrite v w) h = call_within plan v (low_starts plan (shown plan (told_as.Rewrite v w)) h)
+told_low plan (told_as.KeyRace v w owner key) h = call_within plan v (low_starts plan (shown plan (told_as.KeyRace v w owner key)) h)
+told_low plan (told_as.NameRace v w name) h = call_within plan v (low_starts plan (shown plan (told_as.NameRace v w name)) h)
+
+told_high : (plan : Plan) (f : Told) → IsFound plan (shown plan f) → (high_call f).call < length (calls_of plan (high_call f).proc.number)
+told_high plan (told_as.Rewrite v w) h = call_within plan w (high_starts plan (shown plan (told_as.Rewrite v w)) h)
+told_high plan (told_as.KeyRace v w owner key) h = call_within plan w (high_starts plan (shown plan (told_as.KeyRace v w owner key)) h)
+told_high plan (told_as.NameRace v w name) h = call_within plan w (high_starts plan (shown plan (told_as.NameRace v w name)) h)
+
+-- its calls are those of the plan
+pub shown_low : (plan : Plan) (f g : Told) → f ≡ g → IsFound plan (shown plan f) → (low_call g).call < length (calls_of plan (low_call g).proc.number)
+shown_low plan f g e h = told_low plan g (subst (λ t. IsFound plan (shown plan t)) e h)
+
+pub shown_high : (plan : Plan) (f g : Told) → f ≡ g → IsFound plan (shown plan f) → (high_call g).call < length (calls_of plan (high_call g).proc.number)
+shown_high plan f g e h = told_high plan g (subst (λ t. IsFound plan (shown plan t)) e h)

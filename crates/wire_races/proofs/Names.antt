@@ -1,0 +1,69 @@
+-- The names of calls are those of the scripts.
+use Rattle.std.proofs.Common.{◌≡◌, inl, inr, ℕ, zero, suc, ◌+◌, ◌-◌, ◌<◌, ◌≤◌, List, [], ◌∷◌, ◌++◌, Bool, true, Option, Some, None, map, length, refl, sym, ap, ◌∙◌, subst, arith}
+use Rattle.std.specs.Prelude.{slice_get, option_map, if◌then◌else◌}
+use Rattle.std.proofs.lemmas.Option.{slice_get-map}
+use Rattle.std.proofs.lemmas.Bool.{true≢false, cases_lt, cond_both, eqb-true}
+use Rattle.wire_runs.specs.Plan.{Plan, Event, Kind, Call, kinds_of, set_of, kind, kind_at, kinds, process_kinds, CallPut, CallGet, CallGetNow, CallPublish, CallLookup, CallLookupWait, CallUnpublish, CallFixed}
+use Rattle.wire_runs.specs.Plan as plan
+use Rattle.wire_types.specs.declared.Call.{Call as Written}
+use Rattle.wire_types.specs.declared.Call.TheVariants.{Put, Commit, Fence, Get, GetNow, Publish, Lookup, LookupWait, Unpublish}
+use Rattle.wire_types.specs.declared.Reply.{Reply}
+use Rattle.wire_rehearsal.specs.Scripts.{Process, Scripts, IsSound, name_in, calls_in, set_at}
+use Rattle.wire_rehearsal.specs.Planned.{plan_of, planned_call, planned_process}
+use Rattle.wire_runs.specs.Names.{calls_name}
+use Rattle.wire_plan.proofs.Kinds.{events_first}
+use Rattle.wire_races.proofs.Calls.{get_left, get_right}
+
+get_late : {A : Type 0} (xs ys : List A) (k : ℕ) → length xs ≤ k → slice_get (xs ++ ys) k ≡ slice_get ys (k - length xs)
+get_late xs ys k le = let same : k ≡ length xs + (k - length xs) = omega (arith, le) in ap (slice_get (xs ++ ys)) same ∙ get_right xs ys (k - length xs)
+
+module _ (s : Scripts) (name : ℕ) (x : Event) where
+  abbrev on_it : Option Kind → Bool
+  on_it o = calls_name (plan_of s) name x o
+
+  the_one : (e : Kind) (i : ℕ) → on_it (slice_get (e ∷ []) i) ≡ true → on_it (Some e) ≡ true
+  the_one e zero h = h
+  the_one e (suc i) h = absurd (true≢false (sym h))
+
+  unless_named : (reserved : Bool) (reply : Reply) (call : Call) (e : Kind) (i : ℕ) → kinds_of (call ∷ []) ≡ e ∷ [] → on_it (slice_get (kinds_of ((if reserved then CallFixed reply else call) ∷ [])) i) ≡ true → on_it (Some e) ≡ true
+  unless_named reserved reply call e i is =
+      cond_both reserved (CallFixed reply) call (λ c. on_it (slice_get (kinds_of (c ∷ [])) i) ≡ true → on_it (Some e) ≡ true)
+      (λ t h. absurd (true≢false (sym (the_one (plan.Fixed reply) i h))))
+      (λ f h. the_one e i (subst (λ es. on_it (slice_get es i) ≡ true) is h))
+
+  written_name : (call : Written) (i : ℕ) → on_it (slice_get (kinds_of (planned_call s call ∷ [])) i) ≡ true → name_in call ≡ Some name
+  written_name (Put scope key value) i h = absurd (true≢false (sym (unless_named _ _ (CallPut key scope) (plan.Put key scope) i refl h)))
+  written_name Commit i h = absurd (true≢false (sym (the_one plan.Commit i h)))
+  written_name (Fence set collect) zero h = absurd (true≢false (sym h))
+  written_name (Fence set collect) (suc i) h = absurd (true≢false (sym (the_one (plan.Leave (set_of (set_at s.sets set))) i h)))
+  written_name (Get owner key) i h = absurd (true≢false (sym (unless_named _ _ (CallGet owner.number key) (plan.Get owner.number key) i refl h)))
+  written_name (GetNow owner key) i h = absurd (true≢false (sym (unless_named _ _ (CallGetNow owner.number key) (plan.GetNow owner.number key) i refl h)))
+  written_name (Publish n value) i h = ap Some (eqb-true n name (unless_named _ _ (CallPublish n) (plan.Publish n) i refl h))
+  written_name (Lookup n) i h = ap Some (eqb-true n name (unless_named _ _ (CallLookup n) (plan.Lookup n) i refl h))
+  written_name (LookupWait n) i h = ap Some (eqb-true n name (unless_named _ _ (CallLookupWait n) (plan.LookupWait n) i refl h))
+  written_name (Unpublish n) i h = ap Some (eqb-true n name (unless_named _ _ (CallUnpublish n) (plan.Unpublish n) i refl h))
+
+  written_call : (calls : List Written) (i : ℕ) → on_it (slice_get (kinds_of (map (planned_call s) calls)) i) ≡ true → (c : ℕ) × (call : Written) × (slice_get calls c ≡ Some call) × (name_in call ≡ Some name)
+  written_call [] i h = absurd (true≢false (sym h))
+  written_call (call ∷ calls) i h =
+      let parts = events_first (planned_call s call) (map (planned_call s) calls) in
+      let split = subst (λ es. on_it (slice_get es i) ≡ true) parts h in
+      let first = kinds_of (planned_call s call ∷ []) in
+      let others = kinds_of (map (planned_call s) calls) in
+      elim (cases_lt i (length first)) [
+        | inl lt ↦ (0, call, refl, written_name call i (subst (λ o. on_it o ≡ true) (get_left first others i lt) split))
+        | inr le ↦
+            let w = written_call calls (i - length first) (subst (λ o. on_it o ≡ true) (get_late first others i le) split) in
+            (suc w.0, w.1, w.2, w.3)
+      ]
+
+  planned_calls : (o : Option Process) → process_kinds (option_map (planned_process s) o) ≡ kinds_of (map (planned_call s) (calls_in o))
+  planned_calls None = refl
+  planned_calls (Some q) = refl
+
+  pub named_within : IsSound s → on_it (kind (plan_of s) x) ≡ true → name < length s.names
+  unfolding kind_at kinds
+  named_within sound h =
+      let es = ap process_kinds (slice_get-map (planned_process s) s.processes x.proc) ∙ planned_calls (slice_get s.processes x.proc) in
+      let w = written_call (calls_in (slice_get s.processes x.proc)) x.at (subst (λ l. on_it (slice_get l x.at) ≡ true) es h) in
+      sound.names x.proc w.0 name w.1 w.2 w.3

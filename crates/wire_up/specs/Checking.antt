@@ -1,0 +1,62 @@
+-- What a check writes: all findings of the scripts that were to come from the reader.
+use Rattle.std.specs.Prelude.{◌≡◌, ◌⊎◌, ◌↔◌, ℕ, List, [], ◌∷◌, Option, length}
+use Rattle.std.specs.Io.KnownBytes.{Appends}
+use Rattle.wire_types.specs.Front.{WritesFront}
+use Rattle.wire_types.specs.declared.Fault.{Fault}
+use Rattle.wire_types.specs.declared.Fault.TheVariants.{Memory, Read}
+use Rattle.wire_rehearsal.specs.Scripts.{Scripts}
+use Rattle.wire_rehearsal.specs.Planned.{plan_of}
+use Rattle.wire_runs.specs.Races.{IsSettled}
+use Rattle.wire_runs.specs.Laws.{HasOneEnd}
+use Rattle.wire_races.specs.declared.finding.Finding.{Finding}
+use Rattle.wire_races.specs.Findings.{AreFindings}
+use Rattle.wire_report.specs.Findings.{findings_report}
+use Rattle.wire_up.specs.declared.checking.Ended.{Ended}
+use Rattle.wire_up.specs.declared.checking.Ended.TheVariants.{Clean, Found}
+use Rattle.wire_up.specs.Replaying.{ReadAs, Refuses}
+
+-- how a check ends that has these findings
+abbrev pub ended_with : List Finding → Ended
+ended_with [] = Clean
+ended_with (finding ∷ others) = Found (length (finding ∷ others))
+
+-- the exit status of a check that ended so
+abbrev pub status_of : Ended → ℕ
+status_of Clean = 0
+status_of (Found count) = 1
+
+-- the text of all findings of the scripts, and how a check of them ends: clean exactly where there is nothing to find
+pub record IsVerdict (scripts : Scripts) (ended : Ended) (text : List ℕ) : Type 0 where
+  pub found : List Finding
+  pub those : AreFindings (plan_of scripts) found
+  pub ends : ended ≡ ended_with found
+  pub settled : (ended ≡ Clean) ↔ IsSettled (plan_of scripts)
+  pub tells : text ≡ findings_report scripts found
+
+-- what was to come read as scripts, and every interleaving of their plan that can't go on ends in one state, the plain run's: the
+-- same reply to every call, and the same processes waiting
+pub record EndsInOneState (coming : Option (List ℕ)) : Type 0 where
+  pub scripts : Scripts
+  pub read : ReadAs coming scripts
+  pub one_end : HasOneEnd (plan_of scripts)
+
+-- all of the findings of what was to come went out
+pub record WritesFindings (coming : Option (List ℕ)) (ended : Ended) (old new : Option (List ℕ)) : Type 0 where
+  pub scripts : Scripts
+  pub read : ReadAs coming scripts
+  pub text : List ℕ
+  pub verdict : IsVerdict scripts ended text
+  pub wrote : Appends old new text
+
+-- exactly as many bytes of the findings went out as the fault says, which aren't all of them
+pub record BreaksOffFindings (coming old new : Option (List ℕ)) (fault : Fault) : Type 0 where
+  pub scripts : Scripts
+  pub read : ReadAs coming scripts
+  pub ended : Ended
+  pub text : List ℕ
+  pub verdict : IsVerdict scripts ended text
+  pub wrote : WritesFront old new text fault
+
+-- why nothing is written: memory ran out, a read failed, or the file is refused
+abbrev pub StopsBeforeFindings : Option (List ℕ) → Fault → Type 0
+StopsBeforeFindings coming fault = (fault ≡ Memory) ⊎ ((fault ≡ Read) ⊎ Refuses coming fault)
