@@ -1,4 +1,4 @@
-pub mod Met
+pub mod Meet
 pub mod Bring
 pub mod Shared
 pub mod Ranks

@@ -20,7 +20,7 @@ use Rattle.wire_runs.proofs.Due.{reachable_sound}
 use Rattle.wire_runs.proofs.PlainRun.{enabled_within, lowest_enabled, none_enabled}
 use Rattle.wire_types.specs.declared.Proc.{Proc}
 use Rattle.wire_core.specs.Ranks.{calls_at, IsRankOf}
-use Rattle.wire_core.specs.Sight.{seen_as, brought_of}
+use Rattle.wire_core.specs.Seeing.{seen_as, brought_of}
 use Rattle.wire_core.specs.declared.rank.Rank.{Rank}
 
 -- who isn't of the plan has done nothing

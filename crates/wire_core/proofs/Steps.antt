@@ -27,7 +27,7 @@ use Rattle.wire_runs.proofs.Due.{done_same, done_other}
 use Rattle.wire_runs.proofs.Known.{replies_same, replies_other}
 use Rattle.wire_core.specs.Puts.{is_put}
 use Rattle.wire_core.specs.Ranks.{puts_left, calls_at, IsRankOf, AreRanksOf, IsCourse}
-use Rattle.wire_core.specs.Sight.{replies_in}
+use Rattle.wire_core.specs.Seeing.{replies_in}
 use Rattle.wire_core.specs.declared.rank.Rank.{Rank}
 
 -- elements of a list that grew at its end

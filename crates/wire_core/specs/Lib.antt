@@ -1,6 +1,6 @@
 pub mod Puts
 pub mod Course
-pub mod Sight
+pub mod Seeing
 pub mod Met
 pub mod Ranks
 pub mod Following

@@ -4,7 +4,7 @@ ghost use Rattle.std.specs.Prelude.{◌≡◌, ◌+◌, ◌<◌, ◌^◌, ◌++�
 ghost use Rattle.wire_store.specs.Kept.{kept_with};
 ghost use Rattle.wire_plan.specs.Kinds.{kind_of};
 ghost use Rattle.wire_core.specs.Puts.{is_put as is_put_event};
-ghost use Rattle.wire_core.specs.Sight.{replies_in};
+ghost use Rattle.wire_core.specs.Seeing.{replies_in};
 
 use std::alloc::Global;
 use wire_plan::Kind;

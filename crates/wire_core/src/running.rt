@@ -12,7 +12,7 @@ ghost use Rattle.wire_runs.specs.Races.{IsSettled};
 ghost use Rattle.wire_runs.specs.Plan.{event_total};
 ghost use Rattle.wire_runs.specs.Ends.{given, is_waiting, outcome, row};
 ghost use Rattle.wire_core.specs.Course.{plan_in, state_of};
-ghost use Rattle.wire_core.specs.Sight.{replies_in};
+ghost use Rattle.wire_core.specs.Seeing.{replies_in};
 ghost use Rattle.wire_core.specs.Ranks.{AreRanksOf};
 ghost use Rattle.wire_core.specs.Following.{Follows, StopsAt};
 

@@ -6,7 +6,7 @@ ghost use Rattle.wire_runs.specs.Puts.{own, stored};
 ghost use Rattle.wire_rehearsal.specs.Planned.{plan_of};
 ghost use Rattle.wire_runs.specs.Sight.{held, served, get_sees, get_now_sees, brought};
 ghost use Rattle.wire_core.specs.Course.{plan_in, state_of};
-ghost use Rattle.wire_core.specs.Sight.{seen_as};
+ghost use Rattle.wire_core.specs.Seeing.{seen_as};
 
 use crate::met::last_bringing;
 use crate::replies::brought_of;

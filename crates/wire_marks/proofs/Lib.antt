@@ -4,5 +4,5 @@ pub mod Growing
 pub mod OneChain
 pub mod Same
 pub mod Leaving
-pub mod Joins
+pub mod Joining
 pub mod Back

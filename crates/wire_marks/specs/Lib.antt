@@ -1,4 +1,4 @@
 pub mod Clocks
 pub mod Chain
 pub mod Marking
-pub mod Joins
+pub mod Meeting

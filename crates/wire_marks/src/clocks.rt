@@ -6,7 +6,7 @@ ghost use Rattle.wire_runs.specs.Plan.{event_of};
 ghost use Rattle.wire_runs.specs.Plan as runs;
 ghost use Rattle.wire_marks.specs.Clocks.{items_at, marked_count, number_at, base_at, clock_of};
 ghost use Rattle.wire_marks.specs.Marking.{AreBased, IsGrown, Adds, number_before, Counts, IsRaised};
-ghost use Rattle.wire_marks.specs.Joins.{AreMarked, IsJoin};
+ghost use Rattle.wire_marks.specs.Meeting.{AreMarked, IsJoin};
 
 use crate::table::{entry, no_clock, own, raise, raise_own};
 use std::alloc::{AllocError, Global};

@@ -7,7 +7,7 @@ ghost use Rattle.wire_rehearsal.specs.Planned.{plan_of};
 ghost use Rattle.wire_fence.specs.Fences.{AreFencesOf};
 ghost use Rattle.wire_marks.specs.Clocks.{items_at, marked_count, AreMarks};
 ghost use Rattle.wire_marks.specs.Marking.{AreClocks, IsStuckAt, IsNextBase, unmarked};
-ghost use Rattle.wire_marks.specs.Joins.{AreGrowing};
+ghost use Rattle.wire_marks.specs.Meeting.{AreGrowing};
 
 use crate::clocks::Clocks;
 use crate::joins::{Meeting, fence_ended, meet};

@@ -8,7 +8,7 @@ ghost use Rattle.wire_runs.specs.Plan as runs;
 ghost use Rattle.wire_rehearsal.specs.Planned.{plan_of};
 ghost use Rattle.wire_fence.specs.Fences.{AreFencesOf};
 ghost use Rattle.wire_marks.specs.Marking.{AreBased, IsGrown};
-ghost use Rattle.wire_marks.specs.Joins.{AreMarked, IsJoined, IsMeeting, IsMeetingAt, AreAdded, AreOthersKept, IsEndOf};
+ghost use Rattle.wire_marks.specs.Meeting.{AreMarked, IsJoined, IsMeeting, IsMeetingAt, AreAdded, AreOthersKept, IsEndOf};
 
 use crate::clocks::Clocks;
 use std::alloc::{AllocError, Global};

@@ -6,8 +6,8 @@ use Rattle.std.proofs.lemmas.Option.{same_Some}
 use Rattle.wire_runs.specs.Plan.{Plan, Event, Kind, Get, LookupWait, kind, event_of}
 use Rattle.wire_types.specs.declared.Event.{Event as CodeEvent}
 use Rattle.wire_types.specs.declared.Proc.{Proc}
-use Rattle.wire_plan.specs.declared.code.Kind.{Kind}
-use Rattle.wire_plan.specs.declared.code.Kind.TheVariants as code
+use Rattle.wire_plan.specs.declared.kind.Kind.{Kind as CodeKind}
+use Rattle.wire_plan.specs.declared.kind.Kind.TheVariants as code
 use Rattle.wire_plan.specs.Kinds.{kind_of}
 use Rattle.wire_runs.specs.Order.{Stores, PublishesOnce}
 use Rattle.wire_runs.specs.Races.{IsPutOnce}
@@ -39,12 +39,12 @@ may_wait (Get owner key) = true
 may_wait (LookupWait name) = true
 may_wait _ = false
 
-never_waits : (sets : List (List ℕ)) (k : Kind) → ((owner : Proc) (key : ℕ) → k ≡ code.Get owner key → ⊥) → ((name : ℕ) → k ≡ code.LookupWait name → ⊥) → may_wait (kind_of sets k) ≡ false
+never_waits : (sets : List (List ℕ)) (k : CodeKind) → ((owner : Proc) (key : ℕ) → k ≡ code.Get owner key → ⊥) → ((name : ℕ) → k ≡ code.LookupWait name → ⊥) → may_wait (kind_of sets k) ≡ false
 never_waits sets (code.Get owner key) no_get no_lookup = absurd (no_get owner key refl)
 never_waits sets (code.LookupWait name) no_get no_lookup = absurd (no_lookup name refl)
 never_waits sets _ no_get no_lookup = refl
 
-pub awaits_other : (plan : Plan) (y : Event) (sets : List (List ℕ)) (k : Kind) → kind plan y ≡ Some (kind_of sets k) → ((owner : Proc) (key : ℕ) → k ≡ code.Get owner key → ⊥) → ((name : ℕ) → k ≡ code.LookupWait name → ⊥) → IsAwaited plan y None
+pub awaits_other : (plan : Plan) (y : Event) (sets : List (List ℕ)) (k : CodeKind) → kind plan y ≡ Some (kind_of sets k) → ((owner : Proc) (key : ℕ) → k ≡ code.Get owner key → ⊥) → ((name : ℕ) → k ≡ code.LookupWait name → ⊥) → IsAwaited plan y None
 awaits_other plan y sets k is no_get no_lookup = nothing_awaited plan y
     (λ z key other_is other. true≢false (ap may_wait (same_Some _ _ (sym other_is ∙ is)) ∙ never_waits sets k no_get no_lookup))
     (λ name other_is. true≢false (ap may_wait (same_Some _ _ (sym other_is ∙ is)) ∙ never_waits sets k no_get no_lookup))

@@ -12,7 +12,7 @@ use Rattle.wire_rehearsal.specs.Scripts.{Process, Scripts, calls_in, call_at, se
 use Rattle.wire_rehearsal.specs.Planned.{planned_call, planned_process, plan_of}
 use Rattle.wire_rehearsal.specs.Said.{is_reserved}
 use Rattle.wire_runs.specs.Ends.{call_number, call_size, calls_of, process_calls}
-use Rattle.wire_plan.proofs.Kinds.{events_first}
+use Rattle.wire_plan.proofs.Planning.{events_first}
 use Rattle.wire_plan.specs.Meetings.{is_of_fence}
 
 get_left : {A : Type 0} (xs ys : List A) (i : ℕ) → i < length xs → slice_get (xs ++ ys) i ≡ slice_get xs i

@@ -11,8 +11,8 @@ use Rattle.wire_runs.specs.Puts.{own_with, own_put, stored_with, stored_put, put
 use Rattle.wire_plan.specs.Kinds.{kind_of}
 use Rattle.wire_plan.specs.Keys.{puts_in, row_in, IsStore, IsKeyRow, IsNextCommit, IsRowFrom, AreRowsFrom}
 use Rattle.wire_plan.specs.declared.keys.KeyRow.{KeyRow}
-use Rattle.wire_plan.specs.declared.code.Kind.{Kind}
-use Rattle.wire_plan.specs.declared.code.Kind.TheVariants as code
+use Rattle.wire_plan.specs.declared.kind.Kind.{Kind as CodeKind}
+use Rattle.wire_plan.specs.declared.kind.Kind.TheVariants as code
 use Rattle.wire_runs.proofs.Basics.{kept_on, rises}
 
 own_none_with : (key n c : ℕ) (o : Option ℕ) (e : Option Kind) → (c ≡ 0 → o ≡ None) → put_count_with key c e ≡ 0 → own_with key n o e ≡ None
@@ -145,11 +145,11 @@ module _ (kinds : ℕ → Option Kind) (at end : ℕ) where
     next = next_here lt is;
   }
 
-  count_kept : (sets : List (List ℕ)) (key n : ℕ) (k : Kind) → ((scope : Scope) (q : ℕ) → k ≡ code.Put scope q → ⊥) → put_count_with key n (Some (kind_of sets k)) ≡ n
+  count_kept : (sets : List (List ℕ)) (key n : ℕ) (k : CodeKind) → ((scope : Scope) (q : ℕ) → k ≡ code.Put scope q → ⊥) → put_count_with key n (Some (kind_of sets k)) ≡ n
   count_kept sets key n (code.Put scope q) not_put = absurd (not_put scope q refl)
   count_kept sets key n _ not_put = refl
 
-  no_commit : (sets : List (List ℕ)) (k : Kind) → (k ≡ code.Commit → ⊥) → Some (kind_of sets k) ≡ Some Commit → ⊥
+  no_commit : (sets : List (List ℕ)) (k : CodeKind) → (k ≡ code.Commit → ⊥) → Some (kind_of sets k) ≡ Some Commit → ⊥
   no_commit sets code.Commit other h = other refl
   no_commit sets (code.Put scope q) other h = cc
   no_commit sets (code.Arrive s c) other h = cc
@@ -162,7 +162,7 @@ module _ (kinds : ℕ → Option Kind) (at end : ℕ) where
   no_commit sets (code.Unpublish n) other h = cc
   no_commit sets (code.Fixed r) other h = cc
 
-  pub take_other : (sets : List (List ℕ)) (k : Kind) (rows : ℕ → Option KeyRow) (commit : Option ℕ) → kinds at ≡ Some (kind_of sets k) → ((scope : Scope) (q : ℕ) → k ≡ code.Put scope q → ⊥) → (k ≡ code.Commit → ⊥) → AreRowsFrom kinds (suc at) end rows commit → AreRowsFrom kinds at end rows commit
+  pub take_other : (sets : List (List ℕ)) (k : CodeKind) (rows : ℕ → Option KeyRow) (commit : Option ℕ) → kinds at ≡ Some (kind_of sets k) → ((scope : Scope) (q : ℕ) → k ≡ code.Put scope q → ⊥) → (k ≡ code.Commit → ⊥) → AreRowsFrom kinds (suc at) end rows commit → AreRowsFrom kinds at end rows commit
   take_other sets k rows commit is not_put not_commit h = record {
     each = λ q. row_kept q (rows q) (ap (put_count_with q (count_puts kinds q at)) is ∙ count_kept sets q (count_puts kinds q at) k not_put) (h.each q);
     next = next_kept commit (λ c. no_commit sets k not_commit (sym is ∙ c)) h.next;

@@ -1,12 +1,12 @@
-pub mod Kinds
+pub mod Planning
 pub mod Behind
-pub mod Meetings
+pub mod Gathering
 pub mod FenceOf
 pub mod KeyRows
 pub mod KeyFacts
 pub mod Grown
 pub mod Tables
-pub mod Sources
+pub mod Wired
 pub mod Awaited
-pub mod Deliveries
+pub mod Delivering
 pub mod Building

@@ -1,14 +1,14 @@
-//! Plans: the events that scripts are made of, what each of them waits for, and the laws of their runs.
+//! Plans: the events that scripts are made of, and what each of them depends on. The definitions of runs,
+//! and their laws, stand in `wire_runs`.
 #![tactic(auto)]
 
 mod by_number;
 mod deliveries;
 mod events;
+mod gets_now;
 mod index;
 mod keys;
 mod kind;
-pub mod laws;
-mod gets_now;
 mod meetings;
 mod names;
 mod plan;

@@ -5,7 +5,7 @@ use Rattle.std.specs.declared.cmp.Ordering.{Ordering}
 use Rattle.std.specs.declared.cmp.Ordering.TheVariants.{Less, Equal, Greater}
 use Rattle.std.specs.Ordering.{match_ordering}
 use Rattle.wire_runs.specs.Findings.{Finding, Has}
-use Rattle.wire_races.specs.Found.{IsAdded}
+use Rattle.wire_races.specs.Collected.{IsAdded}
 
 pub has_front : (xs ys : List Finding) (f : Finding) → Has xs f → Has (xs ++ ys) f
 has_front [] ys f h = absurd h

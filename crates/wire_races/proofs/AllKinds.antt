@@ -4,7 +4,7 @@ use Rattle.wire_runs.specs.Plan.{Plan}
 use Rattle.wire_runs.specs.Findings.{Finding, Rewrite, KeyRace, NameRace, IsFound, Has, IsSorted}
 use Rattle.wire_races.specs.Findings.{all_shown, AreFindings}
 use Rattle.wire_races.specs.declared.finding.Finding.{Finding as Told}
-use Rattle.wire_races.specs.Found.{AreFound}
+use Rattle.wire_races.specs.Collected.{AreFound}
 use Rattle.wire_races.specs.FindingKinds.{IsOfRewrite, IsOfKey, IsOfName, AllAdded}
 
 each_kind : (plan : Plan) (a b c d : List Finding) → AllAdded plan IsOfRewrite a b → AllAdded plan IsOfKey b c → AllAdded plan IsOfName c d → (f : Finding) → IsFound plan f → Has d f

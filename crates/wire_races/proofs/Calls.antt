@@ -11,7 +11,7 @@ use Rattle.wire_runs.specs.Order.{Stores}
 use Rattle.wire_runs.specs.Races.{IsNodeRace, IsDeliveryRace, Delivery, ByFence, IsOf}
 use Rattle.wire_runs.specs.Findings.{Finding, Rewrite, KeyRace, NameRace, IsFound}
 use Rattle.wire_runs.specs.Ends.{call_number, call_size, calls_of, process_calls, call_of, first_event}
-use Rattle.wire_plan.proofs.Kinds.{events_first}
+use Rattle.wire_plan.proofs.Planning.{events_first}
 
 abbrev pub is_leave : Kind → Bool
 is_leave (Leave members) = true

@@ -10,7 +10,7 @@ use Rattle.wire_runs.specs.Races.{Delivery, ByFence, IsOf, Delivers, ComesSurely
 use Rattle.wire_runs.specs.Findings.{Finding, IsFound, IsKeyRace}
 use Rattle.wire_plan.specs.Index.{IsDelivering, IsNextDelivery}
 use Rattle.wire_runs.proofs.Basics.{event_within, process_within}
-use Rattle.wire_races.specs.Found.{AreFound}
+use Rattle.wire_races.specs.Collected.{AreFound}
 use Rattle.wire_races.specs.FindingKinds.{IsOfKey}
 use Rattle.wire_races.specs.Adding.{Adds, OfKind}
 use Rattle.wire_races.specs.KeyRaces.{IsRaceOf, IsKeyRaceBy, Arrives, IsSure, MayBeLate, IsLate, IsLateBy, AreLateBelow, IsUnsure, IsNextArrival}

@@ -11,7 +11,7 @@ use Rattle.wire_runs.specs.Findings.{Finding, KeyRace, NameRace, IsFound}
 use Rattle.wire_runs.specs.Ends.{call_of, calls_of, first_event}
 use Rattle.wire_plan.proofs.KeyFacts.{put_exactly}
 use Rattle.wire_races.specs.Findings.{shown}
-use Rattle.wire_races.specs.Found.{race_between}
+use Rattle.wire_races.specs.Collected.{race_between}
 use Rattle.wire_races.specs.declared.finding.Finding.{Finding as Told}
 use Rattle.wire_races.specs.declared.finding.Finding.TheVariants as told_as
 use Rattle.wire_races.specs.declared.found.Race.{Race}

@@ -3,7 +3,7 @@ use Rattle.std.proofs.Common.{◌≡◌, ◌⊎◌, inl, inr, ⊎_elim, ℕ, suc
 use Rattle.std.proofs.lemmas.Bool.{cases_eq}
 use Rattle.wire_runs.specs.Plan.{Plan, Event, process_count, event_count}
 use Rattle.wire_runs.specs.Findings.{Finding, IsFound}
-use Rattle.wire_races.specs.Found.{AreFound, IsAdded}
+use Rattle.wire_races.specs.Collected.{AreFound, IsAdded}
 use Rattle.wire_races.specs.FindingKinds.{AllAdded}
 use Rattle.wire_races.specs.Adding.{Adds, OfKind, ToldIn, ToldBelow}
 

@@ -12,7 +12,7 @@ use Rattle.wire_runs.specs.Races.{IsUnordered, IsNodeRace, IsPutOnce, Delivery, 
 use Rattle.wire_runs.specs.Findings.{Finding, KeyRace, IsFound, IsKeyRace}
 use Rattle.wire_runs.proofs.Basics.{event_within}
 use Rattle.wire_plan.proofs.KeyFacts.{stores_once}
-use Rattle.wire_races.specs.Found.{AreFound, IsAdded}
+use Rattle.wire_races.specs.Collected.{AreFound, IsAdded}
 use Rattle.wire_races.specs.Adding.{Adds}
 use Rattle.wire_races.specs.KeyRaces.{IsRaceOf, IsKeyRaceBy, IsOpen}
 use Rattle.wire_races.proofs.First.{first_of_call}

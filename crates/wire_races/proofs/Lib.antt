@@ -5,7 +5,7 @@ pub mod Ordered
 pub mod AllKinds
 pub mod Growing
 pub mod First
-pub mod Rewrites
+pub mod Later
 pub mod Arrivals
 pub mod Sooner
 pub mod KeyRaces

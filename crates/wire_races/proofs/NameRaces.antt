@@ -12,7 +12,7 @@ use Rattle.wire_runs.specs.Races.{IsNameRace}
 use Rattle.wire_runs.specs.Findings.{Finding, NameRace, Has, IsFound}
 use Rattle.wire_plan.specs.Index.{AreNameCalls}
 use Rattle.wire_runs.proofs.Histories.{before_live, joined, same_process}
-use Rattle.wire_races.specs.Found.{IsAdded}
+use Rattle.wire_races.specs.Collected.{IsAdded}
 use Rattle.wire_races.specs.FindingKinds.{IsOfName}
 use Rattle.wire_races.specs.Adding.{Adds}
 use Rattle.wire_races.specs.NameRaces.{name_race, IsRaceOn, IsRaceWith, IsRaceIn, AreCallsOn, AreOf, IsBelow, IsCut}

@@ -11,7 +11,7 @@ use Rattle.wire_types.specs.declared.Reply.{Reply}
 use Rattle.wire_rehearsal.specs.Scripts.{Process, Scripts, IsSound, name_in, calls_in, set_at}
 use Rattle.wire_rehearsal.specs.Planned.{plan_of, planned_call, planned_process}
 use Rattle.wire_runs.specs.Names.{calls_name}
-use Rattle.wire_plan.proofs.Kinds.{events_first}
+use Rattle.wire_plan.proofs.Planning.{events_first}
 use Rattle.wire_races.proofs.Calls.{get_left, get_right}
 
 get_late : {A : Type 0} (xs ys : List A) (k : ℕ) → length xs ≤ k → slice_get (xs ++ ys) k ≡ slice_get ys (k - length xs)

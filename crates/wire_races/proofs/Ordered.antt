@@ -12,7 +12,7 @@ use Rattle.wire_runs.specs.Plan.{Plan, Event, event_of}
 use Rattle.wire_types.specs.declared.place.Event.{Event as CodeEvent}
 use Rattle.wire_runs.specs.EventLists.{IsLower}
 use Rattle.wire_runs.specs.Findings.{Finding, Rewrite, IsPairLower, IsSooner, IsFound, Has, IsSorted}
-use Rattle.wire_races.specs.Found.{rewrite_of, race_between, race_of, listed, AreFound, IsAdded}
+use Rattle.wire_races.specs.Collected.{rewrite_of, race_between, race_of, listed, AreFound, IsAdded}
 use Rattle.wire_races.specs.declared.found.Race.{Race}
 use Rattle.wire_races.specs.declared.found.Race.TheVariants.{OnKey, OnName}
 use Rattle.wire_races.proofs.Adding.{has_either, has_front, has_back, added_front, added_back, inserted}

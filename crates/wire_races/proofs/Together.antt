@@ -12,7 +12,7 @@ use Rattle.wire_rehearsal.specs.Planned.{plan_of}
 use Rattle.wire_runs.specs.Findings.{Finding, IsFound, Has}
 use Rattle.wire_races.specs.declared.finding.Finding.{Finding as Told}
 use Rattle.wire_races.specs.Findings.{shown, all_shown}
-use Rattle.wire_races.specs.Found.{AreFound, IsAdded}
+use Rattle.wire_races.specs.Collected.{AreFound, IsAdded}
 use Rattle.wire_races.specs.FindingKinds.{AllAdded, IsOfKey, IsOfName}
 use Rattle.wire_races.specs.Adding.{Adds, OfKind}
 use Rattle.wire_races.specs.KeyRaces.{IsKeyRaceOf}

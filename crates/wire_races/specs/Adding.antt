@@ -2,7 +2,7 @@
 use Rattle.std.specs.Prelude.{◌≡◌, ◌⊎◌, ◌<◌, ℕ, List}
 use Rattle.wire_runs.specs.Plan.{Plan, Event}
 use Rattle.wire_runs.specs.Findings.{Finding, IsFound, Has}
-use Rattle.wire_races.specs.Found.{AreFound}
+use Rattle.wire_races.specs.Collected.{AreFound}
 
 -- those are added, and nothing else
 pub record Adds (plan : Plan) (old new : List Finding) (those : Finding → Type 0) : Type 0 where

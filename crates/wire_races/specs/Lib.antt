@@ -1,8 +1,8 @@
 pub mod Findings
-pub mod Found
+pub mod Collected
 pub mod FindingKinds
 pub mod Adding
-pub mod Rewrites
+pub mod Rewriting
 pub mod KeyRaces
 pub mod NameRaces
 pub mod Pieces

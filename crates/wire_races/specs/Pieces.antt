@@ -5,7 +5,7 @@ use Rattle.wire_runs.specs.Plan.{Plan}
 use Rattle.wire_runs.specs.Findings.{Finding, Has}
 use Rattle.wire_races.specs.declared.finding.Finding.{Finding as Told}
 use Rattle.wire_races.specs.Findings.{all_shown}
-use Rattle.wire_races.specs.Found.{AreFound}
+use Rattle.wire_races.specs.Collected.{AreFound}
 
 -- a piece tells exactly these findings, and they are of the plan
 pub record IsPiece (plan : Plan) (those : Finding → Type 0) (piece : Vec Told Global) : Type 0 where

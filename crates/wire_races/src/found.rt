@@ -6,7 +6,7 @@ ghost use Rattle.wire_runs.specs.Plan as runs;
 ghost use Rattle.wire_rehearsal.specs.Planned.{plan_of};
 ghost use Rattle.wire_runs.specs.Findings.{Rewrite, KeyRace, NameRace, IsFound, Has, IsSorted};
 ghost use Rattle.wire_races.specs.Findings.{shown, all_shown};
-ghost use Rattle.wire_races.specs.Found.{rewrite_of, race_between, race_of, AreFound, IsAdded};
+ghost use Rattle.wire_races.specs.Collected.{rewrite_of, race_between, race_of, AreFound, IsAdded};
 
 use crate::finding::Finding;
 use std::alloc::{AllocError, Global};
@@ -33,7 +33,7 @@ pub(crate) struct Found {
 impl Model for Found {
     ghost use Rattle.std.specs.Prelude.{List};
     ghost use Rattle.wire_runs.specs.Findings.{Finding};
-    ghost use Rattle.wire_races.specs.Found.{listed};
+    ghost use Rattle.wire_races.specs.Collected.{listed};
 
     ghost Value = { List Finding };
 

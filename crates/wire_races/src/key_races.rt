@@ -11,7 +11,7 @@ ghost use Rattle.wire_runs.specs.Findings.{IsKeyRace};
 ghost use Rattle.wire_plan.specs.Index.{AreArrivals, IsDelivering};
 ghost use Rattle.wire_marks.specs.Clocks.{AreMarks};
 ghost use Rattle.wire_races.specs.Findings.{shown};
-ghost use Rattle.wire_races.specs.Found.{AreFound};
+ghost use Rattle.wire_races.specs.Collected.{AreFound};
 ghost use Rattle.wire_races.specs.FindingKinds.{IsOfKey, AllAdded};
 ghost use Rattle.wire_races.specs.Adding.{Adds, ToldIn};
 ghost use Rattle.wire_races.specs.Pieces.{IsPiece, ArePieces};

@@ -5,7 +5,7 @@ ghost use Rattle.std.specs.Prelude.{OnOk};
 ghost use Rattle.wire_rehearsal.specs.Planned.{plan_of};
 ghost use Rattle.wire_runs.specs.Findings.{Has};
 ghost use Rattle.wire_races.specs.Findings.{all_shown};
-ghost use Rattle.wire_races.specs.Found.{AreFound};
+ghost use Rattle.wire_races.specs.Collected.{AreFound};
 ghost use Rattle.wire_races.specs.Adding.{Adds};
 ghost use Rattle.wire_races.specs.Pieces.{IsInSome, AreAllFound};
 

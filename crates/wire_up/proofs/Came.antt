@@ -4,7 +4,7 @@ use Rattle.wire_types.specs.declared.Fault.{Fault}
 use Rattle.wire_types.specs.declared.Fault.TheVariants.{Memory, Read}
 use Rattle.wire_rehearsal.specs.Scripts.{Scripts}
 use Rattle.wire_script.specs.Reads.{Reads}
-use Rattle.wire_up.specs.Replaying.{ReadAs, Refuses}
+use Rattle.wire_up.specs.Replay.{ReadAs, Refuses}
 use Rattle.wire_up.proofs.Limited.{reads_limited}
 use Rattle.wire_up.proofs.FileFaults.{not_read}
 

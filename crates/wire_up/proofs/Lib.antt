@@ -1,8 +1,8 @@
 pub mod Came
 pub mod FileFaults
 pub mod Limited
-pub mod Replaying
-pub mod Following
-pub mod Asking
+pub mod Replay
+pub mod Follow
+pub mod Why
 pub mod Texts
-pub mod Checking
+pub mod Check

@@ -10,8 +10,8 @@ use Rattle.wire_runs.specs.State.{start}
 use Rattle.wire_runs.specs.Step.{run, IsInterleaving}
 use Rattle.wire_runs.specs.Ends.{outcome, calls_of}
 use Rattle.wire_report.specs.Report.{report}
-use Rattle.wire_up.specs.Replaying.{plain_ends, plain_report}
-use Rattle.wire_up.specs.Following.{StopsAfter, report_after}
+use Rattle.wire_up.specs.Replay.{plain_ends, plain_report}
+use Rattle.wire_up.specs.Follow.{StopsAfter, report_after}
 
 -- the report of the plain run
 pub plain_told : (plan shown : Scripts) (ends : Ends) (r : Result (Vec ℕ Global) Fault) → shown ≡ plan → ends ≡ plain_ends plan → IfOk r (λ text. text.items ≡ report shown ends) → IfOk r (λ text. text.items ≡ plain_report plan)

@@ -1,4 +1,4 @@
-pub mod Replaying
-pub mod Following
-pub mod Asking
-pub mod Checking
+pub mod Replay
+pub mod Follow
+pub mod Why
+pub mod Check

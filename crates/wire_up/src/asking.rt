@@ -6,7 +6,7 @@ ghost use Rattle.wire_types.specs.Counting.{one_more};
 ghost use Rattle.wire_rehearsal.specs.Planned.{plan_of};
 ghost use Rattle.wire_runs.specs.Ends.{calls_of};
 ghost use Rattle.wire_report.specs.Chain.{IsChainText};
-ghost use Rattle.wire_up.specs.Asking.{Asks, Answers, WritesAnswer, BreaksOffAnswer, StopsBeforeAnswer};
+ghost use Rattle.wire_up.specs.Why.{Asks, Answers, WritesAnswer, BreaksOffAnswer, StopsBeforeAnswer};
 
 use crate::replaying::read_scripts;
 use crate::writing::write_text;

@@ -4,8 +4,8 @@ ghost use Rattle.std.specs.Prelude.{◌≡◌, ◌≢◌, ◌⊎◌, ℕ, Ok, Er
 ghost use Rattle.wire_types.specs.declared.Fault.TheVariants.{Memory, Read};
 ghost use Rattle.wire_types.specs.Counting.{one_more};
 ghost use Rattle.wire_up.specs.declared.checking.Ended.TheVariants.{Clean};
-ghost use Rattle.wire_up.specs.Checking as spec;
-ghost use Rattle.wire_up.specs.Checking.{IsVerdict, WritesFindings, EndsInOneState, BreaksOffFindings, StopsBeforeFindings};
+ghost use Rattle.wire_up.specs.Check as spec;
+ghost use Rattle.wire_up.specs.Check.{IsVerdict, WritesFindings, EndsInOneState, BreaksOffFindings, StopsBeforeFindings};
 
 use crate::replaying::read_scripts;
 use crate::writing::write_text;

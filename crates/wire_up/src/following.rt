@@ -9,8 +9,8 @@ ghost use Rattle.wire_rehearsal.specs.Planned.{plan_of};
 ghost use Rattle.wire_runs.specs.State.{start};
 ghost use Rattle.wire_runs.specs.Step.{run, IsInterleaving};
 ghost use Rattle.wire_runs.specs.Ends.{outcome};
-ghost use Rattle.wire_up.specs.Replaying.{ReadAs};
-ghost use Rattle.wire_up.specs.Following.{WritesFollowed, BreaksOffFollowed, StopsBefore, OrdersAs, RefusesSteps, StopsAfter, report_after};
+ghost use Rattle.wire_up.specs.Replay.{ReadAs};
+ghost use Rattle.wire_up.specs.Follow.{WritesFollowed, BreaksOffFollowed, StopsBefore, OrdersAs, RefusesSteps, StopsAfter, report_after};
 
 use crate::reading::read_up_to;
 use crate::replaying::read_scripts;

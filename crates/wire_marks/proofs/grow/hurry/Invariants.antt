@@ -1,7 +1,7 @@
 use Rattle.std.proofs.Common.{◌≤◌}
 use Rattle.wire_rehearsal.specs.Planned.{plan_of}
 use Rattle.wire_marks.specs.Marking.{unmarked}
-use Rattle.wire_marks.specs.Joins.{AreGrowing}
+use Rattle.wire_marks.specs.Meeting.{AreGrowing}
 use Rattle.wire_marks.proofs.grow.hurry.Given as goal
 
 abbrev pub invariant-loop-number : goal.invariant-loop-number

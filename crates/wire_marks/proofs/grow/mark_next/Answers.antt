@@ -1,7 +1,7 @@
 use Rattle.std.proofs.Common.{◌<◌, subst, arith}
 use Rattle.wire_rehearsal.specs.Planned.{plan_of}
 use Rattle.wire_marks.proofs.Growing.{left_falls, left_same, next_there, stuck_same}
-use Rattle.wire_marks.proofs.Joins.{growing_added}
+use Rattle.wire_marks.proofs.Joining.{growing_added}
 use Rattle.wire_marks.specs.Marking.{unmarked}
 use Rattle.wire_marks.proofs.grow.mark_next.Goals as goal
 

@@ -5,9 +5,9 @@ use Rattle.wire_runs.specs.Plan.{Event, event_of}
 use Rattle.wire_rehearsal.specs.Planned.{plan_of}
 use Rattle.wire_marks.specs.Clocks.{marked_count}
 use Rattle.wire_marks.specs.Marking.{next_of, IsStuckAt, IsNextBase}
-use Rattle.wire_marks.specs.Joins.{AreMarked, IsJoined}
+use Rattle.wire_marks.specs.Meeting.{AreMarked, IsJoined}
 use Rattle.wire_marks.proofs.Growing.{come_within, grown_keeps, sound_grown}
-use Rattle.wire_marks.proofs.Joins.{awaited_edge, arrival_edge, arrivals_at_fence, meetings_on, meetings_kept, next_unmet, next_met}
+use Rattle.wire_marks.proofs.Joining.{awaited_edge, arrival_edge, arrivals_at_fence, meetings_on, meetings_kept, next_unmet, next_met}
 use Rattle.wire_marks.proofs.grow.next_base.Goals as goal
 
 pub returns-then-at-event_count-clause-next : goal.returns-then-at-event_count-clause-next

@@ -1,5 +1,5 @@
 use Rattle.std.proofs.Common.{refl}
-use Rattle.wire_marks.proofs.Joins.{added_none, added_push}
+use Rattle.wire_marks.proofs.Joining.{added_none, added_push}
 use Rattle.wire_marks.proofs.joins.add_meetings.Goals as goal
 
 pub adding-init : goal.adding-init

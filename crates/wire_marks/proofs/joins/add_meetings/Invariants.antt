@@ -1,5 +1,5 @@
 use Rattle.std.proofs.Common.{◌-◌, suc, length}
-use Rattle.wire_marks.specs.Joins.{AreAdded}
+use Rattle.wire_marks.specs.Meeting.{AreAdded}
 use Rattle.wire_marks.proofs.joins.add_meetings.Given as goal
 
 abbrev pub invariant-adding : goal.invariant-adding

@@ -1,7 +1,7 @@
 use Rattle.std.proofs.Common.{map, length, refl}
 use Rattle.std.proofs.lemmas.Option.{slice_get_read}
 use Rattle.wire_runs.specs.Plan.{event_of}
-use Rattle.wire_marks.proofs.Joins.{added_at, set_at, set_others}
+use Rattle.wire_marks.proofs.Joining.{added_at, set_at, set_others}
 use Rattle.wire_marks.proofs.joins.meet.Goals as goal
 
 pub meet-requires-clause-kept : goal.meet-requires-clause-kept

@@ -5,7 +5,7 @@ use Rattle.wire_types.specs.declared.Proc.{Proc}
 use Rattle.wire_rehearsal.specs.Planned.{plan_of}
 use Rattle.wire_runs.specs.Order.{Edge}
 use Rattle.wire_marks.specs.Marking.{next_of}
-use Rattle.wire_marks.proofs.Joins.{awaited_edge, arrival_edge}
+use Rattle.wire_marks.proofs.Joining.{awaited_edge, arrival_edge}
 use Rattle.wire_marks.proofs.way.waits_for.Goals as goal
 
 pub returns-in-Some : goal.returns-in-Some

@@ -3,7 +3,7 @@ use Rattle.wire_runs.specs.Plan.{Arrive, set_of, kind_at}
 use Rattle.wire_rehearsal.specs.Scripts.{set_at}
 use Rattle.wire_rehearsal.specs.Planned.{plan_of}
 use Rattle.wire_plan.specs.Kinds.{kind_of}
-use Rattle.wire_plan.proofs.Deliveries.{where_brought, sent_there}
+use Rattle.wire_plan.proofs.Delivering.{where_brought, sent_there}
 use Rattle.wire_plan.proofs.deliveries.is_delivering.Goals as goal
 
 pub returns-then-reaches : goal.returns-then-reaches

@@ -2,7 +2,7 @@ use Rattle.std.proofs.Common.{◌≤◌, ◌∙◌, sym, subst, arith, inl, inr}
 use Rattle.std.proofs.lemmas.Bool.{true≢false, cases_eq, cases_lt}
 use Rattle.wire_rehearsal.specs.Planned.{plan_of}
 use Rattle.wire_plan.specs.Index.{IsDelivering}
-use Rattle.wire_plan.proofs.Deliveries.{none_past}
+use Rattle.wire_plan.proofs.Delivering.{none_past}
 use Rattle.wire_plan.proofs.deliveries.next_delivery.Goals as goal
 
 pub returns-then-is_delivering-clause-next : goal.returns-then-is_delivering-clause-next

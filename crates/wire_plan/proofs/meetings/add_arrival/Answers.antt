@@ -1,6 +1,6 @@
 use Rattle.std.proofs.Common.{refl, length}
 use Rattle.std.proofs.lemmas.Option.{slice_get_read}
-use Rattle.wire_plan.proofs.Meetings.{added_shown}
+use Rattle.wire_plan.proofs.Gathering.{added_shown}
 use Rattle.wire_plan.proofs.meetings.add_arrival.Goals as goal
 
 pub returns : goal.returns

@@ -1,6 +1,6 @@
 use Rattle.std.proofs.Common.{◌∙◌, sym, map}
 use Rattle.std.proofs.lemmas.Option.{same_Some}
-use Rattle.wire_plan.proofs.Meetings.{one_arrival, no_arrival, other_kind}
+use Rattle.wire_plan.proofs.Gathering.{one_arrival, no_arrival, other_kind}
 use Rattle.wire_plan.proofs.meetings.add_event.Goals as goal
 
 pub returns-in_ok-add_arrival : goal.returns-in_ok-add_arrival

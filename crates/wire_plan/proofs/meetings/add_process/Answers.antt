@@ -2,7 +2,7 @@ use Rattle.std.proofs.Common.{◌≡◌, ◌+◌, ◌∙◌, subst, map, suc, ar
 use Rattle.wire_runs.specs.Plan.{event_count}
 use Rattle.wire_rehearsal.specs.Planned.{plan_of}
 use Rattle.wire_plan.specs.Meetings.{AreArrivalListsTo}
-use Rattle.wire_plan.proofs.Meetings.{process_done}
+use Rattle.wire_plan.proofs.Gathering.{process_done}
 use Rattle.wire_plan.proofs.meetings.add_process.Goals as goal
 
 pub loop-at-preserved : goal.loop-at-preserved

@@ -1,6 +1,6 @@
 use Rattle.std.proofs.Common.{map}
 use Rattle.wire_runs.specs.Plan.{event_of}
-use Rattle.wire_plan.proofs.Meetings.{arrivals_met}
+use Rattle.wire_plan.proofs.Gathering.{arrivals_met}
 use Rattle.wire_plan.proofs.meetings.arrivals_at.Goals as goal
 
 pub returns : goal.returns

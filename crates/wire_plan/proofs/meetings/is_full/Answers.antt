@@ -1,5 +1,5 @@
 use Rattle.std.proofs.Common.{◌∙◌}
-use Rattle.wire_plan.proofs.Meetings.{full_met}
+use Rattle.wire_plan.proofs.Gathering.{full_met}
 use Rattle.wire_plan.proofs.meetings.is_full.Goals as goal
 
 pub returns : goal.returns

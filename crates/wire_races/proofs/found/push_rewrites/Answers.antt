@@ -1,6 +1,6 @@
 use Rattle.std.proofs.Common.{subst, map}
 use Rattle.wire_rehearsal.specs.Planned.{plan_of}
-use Rattle.wire_races.specs.Found.{rewrite_of, AreFound}
+use Rattle.wire_races.specs.Collected.{rewrite_of, AreFound}
 use Rattle.wire_races.proofs.Ordered.{first_found}
 use Rattle.wire_races.proofs.found.push_rewrites.Goals as goal
 

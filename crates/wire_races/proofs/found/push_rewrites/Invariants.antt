@@ -1,7 +1,7 @@
 use Rattle.std.proofs.Common.{◌≡◌, ◌++◌, map}
 use Rattle.wire_rehearsal.specs.Planned.{plan_of}
 use Rattle.wire_races.specs.Findings.{all_shown}
-use Rattle.wire_races.specs.Found.{rewrite_of, AreFound}
+use Rattle.wire_races.specs.Collected.{rewrite_of, AreFound}
 use Rattle.wire_races.proofs.found.push_rewrites.Given as goal
 
 abbrev pub invariant-loop-later : goal.invariant-loop-later

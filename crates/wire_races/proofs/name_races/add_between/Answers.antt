@@ -2,7 +2,7 @@ use Rattle.std.proofs.Common.{◌<◌, ◌≤◌, map, length, sym, subst, arith
 use Rattle.wire_runs.specs.Plan.{event_of}
 use Rattle.wire_rehearsal.specs.Planned.{plan_of}
 use Rattle.wire_runs.specs.Findings.{IsFound}
-use Rattle.wire_races.specs.Found.{IsAdded}
+use Rattle.wire_races.specs.Collected.{IsAdded}
 use Rattle.wire_races.proofs.Lists.{place_at}
 use Rattle.wire_races.proofs.Growing.{adds_none, adds_same}
 use Rattle.wire_races.proofs.NameRaces.{among_none, among_more, is_race, among_race, race_among, race_found}

@@ -1,7 +1,7 @@
 use Rattle.std.proofs.lemmas.Result.{on_ok_weaker}
 use Rattle.wire_runs.specs.Plan.{event_of}
 use Rattle.wire_rehearsal.specs.Planned.{plan_of}
-use Rattle.wire_races.proofs.Rewrites.{shown_rewrite, shown_found, adds_rewrite, adds_no_rewrite}
+use Rattle.wire_races.proofs.Later.{shown_rewrite, shown_found, adds_rewrite, adds_no_rewrite}
 use Rattle.wire_races.proofs.rewrites.add_rewrite.Goals as goal
 
 pub add-requires-clause-found : goal.add-requires-clause-found

@@ -2,9 +2,9 @@ use Rattle.std.proofs.Common.{◌≡◌, ◌∙◌, ◌+◌, arith}
 use Rattle.wire_runs.specs.Plan.{process_count}
 use Rattle.wire_rehearsal.specs.Planned.{plan_of}
 use Rattle.wire_races.specs.FindingKinds.{IsOfRewrite}
-use Rattle.wire_races.specs.Rewrites.{IsRewriteBy}
+use Rattle.wire_races.specs.Rewriting.{IsRewriteBy}
 use Rattle.wire_races.proofs.Growing.{one_process, all_told, all_added}
-use Rattle.wire_races.proofs.Rewrites.{rewrite_within, rewrite_below, rewrite_told, rewrite_by}
+use Rattle.wire_races.proofs.Later.{rewrite_within, rewrite_below, rewrite_told, rewrite_by}
 use Rattle.wire_races.proofs.rewrites.add_rewrites.Goals as goal
 
 pub loop-number-preserved : goal.loop-number-preserved

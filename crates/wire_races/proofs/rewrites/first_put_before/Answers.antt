@@ -3,7 +3,7 @@ use Rattle.wire_runs.specs.Plan.{event_of}
 use Rattle.wire_rehearsal.specs.Planned.{plan_of}
 use Rattle.wire_plan.specs.Index.{IsFirstPut}
 use Rattle.wire_plan.specs.Kinds.{kind_of}
-use Rattle.wire_races.proofs.Rewrites.{is_first, never_first}
+use Rattle.wire_races.proofs.Later.{is_first, never_first}
 use Rattle.wire_races.proofs.rewrites.first_put_before.Goals as goal
 
 pub returns-in_default-first_put : goal.returns-in_default-first_put

@@ -1,8 +1,8 @@
 use Rattle.std.proofs.Common.{inl, map}
-use Rattle.wire_up.proofs.Replaying.{handed_on, not_ok}
-use Rattle.wire_up.proofs.Following.{err_too}
+use Rattle.wire_up.proofs.Replay.{handed_on, not_ok}
+use Rattle.wire_up.proofs.Follow.{err_too}
 use Rattle.wire_up.proofs.Texts.{there_too}
-use Rattle.wire_up.proofs.Asking.{answered, asked_too, refused_too}
+use Rattle.wire_up.proofs.Why.{answered, asked_too, refused_too}
 use Rattle.wire_up.proofs.asking.answer_of.Goals as goal
 
 pub returns-in_err-x-clause-ok : goal.returns-in_err-x-clause-ok

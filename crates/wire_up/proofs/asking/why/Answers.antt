@@ -1,7 +1,7 @@
 use Rattle.std.proofs.Common.{inl, refl, map, ap, Err}
-use Rattle.wire_up.proofs.Replaying.{handed_on, not_on_ok, same_error, no_read_writing}
-use Rattle.wire_up.proofs.Following.{on_ok_too, err_always}
-use Rattle.wire_up.proofs.Asking.{answer_ok, answer_err, file_stops, word_stops, no_read_of_words}
+use Rattle.wire_up.proofs.Replay.{handed_on, not_on_ok, same_error, no_read_writing}
+use Rattle.wire_up.proofs.Follow.{on_ok_too, err_always}
+use Rattle.wire_up.proofs.Why.{answer_ok, answer_err, file_stops, word_stops, no_read_of_words}
 use Rattle.wire_up.proofs.asking.why.Goals as goal
 
 pub returns-in_err-scripts-clause-ok : goal.returns-in_err-scripts-clause-ok

@@ -1,6 +1,6 @@
 use Rattle.std.proofs.Common.{inr}
-use Rattle.wire_up.proofs.Replaying.{handed_on}
-use Rattle.wire_up.proofs.Checking.{broken_off}
+use Rattle.wire_up.proofs.Replay.{handed_on}
+use Rattle.wire_up.proofs.Check.{broken_off}
 use Rattle.wire_up.proofs.checking.check.Goals as goal
 
 pub returns-in_err-write_text-clause-err : goal.returns-in_err-write_text-clause-err

@@ -1,7 +1,7 @@
 use Rattle.std.proofs.Common.{inl, inr, ap, refl, Err}
 use Rattle.wire_types.specs.declared.Fault.TheVariants.{Read}
-use Rattle.wire_up.proofs.Replaying.{handed_on, not_on_ok, same_error, no_read_writing}
-use Rattle.wire_up.proofs.Following.{of_file, of_order, of_steps, no_read_of_steps, on_ok_too, followed_ok, followed_err, err_always}
+use Rattle.wire_up.proofs.Replay.{handed_on, not_on_ok, same_error, no_read_writing}
+use Rattle.wire_up.proofs.Follow.{of_file, of_order, of_steps, no_read_of_steps, on_ok_too, followed_ok, followed_err, err_always}
 use Rattle.wire_up.proofs.following.follow.Goals as goal
 
 pub returns-in_err-scripts-clause-ok : goal.returns-in_err-scripts-clause-ok

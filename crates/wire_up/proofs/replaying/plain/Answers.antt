@@ -1,6 +1,6 @@
 use Rattle.std.proofs.Common.{◌∙◌, ap, refl, Err}
-use Rattle.wire_up.proofs.Replaying.{handed_on, not_on_ok, on_error, only_refused, same_error, before_writing, memory_no_read, memory_no_write, writes_report, breaks_off, no_read_writing, not_refused, untouched, at_error, both_quiet}
-use Rattle.wire_up.proofs.Following.{err_always}
+use Rattle.wire_up.proofs.Replay.{handed_on, not_on_ok, on_error, only_refused, same_error, before_writing, memory_no_read, memory_no_write, writes_report, breaks_off, no_read_writing, not_refused, untouched, at_error, both_quiet}
+use Rattle.wire_up.proofs.Follow.{err_always}
 use Rattle.wire_up.proofs.replaying.plain.Goals as goal
 
 pub returns-in_err-scripts-clause-ok : goal.returns-in_err-scripts-clause-ok

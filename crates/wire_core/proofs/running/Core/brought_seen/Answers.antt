@@ -4,7 +4,7 @@ use Rattle.wire_rehearsal.specs.Planned.{plan_of}
 use Rattle.wire_runs.specs.Sight.{held, for_others}
 use Rattle.wire_runs.specs.Step.{run}
 use Rattle.wire_runs.proofs.Due.{reachable_sound}
-use Rattle.wire_core.specs.Sight.{seen_as, brought_of}
+use Rattle.wire_core.specs.Seeing.{seen_as, brought_of}
 use Rattle.wire_core.proofs.Ranks.{before_shown}
 use Rattle.wire_core.proofs.running.Core.brought_seen.Goals as goal
 

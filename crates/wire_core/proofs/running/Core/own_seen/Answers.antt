@@ -5,7 +5,7 @@ use Rattle.wire_runs.specs.Puts.{own}
 use Rattle.wire_rehearsal.specs.Planned.{plan_of}
 use Rattle.wire_runs.specs.Sight.{held}
 use Rattle.wire_runs.specs.Step.{run}
-use Rattle.wire_core.specs.Sight.{seen_as}
+use Rattle.wire_core.specs.Seeing.{seen_as}
 use Rattle.wire_core.proofs.Ranks.{done_past, own_found, own_shown}
 use Rattle.wire_core.proofs.running.Core.own_seen.Goals as goal
 

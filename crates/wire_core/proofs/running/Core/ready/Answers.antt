@@ -6,7 +6,7 @@ use Rattle.wire_plan.specs.declared.Kind.TheVariants as code
 use Rattle.wire_runs.specs.State.{next_kind}
 use Rattle.wire_runs.specs.Step.{run}
 use Rattle.wire_core.specs.Course.{state_of}
-use Rattle.wire_core.proofs.Met.{complete_at, leave_enabled}
+use Rattle.wire_core.proofs.Meet.{complete_at, leave_enabled}
 use Rattle.wire_core.proofs.running.Core.ready.Goals as goal
 
 pub seen_by-requires : goal.seen_by-requires

@@ -15,7 +15,7 @@ use Rattle.wire_runs.specs.State.{start}
 use Rattle.wire_core.specs.Met.{ArrivesAt, after_arrival}
 use Rattle.wire_core.specs.Ranks.{calls_at, IsShared}
 use Rattle.wire_core.proofs.Shared.{shared_step, missing_if, has_name}
-use Rattle.wire_core.specs.Sight.{replies_in}
+use Rattle.wire_core.specs.Seeing.{replies_in}
 use Rattle.wire_core.proofs.Steps.{IsAdvanced, put_anyway, name_anyway, step_room, step_space, step_history, rank_step, course_step, run_push}
 use Rattle.wire_core.proofs.running.Core.step.Goals as goal
 

@@ -2,7 +2,7 @@ use Rattle.std.proofs.Common.{Some, ap, sym, subst, slice_index}
 use Rattle.std.specs.Prelude.{option_map}
 use Rattle.wire_runs.specs.Plan.{event_of}
 use Rattle.wire_marks.specs.Marking.{IsRaised}
-use Rattle.wire_marks.proofs.Joins.{before_fits, raised_here}
+use Rattle.wire_marks.proofs.Joining.{before_fits, raised_here}
 use Rattle.wire_marks.proofs.clocks.Clocks.base_after.Goals as goal
 
 pub returns-in_default-clause-there : goal.returns-in_default-clause-there

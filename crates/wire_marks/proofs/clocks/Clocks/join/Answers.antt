@@ -2,8 +2,8 @@ use Rattle.std.proofs.Common.{◌≡◌, ◌∙◌, Some, map, length, ap, subst
 use Rattle.std.specs.Prelude.{option_map, slice_get, slice_index}
 use Rattle.std.proofs.lemmas.Option.{slice_get-map, slice_get-get_or}
 use Rattle.wire_runs.specs.Plan.{event_of}
-use Rattle.wire_marks.specs.Joins.{IsJoin}
-use Rattle.wire_marks.proofs.Joins.{join_step}
+use Rattle.wire_marks.specs.Meeting.{IsJoin}
+use Rattle.wire_marks.proofs.Joining.{join_step}
 use Rattle.wire_marks.proofs.clocks.Clocks.join.Goals as goal
 
 pub raise_to-last-requires-clause-marked : goal.raise_to-last-requires-clause-marked

@@ -1,7 +1,7 @@
 use Rattle.std.proofs.Common.{◌≡◌, ◌≤◌, ℕ, map, length, slice_index}
 use Rattle.wire_runs.specs.Plan.{event_of}
 use Rattle.wire_marks.specs.Clocks.{base_at}
-use Rattle.wire_marks.specs.Joins.{IsJoin}
+use Rattle.wire_marks.specs.Meeting.{IsJoin}
 use Rattle.wire_marks.proofs.clocks.Clocks.join.Given as goal
 
 abbrev pub invariant-loop-event : goal.invariant-loop-event

@@ -3,7 +3,7 @@ use Rattle.std.specs.Prelude.{option_map, slice_get}
 use Rattle.std.proofs.lemmas.Bool.{true≢false}
 use Rattle.std.proofs.lemmas.Option.{slice_get-map}
 use Rattle.wire_runs.specs.Plan.{event_of}
-use Rattle.wire_marks.proofs.Joins.{marked_step}
+use Rattle.wire_marks.proofs.Joining.{marked_step}
 use Rattle.wire_marks.proofs.joins.Meeting.count_on.Goals as goal
 
 pub returns-then-not-is_marked-clause-missing : goal.returns-then-not-is_marked-clause-missing

@@ -1,6 +1,6 @@
 use Rattle.std.proofs.Common.{◌-◌, map, length}
 use Rattle.wire_runs.specs.Plan.{event_of}
-use Rattle.wire_marks.specs.Joins.{IsMeeting}
+use Rattle.wire_marks.specs.Meeting.{IsMeeting}
 use Rattle.wire_marks.proofs.joins.Meeting.count_on.Given as goal
 
 abbrev pub invariant-met : goal.invariant-met

@@ -1,9 +1,9 @@
 use Rattle.std.proofs.Common.{map, refl, sym, subst, slice_index}
 use Rattle.std.proofs.lemmas.List.{length-map}
 use Rattle.wire_runs.specs.Plan.{event_of}
-use Rattle.wire_marks.specs.Joins.{AreMarked, IsJoin}
+use Rattle.wire_marks.specs.Meeting.{AreMarked, IsJoin}
 use Rattle.wire_marks.proofs.Growing.{grown_keeps}
-use Rattle.wire_marks.proofs.Joins.{joined_new, meeting_joined, marked_kept}
+use Rattle.wire_marks.proofs.Joining.{joined_new, meeting_joined, marked_kept}
 use Rattle.wire_marks.proofs.joins.Meeting.joined.Goals as goal
 
 pub returns-in-Some-clause-joined : goal.returns-in-Some-clause-joined

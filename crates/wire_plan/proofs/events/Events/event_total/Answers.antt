@@ -4,7 +4,7 @@ use Rattle.std.proofs.lemmas.List.{length-map}
 use Rattle.wire_rehearsal.specs.Planned.{plan_of}
 use Rattle.wire_plan.specs.Kinds.{kind_of}
 use Rattle.wire_runs.specs.Plan.{event_total}
-use Rattle.wire_plan.proofs.Kinds.{sum_same, total_shown, total_fits}
+use Rattle.wire_plan.proofs.Planning.{sum_same, total_shown, total_fits}
 use Rattle.wire_plan.proofs.events.Events.event_total.Goals as goal
 
 pub total_of-requires : goal.total_of-requires

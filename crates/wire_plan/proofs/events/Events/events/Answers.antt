@@ -1,7 +1,7 @@
 use Rattle.std.proofs.Common.{sym, refl, map, length}
 use Rattle.std.proofs.lemmas.Option.{slice_get_read, slice_get_past}
 use Rattle.wire_plan.specs.Kinds.{kind_of}
-use Rattle.wire_plan.proofs.Kinds.{events_shown, events_past}
+use Rattle.wire_plan.proofs.Planning.{events_shown, events_past}
 use Rattle.wire_plan.proofs.events.Events.events.Goals as goal
 
 pub returns-in-Some : goal.returns-in-Some

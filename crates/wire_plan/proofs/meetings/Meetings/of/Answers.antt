@@ -2,7 +2,7 @@ use Rattle.std.proofs.Common.{◌≡◌, ◌+◌, ◌∙◌, subst, map, suc, ar
 use Rattle.wire_runs.specs.Plan.{process_count}
 use Rattle.wire_rehearsal.specs.Planned.{plan_of}
 use Rattle.wire_plan.specs.Meetings.{AreArrivalListsTo}
-use Rattle.wire_plan.proofs.Meetings.{all_done}
+use Rattle.wire_plan.proofs.Gathering.{all_done}
 use Rattle.wire_plan.proofs.meetings.Meetings.of.Goals as goal
 
 pub loop-number-preserved : goal.loop-number-preserved

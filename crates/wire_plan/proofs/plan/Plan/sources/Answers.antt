@@ -1,4 +1,4 @@
-use Rattle.wire_plan.proofs.Sources.{sources_are}
+use Rattle.wire_plan.proofs.Wired.{sources_are}
 use Rattle.wire_plan.proofs.plan.Plan.sources.Goals as goal
 use Rattle.wire_runs.specs.Plan.{event_of}
 use Rattle.wire_rehearsal.specs.Planned.{plan_of}

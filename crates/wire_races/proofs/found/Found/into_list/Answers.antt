@@ -2,7 +2,7 @@ use Rattle.std.proofs.Common.{◌≡◌, ◌∙◌, ap, sym, subst, List, ◌++�
 use Rattle.wire_rehearsal.specs.Planned.{plan_of}
 use Rattle.wire_runs.specs.Findings.{Finding, IsSorted}
 use Rattle.wire_races.specs.Findings.{all_shown}
-use Rattle.wire_races.specs.Found.{rewrite_of, race_of, listed}
+use Rattle.wire_races.specs.Collected.{rewrite_of, race_of, listed}
 use Rattle.wire_races.proofs.Ordered.{rewrites_found, races_found, listed_sorted}
 use Rattle.wire_races.proofs.found.Found.into_list.Goals as goal
 

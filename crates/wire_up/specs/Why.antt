@@ -8,7 +8,7 @@ use Rattle.wire_types.specs.declared.Fault.TheVariants.{Memory, Read}
 use Rattle.wire_rehearsal.specs.Scripts.{Scripts}
 use Rattle.wire_order.specs.Question.{QuestionReads}
 use Rattle.wire_report.specs.Chain.{IsChainText}
-use Rattle.wire_up.specs.Replaying.{ReadAs, Refuses}
+use Rattle.wire_up.specs.Replay.{ReadAs, Refuses}
 
 abbrev pub word_at : List (List ℕ) → ℕ → List ℕ
 word_at words n = slice_index_or words n []

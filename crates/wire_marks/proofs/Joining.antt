@@ -14,7 +14,7 @@ use Rattle.wire_plan.specs.Meetings.{fence_members}
 use Rattle.wire_marks.specs.declared.joins.Meeting.{Meeting}
 use Rattle.wire_marks.specs.Clocks.{Clocks, items_at, marked_count, number_at, base_at, own_of, clock_of, LeadsTo}
 use Rattle.wire_marks.specs.Marking.{AreBased, AreClocks, IsReady, IsBase, next_of, IsNextBase, IsGrown, Adds, number_or_first, number_before, Counts, IsRaised}
-use Rattle.wire_marks.specs.Joins.{AreMarked, IsJoin, IsJoined, IsMeeting, IsMeetingAt, IsEmpty, AreMeetings, AreGrowing, AreAdded, AreOthersKept, IsLeaveOf}
+use Rattle.wire_marks.specs.Meeting.{AreMarked, IsJoin, IsJoined, IsMeeting, IsMeetingAt, IsEmpty, AreMeetings, AreGrowing, AreAdded, AreOthersKept, IsLeaveOf}
 use Rattle.wire_marks.proofs.Tables.{slice_get-set_same, slice_get-set_other}
 use Rattle.wire_marks.proofs.Same.{at_head, same_places}
 use Rattle.wire_marks.proofs.Marking.{own_rises, leads_through}

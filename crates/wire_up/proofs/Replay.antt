@@ -5,7 +5,7 @@ use Rattle.wire_types.specs.declared.Fault.{Fault}
 use Rattle.wire_types.specs.declared.Fault.TheVariants.{Memory, Read, Write}
 use Rattle.wire_types.specs.Front.{WritesFront}
 use Rattle.wire_rehearsal.specs.Scripts.{Scripts}
-use Rattle.wire_up.specs.Replaying.{plain_report, ReadAs, Refuses, WritesReport, BreaksOff}
+use Rattle.wire_up.specs.Replay.{plain_report, ReadAs, Refuses, WritesReport, BreaksOff}
 use Rattle.wire_up.proofs.FileFaults.{not_write}
 
 -- an error that is handed on

@@ -13,7 +13,7 @@ use Rattle.wire_races.specs.Findings.{AreFindings}
 use Rattle.wire_report.specs.Findings.{findings_report}
 use Rattle.wire_up.specs.declared.checking.Ended.{Ended}
 use Rattle.wire_up.specs.declared.checking.Ended.TheVariants.{Clean, Found}
-use Rattle.wire_up.specs.Replaying.{ReadAs, Refuses}
+use Rattle.wire_up.specs.Replay.{ReadAs, Refuses}
 
 -- how a check ends that has these findings
 abbrev pub ended_with : List Finding → Ended

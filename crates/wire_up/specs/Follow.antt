@@ -11,7 +11,7 @@ use Rattle.wire_runs.specs.State.{start}
 use Rattle.wire_runs.specs.Step.{is_enabled, run, IsInterleaving}
 use Rattle.wire_runs.specs.Ends.{outcome}
 use Rattle.wire_report.specs.Report.{report}
-use Rattle.wire_up.specs.Replaying.{WereComing, ReadAs, Refuses}
+use Rattle.wire_up.specs.Replay.{WereComing, ReadAs, Refuses}
 
 -- the report of the state after these steps
 abbrev pub report_after : Scripts → List ℕ → List ℕ

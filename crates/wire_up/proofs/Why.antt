@@ -13,8 +13,8 @@ use Rattle.wire_rehearsal.specs.Planned.{plan_of, planned_call, planned_process}
 use Rattle.wire_order.specs.Question.{QuestionReads, Asks as AsksBoth, First, Second, Third, Fourth, IsCallNamed, calls_made}
 use Rattle.wire_runs.specs.Ends.{calls_of, process_calls}
 use Rattle.wire_report.specs.Chain.{IsChainText}
-use Rattle.wire_up.specs.Replaying.{ReadAs, Refuses}
-use Rattle.wire_up.specs.Asking.{Asks, Answers, WritesAnswer, BreaksOffAnswer, StopsBeforeAnswer}
+use Rattle.wire_up.specs.Replay.{ReadAs, Refuses}
+use Rattle.wire_up.specs.Why.{Asks, Answers, WritesAnswer, BreaksOffAnswer, StopsBeforeAnswer}
 
 -- the calls that are named are the plan's
 made_in : (s : Scripts) (o : Option Process) → length (calls_in o) ≡ length (process_calls (option_map (planned_process s) o))

@@ -10,9 +10,9 @@ use Rattle.wire_rehearsal.specs.Scripts.{Scripts, numbers_of}
 use Rattle.wire_script.specs.Statements.{Statement, statements}
 use Rattle.wire_order.specs.Order.{order_read, order_within, order_of, step_of, with_step}
 use Rattle.wire_order.proofs.Limited.{order_limited}
-use Rattle.wire_up.specs.Replaying.{ReadAs, Refuses}
+use Rattle.wire_up.specs.Replay.{ReadAs, Refuses}
 use Rattle.wire_up.proofs.Texts.{LeadsTo}
-use Rattle.wire_up.specs.Following.{OrdersAs, RefusesSteps, StopsAfter, StopsBefore, OrderedAs, WritesFollowed, BreaksOffFollowed}
+use Rattle.wire_up.specs.Follow.{OrdersAs, RefusesSteps, StopsAfter, StopsBefore, OrderedAs, WritesFollowed, BreaksOffFollowed}
 
 -- what came of an order, all that was to come reads as
 pub orders_as : (coming : Option (List ℕ)) (bytes shown : List ℕ) (s : Scripts) (steps : List ℕ) → shown ≡ bytes → IfSome coming (λ all. bytes ≡ take 8388609 all) → order_read s shown ≡ Ok steps → OrdersAs coming s steps

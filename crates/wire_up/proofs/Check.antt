@@ -11,8 +11,8 @@ use Rattle.wire_races.specs.Findings.{AreFindings}
 use Rattle.wire_report.specs.Findings.{findings_report}
 use Rattle.wire_up.specs.declared.checking.Ended.{Ended}
 use Rattle.wire_up.specs.declared.checking.Ended.TheVariants.{Clean, Found}
-use Rattle.wire_up.specs.Replaying.{ReadAs}
-use Rattle.wire_up.specs.Checking.{ended_with, IsVerdict, EndsInOneState, BreaksOffFindings}
+use Rattle.wire_up.specs.Replay.{ReadAs}
+use Rattle.wire_up.specs.Check.{ended_with, IsVerdict, EndsInOneState, BreaksOffFindings}
 
 -- it is clean exactly where nothing is found
 clean_exactly : (found : List Finding) → (ended_with found ≡ Clean) ↔ (found ≡ [])

@@ -13,10 +13,10 @@ use Rattle.wire_runs.specs.Races.{IsRewrite}
 use Rattle.wire_runs.proofs.Basics.{event_within, process_within}
 use Rattle.wire_plan.proofs.KeyFacts.{never_put}
 use Rattle.wire_plan.proofs.KeyRows.{own_here}
-use Rattle.wire_races.specs.Found.{AreFound, IsAdded}
+use Rattle.wire_races.specs.Collected.{AreFound, IsAdded}
 use Rattle.wire_races.specs.FindingKinds.{IsOfRewrite}
 use Rattle.wire_races.specs.Adding.{Adds, OfKind}
-use Rattle.wire_races.specs.Rewrites.{IsRewriteBy}
+use Rattle.wire_races.specs.Rewriting.{IsRewriteBy}
 use Rattle.wire_races.proofs.Growing.{adds_one, adds_none}
 use Rattle.wire_races.proofs.Calls.{low_starts, high_starts, starts_back}
 use Rattle.wire_races.proofs.Findings.{put_key, first_once, one_first}

@@ -10,8 +10,8 @@ use Rattle.wire_types.specs.declared.Event.{Event as CodeEvent}
 use Rattle.wire_rehearsal.specs.Scripts.{Scripts, set_at}
 use Rattle.wire_rehearsal.specs.Planned.{plan_of}
 use Rattle.wire_fence.specs.Fences.{FenceInfo, FenceTable, AreFencesOf, fence_at, fence_over, full_in}
-use Rattle.wire_plan.specs.declared.code.Kind.{Kind}
-use Rattle.wire_plan.specs.declared.code.Kind.TheVariants as code
+use Rattle.wire_plan.specs.declared.kind.Kind.{Kind as CodeKind}
+use Rattle.wire_plan.specs.declared.kind.Kind.TheVariants as code
 use Rattle.wire_plan.specs.Kinds.{kind_of}
 use Rattle.wire_runs.specs.Order.{IsArrival}
 use Rattle.wire_runs.specs.EventLists.{IsLower, AreAll}
@@ -208,7 +208,7 @@ is_arrive (Arrive members collect) = true
 is_arrive _ = false
 
 -- an event of another kind is no arrival
-pub other_kind : (sets : List (List ℕ)) (k : Kind) → ((members : ℕ) (collect : Bool) → k ≡ code.Arrive members collect → ⊥) → (members : List ℕ) (collect : Bool) → kind_of sets k ≡ Arrive members collect → ⊥
+pub other_kind : (sets : List (List ℕ)) (k : CodeKind) → ((members : ℕ) (collect : Bool) → k ≡ code.Arrive members collect → ⊥) → (members : List ℕ) (collect : Bool) → kind_of sets k ≡ Arrive members collect → ⊥
 other_kind sets (code.Arrive set collect) never members says is = never set collect refl
 other_kind sets (code.Put scope key) never members says is = true≢false (sym (ap is_arrive is))
 other_kind sets code.Commit never members says is = true≢false (sym (ap is_arrive is))
