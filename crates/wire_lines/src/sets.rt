@@ -6,7 +6,7 @@ ghost use Rattle.wire_lines.specs.Said as spec;
 ghost use Rattle.wire_lines.specs.Said.{spelled_item, spelled_set, IsLawfulItem, AreLawful, IsLawfulSet};
 ghost use Rattle.wire_lines.specs.Shown.{item_by, set_by};
 
-use crate::word::{ProcName, cut_at_colon, is_name, rank_of};
+use crate::word::{ProcName, cut_at_colon, is_name, number_of};
 use std::alloc::{AllocError, Global};
 
 /// An item of the set of a fence.
@@ -53,7 +53,7 @@ fn item_of(word: &[u8]) -> Option<Item<'_>>
     if is_star(rank) {
         return Some(Item::Every(job));
     }
-    match rank_of(rank) {
+    match number_of(rank) {
         Some(rank) => Some(Item::One(ProcName { job, rank })),
         None => None,
     }

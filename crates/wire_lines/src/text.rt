@@ -1,6 +1,6 @@
 //! Lines and words.
 
-ghost use Rattle.std.specs.Prelude.{◌≡◌, ◌+◌, ◌<◌, ◌==◌, ◌⊎◌, ◌++◌, ◌∷◌, [], length, map, position, IfOk};
+ghost use Rattle.std.specs.Prelude.{◌≡◌, ◌+◌, ◌<◌, ◌≤◌, ◌==◌, ◌⊎◌, ◌++◌, ◌∷◌, [], count_by, length, map, position, take, IfOk};
 ghost use Rattle.std.specs.Str.Lines.{strip_carriage_return};
 ghost use Rattle.wire_lines.specs.Text.{pieces_of, words_of, is_blank};
 
@@ -25,6 +25,15 @@ fn line_feed(bytes: &[u8]) -> Option<usize>
     ensures { result ≡ position (λ b. b == 10) bytes.now }
 {
     bytes.iter().position(|b| *b == b'\n')
+}
+
+/// The number of the line in which the byte after the first so many stands: one more than the line feeds
+/// among these.
+pub fn line_past(bytes: &[u8], limit: usize) -> u64
+    requires { limit ≤ length bytes.now }
+    ensures { result ≡ count_by (λ b. b == 10) (take limit bytes.now) + 1 }
+{
+    bytes[..limit].iter().filter(|b| **b == b'\n').count() as u64 + 1
 }
 
 /// A line without one carriage return at its end.

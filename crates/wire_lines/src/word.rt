@@ -1,12 +1,13 @@
 //! Words, and what they may be: names, keys, scopes, ranks and processes.
 
 ghost use Rattle.std.specs.List.{list_all};
-ghost use Rattle.std.specs.Prelude.{not, true, position, ◌==◌, ◌≡◌, ◌≢◌, ℕ, ◌+◌, ◌^◌, ◌<◌, ◌↔◌, List, ◌∷◌, ◌++◌, IsTrue, decimal, codes, IfSome, IfNone};
+ghost use Rattle.std.specs.Prelude.{not, true, position, ◌==◌, ◌≡◌, ◌≢◌, ℕ, ◌+◌, ◌^◌, ◌<◌, ◌↔◌, List, ◌∷◌, ◌++◌, IsTrue, decimal, codes, IfSome, IfNone, IfOk, OnOk};
 ghost use Rattle.wire_types.specs.declared.Scope.{Scope};
 ghost use Rattle.wire_lines.specs.Said as spec;
 ghost use Rattle.wire_lines.specs.Said.{spelled_proc, spelled_scope};
 
 use itoa::Buffer;
+use std::alloc::{AllocError, Global};
 use std::str;
 use wire_types::Scope;
 
@@ -84,7 +85,7 @@ pub fn scope_of(word: &[u8]) -> Option<Scope>
 }
 
 /// The number that the word is the decimal digits of, one to nine of them.
-pub fn rank_of(word: &[u8]) -> Option<u32>
+pub fn number_of(word: &[u8]) -> Option<u32>
     ensures found { IfSome result (λ n. (word.now ≡ decimal n) × (n < 10 ^ 9)) }
     ensures none { IfNone result ((n : ℕ) → n < 10 ^ 9 → word.now ≢ decimal n) }
 {
@@ -115,10 +116,30 @@ pub fn proc_of(word: &[u8]) -> Option<ProcName<'_>>
     if !is_name(job) {
         return None;
     }
-    match rank_of(rank) {
+    match number_of(rank) {
         Some(rank) => Some(ProcName { job, rank }),
         None => None,
     }
+}
+
+/// Writes the word of a process: the name of its job, a colon and its rank.
+pub fn write_proc(out: &mut Vec<u8>, job: &[u8], rank: u32) -> Result<(), AllocError>
+    ensures { OnOk result (out.new.items ≡ out.old.items ++ spelled_proc job.now rank) }
+{
+    out.extend_from_slice(job)?;
+    out.push(b':')?;
+    let mut digits = Buffer::new();
+    out.extend_from_slice(digits.format(rank).as_bytes())?;
+    Ok(())
+}
+
+/// The word of a process.
+pub fn proc_word(alloc: Global, job: &[u8], rank: u32) -> Result<Vec<u8>, AllocError>
+    ensures { IfOk result (λ word. word.items ≡ spelled_proc job.now rank) }
+{
+    let mut word = Vec::new(alloc);
+    write_proc(&mut word, job, rank)?;
+    Ok(word)
 }
 
 /// What stands before the first colon and after it.

@@ -233,7 +233,7 @@ module _ (d : Declared) (s : Seen) (g : IsGood d) (job : ℕ) (set : Set) where
   -- a job that is whole in the set has its processes there
   whole_there : (j m : ℕ) (q : Started) → is_whole_job j ≡ true → slice_get d.processes m ≡ Some q → q.job ≡ j → is_member members m ≡ true
   whole_there j m q w at e =
-      all_member (is_member members) (text.members_of scripts.processes j) m w
+      all_member (is_member members) (text.job_members scripts.processes j) m w
       (ap (λ l. is_member l m) (members_places d s 0 j d.processes) ∙ place_at (λ p. p.job == j) d.processes m q at ∙ eq-eqb q.job j e)
 
   forward : (k m : ℕ) (p q : Started) → slice_get d.processes k ≡ Some p → slice_get d.processes m ≡ Some q → is_member members m ≡ true
@@ -272,10 +272,10 @@ module _ (d : Declared) (s : Seen) (g : IsGood d) (job : ℕ) (set : Set) where
   -- the canonical words of the set name the same processes
   pub set_kept : (k : ℕ) (p : Started) → slice_get d.processes k ≡ Some p → is_in d job (set_said scripts job members) p ≡ is_in d job set p
   set_kept k p at =
-      elim (bytes_eq members (text.members_of scripts.processes job))
-      as (λ t. bytes_eq members (text.members_of scripts.processes job) ≡ t → is_in d job (if t then Own else Listed (set_items scripts members)) p ≡ is_in d job set p) [
+      elim (bytes_eq members (text.job_members scripts.processes job))
+      as (λ t. bytes_eq members (text.job_members scripts.processes job) ≡ t → is_in d job (if t then Own else Listed (set_items scripts members)) p ≡ is_in d job set p) [
         | true ↦ λ e.
-            let same = (bytes_eq-Decides members (text.members_of scripts.processes job)).0 e ∙ members_places d s 0 job d.processes in
+            let same = (bytes_eq-Decides members (text.job_members scripts.processes job)).0 e ∙ members_places d s 0 job d.processes in
             sym (place_at (λ q. q.job == job) d.processes k p at) ∙ sym (ap (λ l. is_member l k) same) ∙ place_at (is_in d job set) d.processes k p at
         | false ↦ λ e. listed_is k p at ∙ place_at (is_in d job set) d.processes k p at
       ] refl
@@ -285,7 +285,7 @@ module _ (d : Declared) (s : Seen) (g : IsGood d) (job : ℕ) (set : Set) where
 
   pub set_declared : is_declared_set d (set_said scripts job members) ≡ true
   set_declared =
-      elim (bytes_eq members (text.members_of scripts.processes job)) as (λ t. is_declared_set d (if t then Own else Listed (set_items scripts members)) ≡ true) [
+      elim (bytes_eq members (text.job_members scripts.processes job)) as (λ t. is_declared_set d (if t then Own else Listed (set_items scripts members)) ≡ true) [
         | true ↦ refl
         | false ↦ all_items (is_declared_item d) (member_items scripts members) members (λ m h.
             let t = there_at (is_in d job set) d.processes m h in
@@ -297,7 +297,7 @@ module _ (d : Declared) (s : Seen) (g : IsGood d) (job : ℕ) (set : Set) where
 
   pub set_short : is_short_set (set_said scripts job members) ≡ true
   set_short =
-      elim (bytes_eq members (text.members_of scripts.processes job)) as (λ t. is_short_set (if t then Own else Listed (set_items scripts members)) ≡ true) [
+      elim (bytes_eq members (text.job_members scripts.processes job)) as (λ t. is_short_set (if t then Own else Listed (set_items scripts members)) ≡ true) [
         | true ↦ refl
         | false ↦ all_items is_short_item (member_items scripts members) members (λ m h.
             let t = there_at (is_in d job set) d.processes m h in
@@ -308,7 +308,7 @@ module _ (d : Declared) (s : Seen) (g : IsGood d) (job : ℕ) (set : Set) where
   -- where the caller is in the set, there is something to say
   pub set_lawful : (k : ℕ) (p : Started) → slice_get d.processes k ≡ Some p → is_in d job set p ≡ true → IsLawfulSet (set_said scripts job members)
   set_lawful k p at h =
-      elim (bytes_eq members (text.members_of scripts.processes job)) as (λ t. IsLawfulSet (if t then Own else Listed (set_items scripts members))) [
+      elim (bytes_eq members (text.job_members scripts.processes job)) as (λ t. IsLawfulSet (if t then Own else Listed (set_items scripts members))) [
         | true ↦ tt
         | false ↦ (
           any_some (λ i. names_it d i p) (set_items scripts members) (listed_is k p at ∙ place_at (is_in d job set) d.processes k p at ∙ h),

@@ -61,9 +61,9 @@ fn number_fence(
     ensures caller { OnOk result
         (is_in (declared_of draft.now) caller.now.job (set_by set.now) (started_of caller.now) ≡ true) }
     ensures number { IfOk result (λ n. (later : List (List ℕ)) → GoesOn sets.new later
-        → n ≡ number_or_count later (spec.members_of (declared_of draft.now) caller.now.job (set_by set.now))) }
+        → n ≡ number_or_count later (set_members (declared_of draft.now) caller.now.job (set_by set.now))) }
     ensures sets { OnOk result
-        (sets.new ≡ with_text sets.old (spec.members_of (declared_of draft.now) caller.now.job (set_by set.now))) }
+        (sets.new ≡ with_text sets.old (set_members (declared_of draft.now) caller.now.job (set_by set.now))) }
     ensures grown { OnOk result (length sets.new ≤ length sets.old + 1) }
     ensures err { IfErr result (λ e. (e ≡ Fault.Memory)
         ⊎ ((is_declared_set (declared_of draft.now) (set_by set.now) ≡ false) × (e ≡ Fault.UnknownName line))

@@ -4,7 +4,7 @@ use Rattle.wire_script.proofs.lines.Cursor.next_line.Given as goal
 
 abbrev pub invariant-lines : goal.invariant-lines
 invariant-lines l = record {
-  statements_left : statements_left l.initial.self ≡ statements_left l.at;
+  left : statements_left l.initial.self ≡ statements_left l.at;
   end : end_of l.at ≡ end_of l.initial.self;
   room : l.at.line + length l.at.rest.now ≤ l.initial.self.line + length l.initial.self.rest.now;
   kept : l.self ≡ l.initial.self;
