@@ -18,9 +18,9 @@ use Rattle.wire_types.specs.Replies.{bare}
 use Rattle.wire_rehearsal.specs.Said.{is_reserved}
 use Rattle.wire_rehearsal.specs.Scripts.{Process, Scripts, IsSound, calls_in, set_at, text_at}
 use Rattle.wire_rehearsal.specs.Planned.{reply_of_key, planned_call, planned_process, plan_of}
-use Rattle.wire_fence.specs.Fences.{is_over, fence_count, written_calls}
+use Rattle.wire_fence.specs.FenceTable.{is_over, fence_count, written_calls}
 use Rattle.wire_fence.specs.Reading.{says_with, says_to}
-use Rattle.wire_fence.specs.Laws.{CallsAreArrivals}
+use Rattle.wire_fence.specs.Missing.{CallsAreArrivals}
 
 -- elements by their numbers
 pub take_get : {A : Type 0} (xs : List A) (n : ℕ) (x : A) → slice_get xs n ≡ Some x → take (suc n) xs ≡ take n xs ++ x ∷ []

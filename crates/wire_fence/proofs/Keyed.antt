@@ -6,7 +6,7 @@ use Rattle.std.proofs.lemmas.Option.{none-some, same_Some, slice_get-map, slice_
 use Rattle.std.proofs.lemmas.List.{map-set, set-get_or, length-map, get_or-map}
 use Rattle.std.proofs.Math.ListN.{set}
 use Rattle.wire_fence.specs.declared.register.Row.{Row}
-use Rattle.wire_fence.specs.Rows.{key_of, called, HasRow, IsCalled, Again, First}
+use Rattle.wire_fence.specs.Register.{key_of, called, HasRow, IsCalled, Again, First}
 
 abbrev pub is_key : ℕ → ℕ → ℕ × ℕ → Bool
 is_key set_of_call nth k = (set_of_call == k.0) && (nth == k.1)

@@ -5,4 +5,4 @@ pub mod Missing
 pub mod Nodes
 pub mod ReadRows
 pub mod States
-pub mod Tables
+pub mod FenceTable

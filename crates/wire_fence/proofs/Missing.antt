@@ -9,9 +9,9 @@ use Rattle.wire_runs.specs.Plan.{Kind, Arrive, kind_at, update}
 use Rattle.wire_runs.specs.Fences.{arrivals_with, arrivals, is_complete}
 use Rattle.wire_rehearsal.specs.Scripts.{Scripts, IsSound, set_at}
 use Rattle.wire_rehearsal.specs.Planned.{plan_of}
-use Rattle.wire_fence.specs.Fences.{FenceInfo, FenceTable, IsFence, AreFencesOf, fence_at, fence_over}
+use Rattle.wire_fence.specs.FenceTable.{FenceInfo, FenceTable, IsFence, AreFencesOf, fence_at, fence_over}
 use Rattle.wire_fence.specs.Arrivals.{arrived, missing_at, one_arrived, TellsMissing, IsArriving}
-use Rattle.wire_fence.specs.Laws.{OtherEventsKeep, ArrivalCounts, SomebodyIsMissing, ArrivingIsMissing}
+use Rattle.wire_fence.specs.Missing.{OtherEventsKeep, ArrivalCounts, SomebodyIsMissing, ArrivingIsMissing}
 use Rattle.wire_fence.proofs.Counts.{AreDistinct, count_same, count_none, count_short, count_one_more, all_by_count, canonical_distinct}
 use Rattle.wire_fence.proofs.Events.{set_canonical, same_set}
 

@@ -11,9 +11,9 @@ use Rattle.wire_types.specs.declared.Call.{Call}
 use Rattle.wire_types.specs.declared.Call.TheVariants.{Fence}
 use Rattle.wire_rehearsal.specs.Scripts.{Scripts, IsSound, set_at}
 use Rattle.wire_fence.specs.declared.register.Row.{Row}
-use Rattle.wire_fence.specs.Fences.{is_over, fence_count, written_calls}
+use Rattle.wire_fence.specs.FenceTable.{is_over, fence_count, written_calls}
 use Rattle.wire_fence.specs.Reading.{says_with, says_to}
-use Rattle.wire_fence.specs.Rows.{called, HasRow, IsCalled, Again, First, read_count, IsRead, AreRead}
+use Rattle.wire_fence.specs.Register.{called, HasRow, IsCalled, Again, First, read_count, IsRead, AreRead}
 use Rattle.wire_fence.proofs.Counts.{count_same, all_same, count_none, all_pass, count_one_more, all_one_more, canonical_distinct}
 use Rattle.wire_fence.proofs.Events.{take_get, set_canonical}
 use Rattle.wire_fence.proofs.Missing.{cut_here, cut_other, le_same}

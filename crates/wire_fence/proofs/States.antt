@@ -10,9 +10,9 @@ use Rattle.wire_types.specs.declared.Call.{Call}
 use Rattle.wire_types.specs.declared.Call.TheVariants.{Fence}
 use Rattle.wire_rehearsal.specs.Scripts.{Process, Scripts, IsSound, set_at, calls_in, call_count}
 use Rattle.wire_fence.specs.declared.register.Row.{Row}
-use Rattle.wire_fence.specs.Fences.{is_over, fence_count, written_calls}
+use Rattle.wire_fence.specs.FenceTable.{is_over, fence_count, written_calls}
 use Rattle.wire_fence.specs.Reading.{says_with}
-use Rattle.wire_fence.specs.Rows.{HasRow, IsCalled, IsAfter, AreRead, IsNumber, AreNumbers, AreAllNumbers, read_to}
+use Rattle.wire_fence.specs.Register.{HasRow, IsCalled, IsAfter, AreRead, IsNumber, AreNumbers, AreAllNumbers, read_to}
 use Rattle.wire_fence.proofs.Events.{take_get}
 use Rattle.wire_fence.proofs.Missing.{cut_here, cut_other}
 use Rattle.wire_fence.proofs.ReadRows.{count_call, read_fence, read_other, kept_row, row_of_call, few_rows}

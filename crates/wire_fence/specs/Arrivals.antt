@@ -4,7 +4,7 @@ use Rattle.wire_runs.specs.Plan.{Arrive, kind_at}
 use Rattle.wire_runs.specs.Fences.{arrivals, is_member}
 use Rattle.wire_rehearsal.specs.Scripts.{Scripts}
 use Rattle.wire_rehearsal.specs.Planned.{plan_of}
-use Rattle.wire_fence.specs.Fences.{FenceInfo, FenceTable, fence_at}
+use Rattle.wire_fence.specs.FenceTable.{FenceInfo, FenceTable, fence_at}
 
 -- how many of the members have arrived at the fence
 abbrev pub arrived : Scripts → (ℕ → ℕ) → FenceInfo → ℕ

@@ -1,5 +1,5 @@
-pub mod Fences
+pub mod FenceTable
 pub mod Reading
-pub mod Rows
+pub mod Register
 pub mod Arrivals
-pub mod Laws
+pub mod Missing

@@ -5,7 +5,7 @@ ghost use Rattle.wire_runs.specs.Plan.{update};
 ghost use Rattle.wire_runs.specs.Fences.{is_complete};
 ghost use Rattle.wire_rehearsal.specs.Scripts.{Scripts as TheScripts};
 ghost use Rattle.wire_rehearsal.specs.Planned.{plan_of};
-ghost use Rattle.wire_fence.specs.Fences.{FenceInfo, FenceTable, AreFencesOf, fence_at};
+ghost use Rattle.wire_fence.specs.FenceTable.{FenceInfo, FenceTable, AreFencesOf, fence_at};
 ghost use Rattle.wire_fence.specs.Arrivals.{TellsMissing, IsArriving, missing_at as how_many_missing, one_arrived};
 
 use crate::table::{FenceId, Fences};

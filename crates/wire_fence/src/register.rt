@@ -4,8 +4,8 @@ ghost use Rattle.std.specs.Prelude.{◌≡◌, ◌+◌, ◌<◌, ◌≤◌, ◌^
 ghost use Rattle.wire_types.specs.declared.Call.TheVariants.{Fence as TheFence};
 ghost use Rattle.wire_runs.specs.Plan.{update};
 ghost use Rattle.wire_rehearsal.specs.Scripts.{Scripts, IsSound, IsCounted, numbers_of, call_at, set_at};
-ghost use Rattle.wire_fence.specs.Fences.{written_calls};
-ghost use Rattle.wire_fence.specs.Rows.{IsKeyed, HasRow, IsCalled, IsAfter, AreNumbers, AreAllNumbers, AreRead, read_to, called};
+ghost use Rattle.wire_fence.specs.FenceTable.{written_calls};
+ghost use Rattle.wire_fence.specs.Register.{IsKeyed, HasRow, IsCalled, IsAfter, AreNumbers, AreAllNumbers, AreRead, read_to, called};
 
 use indexmap::IndexSet;
 use std::alloc::{AllocError, Global};

@@ -6,7 +6,7 @@ ghost use Rattle.wire_runs.specs.Fences.{has_node};
 ghost use Rattle.wire_rehearsal.specs.Scripts.{Scripts as TheScripts, numbers_of, set_at};
 ghost use Rattle.wire_rehearsal.specs.Planned.{plan_of};
 ghost use Rattle.wire_procmap.specs.Map.{map_of, process_count};
-ghost use Rattle.wire_fence.specs.Fences.{FenceInfo, AreFencesOf, fence_at, members_in, full_in, collects_in, reaches_in, number_at as the_number_at};
+ghost use Rattle.wire_fence.specs.FenceTable.{FenceInfo, AreFencesOf, fence_at, members_in, full_in, collects_in, reaches_in, fence_number as the_fence_number};
 
 use crate::register::{Register, Row, members_of};
 use std::alloc::{AllocError, Global};
@@ -34,8 +34,8 @@ pub struct Fences {
 impl Model for Fences {
     ghost use Rattle.std.specs.Prelude.{map};
     ghost use Rattle.wire_rehearsal.specs.Scripts.{numbers_of};
-    ghost use Rattle.wire_fence.specs.Fences.{FenceTable};
-    ghost use Rattle.wire_fence.specs.Rows.{info_of};
+    ghost use Rattle.wire_fence.specs.FenceTable.{FenceTable};
+    ghost use Rattle.wire_fence.specs.Register.{info_of};
 
     ghost Value = { FenceTable };
 
@@ -143,8 +143,8 @@ impl Fences {
         })
     }
 
-    fn number_at(&self, call: CallAt) -> Option<u32>
-        ensures { result ≡ the_number_at self.now call.proc.number call.call }
+    fn fence_number(&self, call: CallAt) -> Option<u32>
+        ensures { result ≡ the_fence_number self.now call.proc.number call.call }
     {
         match self.numbers.get(call.proc.index()) {
             Some(numbers) => match numbers.get(call.call as usize) {
@@ -157,11 +157,11 @@ impl Fences {
 
     /// The fence that a fence call of the scripts is part of.
     pub fn id_of(&self, call: CallAt) -> FenceId
-        requires { is_some (the_number_at self.now call.proc.number call.call) ≡ true }
-        ensures { Some result.number ≡ the_number_at self.now call.proc.number call.call }
+        requires { is_some (the_fence_number self.now call.proc.number call.call) ≡ true }
+        ensures { Some result.number ≡ the_fence_number self.now call.proc.number call.call }
     {
         FenceId {
-            number: self.number_at(call).unwrap(),
+            number: self.fence_number(call).unwrap(),
         }
     }
 
@@ -185,7 +185,8 @@ impl Fences {
         }
     }
 
-    /// Whether each call of the fence says that data is collected (PMIX_COLLECT_DATA).
+    /// Whether each call of the fence says that data is collected (PMIX_COLLECT_DATA). A member that doesn't call
+    /// it has no say here, so the fence collects only where it is full besides.
     pub fn collects(&self, fence: FenceId) -> bool
         ensures { result ≡ collects_in (fence_at self.now fence.number) }
     {

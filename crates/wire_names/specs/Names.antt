@@ -18,17 +18,17 @@ abbrev pub status_of_publish : Option CallAt → Status
 status_of_publish None = Success
 status_of_publish (Some earlier) = DuplicateKey
 
--- whether something stands that this process published
-abbrev pub is_publisher : ℕ → Option CallAt → Bool
-is_publisher p None = false
-is_publisher p (Some publish) = publish.proc.number == p
+-- whether something stands there, and this process published it
+abbrev pub is_published_by : ℕ → Option CallAt → Bool
+is_published_by p None = false
+is_published_by p (Some publish) = publish.proc.number == p
 
 -- what stands under a name after this process has unpublished it: what others published stays
 abbrev pub after_unpublish : ℕ → Option CallAt → Option CallAt
-after_unpublish p standing = if is_publisher p standing then None else standing
+after_unpublish p standing = if is_published_by p standing then None else standing
 
 abbrev pub status_of_unpublish : ℕ → Option CallAt → Status
-status_of_unpublish p standing = if is_publisher p standing then Success else NotFound
+status_of_unpublish p standing = if is_published_by p standing then Success else NotFound
 
 -- the table after a publish of a name, and after an unpublish
 abbrev pub names_after_publish : ℕ → CallAt → List (Option CallAt) → List (Option CallAt)

@@ -22,9 +22,9 @@ impl Model for Names {
     ghost view = { λ s. s.table.items };
 }
 
-// Whether this process made the publish that stands.
-fn is_publisher(standing: Option<CallAt>, proc: Proc) -> bool
-    ensures { result ≡ names.is_publisher proc.number standing }
+// Whether something stands there, and this process published it.
+fn is_published_by(standing: Option<CallAt>, proc: Proc) -> bool
+    ensures { result ≡ names.is_published_by proc.number standing }
 {
     match standing {
         Some(publish) => publish.proc.number == proc.number,
@@ -79,7 +79,7 @@ impl Names {
         ensures names { self.new ≡ names.names_after_unpublish name proc.number self.old }
     {
         let table = self.table.as_mut_slice();
-        if is_publisher(table[name as usize], proc) {
+        if is_published_by(table[name as usize], proc) {
             table[name as usize] = None;
             Status::Success
         } else {

@@ -5,7 +5,7 @@ use Rattle.std.proofs.lemmas.Option.{none-some, same_Some, slice_get-map, slice_
 use Rattle.std.proofs.lemmas.List.{length-map, take_all, drop_all, append-nil, take-append-le}
 use Rattle.wire_store.specs.declared.chain.Slot.{Slot}
 use Rattle.wire_store.specs.Kept.{first_commit, store_by}
-use Rattle.wire_store.specs.Slots.{put_in, store_slot, last_slot, IsStoredTo, IsNamed, IsIndexed}
+use Rattle.wire_store.specs.Slots.{put_in, store_slot, last_slot, IsStoredTo, IsNamed, IsSlotIndex}
 use Rattle.wire_store.proofs.Elements.{slice_get_same}
 use Rattle.wire_store.proofs.Linked.{last_slot_same}
 
@@ -113,7 +113,7 @@ is_low o i j committed at_i at_j high = elim (cases_lt j committed) [
   | inr le ↦ le
 ]
 
-chained_commit : (slots : List Slot) (committed at i : ℕ) (now : Slot) {number_of : ℕ → Option ℕ} → IsIndexed slots committed number_of → ((key n : ℕ) → last_slot (stored_from committed at slots) key n ≡ last_slot slots key n) → slice_get (stored_from committed at slots) i ≡ Some now → IsNamed (stored_from committed at slots) i now
+chained_commit : (slots : List Slot) (committed at i : ℕ) (now : Slot) {number_of : ℕ → Option ℕ} → IsSlotIndex slots committed number_of → ((key n : ℕ) → last_slot (stored_from committed at slots) key n ≡ last_slot slots key n) → slice_get (stored_from committed at slots) i ≡ Some now → IsNamed (stored_from committed at slots) i now
 chained_commit slots committed at i now index same is =
     let was = was_before slots committed at i now is in
     let named = index.chained i was.0 was.1 in
@@ -130,7 +130,7 @@ chained_commit slots committed at i now index same is =
           ];
     }
 
-pub indexed_commit : (slots : List Slot) (committed at : ℕ) (number_of : ℕ → Option ℕ) → IsIndexed slots committed number_of → IsIndexed (stored_from committed at slots) (length slots) number_of
+pub indexed_commit : (slots : List Slot) (committed at : ℕ) (number_of : ℕ → Option ℕ) → IsSlotIndex slots committed number_of → IsSlotIndex (stored_from committed at slots) (length slots) number_of
 indexed_commit slots committed at number_of index =
     let new = stored_from committed at slots in
     let same : (key n : ℕ) → last_slot new key n ≡ last_slot slots key n = λ key n. last_slot_same new slots key n (λ i low. same_keys slots committed at i) in
@@ -186,10 +186,10 @@ module _ (at : ℕ) (slots part new rest : List Slot) (committed n : ℕ) (here 
       ∙ take-append-le n (stored_from committed at slots) rest (omega (arith, len, n_is))
       ∙ take_all n (stored_from committed at slots) (omega (arith, len, n_is))
 
-  pub committed_index : (number_of : ℕ → Option ℕ) (len : ℕ) → IsIndexed slots committed number_of → len ≡ n → IsIndexed (take n ((take committed part ++ (new ++ drop (length part - committed) (drop committed part))) ++ rest)) len number_of
+  pub committed_index : (number_of : ℕ → Option ℕ) (len : ℕ) → IsSlotIndex slots committed number_of → len ≡ n → IsSlotIndex (take n ((take committed part ++ (new ++ drop (length part - committed) (drop committed part))) ++ rest)) len number_of
   committed_index number_of len index is =
-      subst (λ xs. IsIndexed xs len number_of) (sym written)
-      (subst (λ m. IsIndexed (stored_from committed at slots) m number_of) (sym (is ∙ n_is)) (indexed_commit slots committed at number_of index))
+      subst (λ xs. IsSlotIndex xs len number_of) (sym written)
+      (subst (λ m. IsSlotIndex (stored_from committed at slots) m number_of) (sym (is ∙ n_is)) (indexed_commit slots committed at number_of index))
 
   pub committed_puts : IsStoredTo slots committed → map put_in (take n ((take committed part ++ (new ++ drop (length part - committed) (drop committed part))) ++ rest)) ≡ map (store_by at) (map put_in slots)
   committed_puts stored = ap (map put_in) written ∙ puts_commit slots committed at stored

@@ -7,7 +7,7 @@ use Rattle.wire_runs.specs.Plan.{admits}
 use Rattle.wire_store.specs.declared.chain.Slot.{Slot}
 use Rattle.wire_store.specs.declared.seen.Seen.TheVariants.{Value, Outside}
 use Rattle.wire_store.specs.Kept.{KeptPut, last_put, last_stored, seen}
-use Rattle.wire_store.specs.Slots.{put_in, put_at, last_slot_with, last_slot, IsStoredTo, IsIndexed}
+use Rattle.wire_store.specs.Slots.{put_in, put_at, last_slot_with, last_slot, IsStoredTo, IsSlotIndex}
 use Rattle.wire_store.proofs.Elements.{take_get, missing_within}
 use Rattle.wire_store.proofs.Linked.{last_slot_below}
 
@@ -70,20 +70,20 @@ last_stored_in slots key committed stored within =
     within
 
 -- what is looked up
-pub newest_within : (slots : List Slot) (committed : ℕ) (number_of : ℕ → Option ℕ) (key i : ℕ) → IsIndexed slots committed number_of → Some i ≡ number_of key → i < length slots
+pub newest_within : (slots : List Slot) (committed : ℕ) (number_of : ℕ → Option ℕ) (key i : ℕ) → IsSlotIndex slots committed number_of → Some i ≡ number_of key → i < length slots
 newest_within slots committed number_of key i index is = last_slot_below slots key (length slots) i (sym (is ∙ index.newest key))
 
-pub own_put_in : (slots : List Slot) (committed : ℕ) (number_of : ℕ → Option ℕ) (key i : ℕ) (slot : Slot) → IsIndexed slots committed number_of → Some i ≡ number_of key → slot ≡ get_or slots i slot → last_put key (map put_in slots) ≡ Some (put_in slot)
+pub own_put_in : (slots : List Slot) (committed : ℕ) (number_of : ℕ → Option ℕ) (key i : ℕ) (slot : Slot) → IsSlotIndex slots committed number_of → Some i ≡ number_of key → slot ≡ get_or slots i slot → last_put key (map put_in slots) ≡ Some (put_in slot)
 own_put_in slots committed number_of key i slot index is read =
     last_put_in slots key
     ∙ ap (put_at slots) (sym (is ∙ index.newest key))
     ∙ ap (option_map put_in) (slice_get-get_or slots i slot (newest_within slots committed number_of key i index is))
     ∙ ap (λ s. Some (put_in s)) (sym read)
 
-pub own_nothing : (slots : List Slot) (committed : ℕ) (number_of : ℕ → Option ℕ) (key : ℕ) → IsIndexed slots committed number_of → None ≡ number_of key → last_put key (map put_in slots) ≡ None
+pub own_nothing : (slots : List Slot) (committed : ℕ) (number_of : ℕ → Option ℕ) (key : ℕ) → IsSlotIndex slots committed number_of → None ≡ number_of key → last_put key (map put_in slots) ≡ None
 own_nothing slots committed number_of key index is = last_put_in slots key ∙ ap (put_at slots) (sym (is ∙ index.newest key))
 
-pub stored_put_in : (slots : List Slot) (committed : ℕ) (number_of : ℕ → Option ℕ) (key i : ℕ) (slot : Slot) → IsIndexed slots committed number_of → Some i ≡ last_slot slots key committed → slot ≡ get_or slots i slot → last_stored key (map put_in slots) ≡ Some (put_in slot)
+pub stored_put_in : (slots : List Slot) (committed : ℕ) (number_of : ℕ → Option ℕ) (key i : ℕ) (slot : Slot) → IsSlotIndex slots committed number_of → Some i ≡ last_slot slots key committed → slot ≡ get_or slots i slot → last_stored key (map put_in slots) ≡ Some (put_in slot)
 stored_put_in slots committed number_of key i slot index is read =
     let low = last_slot_below slots key committed i (sym is) in
     let within = index.within in
@@ -92,17 +92,17 @@ stored_put_in slots committed number_of key i slot index is read =
     ∙ ap (option_map put_in) (slice_get-get_or slots i slot (omega (arith, low, within)))
     ∙ ap (λ s. Some (put_in s)) (sym read)
 
-pub stored_within : (slots : List Slot) (committed : ℕ) (number_of : ℕ → Option ℕ) (key i : ℕ) → IsIndexed slots committed number_of → Some i ≡ last_slot slots key committed → i < length slots
+pub stored_within : (slots : List Slot) (committed : ℕ) (number_of : ℕ → Option ℕ) (key i : ℕ) → IsSlotIndex slots committed number_of → Some i ≡ last_slot slots key committed → i < length slots
 stored_within slots committed number_of key i index is =
     let low = last_slot_below slots key committed i (sym is) in
     let within = index.within in
     omega (arith, low, within)
 
-pub stored_nothing : (slots : List Slot) (committed : ℕ) (number_of : ℕ → Option ℕ) (key : ℕ) → IsIndexed slots committed number_of → None ≡ last_slot slots key committed → last_stored key (map put_in slots) ≡ None
+pub stored_nothing : (slots : List Slot) (committed : ℕ) (number_of : ℕ → Option ℕ) (key : ℕ) → IsSlotIndex slots committed number_of → None ≡ last_slot slots key committed → last_stored key (map put_in slots) ≡ None
 stored_nothing slots committed number_of key index is = last_stored_in slots key committed index.stored index.within ∙ ap (put_at slots) (sym is)
 
 -- what `seen_from` finds
-pub last_is : (slots part : List Slot) (key committed : ℕ) (newest last : Option ℕ) (number_of : ℕ → Option ℕ) → part ≡ slots → IsIndexed slots committed number_of → newest ≡ number_of key → ((k : ℕ) → newest ≡ last_slot part k (length part) → last ≡ last_slot part k committed) → last ≡ last_slot slots key committed
+pub last_is : (slots part : List Slot) (key committed : ℕ) (newest last : Option ℕ) (number_of : ℕ → Option ℕ) → part ≡ slots → IsSlotIndex slots committed number_of → newest ≡ number_of key → ((k : ℕ) → newest ≡ last_slot part k (length part) → last ≡ last_slot part k committed) → last ≡ last_slot slots key committed
 last_is slots part key committed newest last number_of here index is found =
     found key (is ∙ index.newest key ∙ ap (λ xs. last_slot xs key (length xs)) (sym here)) ∙ ap (λ xs. last_slot xs key committed) here
 

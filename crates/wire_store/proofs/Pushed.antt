@@ -3,7 +3,7 @@ use Rattle.std.proofs.Common.{◌≡◌, ◌∙◌, ℕ, suc, ◌<◌, ◌≤◌
 use Rattle.std.proofs.lemmas.Bool.{le-ltb, true≢false}
 use Rattle.std.proofs.lemmas.Option.{slice_get_within}
 use Rattle.wire_store.specs.declared.chain.Slot.{Slot}
-use Rattle.wire_store.specs.Slots.{last_slot_with, last_slot, IsNamed, IsIndexed}
+use Rattle.wire_store.specs.Slots.{last_slot_with, last_slot, IsNamed, IsSlotIndex}
 use Rattle.wire_store.proofs.Elements.{slice_get-append_left, slice_get-append_seam, slice_get_push}
 use Rattle.wire_store.proofs.Linked.{last_slot_same}
 
@@ -26,7 +26,7 @@ not_stored None h = refl
 not_stored (Some commit) h = absurd (true≢false h)
 
 -- and the new one
-chained_new : (slots : List Slot) (slot : Slot) (committed i : ℕ) (x : Slot) {before : ℕ → Option ℕ} → IsIndexed slots committed before → slot.stored_by ≡ None → slot.stored_before ≡ last_slot slots slot.key committed → i ≡ length slots → slot ≡ x → last_slot (slots ++ slot ∷ []) slot.key committed ≡ last_slot slots slot.key committed → IsNamed (slots ++ slot ∷ []) i x
+chained_new : (slots : List Slot) (slot : Slot) (committed i : ℕ) (x : Slot) {before : ℕ → Option ℕ} → IsSlotIndex slots committed before → slot.stored_by ≡ None → slot.stored_before ≡ last_slot slots slot.key committed → i ≡ length slots → slot ≡ x → last_slot (slots ++ slot ∷ []) slot.key committed ≡ last_slot slots slot.key committed → IsNamed (slots ++ slot ∷ []) i x
 chained_new slots slot committed i x index none previous last same same_last =
     let within = index.within in
     record {
@@ -40,7 +40,7 @@ chained_new slots slot committed i x index none previous last same same_last =
     }
 
 -- a slot more
-pub indexed_push : (slots : List Slot) (committed : ℕ) (before after : ℕ → Option ℕ) (slot : Slot) → IsIndexed slots committed before → slot.stored_by ≡ None → slot.stored_before ≡ last_slot slots slot.key committed → ((key : ℕ) → after key ≡ cond (nat_eq slot.key key) (Some (length slots)) (before key)) → IsIndexed (slots ++ slot ∷ []) committed after
+pub indexed_push : (slots : List Slot) (committed : ℕ) (before after : ℕ → Option ℕ) (slot : Slot) → IsSlotIndex slots committed before → slot.stored_by ≡ None → slot.stored_before ≡ last_slot slots slot.key committed → ((key : ℕ) → after key ≡ cond (nat_eq slot.key key) (Some (length slots)) (before key)) → IsSlotIndex (slots ++ slot ∷ []) committed after
 indexed_push slots committed before after slot index none previous puts =
     let low_same : (key n : ℕ) → n ≤ length slots → last_slot (slots ++ slot ∷ []) key n ≡ last_slot slots key n =
     λ key n le. last_slot_same (slots ++ slot ∷ []) slots key n (λ i low. ap (option_map (λ s. s.key)) (slice_get-append_left slots (slot ∷ []) i (omega (arith, low, le))))
@@ -74,7 +74,7 @@ indexed_push slots committed before after slot index none previous puts =
     }
 
 -- what `put` leaves
-pub put_index : (slots new : List Slot) (committed n : ℕ) (before after : ℕ → Option ℕ) (slot : Slot) → new ≡ slots ++ slot ∷ [] → n ≡ length slots → IsIndexed slots committed before → slot.stored_by ≡ None → slot.stored_before ≡ last_slot slots slot.key committed → ((key : ℕ) → after key ≡ cond (nat_eq slot.key key) (Some n) (before key)) → IsIndexed new committed after
+pub put_index : (slots new : List Slot) (committed n : ℕ) (before after : ℕ → Option ℕ) (slot : Slot) → new ≡ slots ++ slot ∷ [] → n ≡ length slots → IsSlotIndex slots committed before → slot.stored_by ≡ None → slot.stored_before ≡ last_slot slots slot.key committed → ((key : ℕ) → after key ≡ cond (nat_eq slot.key key) (Some n) (before key)) → IsSlotIndex new committed after
 put_index slots new committed n before after slot new_is n_is index none previous puts =
-    subst (λ xs. IsIndexed xs committed after) (sym new_is)
+    subst (λ xs. IsSlotIndex xs committed after) (sym new_is)
     (indexed_push slots committed before after slot index none previous (λ key. puts key ∙ ap (λ m. cond (nat_eq slot.key key) (Some m) (before key)) n_is))

@@ -9,8 +9,8 @@ use Rattle.wire_types.specs.declared.Scope.{Scope}
 use Rattle.wire_types.specs.declared.CallAt.{CallAt}
 use Rattle.wire_store.specs.declared.seen.Seen.{Seen}
 use Rattle.wire_store.specs.declared.seen.Seen.TheVariants.{Value, Outside, Nothing}
-use Rattle.wire_store.specs.Kept.{KeptPut, first_commit, store_by, last_put, last_stored, is_stored_before, last_stored_before, seen, kept_with, kept_after}
-use Rattle.wire_store.specs.Told.{seen_put, StoreTells}
+use Rattle.wire_store.specs.Kept.{Kept, KeptPut, first_commit, store_by, last_put, last_stored, is_stored_before, last_stored_before, seen, kept_with, kept_after}
+use Rattle.wire_store.specs.Told.{IsToldOf, seen_put, StoreTells}
 
 -- a put that came last is the last of its key
 pub last_put-push : (key : ℕ) (puts : List KeptPut) (put : KeptPut) → last_put key (puts ++ put ∷ []) ≡ cond (put.key == key) (Some put) (last_put key puts)
@@ -122,11 +122,11 @@ shown-store : (at : ℕ) (o : Option KeptPut) → option_map shown (option_map (
 shown-store at None = refl
 shown-store at (Some put) = refl
 
-module _ (event_of : ℕ → Option Kind) (call_of : ℕ → CallAt) where
+module _ (kind_of : ℕ → Option Kind) (call_of : ℕ → CallAt) where
   abbrev shown_at : ℕ → CallAt × Scope
-  shown_at i = (call_of i, scope_in (event_of i))
+  shown_at i = (call_of i, scope_in (kind_of i))
 
-  own_step : (key n : ℕ) (puts : List KeptPut) (before : Option ℕ) (o : Option Kind) → event_of n ≡ o → option_map shown (last_put key puts) ≡ option_map shown_at before → option_map shown (last_put key (kept_with n (call_of n) puts o)) ≡ option_map shown_at (own_with key n before o)
+  own_step : (key n : ℕ) (puts : List KeptPut) (before : Option ℕ) (o : Option Kind) → kind_of n ≡ o → option_map shown (last_put key puts) ≡ option_map shown_at before → option_map shown (last_put key (kept_with n (call_of n) puts o)) ≡ option_map shown_at (own_with key n before o)
   own_step key n puts before (Some (Put k scope)) e same =
       let put : KeptPut = record { at = n; key = k; scope = scope; call = call_of n; stored_by = None } in
       ap (option_map shown) (last_put-push key puts put)
@@ -137,9 +137,9 @@ module _ (event_of : ℕ → Option Kind) (call_of : ℕ → CallAt) where
   own_step key n puts before (Some Commit) e same = ap (option_map shown) (last_put-store key n puts) ∙ shown-store n (last_put key puts) ∙ same
   own_step key n puts before _ e same = same
 
-  own_shown : (key n : ℕ) → option_map shown (last_put key (kept_after event_of call_of n)) ≡ option_map shown_at (own_put event_of key n)
+  own_shown : (key n : ℕ) → option_map shown (last_put key (kept_after kind_of call_of n)) ≡ option_map shown_at (own_put kind_of key n)
   own_shown key zero = refl
-  own_shown key (suc n) = own_step key n (kept_after event_of call_of n) (own_put event_of key n) (event_of n) refl (own_shown key n)
+  own_shown key (suc n) = own_step key n (kept_after kind_of call_of n) (own_put kind_of key n) (kind_of n) refl (own_shown key n)
 
   stored_step : (key n : ℕ) (puts : List KeptPut) (before committed : Option ℕ) (o : Option Kind) → option_map shown (last_put key puts) ≡ option_map shown_at committed → option_map shown (last_stored key puts) ≡ option_map shown_at before → option_map shown (last_stored key (kept_with n (call_of n) puts o)) ≡ option_map shown_at (stored_with committed before o)
   stored_step key n puts before committed (Some (Put k scope)) own same =
@@ -148,23 +148,23 @@ module _ (event_of : ℕ → Option Kind) (call_of : ℕ → CallAt) where
   stored_step key n puts before committed (Some Commit) own same = ap (option_map shown) (last_stored-store key n puts) ∙ shown-store n (last_put key puts) ∙ own
   stored_step key n puts before committed _ own same = same
 
-  stored_shown : (key n : ℕ) → option_map shown (last_stored key (kept_after event_of call_of n)) ≡ option_map shown_at (stored_put event_of key n)
+  stored_shown : (key n : ℕ) → option_map shown (last_stored key (kept_after kind_of call_of n)) ≡ option_map shown_at (stored_put kind_of key n)
   stored_shown key zero = refl
   stored_shown key (suc n) =
-      stored_step key n (kept_after event_of call_of n) (stored_put event_of key n) (own_put event_of key n) (event_of n) (own_shown key n) (stored_shown key n)
+      stored_step key n (kept_after kind_of call_of n) (stored_put kind_of key n) (own_put kind_of key n) (kind_of n) (own_shown key n) (stored_shown key n)
 
-  kept_before : (n : ℕ) → AreBefore n (kept_after event_of call_of n)
+  kept_before : (n : ℕ) → AreBefore n (kept_after kind_of call_of n)
   kept_before zero = tt
-  kept_before (suc n) = go (event_of n) (kept_before n)
+  kept_before (suc n) = go (kind_of n) (kept_before n)
     where
-      go : (o : Option Kind) → AreBefore n (kept_after event_of call_of n) → AreBefore (suc n) (kept_with n (call_of n) (kept_after event_of call_of n) o)
-      go (Some (Put k scope)) all = AreBefore-append (suc n) (kept_after event_of call_of n) _ (AreBefore-later n (kept_after event_of call_of n) all) (refl, tt)
-      go (Some Commit) all = AreBefore-store n (kept_after event_of call_of n) all
-      go _ all = AreBefore-later n (kept_after event_of call_of n) all
+      go : (o : Option Kind) → AreBefore n (kept_after kind_of call_of n) → AreBefore (suc n) (kept_with n (call_of n) (kept_after kind_of call_of n) o)
+      go (Some (Put k scope)) all = AreBefore-append (suc n) (kept_after kind_of call_of n) _ (AreBefore-later n (kept_after kind_of call_of n) all) (refl, tt)
+      go (Some Commit) all = AreBefore-store n (kept_after kind_of call_of n) all
+      go _ all = AreBefore-later n (kept_after kind_of call_of n) all
 
-  before_at : (key n : ℕ) → option_map shown (last_stored_before key n (kept_after event_of call_of n)) ≡ option_map shown_at (stored_put event_of key n)
+  before_at : (key n : ℕ) → option_map shown (last_stored_before key n (kept_after kind_of call_of n)) ≡ option_map shown_at (stored_put kind_of key n)
   before_at key n =
-      ap (option_map shown) (found_alike key n (reverse (kept_after event_of call_of n)) (AreBefore-reverse n (kept_after event_of call_of n) (kept_before n)))
+      ap (option_map shown) (found_alike key n (reverse (kept_after kind_of call_of n)) (AreBefore-reverse n (kept_after kind_of call_of n) (kept_before n)))
       ∙ stored_shown key n
 
   before_step : (key a n : ℕ) (puts : List KeptPut) (o : Option Kind) → a ≤ n → option_map shown (last_stored_before key a (kept_with n (call_of n) puts o)) ≡ option_map shown (last_stored_before key a puts)
@@ -173,12 +173,12 @@ module _ (event_of : ℕ → Option Kind) (call_of : ℕ → CallAt) where
   before_step key a n puts (Some Commit) le = ap (option_map shown) (last_before-store key a n puts le) ∙ shown-store n (last_stored_before key a puts)
   before_step key a n puts _ le = refl
 
-  before_shown : (key a n : ℕ) → a ≤ n → option_map shown (last_stored_before key a (kept_after event_of call_of n)) ≡ option_map shown_at (stored_put event_of key a)
-  before_shown key a zero le = let e : a ≡ 0 = omega arith in ap (λ m. option_map shown (last_stored_before key a (kept_after event_of call_of m))) (sym e) ∙ before_at key a
+  before_shown : (key a n : ℕ) → a ≤ n → option_map shown (last_stored_before key a (kept_after kind_of call_of n)) ≡ option_map shown_at (stored_put kind_of key a)
+  before_shown key a zero le = let e : a ≡ 0 = omega arith in ap (λ m. option_map shown (last_stored_before key a (kept_after kind_of call_of m))) (sym e) ∙ before_at key a
   before_shown key a (suc n) le = elim (cases_eq a (suc n)) [
-    | inl e ↦ ap (λ m. option_map shown (last_stored_before key a (kept_after event_of call_of m))) (sym e) ∙ before_at key a
+    | inl e ↦ ap (λ m. option_map shown (last_stored_before key a (kept_after kind_of call_of m))) (sym e) ∙ before_at key a
     | inr ne ↦
-        before_step key a n (kept_after event_of call_of n) (event_of n) (omega (arith, ne, le))
+        before_step key a n (kept_after kind_of call_of n) (kind_of n) (omega (arith, ne, le))
         ∙ before_shown key a n (omega (arith, ne, le))
   ]
 
@@ -198,30 +198,47 @@ module _ (event_of : ℕ → Option Kind) (call_of : ℕ → CallAt) where
   seen_is_shown same None = refl
   seen_is_shown same (Some put) = refl
 
-  shown_is_seen : (same : Bool) (o : Option ℕ) → seen_shown same (option_map shown_at o) ≡ seen_put event_of call_of same o
+  shown_is_seen : (same : Bool) (o : Option ℕ) → seen_shown same (option_map shown_at o) ≡ seen_put kind_of call_of same o
   shown_is_seen same None = refl
   shown_is_seen same (Some i) = refl
 
   -- the owner sees its last put of the key
-  pub tells_own : (key n : ℕ) → option_map (λ put. put.call) (last_put key (kept_after event_of call_of n)) ≡ option_map call_of (own_put event_of key n)
-  tells_own key n = shown_call (last_put key (kept_after event_of call_of n)) ∙ ap (option_map (λ p. p.0)) (own_shown key n) ∙ shown_at_call (own_put event_of key n)
+  pub tells_own : (key n : ℕ) → option_map (λ put. put.call) (last_put key (kept_after kind_of call_of n)) ≡ option_map call_of (own_put kind_of key n)
+  tells_own key n = shown_call (last_put key (kept_after kind_of call_of n)) ∙ ap (option_map (λ p. p.0)) (own_shown key n) ∙ shown_at_call (own_put kind_of key n)
 
   -- others see its last put of the key that a commit follows
-  pub tells_seen : (key n : ℕ) (same : Bool) → seen same (last_stored key (kept_after event_of call_of n)) ≡ seen_put event_of call_of same (stored_put event_of key n)
+  pub tells_seen : (key n : ℕ) (same : Bool) → seen same (last_stored key (kept_after kind_of call_of n)) ≡ seen_put kind_of call_of same (stored_put kind_of key n)
   tells_seen key n same =
-      seen_is_shown same (last_stored key (kept_after event_of call_of n))
+      seen_is_shown same (last_stored key (kept_after kind_of call_of n))
       ∙ ap (seen_shown same) (stored_shown key n)
-      ∙ shown_is_seen same (stored_put event_of key n)
+      ∙ shown_is_seen same (stored_put kind_of key n)
 
-pub tells_before : (event_of : ℕ → Option Kind) (call_of : ℕ → CallAt) (key n a : ℕ) → a ≤ n → seen false (last_stored_before key a (kept_after event_of call_of n)) ≡ seen_put event_of call_of false (stored_put event_of key a)
-tells_before event_of call_of key n a le =
-    seen_is_shown event_of call_of false (last_stored_before key a (kept_after event_of call_of n))
-    ∙ ap (seen_shown event_of call_of false) (before_shown event_of call_of key a n le)
-    ∙ shown_is_seen event_of call_of false (stored_put event_of key a)
+pub tells_before : (kind_of : ℕ → Option Kind) (call_of : ℕ → CallAt) (key n a : ℕ) → a ≤ n → seen false (last_stored_before key a (kept_after kind_of call_of n)) ≡ seen_put kind_of call_of false (stored_put kind_of key a)
+tells_before kind_of call_of key n a le =
+    seen_is_shown kind_of call_of false (last_stored_before key a (kept_after kind_of call_of n))
+    ∙ ap (seen_shown kind_of call_of false) (before_shown kind_of call_of key a n le)
+    ∙ shown_is_seen kind_of call_of false (stored_put kind_of key a)
 
 pub store_tells : StoreTells
-store_tells event_of call_of key n = record {
-  own = tells_own event_of call_of key n;
-  others = tells_seen event_of call_of key n;
-  before = tells_before event_of call_of key n;
+store_tells kind_of call_of key n = record {
+  own = tells_own kind_of call_of key n;
+  others = tells_seen kind_of call_of key n;
+  before = tells_before kind_of call_of key n;
 }
+
+-- a store that is told of one more commit
+pub told_commit : (kind_of : ℕ → Option Kind) (call_of : ℕ → CallAt) (at : ℕ) (old new : List KeptPut) → kind_of at ≡ Some Commit → old ≡ kept_after kind_of call_of at → new ≡ map (store_by at) old → new ≡ kept_after kind_of call_of (suc at)
+told_commit kind_of call_of at old new kind told puts =
+    puts
+    ∙ ap (map (store_by at)) told
+    ∙ ap (kept_with at (call_of at) (kept_after kind_of call_of at)) (sym kind)
+
+-- what a store shows that is told of the first n events
+pub own_told : (kind_of : ℕ → Option Kind) (call_of : ℕ → CallAt) (key n : ℕ) (store : Kept) → IsToldOf store kind_of call_of n → option_map (λ put. put.call) (last_put key store.puts) ≡ option_map call_of (own_put kind_of key n)
+own_told kind_of call_of key n store told = ap (λ puts. option_map (λ put. put.call) (last_put key puts)) told ∙ tells_own kind_of call_of key n
+
+pub seen_told : (kind_of : ℕ → Option Kind) (call_of : ℕ → CallAt) (key n : ℕ) (same : Bool) (store : Kept) → IsToldOf store kind_of call_of n → seen same (last_stored key store.puts) ≡ seen_put kind_of call_of same (stored_put kind_of key n)
+seen_told kind_of call_of key n same store told = ap (λ puts. seen same (last_stored key puts)) told ∙ tells_seen kind_of call_of key n same
+
+pub before_told : (kind_of : ℕ → Option Kind) (call_of : ℕ → CallAt) (key n event : ℕ) (store : Kept) → event ≤ n → IsToldOf store kind_of call_of n → seen false (last_stored_before key event store.puts) ≡ seen_put kind_of call_of false (stored_put kind_of key event)
+before_told kind_of call_of key n event store le told = ap (λ puts. seen false (last_stored_before key event puts)) told ∙ tells_before kind_of call_of key n event le

@@ -58,7 +58,8 @@ kept_with n call before (Some (Put key scope)) =
 kept_with n call before (Some Commit) = map (store_by n) before
 kept_with n call before _ = before
 
--- what a store keeps that is told of the puts and commits among the first n events
+-- what a store keeps that is told of the puts and commits among the first n events: `kind_of` says what each event is, and
+-- `call_of` of which call it is
 abbrev pub kept_after : (ℕ → Option Kind) → (ℕ → CallAt) → ℕ → List KeptPut
-kept_after event_of call_of zero = []
-kept_after event_of call_of (suc n) = kept_with n (call_of n) (kept_after event_of call_of n) (event_of n)
+kept_after kind_of call_of zero = []
+kept_after kind_of call_of (suc n) = kept_with n (call_of n) (kept_after kind_of call_of n) (kind_of n)

@@ -45,7 +45,7 @@ abbrev pub IsStoredTo : List Slot → ℕ → Type 0
 IsStoredTo slots committed = (i : ℕ) (slot : Slot) → slice_get slots i ≡ Some slot → is_some slot.stored_by ≡ nat_lt i committed
 
 -- the slots are stored up to here; the last slot of each key is known, and from it the last that is stored
-pub record IsIndexed (slots : List Slot) (committed : ℕ) (number_of : ℕ → Option ℕ) : Type 0 where
+pub record IsSlotIndex (slots : List Slot) (committed : ℕ) (number_of : ℕ → Option ℕ) : Type 0 where
   pub within : committed ≤ length slots
   pub stored : IsStoredTo slots committed
   pub newest : (key : ℕ) → number_of key ≡ last_slot slots key (length slots)

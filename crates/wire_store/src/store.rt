@@ -1,7 +1,11 @@
 //! The store of one process.
 
-ghost use Rattle.std.specs.Prelude.{◌≡◌, ◌+◌, ◌<◌, [], ◌∷◌, ◌++◌, false, map, option_map, IfOk, IsOkUnless};
+ghost use Rattle.std.specs.Prelude.{◌≡◌, ℕ, suc, ◌+◌, ◌<◌, ◌≤◌, [], ◌∷◌, ◌++◌, Option, Some, false, map, option_map, IfOk, IsOkUnless};
+ghost use Rattle.wire_types.specs.declared.CallAt.{CallAt as TheCall};
+ghost use Rattle.wire_runs.specs.Plan as runs;
+ghost use Rattle.wire_runs.specs.Puts.{own_put, stored_put};
 ghost use Rattle.wire_store.specs.Kept.{store_by, last_put, last_stored, last_stored_before, seen};
+ghost use Rattle.wire_store.specs.Told.{IsToldOf, seen_put};
 
 use crate::chain::{Slot, last_before, last_stored, shown, store_all};
 use crate::seen::Seen;
@@ -23,19 +27,20 @@ impl Model for RankStore {
     ghost use Rattle.std.specs.Prelude.{ℕ, ◌+◌, ◌≤◌, map, nat_eq, vec_len, vec_capacity};
     ghost use Rattle.std.specs.HashMap.{get, spare};
     ghost use Rattle.wire_store.specs.Kept.{Kept};
-    ghost use Rattle.wire_store.specs.Slots.{put_in, IsIndexed};
+    ghost use Rattle.wire_store.specs.Slots.{put_in, IsSlotIndex};
 
     ghost Value = { Kept };
 
     ghost view = { λ s. record { puts = map put_in s.slots.items; room = s.room } };
 
-    ghost invariant = { λ s. IsIndexed s.slots.items s.committed (get nat_eq s.newest) × (vec_len s.slots + s.room ≤ vec_capacity s.slots) × (s.room ≤ spare s.newest) };
+    ghost invariant = { λ s. IsSlotIndex s.slots.items s.committed (get nat_eq s.newest) × (vec_len s.slots + s.room ≤ vec_capacity s.slots) × (s.room ≤ spare s.newest) };
 }
 
 impl RankStore {
     /// An empty store with room for so many puts. The only error is `Fault::Memory`.
     pub fn new(alloc: Global, puts: usize) -> Result<RankStore, Fault>
         ensures ok { IfOk result (λ store. store ≡ record { puts = []; room = puts }) }
+        ensures told { IfOk result (λ store. (kind_of : ℕ → Option runs.Kind) (call_of : ℕ → TheCall) → IsToldOf store kind_of call_of 0) }
         ensures memory { IsOkUnless result Fault.Memory }
     {
         Ok(RankStore {
@@ -51,6 +56,8 @@ impl RankStore {
     pub fn put(&mut self, at: u32, scope: Scope, key: u32, call: CallAt)
         requires { 0 < self.old.room }
         ensures puts { self.new.puts ≡ self.old.puts ++ record { at = at; key = key; scope = scope; call = call; stored_by = None } ∷ [] }
+        ensures told { (kind_of : ℕ → Option runs.Kind) (call_of : ℕ → TheCall) → kind_of at ≡ Some (runs.Put key scope) → call_of at ≡ call
+            → IsToldOf self.old kind_of call_of at → IsToldOf self.new kind_of call_of (suc at) }
         ensures room { self.new.room + 1 ≡ self.old.room }
     {
         let newest = self.newest.get(&key).copied();
@@ -75,6 +82,8 @@ impl RankStore {
     /// has stored before.
     pub fn commit(&mut self, at: u32)
         ensures puts { self.new.puts ≡ map (store_by at) self.old.puts }
+        ensures told { (kind_of : ℕ → Option runs.Kind) (call_of : ℕ → TheCall) → kind_of at ≡ Some runs.Commit
+            → IsToldOf self.old kind_of call_of at → IsToldOf self.new kind_of call_of (suc at) }
         ensures room { self.new.room ≡ self.old.room }
     {
         store_all(&mut self.slots[self.committed..], at);
@@ -83,7 +92,9 @@ impl RankStore {
 
     /// What the owner itself sees under a key: its last put of it, committed or not.
     pub fn own(&self, key: u32) -> Option<CallAt>
-        ensures { result ≡ option_map (λ put. put.call) (last_put key self.now.puts) }
+        ensures told { (kind_of : ℕ → Option runs.Kind) (call_of : ℕ → TheCall) (n : ℕ) → IsToldOf self.now kind_of call_of n
+            → result ≡ option_map call_of (own_put kind_of key n) }
+        ensures kept { result ≡ option_map (λ put. put.call) (last_put key self.now.puts) }
     {
         match self.newest.get(&key) {
             Some(i) => Some(self.slots[*i].call),
@@ -94,7 +105,9 @@ impl RankStore {
     /// What a process that is, or isn't, on the owner's node sees under a key: the last put of it that a
     /// commit has stored.
     pub fn seen_from(&self, key: u32, same_node: bool) -> Seen
-        ensures { result ≡ seen same_node (last_stored key self.now.puts) }
+        ensures told { (kind_of : ℕ → Option runs.Kind) (call_of : ℕ → TheCall) (n : ℕ) → IsToldOf self.now kind_of call_of n
+            → result ≡ seen_put kind_of call_of same_node (stored_put kind_of key n) }
+        ensures kept { result ≡ seen same_node (last_stored key self.now.puts) }
     {
         let newest = self.newest.get(&key).copied();
         let last = last_stored(&self.slots, newest, self.committed);
@@ -104,7 +117,9 @@ impl RankStore {
     /// What a process of another node saw under a key before this event of the owner: the last put of it
     /// that a commit before the event has stored.
     pub fn as_of(&self, key: u32, event: u32) -> Seen
-        ensures { result ≡ seen false (last_stored_before key event self.now.puts) }
+        ensures told { (kind_of : ℕ → Option runs.Kind) (call_of : ℕ → TheCall) (n : ℕ) → event ≤ n → IsToldOf self.now kind_of call_of n
+            → result ≡ seen_put kind_of call_of false (stored_put kind_of key event) }
+        ensures kept { result ≡ seen false (last_stored_before key event self.now.puts) }
     {
         let newest = self.newest.get(&key).copied();
         let stored = last_stored(&self.slots, newest, self.committed);

@@ -52,20 +52,20 @@ carried_by (NotReady step) = Some step
 carried_by (BadOrder place) = Some place
 
 -- the exit status: 3 for memory, 4 for a read or a write, 2 for all that is refused
-abbrev pub status_of : Fault → ℕ
-status_of Memory = 3
-status_of (TooLong line) = 2
-status_of (BadHeader line) = 2
-status_of (BadLine line) = 2
-status_of (UnknownName line) = 2
-status_of (Twice line) = 2
-status_of (NotMember line) = 2
-status_of (TooMany line) = 2
-status_of Workers = 2
-status_of Read = 4
-status_of (Write n) = 4
-status_of (NotReady step) = 2
-status_of (BadOrder place) = 2
+abbrev pub exit_status : Fault → ℕ
+exit_status Memory = 3
+exit_status (TooLong line) = 2
+exit_status (BadHeader line) = 2
+exit_status (BadLine line) = 2
+exit_status (UnknownName line) = 2
+exit_status (Twice line) = 2
+exit_status (NotMember line) = 2
+exit_status (TooMany line) = 2
+exit_status Workers = 2
+exit_status Read = 4
+exit_status (Write n) = 4
+exit_status (NotReady step) = 2
+exit_status (BadOrder place) = 2
 
 -- a space and the number, where there is one
 abbrev pub carried_text : Option ℕ → List ℕ

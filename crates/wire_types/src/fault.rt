@@ -4,7 +4,7 @@ ghost use Rattle.wire_types.specs.Counting.{one_more};
 ghost use Rattle.wire_types.specs.Front.{WritesFront};
 ghost use Rattle.std.specs.Prelude.{take, ◌≡◌, ℕ, ◌+◌, ◌<◌, ◌≤◌, ◌++◌, length, decimal, codes, Some, None, OnOk, OnErr, IfErr, option_map};
 ghost use Rattle.std.specs.Io.KnownBytes.{Appends, Keeps};
-ghost use Rattle.wire_types.specs.Fault.{number_of, name_of, carried_by, status_of, fault_line};
+ghost use Rattle.wire_types.specs.Fault.{number_of, name_of, carried_by, exit_status, fault_line};
 
 use crate::sink::{Sink, write_out};
 use itoa::Buffer;
@@ -89,7 +89,7 @@ impl Fault {
     /// The exit status of a program that ends by this fault: 3 for memory, 4 for reading and writing, 2 for
     /// all that is refused.
     pub fn status(self) -> u8
-        ensures { result ≡ status_of self }
+        ensures { result ≡ exit_status self }
     {
         match self {
             Fault::Memory => 3,

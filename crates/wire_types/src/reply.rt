@@ -1,5 +1,8 @@
 //! Replies, and what a run leaves of each call.
 
+ghost use Rattle.std.specs.Prelude.{◌≡◌};
+ghost use Rattle.wire_types.specs.Replies as replies;
+
 use crate::place::CallAt;
 
 /// The status of a reply, a return value of the PMIx Standard 5.0.
@@ -36,6 +39,18 @@ pub enum Value {
 pub struct Reply {
     pub status: Status,
     pub value: Value,
+}
+
+impl Reply {
+    /// A reply that brings nothing but its status.
+    pub fn bare(status: Status) -> Reply
+        ensures { result ≡ replies.bare status }
+    {
+        Reply {
+            status,
+            value: Value::Nothing,
+        }
+    }
 }
 
 /// What became of a call: it was answered, its process stands at it and waits, or stands at it and

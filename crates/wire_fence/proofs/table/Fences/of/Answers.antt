@@ -5,9 +5,9 @@ use Rattle.wire_rehearsal.specs.Scripts.{Process, numbers_of, set_at}
 use Rattle.wire_rehearsal.specs.Planned.{plan_of}
 use Rattle.wire_procmap.specs.Map.{Map, process_count}
 use Rattle.wire_procmap.specs.Rows.{row_of}
-use Rattle.wire_fence.specs.Fences.{AreFencesOf}
-use Rattle.wire_fence.specs.Rows.{info_of, AreRead, AreAllNumbers, read_to}
-use Rattle.wire_fence.proofs.Tables.{fences_are, member_within}
+use Rattle.wire_fence.specs.FenceTable.{AreFencesOf}
+use Rattle.wire_fence.specs.Register.{info_of, AreRead, AreAllNumbers, read_to}
+use Rattle.wire_fence.proofs.FenceTable.{fences_are, member_within}
 use Rattle.wire_fence.proofs.table.Fences.of.Goals as goal
 
 pub nodes_of_sets-requires : goal.nodes_of_sets-requires

@@ -1,9 +1,9 @@
 use Rattle.std.proofs.Common.{◌≡◌, ◌∙◌, ℕ, List, length, map, sym, ap}
 use Rattle.wire_rehearsal.specs.Scripts.{numbers_of, set_at}
 use Rattle.wire_fence.specs.declared.register.Row.{Row}
-use Rattle.wire_fence.specs.Fences.{FenceInfo, FenceTable}
-use Rattle.wire_fence.specs.Rows.{info_of}
-use Rattle.wire_fence.proofs.Tables.{map_twice}
+use Rattle.wire_fence.specs.FenceTable.{FenceInfo, FenceTable}
+use Rattle.wire_fence.specs.Register.{info_of}
+use Rattle.wire_fence.proofs.FenceTable.{map_twice}
 use Rattle.wire_fence.proofs.table.Fences.sizes.Goals as goal
 
 pub returns : goal.returns

@@ -6,7 +6,7 @@ use Rattle.std.proofs.Math.ListN.{set}
 use Rattle.wire_runs.specs.Plan.{Publish, Unpublish}
 use Rattle.wire_types.specs.declared.CallAt.{CallAt}
 use Rattle.wire_names.specs.Names.{after_publish, after_unpublish}
-use Rattle.wire_names.specs.Law.{NamesFollow}
+use Rattle.wire_names.specs.Changes.{NamesFollow}
 
 -- one name has changed
 at_each : (names : List (Option CallAt)) (name other : ℕ) (standing : Option CallAt → Option CallAt) → name < length names → get_or (set names name (standing (get_or names name None))) other None ≡ cond (name == other) (standing (get_or names other None)) (get_or names other None)

@@ -11,9 +11,9 @@ use Rattle.wire_types.specs.declared.Call.TheVariants.{Fence}
 use Rattle.wire_rehearsal.specs.Scripts.{Scripts, IsSound, calls_in, call_at, set_at}
 use Rattle.wire_rehearsal.specs.Planned.{plan_of}
 use Rattle.wire_fence.specs.declared.register.Row.{Row}
-use Rattle.wire_fence.specs.Fences.{FenceInfo, FenceTable, IsFenceOf, IsFence, AreFencesOf, is_reached, fence_at, number_at, fence_over, fence_count, written_calls}
+use Rattle.wire_fence.specs.FenceTable.{FenceInfo, FenceTable, IsFenceOf, IsFence, AreFencesOf, is_reached, fence_at, fence_number, fence_over, fence_count, written_calls}
 use Rattle.wire_fence.specs.Reading.{says_to}
-use Rattle.wire_fence.specs.Rows.{info_of, HasRow, read_count, read_to, IsRead, AreRead, IsNumber, AreAllNumbers}
+use Rattle.wire_fence.specs.Register.{info_of, HasRow, read_count, read_to, IsRead, AreRead, IsNumber, AreAllNumbers}
 use Rattle.wire_fence.proofs.Counts.{all_same, all_by_count}
 use Rattle.wire_fence.proofs.Events.{all_arrivals, all_say}
 
@@ -96,7 +96,7 @@ module _ (s : Scripts) (sound : IsSound s) (rows : List Row) (numbers : List (Li
             ∙ ap Some (info_is s sound has.row (all.each number.0 has.row has.there) ∙ ap (λ x. fence_over s x has.row.nth) has.of_set ∙ ap (fence_over s k) has.is_nth);
       }
 
-  number_is : (p c number : ℕ) → number_at table p c ≡ Some number → (k : ℕ) × (collect : Bool) × (call_at s.processes p c ≡ Some (Fence k collect))
+  number_is : (p c number : ℕ) → fence_number table p c ≡ Some number → (k : ℕ) × (collect : Bool) × (call_at s.processes p c ≡ Some (Fence k collect))
   number_is p c number is = elim (cases_lt p (length s.processes)) [
     | inl low ↦
         let of_process = numbered.each p low in

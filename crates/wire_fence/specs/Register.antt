@@ -1,4 +1,4 @@
--- The fences as calls are read, one call after the other: for the contracts of private functions. What a fence is is said in Fences.
+-- The fences as calls are read, one call after the other: for the contracts of private functions. FenceTable says what a fence is.
 use Rattle.std.specs.Prelude.{◌≡◌, ℕ, suc, ◌+◌, ◌-◌, ◌<◌, ◌≤◌, List, [], ◌∷◌, ◌++◌, Bool, true, ◌&&◌, ◌==◌, Option, Some, None, length, map, take, set, count_by, nat_le, nat_lt, slice_get, slice_index_or, if◌then◌else◌}
 use Rattle.std.specs.List.{list_all}
 use Rattle.wire_types.specs.declared.Call.{Call}
@@ -6,7 +6,7 @@ use Rattle.wire_types.specs.declared.Call.TheVariants.{Fence}
 use Rattle.wire_rehearsal.specs.Scripts.{Process, Scripts, calls_in, set_at}
 use Rattle.wire_fence.specs.declared.register.Row.{Row}
 use Rattle.wire_fence.specs.declared.register.Register.{Register}
-use Rattle.wire_fence.specs.Fences.{FenceInfo, fence_count, written_calls}
+use Rattle.wire_fence.specs.FenceTable.{FenceInfo, fence_count, written_calls}
 use Rattle.wire_fence.specs.Reading.{says_to}
 
 -- the fence that a row is of, once all calls are read

@@ -22,10 +22,10 @@ HasName (Some (Publish name)) names = name < length names
 HasName (Some (Unpublish name)) names = name < length names
 HasName _ names = ⊤
 
--- the table follows what each event does to each name, and keeps its length
-pub record Follows (call : CallAt) (event : Option Kind) (names : List (Option CallAt)) : Type 0 where
-  pub count : length (names_after call event names) ≡ length names
-  pub each : (name : ℕ) → published (names_after call event names) name ≡ standing_after call event name (published names name)
+-- the event changes the table name by name, and the table keeps its length
+pub record ChangesByName (call : CallAt) (kind : Option Kind) (names : List (Option CallAt)) : Type 0 where
+  pub count : length (names_after call kind names) ≡ length names
+  pub each : (name : ℕ) → published (names_after call kind names) name ≡ standing_after call kind name (published names name)
 
 abbrev pub NamesFollow : Type 0
-NamesFollow = (call : CallAt) (event : Option Kind) (names : List (Option CallAt)) → HasName event names → Follows call event names
+NamesFollow = (call : CallAt) (kind : Option Kind) (names : List (Option CallAt)) → HasName kind names → ChangesByName call kind names

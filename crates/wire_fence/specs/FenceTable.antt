@@ -8,7 +8,8 @@ use Rattle.wire_rehearsal.specs.Scripts.{Scripts, IsSound, calls_in, call_at, se
 use Rattle.wire_rehearsal.specs.Planned.{plan_of}
 
 -- a fence: the number of its set, its number among the fences over that set, from 1, its members, whether each of them calls
--- it, and whether every call of it says collect
+-- it, and whether every call of it says collect. A member that doesn't call it has no say in the last, so a fence collects
+-- only where it is full besides.
 pub record FenceInfo : Type 0 where
   pub set : ℕ
   pub nth : ℕ
@@ -28,8 +29,8 @@ abbrev pub fence_at : FenceTable → ℕ → Option FenceInfo
 fence_at table number = slice_get table.fences number
 
 -- the number of the fence of a call
-abbrev pub number_at : FenceTable → ℕ → ℕ → Option ℕ
-number_at table p c = slice_index_or (slice_index_or table.numbers p []) c None
+abbrev pub fence_number : FenceTable → ℕ → ℕ → Option ℕ
+fence_number table p c = slice_index_or (slice_index_or table.numbers p []) c None
 
 -- whether a member of a set is on the node
 abbrev pub is_reached : FenceTable → ℕ → ℕ → Bool
@@ -78,7 +79,7 @@ written_calls s p = calls_in (slice_get s.processes p)
 -- this one
 pub record IsFenceOf (s : Scripts) (table : FenceTable) (p c set : ℕ) : Type 0 where
   pub number : ℕ
-  pub is : number_at table p c ≡ Some number
+  pub is : fence_number table p c ≡ Some number
   pub fence : fence_at table number ≡ Some (fence_over s set (fence_count set (take (suc c) (written_calls s p))))
 
 -- the fence is one over a set of the scripts
@@ -91,7 +92,7 @@ pub record IsFence (s : Scripts) (fence : FenceInfo) : Type 0 where
 pub record AreFencesOf (s : Scripts) (table : FenceTable) : Type 0 where
   pub sound : IsSound s
   pub calls : (p c set : ℕ) (collect : Bool) → call_at s.processes p c ≡ Some (Fence set collect) → IsFenceOf s table p c set
-  pub others : (p c number : ℕ) → number_at table p c ≡ Some number → (set : ℕ) × (collect : Bool) × (call_at s.processes p c ≡ Some (Fence set collect))
+  pub others : (p c number : ℕ) → fence_number table p c ≡ Some number → (set : ℕ) × (collect : Bool) × (call_at s.processes p c ≡ Some (Fence set collect))
   pub each : (number : ℕ) (fence : FenceInfo) → fence_at table number ≡ Some fence → IsFence s fence
   pub once : (m n : ℕ) (fence : FenceInfo) → fence_at table m ≡ Some fence → fence_at table n ≡ Some fence → m ≡ n
   pub nodes : (set node : ℕ) → is_reached table set node ≡ has_node (plan_of s) (set_at s.sets set) node
