@@ -6,7 +6,7 @@ use Rattle.wire_runs.specs.Puts.{stored}
 use Rattle.wire_runs.specs.Fences.{arrivals, is_complete, is_collecting, has_node}
 use Rattle.wire_rehearsal.specs.Scripts.{Scripts, set_at}
 use Rattle.wire_rehearsal.specs.Planned.{plan_of}
-use Rattle.wire_fence.specs.Fences.{FenceTable, AreFencesOf, fence_at, collects_in, reaches_in}
+use Rattle.wire_fence.specs.FenceTable.{FenceTable, AreFencesOf, fence_at, collects_in, reaches_in}
 use Rattle.wire_runs.specs.Sight.{has_brought, delivered, delivered_with, stored_at_with}
 use Rattle.wire_runs.proofs.Basics.{arrivals_step, arrivals_rise, list_all_at_member}
 use Rattle.wire_plan.specs.Meetings.{fence_members, IsMet}

@@ -6,12 +6,12 @@ use Rattle.wire_types.specs.declared.CallAt.{CallAt}
 use Rattle.wire_rehearsal.specs.Scripts.{Scripts, IsSound}
 use Rattle.wire_rehearsal.specs.Planned.{plan_of}
 use Rattle.wire_fence.specs.declared.FenceId.{FenceId}
-use Rattle.wire_fence.specs.Fences.{FenceTable, AreFencesOf}
+use Rattle.wire_fence.specs.FenceTable.{FenceTable, AreFencesOf}
 use Rattle.wire_fence.specs.Arrivals.{TellsMissing, IsArriving, missing_at}
 use Rattle.wire_fence.proofs.Missing.{other_events_keep, arrival_counts, arriving_is_missing}
 use Rattle.wire_names.specs.Names.{published, after_publish, after_unpublish}
-use Rattle.wire_names.specs.Law.{names_after, standing_after, HasName}
-use Rattle.wire_names.proofs.Follows.{names_follow}
+use Rattle.wire_names.specs.Changes.{names_after, standing_after, HasName}
+use Rattle.wire_names.proofs.Changes.{names_follow}
 use Rattle.wire_runs.specs.State.{State, start, next_event}
 use Rattle.wire_runs.specs.Step.{step, name_after, is_publisher}
 use Rattle.wire_runs.specs.Ends.{call_of}

@@ -14,7 +14,7 @@ use Rattle.wire_rehearsal.specs.Planned.{plan_of}
 use Rattle.wire_store.specs.Kept.{kept_with, kept_after}
 use Rattle.wire_plan.specs.declared.Kind.{Kind as CodeKind}
 use Rattle.wire_plan.specs.declared.Kind.TheVariants as code
-use Rattle.wire_names.specs.Law.{HasName}
+use Rattle.wire_names.specs.Changes.{HasName}
 use Rattle.wire_plan.specs.Kinds.{kind_of}
 use Rattle.wire_runs.specs.State.{State, start, next_event}
 use Rattle.wire_runs.specs.Step.{is_enabled, step, reply, IsInterleaving, run, run_from}

@@ -5,7 +5,7 @@ use Rattle.wire_runs.specs.Puts.{stored}
 use Rattle.wire_runs.specs.Fences.{arrivals}
 use Rattle.wire_rehearsal.specs.Scripts.{Scripts}
 use Rattle.wire_rehearsal.specs.Planned.{plan_of}
-use Rattle.wire_fence.specs.Fences.{FenceTable}
+use Rattle.wire_fence.specs.FenceTable.{FenceTable}
 use Rattle.wire_fence.specs.Arrivals.{one_arrived}
 use Rattle.wire_runs.specs.Sight.{has_brought}
 use Rattle.wire_plan.specs.Meetings.{IsMet}

@@ -5,7 +5,7 @@ use Rattle.wire_types.specs.declared.CallAt.{CallAt}
 use Rattle.wire_rehearsal.specs.Scripts.{Scripts, IsSound}
 use Rattle.wire_rehearsal.specs.Planned.{plan_of}
 use Rattle.wire_store.specs.Kept.{kept_after}
-use Rattle.wire_fence.specs.Fences.{FenceTable, AreFencesOf}
+use Rattle.wire_fence.specs.FenceTable.{FenceTable, AreFencesOf}
 use Rattle.wire_fence.specs.Arrivals.{TellsMissing}
 use Rattle.wire_names.specs.Names.{published}
 use Rattle.wire_runs.specs.State.{State, start}

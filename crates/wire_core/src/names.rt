@@ -1,7 +1,7 @@
 //! What events do to names.
 
 ghost use Rattle.std.specs.Prelude.{◌≡◌, ℕ, List, Some};
-ghost use Rattle.wire_names.specs.Law.{names_after, HasName};
+ghost use Rattle.wire_names.specs.Changes.{names_after, HasName};
 ghost use Rattle.wire_plan.specs.Kinds.{kind_of};
 
 use wire_names::Names;

@@ -8,23 +8,13 @@ ghost use Rattle.wire_core.specs.Seeing.{reply_to, is_something, brought_of as b
 use wire_store::Seen;
 use wire_types::{CallAt, Proc, Reply, Status, Value};
 
-/// A reply that brings nothing but its status.
-pub(crate) fn bare_reply(status: Status) -> Reply
-    ensures { result ≡ bare status }
-{
-    Reply {
-        status,
-        value: Value::Nothing,
-    }
-}
-
 /// The reply to a get that sees this.
 pub(crate) fn reply_to_get(seen: Seen) -> Reply
     ensures { result ≡ reply_to seen }
 {
     match seen {
-        Seen::Nothing => bare_reply(Status::NotFound),
-        Seen::Outside => bare_reply(Status::ExistsOutsideScope),
+        Seen::Nothing => Reply::bare(Status::NotFound),
+        Seen::Outside => Reply::bare(Status::ExistsOutsideScope),
         Seen::Value(call) => Reply {
             status: Status::Success,
             value: Value::Put(call),
@@ -58,7 +48,7 @@ pub(crate) fn reply_to_lookup(standing: Option<CallAt>) -> Reply
             status: Status::Success,
             value: Value::Published(publish),
         },
-        None => bare_reply(Status::NotFound),
+        None => Reply::bare(Status::NotFound),
     }
 }
 
@@ -67,8 +57,8 @@ pub(crate) fn reply_to_publish(standing: Option<CallAt>) -> Reply
     ensures { result ≡ bare (status_of_publish standing) }
 {
     match standing {
-        Some(_) => bare_reply(Status::DuplicateKey),
-        None => bare_reply(Status::Success),
+        Some(_) => Reply::bare(Status::DuplicateKey),
+        None => Reply::bare(Status::Success),
     }
 }
 
@@ -77,7 +67,7 @@ pub(crate) fn reply_to_unpublish(standing: Option<CallAt>, proc: Proc) -> Reply
     ensures { result ≡ bare (status_of_unpublish proc.number standing) }
 {
     match standing {
-        Some(publish) if publish.proc == proc => bare_reply(Status::Success),
-        Some(_) | None => bare_reply(Status::NotFound),
+        Some(publish) if publish.proc == proc => Reply::bare(Status::Success),
+        Some(_) | None => Reply::bare(Status::NotFound),
     }
 }

@@ -21,7 +21,7 @@ use crate::met::{arrived_at, is_complete, note_arrival};
 use crate::names::note_name;
 use crate::rank::Rank;
 use crate::replies::{
-    bare_reply, is_shown, reply_to_get, reply_to_lookup, reply_to_publish, reply_to_unpublish,
+    is_shown, reply_to_get, reply_to_lookup, reply_to_publish, reply_to_unpublish,
 };
 use std::alloc::Global;
 use std::marker::Model;
@@ -155,7 +155,7 @@ impl<'a> Core<'a> {
         ensures { given (plan_of self.now.scripts) (answer (plan_of self.now.scripts) (state_of self.now) (next_event (state_of self.now) proc.number) (Some (kind_of self.now.scripts.sets kind))) ≡ replies_in result }
     {
         match kind {
-            Kind::Put { .. } | Kind::Commit | Kind::Leave { .. } => Some(bare_reply(
+            Kind::Put { .. } | Kind::Commit | Kind::Leave { .. } => Some(Reply::bare(
                 Status::Success,
             )),
             Kind::Arrive { .. } => None,

@@ -7,7 +7,7 @@ use Rattle.wire_runs.specs.Plan.{Plan, Event, Leave, kind, process_count}
 use Rattle.wire_runs.specs.Fences.{arrivals, arrivals_with, is_member}
 use Rattle.wire_rehearsal.specs.Scripts.{Scripts}
 use Rattle.wire_rehearsal.specs.Planned.{plan_of}
-use Rattle.wire_fence.specs.Fences.{FenceInfo, FenceTable, fence_at}
+use Rattle.wire_fence.specs.FenceTable.{FenceInfo, FenceTable, fence_at}
 use Rattle.wire_runs.specs.Order.{Edge, IsArrival, may_come}
 use Rattle.wire_plan.specs.Index.{AreSources, AreArrivals, AwaitsCommit, AwaitsPublish, Awaits, IsAwaited, previous_at, previous_of}
 use Rattle.wire_plan.specs.Meetings.{fence_members}

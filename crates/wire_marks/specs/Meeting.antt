@@ -3,7 +3,7 @@ use Rattle.std.specs.Prelude.{◌≡◌, ◌≢◌, ◌⊎◌, ◌<◌, ◌≤�
 use Rattle.wire_runs.specs.Plan.{Plan, Event, Leave, kind}
 use Rattle.wire_rehearsal.specs.Scripts.{Scripts}
 use Rattle.wire_rehearsal.specs.Planned.{plan_of}
-use Rattle.wire_fence.specs.Fences.{FenceInfo, FenceTable, fence_at}
+use Rattle.wire_fence.specs.FenceTable.{FenceInfo, FenceTable, fence_at}
 use Rattle.wire_fence.specs.declared.table.FenceId.{FenceId}
 use Rattle.wire_plan.specs.Index.{AreArrivals}
 use Rattle.wire_plan.specs.Meetings.{IsMet}

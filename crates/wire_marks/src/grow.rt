@@ -4,7 +4,7 @@ ghost use Rattle.std.specs.Prelude.{◌≡◌, ◌<◌, ◌≤◌, ◌^◌, ℕ,
 ghost use Rattle.std.specs.Bool.{OnTrue, OnFalse};
 ghost use Rattle.wire_runs.specs.Plan.{process_count};
 ghost use Rattle.wire_rehearsal.specs.Planned.{plan_of};
-ghost use Rattle.wire_fence.specs.Fences.{AreFencesOf};
+ghost use Rattle.wire_fence.specs.FenceTable.{AreFencesOf};
 ghost use Rattle.wire_marks.specs.Clocks.{items_at, marked_count, AreMarks};
 ghost use Rattle.wire_marks.specs.Marking.{AreClocks, IsStuckAt, IsNextBase, unmarked};
 ghost use Rattle.wire_marks.specs.Meeting.{AreGrowing};

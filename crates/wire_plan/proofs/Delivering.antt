@@ -6,7 +6,7 @@ use Rattle.wire_runs.specs.Fences.{arrivals, is_full, is_collecting, has_node}
 use Rattle.wire_runs.specs.Puts.{stored}
 use Rattle.wire_rehearsal.specs.Scripts.{Scripts, set_at}
 use Rattle.wire_rehearsal.specs.Planned.{plan_of}
-use Rattle.wire_fence.specs.Fences.{FenceTable, AreFencesOf, fence_at, fence_over, full_in, collects_in, reaches_in}
+use Rattle.wire_fence.specs.FenceTable.{FenceTable, AreFencesOf, fence_at, fence_over, full_in, collects_in, reaches_in}
 use Rattle.wire_runs.specs.Order.{IsArrival}
 use Rattle.wire_plan.specs.Index.{IsDelivering}
 use Rattle.wire_plan.specs.Keys.{IsSent}

@@ -8,7 +8,7 @@ use Rattle.wire_runs.specs.Fences.{arrivals, arrivals_with}
 use Rattle.wire_types.specs.declared.Call.TheVariants as written
 use Rattle.wire_rehearsal.specs.Scripts.{Scripts, call_at, set_at}
 use Rattle.wire_rehearsal.specs.Planned.{plan_of}
-use Rattle.wire_fence.specs.Fences.{FenceTable, AreFencesOf, IsFenceOf, fence_over, fence_count, fence_at, number_at}
+use Rattle.wire_fence.specs.FenceTable.{FenceTable, AreFencesOf, IsFenceOf, fence_over, fence_count, fence_at, fence_number}
 use Rattle.wire_fence.proofs.Events.{calls_are_arrivals}
 use Rattle.wire_runs.specs.Ends.{call_number, calls_of}
 use Rattle.wire_runs.proofs.Basics.{event_within}
@@ -48,7 +48,7 @@ module _ (s : Scripts) (table : FenceTable) (fences : AreFencesOf s table) (p at
   nth (inl none) = let here : suc at ≡ suc (start_of s (calls_by s p) c) = omega (arith, place, none) in ap (arrivals (plan_of s) p (set_at s.sets set)) here ∙ first_counts ∙ counted
   nth (inr one) = let here : suc at ≡ start_of s (calls_by s p) c + 2 = omega (arith, place, one) in ap (arrivals (plan_of s) p (set_at s.sets set)) here ∙ counted
 
-  pub met_with : (i ≡ 0) ⊎ (i ≡ 1) → (number : ℕ) → Some number ≡ number_at table p c → IsMet s table (record { proc = p; at = at }) number
+  pub met_with : (i ≡ 0) ⊎ (i ≡ 1) → (number : ℕ) → Some number ≡ fence_number table p c → IsMet s table (record { proc = p; at = at }) number
   met_with half number found = record {
     fence = fence_over s set (fence_count set (take (suc c) (calls_by s p)));
     there = subst (λ n. fence_at table n ≡ Some (fence_over s set (fence_count set (take (suc c) (calls_by s p))))) (sym (same_Some _ _ (found ∙ in_table.is))) in_table.fence;
@@ -57,13 +57,13 @@ module _ (s : Scripts) (table : FenceTable) (fences : AreFencesOf s table) (p at
     nth = nth half;
   }
 
-  pub numbered : is_some (number_at table p c) ≡ true
+  pub numbered : is_some (fence_number table p c) ≡ true
   numbered = ap is_some in_table.is
 
 -- call number c of p has a number in the table, which is that of the fence of its event number `at`
 pub record HasFenceAt (s : Scripts) (table : FenceTable) (p at c : ℕ) : Type 0 where
-  pub numbered : is_some (number_at table p c) ≡ true
-  pub met : (number : ℕ) → Some number ≡ number_at table p c → IsMet s table (record { proc = p; at = at }) number
+  pub numbered : is_some (fence_number table p c) ≡ true
+  pub met : (number : ℕ) → Some number ≡ fence_number table p c → IsMet s table (record { proc = p; at = at }) number
 
 -- so for the call of the event
 abbrev pub HasFence : Scripts → FenceTable → ℕ → ℕ → Type 0

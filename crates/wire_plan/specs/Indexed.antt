@@ -1,7 +1,7 @@
 -- What a plan keeps besides its events: for the contracts of private functions.
 use Rattle.wire_rehearsal.specs.Scripts.{Scripts}
 use Rattle.wire_rehearsal.specs.Planned.{plan_of}
-use Rattle.wire_fence.specs.Fences.{FenceTable}
+use Rattle.wire_fence.specs.FenceTable.{FenceTable}
 use Rattle.wire_plan.specs.Meetings.{AreArrivalLists}
 use Rattle.wire_plan.specs.Keys.{AreKeysOf}
 use Rattle.wire_plan.specs.Tables.{AreNamesOf, AreGetsNowOf}

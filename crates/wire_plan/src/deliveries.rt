@@ -3,7 +3,7 @@
 ghost use Rattle.std.specs.Prelude.{◌≡◌, ◌↔◌, ◌<◌, ◌&&◌, ℕ, option_map, IfSome, IsTrue};
 ghost use Rattle.wire_runs.specs.Plan.{event_count};
 ghost use Rattle.wire_rehearsal.specs.Planned.{plan_of};
-ghost use Rattle.wire_fence.specs.Fences.{AreFencesOf, fence_at as the_fence_at, full_in, collects_in, reaches_in};
+ghost use Rattle.wire_fence.specs.FenceTable.{AreFencesOf, fence_at as the_fence_at, full_in, collects_in, reaches_in};
 ghost use Rattle.wire_runs.specs.Races.{IsPutOnce};
 ghost use Rattle.wire_plan.specs.Index.{IsDelivering, IsNextDelivery};
 ghost use Rattle.wire_plan.specs.Keys.{AreKeysOf};

@@ -1,7 +1,7 @@
 //! What is looked up of a plan's events.
 
 ghost use Rattle.std.specs.Prelude.{IfOk};
-ghost use Rattle.wire_fence.specs.Fences.{AreFencesOf};
+ghost use Rattle.wire_fence.specs.FenceTable.{AreFencesOf};
 ghost use Rattle.wire_plan.specs.Indexed.{IsIndexed};
 
 use crate::events::Events;

@@ -12,7 +12,7 @@ ghost use Rattle.wire_plan.specs.Kinds.{kind_of, kinds_after};
 use wire_lines::is_reserved;
 use wire_procmap::ProcMap;
 use wire_rehearsal::Scripts;
-use wire_types::{Call, Proc, Reply, Scope, Status, Value};
+use wire_types::{Call, Proc, Reply, Scope, Status};
 
 /// What an event of a process is: one of the events that its calls are made of. Sets of processes, keys
 /// and names are numbers in the tables of the scripts.
@@ -42,16 +42,6 @@ pub enum Kind {
     Fixed(Reply),
 }
 
-/// A reply that brings nothing but its status.
-fn bare_reply(status: Status) -> Reply
-    ensures { result ≡ bare status }
-{
-    Reply {
-        status,
-        value: Value::Nothing,
-    }
-}
-
 /// What a get of a reserved key of a process replies; nothing is found of a process that isn't there.
 fn reserved_reply(scripts: &Scripts, places: &ProcMap, owner: Proc, key: u32) -> Reply
     requires { places.now ≡ map_of scripts.now }
@@ -60,7 +50,7 @@ fn reserved_reply(scripts: &Scripts, places: &ProcMap, owner: Proc, key: u32) ->
     if owner.index() < scripts.processes().len() {
         places.reserved(owner, key)
     } else {
-        bare_reply(Status::NotFound)
+        Reply::bare(Status::NotFound)
     }
 }
 
@@ -76,7 +66,7 @@ fn name_kind(scripts: &Scripts, name: u32, kind: Kind) -> Kind
     ensures { result ≡ (if is_reserved_text (text_at scripts.now.names name) then Kind.Fixed (bare Status.BadParam) else kind) }
 {
     if is_reserved_name(scripts, name) {
-        Kind::Fixed(bare_reply(Status::BadParam))
+        Kind::Fixed(Reply::bare(Status::BadParam))
     } else {
         kind
     }
@@ -102,7 +92,7 @@ pub(crate) fn first_kind(scripts: &Scripts, places: &ProcMap, call: Call) -> Kin
     match call {
         Call::Put { scope, key, .. } => {
             if places.is_reserved(key) {
-                Kind::Fixed(bare_reply(Status::BadParam))
+                Kind::Fixed(Reply::bare(Status::BadParam))
             } else {
                 Kind::Put { scope, key }
             }

@@ -5,7 +5,7 @@ ghost use Rattle.wire_runs.specs.Plan.{Leave, event_of, process_count, event_cou
 ghost use Rattle.wire_runs.specs.Fences.{arrivals as arrivals_of, is_full as is_full_fence};
 ghost use Rattle.wire_rehearsal.specs.Scripts.{Scripts as TheScripts};
 ghost use Rattle.wire_rehearsal.specs.Planned.{plan_of};
-ghost use Rattle.wire_fence.specs.Fences.{FenceInfo, FenceTable, AreFencesOf, fence_at as the_fence_at};
+ghost use Rattle.wire_fence.specs.FenceTable.{FenceInfo, FenceTable, AreFencesOf, fence_at as the_fence_at};
 ghost use Rattle.wire_plan.specs.Index.{AreArrivals};
 ghost use Rattle.wire_plan.specs.Meetings.{is_of_fence, IsMet, arrivals_in, AreArrivalLists, AreArrivalListsTo, IsAdded};
 

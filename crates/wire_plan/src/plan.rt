@@ -8,7 +8,7 @@ ghost use Rattle.wire_runs.specs.Fences.{arrivals as arrivals_of};
 ghost use Rattle.wire_rehearsal.specs.Scripts.{IsSound};
 ghost use Rattle.wire_rehearsal.specs.Planned.{plan_of};
 ghost use Rattle.wire_procmap.specs.Map.{map_of};
-ghost use Rattle.wire_fence.specs.Fences.{AreFencesOf};
+ghost use Rattle.wire_fence.specs.FenceTable.{AreFencesOf};
 ghost use Rattle.wire_plan.specs.Kinds.{kind_of};
 ghost use Rattle.wire_runs.specs.Ends.{call_of, calls_of, first_event};
 ghost use Rattle.wire_runs.specs.Plan.{event_total};
@@ -41,7 +41,7 @@ pub struct Plan {
 
 impl Model for Plan {
     ghost use Rattle.wire_rehearsal.specs.Scripts as spec;
-    ghost use Rattle.wire_fence.specs.Fences.{AreFencesOf};
+    ghost use Rattle.wire_fence.specs.FenceTable.{AreFencesOf};
     ghost use Rattle.wire_plan.specs.Indexed.{IsIndexed};
 
     ghost Value = { spec.Scripts };

@@ -1,6 +1,6 @@
 use Rattle.std.proofs.Common.{◌∙◌, sym, refl, ◌&&◌}
 use Rattle.std.proofs.lemmas.Bool.{true≢false}
-use Rattle.wire_fence.specs.Fences.{fence_at, collects_in, reaches_in}
+use Rattle.wire_fence.specs.FenceTable.{fence_at, collects_in, reaches_in}
 use Rattle.wire_core.proofs.Bring.{brings_told}
 use Rattle.wire_core.proofs.met.brings.Goals.{then-complete, else-complete}
 use Rattle.wire_core.proofs.met.brings.Goals as goal

@@ -1,5 +1,5 @@
 use Rattle.std.proofs.Common.{[], Some, subst}
-use Rattle.wire_names.specs.Law.{HasName}
+use Rattle.wire_names.specs.Changes.{HasName}
 use Rattle.wire_plan.specs.Kinds.{kind_of}
 use Rattle.wire_core.proofs.names.note_name.Goals as goal
 

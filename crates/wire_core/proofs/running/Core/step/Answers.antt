@@ -10,7 +10,7 @@ use Rattle.wire_runs.specs.Step.{run, reply}
 use Rattle.wire_runs.specs.Ends.{call_of, given}
 use Rattle.wire_runs.proofs.Basics.{event_within, process_within}
 use Rattle.wire_core.specs.Course.{state_of}
-use Rattle.wire_names.specs.Law.{names_after}
+use Rattle.wire_names.specs.Changes.{names_after}
 use Rattle.wire_runs.specs.State.{start}
 use Rattle.wire_core.specs.Met.{ArrivesAt, after_arrival}
 use Rattle.wire_core.specs.Ranks.{calls_at, IsShared}
