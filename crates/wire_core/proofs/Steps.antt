@@ -56,14 +56,14 @@ count_map f g [] = refl
 count_map f g (x ∷ xs) = sum_by-cons (λ y. cond (f y) 1 0) (g x) (map g xs) ∙ ap (λ n. cond (f (g x)) 1 0 + n) (count_map f g xs) ∙ sym (sum_by-cons (λ y. cond (f (g y)) 1 0) x xs)
 
 -- a process that hasn't begun
-pub new_rank : (plan : Plan) (p : ℕ) (sets : List (List ℕ)) (kinds : List CodeKind) (rank : Rank) → map (kind_of sets) kinds ≡ kinds plan p → rank.done ≡ 0 → rank.store.puts ≡ [] → rank.store.room ≡ count_by is_put (map (kind_of sets) kinds) → rank.replies.items ≡ [] → vec_capacity rank.replies ≡ length kinds → IsRankOf plan start p rank
+pub new_rank : (plan : Plan) (p : ℕ) (sets : List (List ℕ)) (codes : List CodeKind) (rank : Rank) → map (kind_of sets) codes ≡ kinds plan p → rank.done ≡ 0 → rank.store.puts ≡ [] → rank.store.room ≡ count_by is_put (map (kind_of sets) codes) → rank.replies.items ≡ [] → vec_capacity rank.replies ≡ length codes → IsRankOf plan start p rank
 unfolding event_count
-new_rank plan p sets kinds rank shown done puts room replies space = record {
+new_rank plan p sets codes rank shown done puts room replies space = record {
   done = done;
   puts = puts;
   room = room ∙ ap (count_by is_put) shown;
   replies = replies;
-  space = let same : length kinds ≡ length (kinds plan p) = sym (length-map kinds (kind_of sets)) ∙ ap length shown in
+  space = let same : length codes ≡ length (kinds plan p) = sym (length-map codes (kind_of sets)) ∙ ap length shown in
       let none : length rank.replies.items ≡ 0 = ap length replies in
       omega (arith, same, none, space);
 }

@@ -34,5 +34,5 @@ returns-in-Some c =
     let before = c.in-Some.ensures.done in
     let le : c.in-Some.at ≤ s.done p = omega (arith, before, done) in
     rw (← c.self.view_is)
-    (c.brought_of.ensures ∙ ap brought_of c.as_of.ensures ∙ before_shown plan s p c.args.key c.in-Some.at rank told le
+    (c.brought_of.ensures ∙ ap brought_of c.as_of.ensures.kept ∙ before_shown plan s p c.args.key c.in-Some.at rank told le
     ∙ ap (λ o. seen_as plan p (held (for_others plan p o))) (sym brought))
