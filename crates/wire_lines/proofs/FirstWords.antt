@@ -1,23 +1,15 @@
 -- Each line that can be said begins with the word of a kind.
 use Rattle.std.proofs.Common.{◌≡◌, refl, ℕ, List, [], ◌∷◌, map, get_or}
 use Rattle.std.specs.Borrow.{Bor}
-use Rattle.wire_lines.specs.Said.{Said, Header, Node, Job, Rank, Calls, Call, Put, Commit, Fence, Get, GetNow, Publish, Lookup, LookupWait, Unpublish, first_word, first_of_call}
-use Rattle.wire_lines.specs.Kind.{text_of, text_of_verb}
+use Rattle.wire_lines.specs.Said.{Said, Header, Node, Job, Rank, Calls, Call, first_word, first_of_call, verb_in}
+use Rattle.wire_lines.specs.Kind.{text_of}
+use Rattle.wire_lines.specs.Verbs.{text_of_verb}
 use Rattle.wire_lines.specs.declared.call.Verb.{Verb}
-use Rattle.wire_lines.specs.declared.call.Verb.TheVariants as verb
 use Rattle.wire_lines.specs.declared.line.Kind.{Kind}
 use Rattle.wire_lines.specs.declared.line.Kind.TheVariants as kind
 
 pub some_verb : (call : Call) → (v : Verb) × (first_of_call call ≡ text_of_verb v)
-some_verb (Put scope key value) = (verb.Put, refl)
-some_verb Commit = (verb.Commit, refl)
-some_verb (Fence set collect) = (verb.Fence, refl)
-some_verb (Get job rank key) = (verb.Get, refl)
-some_verb (GetNow job rank key) = (verb.GetNow, refl)
-some_verb (Publish name value) = (verb.Publish, refl)
-some_verb (Lookup name) = (verb.Lookup, refl)
-some_verb (LookupWait name) = (verb.LookupWait, refl)
-some_verb (Unpublish name) = (verb.Unpublish, refl)
+some_verb call = (verb_in call, refl)
 
 pub some_kind : (said : Said) → (k : Kind) × (first_word said ≡ text_of k)
 some_kind Header = (kind.Header, refl)

@@ -1,5 +1,5 @@
 -- Items joined by commas.
-use Rattle.std.proofs.Common.{◌≡◌, ◌∙◌, ap, sym, subst, refl, ℕ, ◌+◌, ◌<◌, ◌^◌, List, [], ◌∷◌, ◌++◌, Bool, true, false, cond, length, map, decimal, IsTrue, arith, true≢false, rules, zero, suc, get_or, take, ◌*◌, ◌-◌, codes}
+use Rattle.std.proofs.Common.{◌≡◌, ◌∙◌, ap, sym, subst, refl, ℕ, ◌+◌, ◌<◌, ◌^◌, List, [], ◌∷◌, ◌++◌, Bool, true, false, cond, length, map, decimal, arith, true≢false, rules, zero, suc, get_or, take, ◌*◌, ◌-◌, codes}
 use Rattle.std.specs.Prelude.{◌==◌, not, ◌&&◌, ◌||◌}
 use Rattle.std.specs.List.{list_all, slice_split, onto_first, join_with_byte}
 use Rattle.std.specs.Str.{all_ascii_digits}
@@ -10,8 +10,8 @@ use Rattle.std.proofs.lemmas.List.Folds.{list_all-append}
 use Rattle.std.proofs.lemmas.List.Splits.{join_with_byte-slice_split, length-slice_split}
 use Rattle.std.proofs.lemmas.Grind.{common_steps}
 use Rattle.std.specs.Borrow.{Bor}
-use Rattle.wire_lines.specs.Said.{is_name, is_name_byte, is_word_byte, spelled_proc}
-use Rattle.wire_lines.proofs.Colon.{plain, names_plain, cut_once, colon_none, and_left, and_right}
+use Rattle.wire_lines.specs.Said.{is_name, is_name_byte, is_word_byte}
+use Rattle.wire_lines.proofs.Colon.{plain, names_plain, cut_once, and_left, and_right}
 use Rattle.wire_lines.specs.Said.{Item, One, Every, Set, Own, Listed, spelled_item, IsLawfulItem, AreLawful, spelled_set, IsLawfulSet}
 
 abbrev pub no_comma : ℕ → Bool

@@ -4,6 +4,9 @@ use Rattle.std.specs.List.{list_all, join_with_byte}
 use Rattle.std.specs.Str.{bytes_eq}
 use Rattle.wire_types.specs.declared.Scope.{Scope}
 use Rattle.wire_types.specs.declared.Scope.TheVariants.{Local, Remote, Global}
+use Rattle.wire_lines.specs.declared.call.Verb.{Verb}
+use Rattle.wire_lines.specs.declared.call.Verb.TheVariants as verb
+use Rattle.wire_lines.specs.Verbs.{text_of_verb}
 
 -- a byte of a word
 abbrev pub is_word_byte : ℕ → Bool
@@ -78,17 +81,21 @@ pub data Said : Type 0 where
   Rank : (node : List ℕ) → Said
   Calls : Call → Said
 
+-- the verb of a call
+abbrev pub verb_in : Call → Verb
+verb_in (Put scope key value) = verb.Put
+verb_in Commit = verb.Commit
+verb_in (Fence set collect) = verb.Fence
+verb_in (Get job rank key) = verb.Get
+verb_in (GetNow job rank key) = verb.GetNow
+verb_in (Publish name value) = verb.Publish
+verb_in (Lookup name) = verb.Lookup
+verb_in (LookupWait name) = verb.LookupWait
+verb_in (Unpublish name) = verb.Unpublish
+
 -- the first word of a line
 abbrev pub first_of_call : Call → List ℕ
-first_of_call (Put scope key value) = codes "put"
-first_of_call Commit = codes "commit"
-first_of_call (Fence set collect) = codes "fence"
-first_of_call (Get job rank key) = codes "get"
-first_of_call (GetNow job rank key) = codes "get-now"
-first_of_call (Publish name value) = codes "publish"
-first_of_call (Lookup name) = codes "lookup"
-first_of_call (LookupWait name) = codes "lookup-wait"
-first_of_call (Unpublish name) = codes "unpublish"
+first_of_call call = text_of_verb (verb_in call)
 
 abbrev pub first_word : Said → List ℕ
 first_word Header = codes "rehearsal"

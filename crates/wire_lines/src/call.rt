@@ -6,7 +6,7 @@ ghost use Rattle.wire_lines.specs.Said as spec;
 ghost use Rattle.wire_lines.specs.Said.{spelled_proc, spelled_scope, spelled_set, collect_words, IsLawfulSet, IsLawfulCall};
 ghost use Rattle.wire_lines.specs.Said.{first_of_call, others_of_call};
 ghost use Rattle.wire_lines.specs.Shown.{set_by, call_by};
-ghost use Rattle.wire_lines.specs.Kind.{text_of_verb};
+ghost use Rattle.wire_lines.specs.Verbs.{text_of_verb};
 ghost use Rattle.wire_lines.specs.declared.call.Verb.{Verb};
 
 use crate::sets::{Set, set_of};

@@ -7,7 +7,7 @@ mod sets;
 mod text;
 mod word;
 
-pub use call::CallLine;
+pub use call::{CallLine, Verb};
 pub use line::{Line, is_header, read_line, says_once};
 pub use sets::{Item, Set};
 pub use text::{cut_piece, line_past, trim_return, words};

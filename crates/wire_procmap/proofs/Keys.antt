@@ -15,7 +15,7 @@ use Rattle.wire_rehearsal.specs.Map.{job_at, node_at, rank_of, local_rank_of, no
 use Rattle.wire_rehearsal.specs.Reserved.{reserved_reply}
 use Rattle.wire_procmap.specs.declared.key.KeyKind.{KeyKind}
 use Rattle.wire_procmap.specs.declared.key.KeyKind.TheVariants.{Plain, Rank, LocalRank, NodeRank, JobSize, Hostname, Other}
-use Rattle.wire_procmap.specs.Keys.{kind_of, is_reserved_kind}
+use Rattle.wire_procmap.specs.Keys.{key_kind, is_reserved_kind}
 use Rattle.wire_procmap.specs.Rows.{row_of, reply_of}
 
 -- what is spelled like a reserved key is reserved
@@ -31,8 +31,8 @@ others : (b : Bool) → is_reserved_kind (cond b Other Plain) ≡ b
 others true = refl
 others false = refl
 
-pub reserved_of_kind : (key : List ℕ) → is_reserved_kind (kind_of key) ≡ is_reserved key
-unfolding kind_of is_reserved
+pub reserved_of_kind : (key : List ℕ) → is_reserved_kind (key_kind key) ≡ is_reserved key
+unfolding key_kind is_reserved
 reserved_of_kind key =
     tested key (codes "PMIX_RANK") Rank _ refl refl
     (tested key (codes "PMIX_LOCAL_RANK") LocalRank _ refl refl
@@ -51,14 +51,14 @@ replied processes p false false false false true other = refl
 replied processes p false false false false false true = refl
 replied processes p false false false false false false = refl
 
-pub reply_of_kind : (processes : List Process) (p : ℕ) (key : List ℕ) → reply_of (row_of processes p) (kind_of key) ≡ reserved_reply processes p key
-unfolding kind_of
+pub reply_of_kind : (processes : List Process) (p : ℕ) (key : List ℕ) → reply_of (row_of processes p) (key_kind key) ≡ reserved_reply processes p key
+unfolding key_kind
 reply_of_kind processes p key = replied processes p _ _ _ _ _ (is_reserved key)
 
 -- a number past the keys is that of the empty text, which is plain
-pub plain_past : (keys : List (List ℕ)) (kinds : List KeyKind) (n : ℕ) → kinds ≡ map kind_of keys → length kinds ≤ n → Plain ≡ kind_of (text_at keys n)
-unfolding kind_of is_reserved
+pub plain_past : (keys : List (List ℕ)) (kinds : List KeyKind) (n : ℕ) → kinds ≡ map key_kind keys → length kinds ≤ n → Plain ≡ key_kind (text_at keys n)
+unfolding key_kind is_reserved
 plain_past keys kinds n all past =
-    let long : length keys ≤ n = omega (arith, ap length all, length-map keys kind_of) in
+    let long : length keys ≤ n = omega (arith, ap length all, length-map keys key_kind) in
     let empty : [] ≡ text_at keys n = ap (λ o. unwrap_or o []) (sym (slice_get_past keys n long)) ∙ unwrap_or-slice_get keys n [] in
-    ap kind_of empty
+    ap key_kind empty

@@ -3,19 +3,19 @@ use Rattle.std.proofs.Common.{◌≡◌, ◌∙◌, ap, ℕ, ◌<◌, ◌==◌, 
 use Rattle.wire_rehearsal.specs.Scripts.{Scripts}
 use Rattle.wire_rehearsal.specs.Map.{size_of_job}
 use Rattle.wire_procmap.specs.declared.row.Row.{Row}
-use Rattle.wire_procmap.specs.Map.{Map, map_of, process_count}
+use Rattle.wire_procmap.specs.Map.{Map, map_of, row_count}
 use Rattle.wire_procmap.specs.Places.{IsAt}
 use Rattle.wire_procmap.specs.Rows.{row_of}
 use Rattle.wire_procmap.proofs.Places.{has_place, found_at, none_at}
 use Rattle.wire_procmap.proofs.Rows.{length_of_rows, row_at, size_of_rows}
 
 -- the map of scripts has their processes
-pub count_of_map : (scripts : Scripts) → process_count (map_of scripts) ≡ length scripts.processes
+pub count_of_map : (scripts : Scripts) → row_count (map_of scripts) ≡ length scripts.processes
 count_of_map scripts = length_of_rows scripts.processes
 
-pub row_in : (m : Map) (p : ℕ) (d : Row) → p < process_count m → (scripts : Scripts) → m ≡ map_of scripts → get_or m.rows p d ≡ row_of scripts.processes p
+pub row_in : (m : Map) (p : ℕ) (d : Row) → p < row_count m → (scripts : Scripts) → m ≡ map_of scripts → get_or m.rows p d ≡ row_of scripts.processes p
 row_in m p d there scripts all =
-    let within : p < length scripts.processes = omega (arith, there, ap process_count all, count_of_map scripts) in
+    let within : p < length scripts.processes = omega (arith, there, ap row_count all, count_of_map scripts) in
     ap (λ (x : Map). get_or x.rows p d) all ∙ row_at scripts.processes p d within
 
 pub size_in_map : (m : Map) (job n : ℕ) → n ≡ count_by (λ (r : Row). r.job == job) m.rows → (scripts : Scripts) → m ≡ map_of scripts → n ≡ size_of_job scripts.processes job

@@ -5,8 +5,8 @@ use Rattle.wire_lines.specs.Said.{is_reserved}
 use Rattle.wire_procmap.specs.declared.key.KeyKind.{KeyKind}
 use Rattle.wire_procmap.specs.declared.key.KeyKind.TheVariants.{Plain, Rank, LocalRank, NodeRank, JobSize, Hostname, Other}
 
-unfoldable pub kind_of : List ℕ → KeyKind
-kind_of key =
+unfoldable pub key_kind : List ℕ → KeyKind
+key_kind key =
     if bytes_eq key (codes "PMIX_RANK") then Rank
     else if bytes_eq key (codes "PMIX_LOCAL_RANK") then LocalRank
     else if bytes_eq key (codes "PMIX_NODE_RANK") then NodeRank

@@ -3,7 +3,7 @@ use Rattle.std.specs.Prelude.{ℕ, List, length, map}
 use Rattle.wire_rehearsal.specs.Scripts.{Scripts}
 use Rattle.wire_procmap.specs.declared.key.KeyKind.{KeyKind}
 use Rattle.wire_procmap.specs.declared.row.Row.{Row}
-use Rattle.wire_procmap.specs.Keys.{kind_of}
+use Rattle.wire_procmap.specs.Keys.{key_kind}
 use Rattle.wire_procmap.specs.Rows.{rows_of}
 
 pub record Map : Type 0 where
@@ -11,8 +11,8 @@ pub record Map : Type 0 where
   pub kinds : List KeyKind
 
 abbrev pub map_of : Scripts → Map
-map_of scripts = record { rows = rows_of scripts.processes; kinds = map kind_of scripts.keys }
+map_of scripts = record { rows = rows_of scripts.processes; kinds = map key_kind scripts.keys }
 
--- how many processes the map has
-abbrev pub process_count : Map → ℕ
-process_count m = length m.rows
+-- how many rows the map has, one for each process
+abbrev pub row_count : Map → ℕ
+row_count m = length m.rows

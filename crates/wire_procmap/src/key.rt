@@ -1,10 +1,10 @@
 //! Kinds of keys.
 
 ghost use Rattle.std.specs.Prelude.{◌≡◌, map, IfOk};
-ghost use Rattle.wire_lines.specs.Said as said;
 ghost use Rattle.wire_procmap.specs.Keys as keys;
 
 use std::alloc::{AllocError, Global};
+use wire_lines::is_reserved;
 use wire_rehearsal::Texts;
 
 /// What a get of a key asks of the process map.
@@ -29,17 +29,9 @@ impl KeyKind {
     }
 }
 
-/// Whether the standard keeps the key for itself.
-#[tactic(auto, unfolding(wire_lines::specs::Said::is_reserved))]
-fn is_reserved(text: &[u8]) -> bool
-    ensures { result ≡ said.is_reserved text.now }
-{
-    text.starts_with(b"pmix".as_slice()) || text.starts_with(b"PMIX_".as_slice())
-}
-
-#[tactic(auto, unfolding(crate::specs::Keys::kind_of))]
+#[tactic(auto, unfolding(crate::specs::Keys::key_kind))]
 fn kind_of(text: &[u8]) -> KeyKind
-    ensures { result ≡ keys.kind_of text.now }
+    ensures { result ≡ keys.key_kind text.now }
 {
     if text == b"PMIX_RANK".as_slice() {
         KeyKind::Rank
@@ -60,7 +52,7 @@ fn kind_of(text: &[u8]) -> KeyKind
 
 /// The kind of each key, by the key's number.
 pub(crate) fn kinds_of(alloc: Global, texts: &Texts) -> Result<Vec<KeyKind>, AllocError>
-    ensures { IfOk result (λ kinds. kinds.items ≡ map keys.kind_of texts.now) }
+    ensures { IfOk result (λ kinds. kinds.items ≡ map keys.key_kind texts.now) }
 {
     let count = texts.len();
     let mut kinds = Vec::with_capacity(alloc, count as usize)?;

@@ -6,7 +6,7 @@ ghost use Rattle.wire_rehearsal.specs.Scripts.{Scripts, text_at};
 ghost use Rattle.wire_rehearsal.specs.Map.{job_at, node_at, rank_of, local_rank_of, node_rank_of, size_of_job};
 ghost use Rattle.wire_rehearsal.specs.Reserved.{reserved_reply};
 ghost use Rattle.wire_procmap.specs.Keys as keys;
-ghost use Rattle.wire_procmap.specs.Map.{map_of, process_count};
+ghost use Rattle.wire_procmap.specs.Map.{map_of, row_count};
 ghost use Rattle.wire_procmap.specs.Places.{IsAt};
 ghost use Rattle.wire_procmap.specs.Rows as rows;
 
@@ -49,7 +49,7 @@ impl ProcMap {
     }
 
     fn row(&self, proc: Proc) -> Row
-        requires { proc.number < process_count self.now }
+        requires { proc.number < row_count self.now }
         ensures { (s : Scripts) → self.now ≡ map_of s → result ≡ rows.row_of s.processes proc.number }
     {
         let rows = self.rows.as_slice();
@@ -57,7 +57,7 @@ impl ProcMap {
     }
 
     fn kind(&self, key: u32) -> KeyKind
-        ensures { (s : Scripts) → self.now ≡ map_of s → result ≡ keys.kind_of (text_at s.keys key) }
+        ensures { (s : Scripts) → self.now ≡ map_of s → result ≡ keys.key_kind (text_at s.keys key) }
     {
         match self.kinds.get(key as usize) {
             Some(kind) => *kind,
@@ -67,7 +67,7 @@ impl ProcMap {
 
     /// The number of the node of a process of the map.
     pub fn node_of(&self, proc: Proc) -> u32
-        requires { proc.number < process_count self.now }
+        requires { proc.number < row_count self.now }
         ensures { (s : Scripts) → self.now ≡ map_of s → result ≡ node_at s.processes proc.number }
     {
         self.row(proc).node
@@ -75,7 +75,7 @@ impl ProcMap {
 
     /// How many processes of its job on its node stand before a process of the map (PMIX_LOCAL_RANK).
     pub fn local_rank(&self, proc: Proc) -> u32
-        requires { proc.number < process_count self.now }
+        requires { proc.number < row_count self.now }
         ensures { (s : Scripts) → self.now ≡ map_of s → result ≡ local_rank_of s.processes proc.number }
     {
         self.row(proc).local_rank
@@ -83,7 +83,7 @@ impl ProcMap {
 
     /// How many processes of all jobs on its node stand before a process of the map (PMIX_NODE_RANK).
     pub fn node_rank(&self, proc: Proc) -> u32
-        requires { proc.number < process_count self.now }
+        requires { proc.number < row_count self.now }
         ensures { (s : Scripts) → self.now ≡ map_of s → result ≡ node_rank_of s.processes proc.number }
     {
         self.row(proc).node_rank
@@ -91,7 +91,7 @@ impl ProcMap {
 
     /// The job of a process of the map, and its rank there (PMIX_RANK).
     pub fn place_of(&self, proc: Proc) -> (u32, u32)
-        requires { proc.number < process_count self.now }
+        requires { proc.number < row_count self.now }
         ensures job { (s : Scripts) → self.now ≡ map_of s → result.0 ≡ job_at s.processes proc.number }
         ensures rank { (s : Scripts) → self.now ≡ map_of s → result.1 ≡ rank_of s.processes proc.number }
     {
@@ -126,7 +126,7 @@ impl ProcMap {
 
     /// What a get of a reserved key of a process of the map replies. Any other key isn't found.
     pub fn reserved(&self, proc: Proc, key: u32) -> Reply
-        requires { proc.number < process_count self.now }
+        requires { proc.number < row_count self.now }
         ensures { (s : Scripts) → self.now ≡ map_of s → result ≡ reserved_reply s.processes proc.number (text_at s.keys key) }
     {
         self.row(proc).reply(self.kind(key))

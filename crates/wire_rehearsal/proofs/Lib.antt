@@ -2,3 +2,5 @@ pub mod TextTable
 pub mod SetTable
 pub mod Written
 pub mod Listed
+pub mod SameCalls
+pub mod Same

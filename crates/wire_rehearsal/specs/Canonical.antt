@@ -21,9 +21,9 @@ rank_at s p = (process_at s p).rank
 abbrev pub job_of : Scripts → ℕ → List ℕ
 job_of s p = text_at s.jobs (process_at s p).job
 
--- the word of a process
-abbrev pub process_word : Scripts → ℕ → List ℕ
-process_word s p = said.spelled_proc (job_of s p) (rank_at s p)
+-- the text of a process: the name of its job, a colon and its rank
+abbrev pub process_text : Scripts → Process → List ℕ
+process_text s p = said.spelled_proc (text_at s.jobs p.job) p.rank
 
 -- the processes of a job by their numbers, where the first of all has the number n
 abbrev pub members_from : ℕ → ℕ → List Process → List ℕ

@@ -1,9 +1,11 @@
 pub use Rattle.wire_runs.specs.Plan
 pub use Rattle.wire_runs.specs.Fences
 pub use Rattle.wire_lines.specs.Said
+pub mod Process
+pub mod Map
 pub mod Scripts
 pub mod Tabled
-pub mod Map
 pub mod Reserved
 pub mod Planned
 pub mod Canonical
+pub mod Same

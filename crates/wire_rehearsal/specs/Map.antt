@@ -1,6 +1,6 @@
 -- The process map: each number counts processes of the file's list (PMIx Standard 5.0, Reserved Keys).
 use Rattle.std.specs.Prelude.{ℕ, List, ◌==◌, ◌&&◌, Option, Some, None, count_by, take, slice_get}
-use Rattle.wire_rehearsal.specs.Scripts.{Process}
+use Rattle.wire_rehearsal.specs.Process.{Process}
 
 abbrev pub job_in : Option Process → ℕ
 job_in None = 0

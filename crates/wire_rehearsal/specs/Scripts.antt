@@ -1,19 +1,14 @@
 -- What a file of scripts says. Nodes and jobs are numbered as declared, keys, names, values and sets of processes as first
 -- seen, and processes as they stand.
-use Rattle.std.specs.Prelude.{◌≡◌, ℕ, ◌<◌, ◌^◌, Bool, true, List, [], length, map, sum_by, nat_lt, Option, Some, None, slice_get, slice_index_or}
+use Rattle.std.specs.Prelude.{◌≡◌, ℕ, ◌<◌, ◌≤◌, ◌^◌, Bool, true, List, [], length, map, sum_by, nat_lt, Option, Some, None, slice_get, slice_index_or}
 use Rattle.std.specs.List.{list_all}
 use Rattle.wire_runs.specs.Plan.{set_of}
 use Rattle.wire_runs.specs.Fences.{is_member}
 use Rattle.wire_types.specs.declared.Call.{Call}
-use Rattle.wire_types.specs.declared.Call.TheVariants.{Fence, Publish, Lookup, LookupWait, Unpublish}
+use Rattle.wire_types.specs.declared.Call.TheVariants.{Fence, Get, GetNow, Publish, Lookup, LookupWait, Unpublish}
 use Rattle.wire_types.specs.declared.Proc.{Proc}
-
--- a process: the number of its job, its rank there, the number of its node, and its calls
-pub record Process : Type 0 where
-  pub job : ℕ
-  pub rank : ℕ
-  pub node : ℕ
-  pub calls : List Call
+use Rattle.wire_rehearsal.specs.Map.{job_at, rank_of}
+pub use Rattle.wire_rehearsal.specs.Process.{Process}
 
 pub record Scripts : Type 0 where
   pub nodes : List (List ℕ)
@@ -53,6 +48,11 @@ pub record IsCounted (processes : List Process) : Type 0 where
   pub few_processes : length processes < 2 ^ 31
   pub few_calls : call_count processes < 2 ^ 31
 
+-- processes stand in the order of their jobs, and the rank of each is the number of processes of its job before it
+pub record AreRanked (processes : List Process) : Type 0 where
+  pub together : (p q : ℕ) → p ≤ q → q < length processes → job_at processes p ≤ job_at processes q
+  pub ranks : (p : ℕ) (process : Process) → slice_get processes p ≡ Some process → process.rank ≡ rank_of processes p
+
 -- each set is one of processes, each once and in order, and no set is there twice
 pub record AreSets (processes : List Process) (sets : List (List ℕ)) : Type 0 where
   pub canonical : (n : ℕ) (set : List ℕ) → slice_get sets n ≡ Some set → set_of set ≡ set
@@ -62,6 +62,16 @@ pub record AreSets (processes : List Process) (sets : List (List ℕ)) : Type 0 
 -- the set of each fence is there, and its caller is a member
 abbrev pub AreMembers : List Process → List (List ℕ) → Type 0
 AreMembers processes sets = (p c set : ℕ) (collect : Bool) → call_at processes p c ≡ Some (Fence set collect) → (set < length sets) × (is_member (set_at sets set) p ≡ true)
+
+-- the owner of the key that a get names
+abbrev pub owner_in : Call → Option ℕ
+owner_in (Get owner key) = Some owner.number
+owner_in (GetNow owner key) = Some owner.number
+owner_in _ = None
+
+-- the owner of each get is one of the processes
+abbrev pub AreOwned : List Process → Type 0
+AreOwned processes = (p c owner : ℕ) (call : Call) → call_at processes p c ≡ Some call → owner_in call ≡ Some owner → owner < length processes
 
 -- the name of a call on a name
 abbrev pub name_in : Call → Option ℕ
@@ -78,6 +88,8 @@ AreNamed processes names = (p c name : ℕ) (call : Call) → call_at processes 
 -- what runs of scripts take for granted
 pub record IsSound (s : Scripts) : Type 0 where
   pub counted : IsCounted s.processes
+  pub ranked : AreRanked s.processes
+  pub owned : AreOwned s.processes
   pub sets : AreSets s.processes s.sets
   pub members : AreMembers s.processes s.sets
   pub names : AreNamed s.processes s.names

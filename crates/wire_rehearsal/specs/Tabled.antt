@@ -3,8 +3,8 @@ use Rattle.std.specs.Prelude.{ℕ, List}
 use Rattle.wire_rehearsal.specs.Scripts.{Process, Scripts}
 use Rattle.wire_rehearsal.specs.declared.scripts.Tables.{Tables}
 
-abbrev pub scripts_with : List (List ℕ) → List (List ℕ) → Tables → List Process → Scripts
-scripts_with nodes jobs tables processes = record {
+abbrev pub scripts_from_parts : List (List ℕ) → List (List ℕ) → Tables → List Process → Scripts
+scripts_from_parts nodes jobs tables processes = record {
   nodes = nodes;
   jobs = jobs;
   keys = tables.keys;

@@ -2,16 +2,16 @@
 
 ghost use Rattle.std.specs.Prelude.{◌≡◌, ◌++◌, ◌∷◌, [], map, flat_map, codes, OnOk, IfOk, IfErr};
 ghost use Rattle.wire_lines.specs.Said as said;
-ghost use Rattle.wire_lines.specs.Said.{spelled_proc, spelled_scope};
+ghost use Rattle.wire_lines.specs.Said.{spelled_scope};
 ghost use Rattle.wire_rehearsal.specs.Scripts.{text_at, set_at};
-ghost use Rattle.wire_rehearsal.specs.Canonical.{process_word, words_text, line_text, set_said};
+ghost use Rattle.wire_rehearsal.specs.Canonical.{process_at, process_text, words_text, line_text, set_said};
 ghost use Rattle.wire_rehearsal.specs.Canonical.{call_said, process_said, job_said, jobs_said};
 
 use crate::process::Process;
 use crate::scripts::Scripts;
 use crate::set_word::{job_and_rank, set_word};
-use itoa::Buffer;
 use std::alloc::{AllocError, Global};
+use wire_lines::proc_word;
 use wire_types::{Call, Fault, Proc, Scope};
 
 /// Writes a line: its words with a space between each two, and a line feed.
@@ -36,17 +36,6 @@ fn scope_word(scope: Scope) -> &'static [u8]
         Scope::Remote => b"remote".as_slice(),
         Scope::Global => b"global".as_slice(),
     }
-}
-
-/// The word of a process: the name of its job, a colon and its rank.
-fn proc_word(alloc: Global, job: &[u8], rank: u32) -> Result<Vec<u8>, AllocError>
-    ensures { IfOk result (λ w. w.items ≡ spelled_proc job.now rank) }
-{
-    let mut word = Vec::from_slice(alloc, job)?;
-    word.push(b':')?;
-    let mut digits = Buffer::new();
-    word.extend_from_slice(digits.format(rank).as_bytes())?;
-    Ok(word)
 }
 
 /// Writes the line of a put, given the word of its scope.
@@ -101,7 +90,7 @@ fn write_get(
     key: u32,
 ) -> Result<(), AllocError>
     ensures { OnOk result (out.new.items ≡ out.old.items
-        ++ words_text (verb.now ∷ process_word scripts.now owner.number
+        ++ words_text (verb.now ∷ process_text scripts.now (process_at scripts.now owner.number)
         ∷ text_at scripts.now.keys key ∷ [])) }
 {
     let (job, rank) = job_and_rank(scripts, owner);

@@ -15,7 +15,7 @@ pub struct Process {
 }
 
 impl Model for Process {
-    ghost use Rattle.wire_rehearsal.specs.Scripts as spec;
+    ghost use Rattle.wire_rehearsal.specs.Process as spec;
 
     ghost Value = { spec.Process };
 
@@ -59,5 +59,20 @@ impl Process {
         ensures { result.now ≡ self.now.calls }
     {
         self.calls.as_slice()
+    }
+}
+
+impl PartialEq for Process {
+    ghost use Rattle.wire_rehearsal.specs.Same.{same_process, processes_alike};
+
+    ghost eq = { same_process };
+
+    ghost laws = { processes_alike };
+
+    fn eq(&self, other: &Process) -> bool {
+        self.job == other.job
+            && self.rank == other.rank
+            && self.node == other.node
+            && self.calls.as_slice() == other.calls.as_slice()
     }
 }

@@ -2,7 +2,7 @@
 
 ghost use Rattle.std.specs.Prelude.{◌≡◌};
 ghost use Rattle.wire_rehearsal.specs.Scripts.{IsSound};
-ghost use Rattle.wire_rehearsal.specs.Tabled.{scripts_with};
+ghost use Rattle.wire_rehearsal.specs.Tabled.{scripts_from_parts};
 
 use crate::process::Process;
 use crate::sets::Sets;
@@ -31,19 +31,19 @@ pub struct Scripts {
 
 impl Model for Scripts {
     ghost use Rattle.wire_rehearsal.specs.Scripts as spec;
-    ghost use Rattle.wire_rehearsal.specs.Tabled.{scripts_with};
+    ghost use Rattle.wire_rehearsal.specs.Tabled.{scripts_from_parts};
 
     ghost Value = { spec.Scripts };
 
-    ghost view = { λ s. scripts_with s.nodes s.jobs s.tables s.processes.items };
+    ghost view = { λ s. scripts_from_parts s.nodes s.jobs s.tables s.processes.items };
 
-    ghost invariant = { λ s. spec.IsSound (scripts_with s.nodes s.jobs s.tables s.processes.items) };
+    ghost invariant = { λ s. spec.IsSound (scripts_from_parts s.nodes s.jobs s.tables s.processes.items) };
 }
 
 impl Scripts {
     pub fn new(nodes: Texts, jobs: Texts, tables: Tables, processes: Vec<Process>) -> Scripts
-        requires { IsSound (scripts_with nodes jobs tables processes.items) }
-        ensures { result ≡ scripts_with nodes jobs tables processes.items }
+        requires { IsSound (scripts_from_parts nodes jobs tables processes.items) }
+        ensures { result ≡ scripts_from_parts nodes jobs tables processes.items }
     {
         Scripts {
             nodes,
@@ -95,12 +95,48 @@ impl Scripts {
         &self.tables.sets
     }
 
-    /// The processes, in process order: few enough that they, and their calls, can be numbered, and each
-    /// a member of the fences that it calls.
+    /// The processes, in process order: few enough that they, and their calls, can be numbered, the ranks of
+    /// each job counted from 0, each process a member of the fences that it calls, and the owner of each
+    /// get among them.
     pub fn processes(&self) -> &[Process]
         ensures processes { result.now ≡ self.now.processes }
         ensures sound { IsSound self.now }
     {
         self.processes.as_slice()
+    }
+}
+
+impl Scripts {
+    ghost use Rattle.std.specs.Prelude.{◌≡◌};
+    ghost use Rattle.wire_rehearsal.specs.Same.{same_scripts};
+
+    fn has_same_parts(&self, other: &Scripts) -> bool
+        ensures { result ≡ same_scripts self.now other.now }
+    {
+        self.nodes == other.nodes
+            && self.jobs == other.jobs
+            && self.tables.keys == other.tables.keys
+            && self.tables.names == other.tables.names
+            && self.tables.values == other.tables.values
+            && self.tables.sets == other.tables.sets
+            && self.processes.as_slice() == other.processes.as_slice()
+    }
+}
+
+impl PartialEq for Scripts {
+    ghost use Rattle.std.specs.Prelude.{◌≡◌};
+    ghost use Rattle.std.specs.Bool.{Decides};
+    ghost use Rattle.wire_rehearsal.specs.Same.{same_scripts, scripts_alike};
+
+    ghost eq = { same_scripts };
+
+    ghost laws = { scripts_alike };
+
+    /// Whether both say the same, with the same numbers. Takes no memory.
+    fn eq(&self, other: &Scripts) -> bool
+        ensures tested { result ≡ same_scripts self.now other.now }
+        ensures same { Decides result (self.now ≡ other.now) }
+    {
+        self.has_same_parts(other)
     }
 }

@@ -12,8 +12,8 @@ ghost use Rattle.wire_rehearsal.specs.Canonical.{process_at, rank_at, job_member
 ghost use Rattle.wire_rehearsal.specs.Canonical.{process_items, set_items, set_said, items_text};
 
 use crate::scripts::Scripts;
-use itoa::Buffer;
 use std::alloc::{AllocError, Global};
+use wire_lines::write_proc;
 use wire_types::Proc;
 
 /// The numbers of a process's job and its rank there, 0 and 0 where there is no such process.
@@ -85,10 +85,7 @@ fn write_item(
 {
     let (job, rank) = job_and_rank(scripts, member);
     if !whole {
-        out.extend_from_slice(scripts.jobs().text(job))?;
-        out.push(b':')?;
-        let mut digits = Buffer::new();
-        out.extend_from_slice(digits.format(rank).as_bytes())?;
+        write_proc(out, scripts.jobs().text(job), rank)?;
         out.push(b',')?;
     } else if rank == 0 {
         out.extend_from_slice(scripts.jobs().text(job))?;

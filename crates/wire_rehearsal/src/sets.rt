@@ -87,3 +87,15 @@ impl Sets {
         Ok(())
     }
 }
+
+impl PartialEq for Sets {
+    ghost use Rattle.wire_rehearsal.specs.Same.{same_texts, texts_alike};
+
+    ghost eq = { same_texts };
+
+    ghost laws = { texts_alike };
+
+    fn eq(&self, other: &Sets) -> bool {
+        self.table.as_slice() == other.table.as_slice()
+    }
+}

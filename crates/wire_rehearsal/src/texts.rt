@@ -95,3 +95,15 @@ impl Texts {
         Ok(())
     }
 }
+
+impl PartialEq for Texts {
+    ghost use Rattle.wire_rehearsal.specs.Same.{same_texts, texts_alike};
+
+    ghost eq = { same_texts };
+
+    ghost laws = { texts_alike };
+
+    fn eq(&self, other: &Texts) -> bool {
+        self.set.as_slice() == other.set.as_slice()
+    }
+}

@@ -8,7 +8,7 @@ use Rattle.wire_types.specs.declared.Fault.TheVariants.{TooLong, BadLine, Unknow
 use Rattle.wire_lines.specs.Said.{Call, Said, Header, Node, Job, Rank, Calls, IsLawful, IsLawfulCall}
 use Rattle.wire_script.specs.Limits.{limits}
 use Rattle.wire_script.specs.Statements.{Statement}
-use Rattle.wire_script.specs.FirstPass.{Started, Declared, number_or_count, after, judged, is_in_place, is_short, is_short_call, is_known, is_again, has_room, with_call, Judges, JudgesAll}
+use Rattle.wire_script.specs.FirstPass.{Started, Declared, number_or_count, after, judged, is_in_place, is_short, is_short_call, is_known, is_again, has_room, with_call, nothing, Judges, JudgesAll, FirstPass}
 use Rattle.wire_script.proofs.Recut.{numbered_lines}
 
 -- a change of calls, by the job of the caller
@@ -129,6 +129,12 @@ lines_step lines e rest d line (Err f) j m = absurd (cc)
 pub lines_run : (lines : List Statement) (e d : Declared) → JudgesAll d lines (Ok e) → (ls : List (ℕ × Said)) × Runs ls d e
 lines_run [] e d j = ([], cc)
 lines_run (line ∷ lines) e d j = lines_step lines e (lines_run lines e) d line j.0 j.1 j.2
+
+-- and so do all lines of a file
+pub first_run : (lines : List Statement) (n : ℕ) (d : Declared) → FirstPass lines n (Ok d) → (ls : List (ℕ × Said)) × Runs ls nothing d
+first_run [] n d f = absurd (cc)
+first_run (line ∷ lines) n d (inl f) = lines_run lines d nothing f.1
+first_run (line ∷ lines) n d (inr f) = absurd (let h = f.1 in cc)
 
 -- the calls of processes, by the jobs of these
 abbrev pub CallsAre : (ℕ → Call → Type 0) → ℕ → List (ℕ × Call) → Type 0

@@ -13,6 +13,7 @@ pub mod Recut
 pub mod Changed
 pub mod Order
 pub mod Ranked
+pub mod Numbered
 pub mod SameMembers
 pub mod Again
 pub mod Said

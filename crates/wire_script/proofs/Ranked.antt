@@ -1,4 +1,5 @@
--- What is declared: jobs have names of their own, and the ranks of each job's processes count from 0.
+-- What is declared: jobs have names of their own, processes stand in the order of their jobs, and the ranks of each job's
+-- processes count from 0.
 use Rattle.std.proofs.Common.{◌≡◌, ◌∙◌, ap, sym, subst, refl, ℕ, zero, suc, ◌+◌, ◌-◌, ◌<◌, ◌≤◌, List, [], ◌∷◌, ◌++◌, Bool, true, false, cond, Some, length, IsTrue, arith, length-append, true≢false, if◌then◌else◌}
 use Rattle.std.specs.Prelude.{◌==◌, ◌||◌, not, ⊤, slice_get}
 use Rattle.std.specs.Str.{bytes_eq}
@@ -91,15 +92,29 @@ counts n [] j = n j
 counts n (p ∷ ps) j = counts (with_one n p.job) ps j
 
 -- each rank is the number of processes of its job before it
-abbrev pub AreRanked : (ℕ → ℕ) → List Started → Type 0
-AreRanked n [] = ⊤
-AreRanked n (p ∷ ps) = (p.rank ≡ n p.job) × AreRanked (with_one n p.job) ps
+abbrev pub RanksFrom : (ℕ → ℕ) → List Started → Type 0
+RanksFrom n [] = ⊤
+RanksFrom n (p ∷ ps) = (p.rank ≡ n p.job) × RanksFrom (with_one n p.job) ps
 
-ranked_push : (n : ℕ → ℕ) (ps : List Started) (p : Started) → AreRanked n ps → p.rank ≡ counts n ps p.job → AreRanked n (ps ++ p ∷ [])
+-- processes stand in the order of their jobs, the first of which has this number or a higher one
+abbrev pub JobsFrom : ℕ → List Started → Type 0
+JobsFrom m [] = ⊤
+JobsFrom m (p ∷ ps) = (m ≤ p.job) × JobsFrom p.job ps
+
+jobs_push : (m : ℕ) (ps : List Started) (p : Started) → JobsFrom m ps → AllBelow (p.job + 1) ps → m ≤ p.job → JobsFrom m (ps ++ p ∷ [])
+jobs_push m [] p h b le = (le, tt)
+jobs_push m (q ∷ ps) p h b le = (h.0, jobs_push q.job ps p h.1 b.1 (let s = b.0 in omega arith))
+
+jobs_with : (m : ℕ) (ps : List Started) (c : ℕ × Call) → JobsFrom m ps → JobsFrom m (with_call ps c)
+jobs_with m [] c h = h
+jobs_with m (p ∷ []) c h = h
+jobs_with m (p ∷ q ∷ ps) c h = (h.0, jobs_with p.job (q ∷ ps) c h.1)
+
+ranked_push : (n : ℕ → ℕ) (ps : List Started) (p : Started) → RanksFrom n ps → p.rank ≡ counts n ps p.job → RanksFrom n (ps ++ p ∷ [])
 ranked_push n [] p h e = (e, tt)
 ranked_push n (q ∷ ps) p h e = (h.0, ranked_push (with_one n q.job) ps p h.1 e)
 
-ranked_with : (n : ℕ → ℕ) (ps : List Started) (c : ℕ × Call) → AreRanked n ps → AreRanked n (with_call ps c)
+ranked_with : (n : ℕ → ℕ) (ps : List Started) (c : ℕ × Call) → RanksFrom n ps → RanksFrom n (with_call ps c)
 ranked_with n [] c h = h
 ranked_with n (p ∷ []) c h = h
 ranked_with n (p ∷ q ∷ ps) c h = (h.0, ranked_with (with_one n p.job) (q ∷ ps) c h.1)
@@ -128,13 +143,14 @@ pub record IsGood (d : Declared) : Type 0 where
   pub names : AreNames d.jobs
   pub apart : AreApart d.jobs
   pub below : AllBelow (length d.jobs) d.processes
-  pub ranked : AreRanked (λ j. 0) d.processes
+  pub together : JobsFrom 0 d.processes
+  pub ranked : RanksFrom (λ j. 0) d.processes
   pub last : d.ranks ≡ counts (λ j. 0) d.processes (length d.jobs - 1)
   pub few : length d.processes ≤ limits.processes
 
 good_kept : (d : Declared) (n : ℕ) (a : Said) → IsLawful a → IsTaken d a → IsGood d → IsGood (after d n a)
 good_kept d n Header l t g = g
-good_kept d n (Node name) l t g = record { names = g.names; apart = g.apart; below = g.below; ranked = g.ranked; last = g.last; few = g.few }
+good_kept d n (Node name) l t g = record { names = g.names; apart = g.apart; below = g.below; together = g.together; ranked = g.ranked; last = g.last; few = g.few }
 good_kept d n (Job name) l t g =
     let more : length (d.jobs ++ name ∷ []) ≡ length d.jobs + 1 = length-append d.jobs (name ∷ []) in
     let at : length (d.jobs ++ name ∷ []) - 1 ≡ length d.jobs = omega arith in
@@ -142,6 +158,7 @@ good_kept d n (Job name) l t g =
       names = names_push d.jobs name g.names l t.short;
       apart = apart_push d.jobs name g.apart t.again;
       below = below_more (length d.jobs) (length (d.jobs ++ name ∷ [])) d.processes (omega arith) g.below;
+      together = g.together;
       ranked = g.ranked;
       last = sym (ap (counts (λ j. 0) d.processes) at ∙ none_counted (λ j. 0) (length d.jobs) d.processes g.below refl);
       few = g.few;
@@ -155,6 +172,7 @@ good_kept d n (Rank node) l t g =
       names = g.names;
       apart = g.apart;
       below = below_push (length d.jobs) d.processes p g.below (omega arith);
+      together = jobs_push 0 d.processes p g.together (below_more (length d.jobs) (p.job + 1) d.processes (omega arith) g.below) (omega arith);
       ranked = ranked_push (λ j. 0) d.processes p g.ranked g.last;
       last = ap (λ x. x + 1) g.last ∙ sym (counts_push (λ j. 0) d.processes p (length d.jobs - 1) ∙ rw one refl);
       few = omega (arith, length-append d.processes (p ∷ []));
@@ -164,13 +182,14 @@ good_kept d n (Calls c) l t g =
       names = g.names;
       apart = g.apart;
       below = below_with (length d.jobs) d.processes (n, c) g.below;
+      together = jobs_with 0 d.processes (n, c) g.together;
       ranked = ranked_with (λ j. 0) d.processes (n, c) g.ranked;
       last = g.last ∙ sym (counts_with (λ j. 0) d.processes (n, c) (length d.jobs - 1));
       few = omega (arith, ranks_with d.processes (n, c), g.few);
     }
 
 nothing_good : IsGood nothing
-nothing_good = record { names = tt; apart = tt; below = tt; ranked = tt; last = refl; few = omega arith }
+nothing_good = record { names = tt; apart = tt; below = tt; together = tt; ranked = tt; last = refl; few = omega arith }
 
 good_run : (ls : List (ℕ × Said)) (d e : Declared) → Runs ls d e → IsGood d → IsGood e
 good_run [] d e r g = subst IsGood r g
@@ -190,7 +209,7 @@ more_counted : (n : ℕ → ℕ) (job j : ℕ) → n j ≤ with_one n job j
 more_counted n job j = elim (j == job) as (λ t. n j ≤ (if t then n j + 1 else n j)) [ true ↦ omega arith | false ↦ omega arith ]
 
 -- a rank is no less than the processes before
-rank_least : (n : ℕ → ℕ) (ps : List Started) (k : ℕ) (p : Started) → AreRanked n ps → slice_get ps k ≡ Some p → n p.job ≤ p.rank
+rank_least : (n : ℕ → ℕ) (ps : List Started) (k : ℕ) (p : Started) → RanksFrom n ps → slice_get ps k ≡ Some p → n p.job ≤ p.rank
 rank_least n [] k p h at = absurd (cc)
 rank_least n (q ∷ ps) zero p h at = let same : q ≡ p = cc in subst (λ x. n x.job ≤ x.rank) same (let e = h.0 in omega arith)
 rank_least n (q ∷ ps) (suc k) p h at =
@@ -199,7 +218,7 @@ rank_least n (q ∷ ps) (suc k) p h at =
     omega arith
 
 -- and no more than they and the processes of this list before it
-pub rank_most : (n : ℕ → ℕ) (ps : List Started) (k : ℕ) (p : Started) → AreRanked n ps → slice_get ps k ≡ Some p → p.rank ≤ n p.job + k
+pub rank_most : (n : ℕ → ℕ) (ps : List Started) (k : ℕ) (p : Started) → RanksFrom n ps → slice_get ps k ≡ Some p → p.rank ≤ n p.job + k
 rank_most n [] k p h at = absurd (cc)
 rank_most n (q ∷ ps) zero p h at = let same : q ≡ p = cc in subst (λ x. x.rank ≤ n x.job + 0) same (let e = h.0 in omega arith)
 rank_most n (q ∷ ps) (suc k) p h at =
@@ -210,11 +229,11 @@ rank_most n (q ∷ ps) (suc k) p h at =
     one_at_most : (j : ℕ) → with_one n q.job j ≤ n j + 1
     one_at_most j = elim (j == q.job) as (λ t. (if t then n j + 1 else n j) ≤ n j + 1) [ true ↦ omega arith | false ↦ omega arith ]
 
-counted_once : (n : ℕ → ℕ) (j job : ℕ) → j ≡ job → with_one n job j ≡ n j + 1
+pub counted_once : (n : ℕ → ℕ) (j job : ℕ) → j ≡ job → with_one n job j ≡ n j + 1
 counted_once n j job e = rw (eq-eqb j job e) refl
 
 -- a job and a rank name one process
-pub one_process : (n : ℕ → ℕ) (ps : List Started) (k m : ℕ) (p q : Started) → AreRanked n ps → slice_get ps k ≡ Some p → slice_get ps m ≡ Some q → p.job ≡ q.job → p.rank ≡ q.rank → k ≡ m
+pub one_process : (n : ℕ → ℕ) (ps : List Started) (k m : ℕ) (p q : Started) → RanksFrom n ps → slice_get ps k ≡ Some p → slice_get ps m ≡ Some q → p.job ≡ q.job → p.rank ≡ q.rank → k ≡ m
 one_process n [] k m p q h a b j r = absurd (cc)
 one_process n (x ∷ ps) zero zero p q h a b j r = refl
 one_process n (x ∷ ps) zero (suc m) p q h a b j r =
@@ -234,7 +253,7 @@ one_process n (x ∷ ps) (suc k) zero p q h a b j r =
 one_process n (x ∷ ps) (suc k) (suc m) p q h a b j r = ap suc (one_process (with_one n x.job) ps k m p q h.1 a b j r)
 
 -- a job with a process has one of rank 0
-pub first_process : (n : ℕ → ℕ) (ps : List Started) (k : ℕ) (p : Started) → AreRanked n ps → slice_get ps k ≡ Some p → n p.job ≡ 0
+pub first_process : (n : ℕ → ℕ) (ps : List Started) (k : ℕ) (p : Started) → RanksFrom n ps → slice_get ps k ≡ Some p → n p.job ≡ 0
     → (m : ℕ) × (q : Started) × (slice_get ps m ≡ Some q) × (q.job ≡ p.job) × (q.rank ≡ 0)
 first_process n [] k p h at z = absurd (cc)
 first_process n (x ∷ ps) zero p h at z = let same : x ≡ p = cc in (zero, p, at, refl, subst (λ y. y.rank ≡ n y.job) same h.0 ∙ z)

@@ -6,12 +6,12 @@ use Rattle.wire_lines.specs.Text.{lines_of}
 use Rattle.wire_lines.specs.Said.{Call, Said, Header, Node, Job, Rank, Calls, IsLawful}
 use Rattle.wire_rehearsal.specs.Scripts.{Scripts}
 use Rattle.wire_rehearsal.specs.Canonical.{line_text, lines_said, canonical}
-use Rattle.wire_script.specs.Statements.{Statement, statements}
+use Rattle.wire_script.specs.Statements.{statements}
 use Rattle.wire_script.specs.FirstPass.{Started, Declared, nothing, number_or_count, after, with_call, FirstPass}
 use Rattle.wire_script.specs.Reads.{first_fault, scripts_of, unless_fault, second_pass, ReadsShort}
 use Rattle.wire_script.specs.Back.{ReadsBack, OneCanonical}
 use Rattle.wire_script.proofs.Recut.{AllLawful, numbered_lines, said_again}
-use Rattle.wire_script.proofs.Changed.{IsTaken, IsFit, CallsAre, AllCalls, Runs, Takes, changed_declaration, lines_run, lines_changed, lines_judged}
+use Rattle.wire_script.proofs.Changed.{IsTaken, IsFit, CallsAre, AllCalls, Runs, Takes, changed_declaration, first_run, lines_changed, lines_judged}
 use Rattle.wire_script.proofs.Order.{lines_added, nothing_shaped}
 use Rattle.wire_script.proofs.Ranked.{run_good}
 use Rattle.wire_script.proofs.Once.{short_once}
@@ -42,11 +42,6 @@ fit_kept d n (Calls c) l t h = fit_with d.processes (n, c) h (record { lawful = 
 fit_run : (ls : List (ℕ × Said)) (d e : Declared) → Runs ls d e → AllCalls (λ j b. IsFit b) d.processes → AllCalls (λ j b. IsFit b) e.processes
 fit_run [] d e r h = subst (λ x. AllCalls (λ j b. IsFit b) x.processes) r h
 fit_run (l ∷ ls) d e r h = fit_run ls (after d l.0 l.1) e r.2 (fit_kept d l.0 l.1 r.0 r.1 h)
-
-first_run : (lines : List Statement) (n : ℕ) (d : Declared) → FirstPass lines n (Ok d) → (ls : List (ℕ × Said)) × Runs ls nothing d
-first_run [] n d f = absurd (cc)
-first_run (line ∷ lines) n d (inl f) = lines_run lines d nothing f.1
-first_run (line ∷ lines) n d (inr f) = absurd (let h = f.1 in cc)
 
 all_lawful : (xs : List Said) (d e : Declared) → Takes xs d e → AllLawful xs
 all_lawful [] d e t = tt

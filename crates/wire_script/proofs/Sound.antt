@@ -1,4 +1,5 @@
--- What is read is sound: each set is one of processes, and each caller of a fence is a member.
+-- What is read is sound: processes have their ranks, each owner of a get is a process, each set is one of processes, and each
+-- caller of a fence is a member.
 use Rattle.std.proofs.Common.{◌≡◌, ◌∙◌, ap, sym, subst, refl, ℕ, zero, suc, ◌+◌, ◌<◌, List, [], ◌∷◌, Bool, true, false, Option, Some, None, Err, ◌⊎◌, inl, inr, length, map, option_map, arith, if◌then◌else◌}
 use Rattle.std.specs.Prelude.{not, slice_get, nat_lt}
 use Rattle.std.specs.List.{flat_map, list_all}
@@ -6,6 +7,7 @@ use Rattle.std.specs.Str.{bytes_eq}
 use Rattle.std.proofs.lemmas.List.{length-map}
 use Rattle.std.proofs.lemmas.Option.{slice_get-map}
 use Rattle.std.proofs.lemmas.Slice.Eq.{bytes_eq-Decides}
+use borrow.Author.Tests.{ltb-true}
 use Rattle.wire_runs.specs.Plan.{set_of}
 use Rattle.wire_runs.specs.Fences.{is_member}
 use Rattle.wire_types.specs.declared.Fault.{Fault}
@@ -13,15 +15,18 @@ use Rattle.wire_types.specs.declared.Fault.TheVariants.{Memory, UnknownName, Not
 use Rattle.wire_types.specs.declared.Call.{Call}
 use Rattle.wire_types.specs.declared.Call.TheVariants.{Fence}
 use Rattle.wire_lines.specs.Said as said
-use Rattle.wire_rehearsal.specs.Scripts.{Process, call_at, calls_in, set_at, name_in, AreSets, AreMembers, AreNamed, IsSound}
+use Rattle.wire_rehearsal.specs.Scripts.{Process, call_at, calls_in, set_at, name_in, owner_in, AreOwned, AreSets, AreMembers, AreNamed, IsSound}
 use Rattle.wire_script.specs.FirstPass.{Started, Declared, is_among, number_or_count}
-use Rattle.wire_script.specs.Reads.{Seen, seen_in, in_calls, names_in, sets_in, set_members, places_from, is_in, is_declared_call, is_with_caller, call_fault, first_of, fault_in, first_fault, numbered, process_of, scripts_with, scripts_of, unless_fault, second_pass}
-use Rattle.wire_script.specs.Within.{IsWithinLimits}
+use Rattle.wire_script.specs.Reads.{Seen, seen_in, in_calls, names_in, sets_in, set_members, places_from, is_in, proc_number, has_proc, is_declared_call, is_with_caller, call_fault, first_of, fault_in, first_fault, numbered, process_of, scripts_with, scripts_of, unless_fault, second_pass}
+use Rattle.wire_script.specs.Within.{IsWithinLimits, IsDeclared}
 use Rattle.wire_script.proofs.Places.{places_canonical, places_within, places_hold}
 use Rattle.wire_script.proofs.Seen.{Each, each_seen, each_at, each_flat, seen_apart, apart_once, seen_among, among_flat, text_at_number}
 use Rattle.wire_script.specs.Tabled.{nothing_seen, all_seen}
 use Rattle.wire_script.proofs.Tables.{all_seen_is}
 use Rattle.wire_script.proofs.Within.{counted_processes}
+use Rattle.wire_script.proofs.Changed.{first_run}
+use Rattle.wire_script.proofs.Ranked.{run_good}
+use Rattle.wire_script.proofs.Numbered.{ranked}
 
 -- a set of processes that pass some test
 abbrev IsOfTest : Declared → List ℕ → Type 0
@@ -74,9 +79,9 @@ none_of_call d p [] i c h at = absurd (cc)
 none_of_call d p (b ∷ bs) zero c h at = let same : b ≡ c = cc in subst (λ x. call_fault d p x.0 x.1 ≡ None) same (first_none _ _ h).0
 none_of_call d p (b ∷ bs) (suc i) c h at = none_of_call d p bs i c (first_none _ _ h).1 at
 
--- a call without a fault has its caller in its set
-no_fault : (a b : Bool) (line : ℕ) → (if not a then Some (UnknownName line) else if not b then Some (NotMember line) else None) ≡ None → b ≡ true
-no_fault true true line e = refl
+-- a call without a fault names what is declared, and has its caller in its set
+no_fault : (a b : Bool) (line : ℕ) → (if not a then Some (UnknownName line) else if not b then Some (NotMember line) else None) ≡ None → (a ≡ true) × (b ≡ true)
+no_fault true true line e = (refl, refl)
 no_fault true false line e = absurd (cc)
 no_fault false b line e = absurd (cc)
 
@@ -129,11 +134,31 @@ sound_members d none i j n b e =
     let from = call_from d (seen_in d) i j (Fence n b) e in
     let said_as = fence_said d (seen_in d) from.0.job from.1.1 n b from.4 in
     let free : call_fault d from.0 from.1.0 from.1.1 ≡ None = none_of_call d from.0 from.0.calls j from.1 (none_of_process d d.processes i from.0 none from.2) from.3 in
-    let with_caller : is_with_caller d from.0 from.1.1 ≡ true = no_fault (is_declared_call d from.1.1) (is_with_caller d from.0 from.1.1) from.1.0 free in
+    let with_caller : is_with_caller d from.0 from.1.1 ≡ true = (no_fault (is_declared_call d from.1.1) (is_with_caller d from.0 from.1.1) from.1.0 free).1 in
     let in_it : is_with_caller d from.0 (said.Fence said_as.0 said_as.1) ≡ true = subst (λ x. is_with_caller d from.0 x ≡ true) said_as.2 with_caller in
     let stands : slice_get from.0.calls j ≡ Some (from.1.0, said.Fence said_as.0 said_as.1) = from.3 ∙ ap (λ x. Some (from.1.0, x)) said_as.2 in
     subst (λ m. (m < length (seen_in d).sets) × (is_member (set_at (seen_in d).sets m) i ≡ true)) (sym said_as.3)
     (member d i j from.0 from.1.0 said_as.0 said_as.1 from.2 stands in_it)
+
+-- the owner that a get with numbers names is declared
+owner_said : (d : Declared) (s : Seen) (own : ℕ) (c : said.Call) (n : ℕ) → owner_in (numbered d s own c) ≡ Some n → is_declared_call d c ≡ true → n < length d.processes
+unfolding has_proc
+owner_said d s own (said.Put scope key value) n e declared = absurd (cc)
+owner_said d s own said.Commit n e declared = absurd (cc)
+owner_said d s own (said.Fence set collect) n e declared = absurd (cc)
+owner_said d s own (said.Get job rank key) n e declared = let is : proc_number d job rank ≡ n = cc in subst (λ m. m < length d.processes) is (ltb-true _ _ declared)
+owner_said d s own (said.GetNow job rank key) n e declared = let is : proc_number d job rank ≡ n = cc in subst (λ m. m < length d.processes) is (ltb-true _ _ declared)
+owner_said d s own (said.Publish name value) n e declared = absurd (cc)
+owner_said d s own (said.Lookup name) n e declared = absurd (cc)
+owner_said d s own (said.LookupWait name) n e declared = absurd (cc)
+owner_said d s own (said.Unpublish name) n e declared = absurd (cc)
+
+sound_owners : (d : Declared) → first_fault d d.processes ≡ None → AreOwned (map (process_of d (seen_in d)) d.processes)
+sound_owners d none i j n call e named =
+    let from = call_from d (seen_in d) i j call e in
+    let free : call_fault d from.0 from.1.0 from.1.1 ≡ None = none_of_call d from.0 from.0.calls j from.1 (none_of_process d d.processes i from.0 none from.2) from.3 in
+    let declared : is_declared_call d from.1.1 ≡ true = (no_fault (is_declared_call d from.1.1) (is_with_caller d from.0 from.1.1) from.1.0 free).0 in
+    subst (λ m. n < m) (sym (process_count d (seen_in d))) (owner_said d (seen_in d) from.0.job from.1.1 n (ap owner_in from.4 ∙ named) declared)
 
 -- the name that a call with numbers names is that of its text
 name_said : (d : Declared) (s : Seen) (own : ℕ) (c : said.Call) (n : ℕ) → name_in (numbered d s own c) ≡ Some n
@@ -159,8 +184,18 @@ sound_names d i j n call e named =
     subst (λ m. m < length (seen_in d).names) (sym said_as.2) found
 
 -- what a file declares, where no call has a fault, is sound
-pub sound : (d : Declared) → IsWithinLimits d → first_fault d d.processes ≡ None → IsSound (scripts_with d (seen_in d))
-sound d within none = record { counted = counted_processes d (seen_in d) within; sets = sound_sets d; members = sound_members d none; names = sound_names d }
+pub sound : (d : Declared) → IsWithinLimits d → IsDeclared d → first_fault d d.processes ≡ None → IsSound (scripts_with d (seen_in d))
+sound d within declared none =
+    let run = first_run declared.0 declared.1 d declared.2 in
+    let good = run_good run.0 d run.1 in
+    record {
+      counted = counted_processes d (seen_in d) within;
+      ranked = ranked d (seen_in d) d.processes good.together good.ranked;
+      owned = sound_owners d none;
+      sets = sound_sets d;
+      members = sound_members d none;
+      names = sound_names d;
+    }
 
 -- scripts that are put together of their parts
 pub scripts_are : (d : Declared) (s : Seen) (ps : List Process) → s ≡ all_seen d nothing_seen d.processes → ps ≡ map (process_of d s) d.processes
@@ -171,9 +206,9 @@ scripts_are d s ps seen numbers =
     parts ∙ ap (scripts_with d) (seen ∙ all_seen_is d)
 
 pub sound_parts : (d : Declared) (s : Seen) (ps : List Process) → s ≡ all_seen d nothing_seen d.processes → ps ≡ map (process_of d s) d.processes
-    → IsWithinLimits d → first_fault d d.processes ≡ None
+    → IsWithinLimits d → IsDeclared d → first_fault d d.processes ≡ None
     → IsSound (record { nodes = d.nodes; jobs = d.jobs; keys = s.keys; names = s.names; values = s.values; sets = s.sets; processes = ps })
-sound_parts d s ps seen numbers within none = subst IsSound (sym (scripts_are d s ps seen numbers)) (sound d within none)
+sound_parts d s ps seen numbers within declared none = subst IsSound (sym (scripts_are d s ps seen numbers)) (sound d within declared none)
 
 -- the fault of the second pass
 pub second_fault : (d : Declared) (e : Fault) → (e ≡ Memory) ⊎ (first_fault d d.processes ≡ Some e) → (e ≡ Memory) ⊎ (second_pass d ≡ Err e)

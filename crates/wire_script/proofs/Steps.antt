@@ -6,7 +6,7 @@ use Rattle.wire_types.specs.declared.Fault.{Fault}
 use Rattle.wire_lines.specs.Shown.{call_by}
 use Rattle.wire_script.specs.FirstPass.{Started, Declared}
 use Rattle.wire_script.specs.Reads.{Seen, call_fault, first_of, fault_in, first_fault}
-use Rattle.wire_script.specs.Within.{call_count}
+use Rattle.wire_script.specs.Within.{started_calls}
 use Rattle.wire_script.specs.Drafted.{placed_of, started_of}
 use Rattle.wire_script.specs.Tabled.{seen_with, seen_after, all_seen, entry_count}
 use Rattle.wire_script.specs.declared.draft.Started.{Started as Building}
@@ -68,10 +68,10 @@ processes_on d all s t ps i x lt is so_far tables =
     ∙ ap (λ u. all_seen d u (map started_of (drop (i + 1) ps))) (sym tables)
 
 pub room_on : (s t : Seen) (bound : ℕ) (ps : List Building) (i : ℕ) (x : Building) → i < length ps → x ≡ get_or ps i x
-    → entry_count s + 2 * call_count (map started_of (drop i ps)) ≤ bound → entry_count t ≤ entry_count s + 2 * length x.calls.items
-    → entry_count t + 2 * call_count (map started_of (drop (i + 1) ps)) ≤ bound
+    → entry_count s + 2 * started_calls (map started_of (drop i ps)) ≤ bound → entry_count t ≤ entry_count s + 2 * length x.calls.items
+    → entry_count t + 2 * started_calls (map started_of (drop (i + 1) ps)) ≤ bound
 room_on s t bound ps i x lt is room more =
-    let cut = ap (λ l. call_count (map started_of l)) (drop_at ps i x lt is) in
+    let cut = ap (λ l. started_calls (map started_of l)) (drop_at ps i x lt is) in
     omega (arith, length-map x.calls.items placed_of)
 
 pub process_faults_on : (d : Declared) (all : Option Fault) (ps : List Building) (i : ℕ) (x : Building) → i < length ps → x ≡ get_or ps i x

@@ -11,13 +11,13 @@ use Rattle.wire_rehearsal.specs.Scripts.{IsCounted}
 use Rattle.wire_script.specs.Statements.{Statement}
 use Rattle.wire_script.specs.FirstPass.{Started, Declared, number_or_count, nothing, after, is_in_place, is_short, is_known, is_again, has_room, with_call, Judges, JudgesAll, FirstPass}
 use Rattle.wire_script.specs.Reads.{Seen, numbered, process_of}
-use Rattle.wire_script.specs.Within.{call_count, IsWithinLimits}
+use Rattle.wire_script.specs.Within.{started_calls, IsWithinLimits}
 
-one_process : (ps : List Started) (p : Started) → call_count (ps ++ p ∷ []) ≡ call_count ps + length p.calls
+one_process : (ps : List Started) (p : Started) → started_calls (ps ++ p ∷ []) ≡ started_calls ps + length p.calls
 one_process [] p = omega arith
 one_process (q ∷ qs) p = let h = one_process qs p in omega arith
 
-one_call : (ps : List Started) (c : ℕ × Call) → 0 < length ps → call_count (with_call ps c) ≡ call_count ps + 1
+one_call : (ps : List Started) (c : ℕ × Call) → 0 < length ps → started_calls (with_call ps c) ≡ started_calls ps + 1
 one_call [] c h = absurd (omega arith)
 one_call (p ∷ []) c h = omega (arith, length-append p.calls (c ∷ []))
 one_call (p ∷ q ∷ ps) c h = let more = one_call (q ∷ ps) c (omega arith) in omega arith
@@ -90,7 +90,7 @@ first_within [] n d f = absurd (cc)
 first_within (line ∷ lines) n d (inl f) = all_within lines d nothing f.1 nothing_within
 first_within (line ∷ lines) n d (inr f) = absurd (let h = f.1 in cc)
 
-numbered_calls : (d : Declared) (s : Seen) (ps : List Started) → sum_by (λ p. length p.calls) (map (process_of d s) ps) ≡ call_count ps
+numbered_calls : (d : Declared) (s : Seen) (ps : List Started) → sum_by (λ p. length p.calls) (map (process_of d s) ps) ≡ started_calls ps
 numbered_calls d s [] = refl
 numbered_calls d s (p ∷ ps) = let h = numbered_calls d s ps in omega (arith, sum_by-cons (λ q. length q.calls) (process_of d s p) (map (process_of d s) ps), length-map p.calls (λ c. numbered d s p.job c.1))
 

@@ -1,6 +1,6 @@
 //! From bytes to scripts.
 
-ghost use Rattle.std.specs.Prelude.{◌≡◌, ◌≤◌, ◌==◌, ◌⊎◌, ◌+◌, count_by, take, length, Ok, Err, IfOk, IfErr};
+ghost use Rattle.std.specs.Prelude.{◌≡◌, ◌≤◌, ◌⊎◌, length, Ok, Err, IfOk, IfErr};
 ghost use Rattle.wire_script.specs.Limits as limit;
 ghost use Rattle.wire_script.specs.Back.{ReadsBack, OneCanonical};
 ghost use Rattle.wire_script.specs.Reads.{Reads, ReadsShort, ReadsOnce};
@@ -9,6 +9,7 @@ use crate::first_pass::first_pass;
 use crate::limits::FILE_BYTES;
 use crate::second_pass::scripts_of;
 use std::alloc::Global;
+use wire_lines::line_past;
 use wire_rehearsal::Scripts;
 use wire_types::Fault;
 
@@ -32,14 +33,6 @@ fn read_short(alloc: Global, bytes: &[u8]) -> Result<Scripts, Fault>
 {
     let draft = first_pass(alloc, bytes)?;
     scripts_of(alloc, draft)
-}
-
-/// The number of the line in which the limit falls.
-fn line_past(bytes: &[u8], limit: usize) -> u64
-    requires { limit ≤ length bytes.now }
-    ensures { result ≡ count_by (λ b. b == 10) (take limit bytes.now) + 1 }
-{
-    bytes[..limit].iter().filter(|b| **b == b'\n').count() as u64 + 1
 }
 
 /// A law: a text reads as at most one value.

@@ -5,7 +5,7 @@ ghost use Rattle.wire_lines.specs.Shown.{call_by, set_by};
 ghost use Rattle.wire_script.specs.FirstPass.{number_or_count};
 ghost use Rattle.wire_script.specs.Reads as spec;
 ghost use Rattle.wire_script.specs.Reads.{Seen, is_declared_set, is_in, set_members, has_proc, proc_number, numbered, process_of, call_fault, fault_in, first_fault, second_pass};
-ghost use Rattle.wire_script.specs.Within.{IsWithinLimits};
+ghost use Rattle.wire_script.specs.Within.{IsWithinLimits, IsDeclared};
 ghost use Rattle.wire_script.specs.Drafted.{declared_of, started_of, placed_of};
 ghost use Rattle.wire_script.specs.Tabled.{seen_of, seen_with, seen_after, all_seen, nothing_seen, entry_count, with_text, GoesOn, GoOn};
 
@@ -222,7 +222,8 @@ fn number_processes(
 
 /// The scripts that a draft declares, or the first fault of its calls.
 pub fn scripts_of(alloc: Global, draft: Draft) -> Result<Scripts, Fault>
-    requires { IsWithinLimits (declared_of draft) }
+    requires within { IsWithinLimits (declared_of draft) }
+    requires declared { IsDeclared (declared_of draft) }
     ensures ok { IfOk result (λ s. second_pass (declared_of draft.entry) ≡ Ok s) }
     ensures err { IfErr result (λ e. (e ≡ Fault.Memory) ⊎ (second_pass (declared_of draft.entry) ≡ Err e)) }
 {

@@ -1,5 +1,5 @@
 use Rattle.std.proofs.Common.{sym, true≢false}
-use Rattle.wire_lines.proofs.Joined.{no_item, no_colon_item}
+use Rattle.wire_lines.proofs.Joined.{no_item}
 use Rattle.wire_lines.proofs.sets.item_of.Goals as goal
 
 pub returns-then-not-is_name-clause-none : goal.returns-then-not-is_name-clause-none

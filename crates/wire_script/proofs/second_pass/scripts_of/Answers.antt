@@ -8,7 +8,7 @@ use Rattle.wire_script.proofs.second_pass.scripts_of.Goals as goal
 pub new-requires-5 : goal.new-requires-5
 new-requires-5 c =
     sound_parts (declared_of c.args.draft) (seen_of c.number_processes.new.tables) c.in-Ok.processes.items
-    c.in-Ok.ensures.tables c.in-Ok.ensures.processes c.requires c.in-Ok.ensures.ok
+    c.in-Ok.ensures.tables c.in-Ok.ensures.processes c.requires.within c.requires.declared c.in-Ok.ensures.ok
 
 pub returns-clause-ok : goal.returns-clause-ok
 returns-clause-ok c =

@@ -1,0 +1,15 @@
+-- The verbs of calls, as they are spelled.
+use Rattle.std.specs.Prelude.{ℕ, List, codes}
+use Rattle.wire_lines.specs.declared.call.Verb.{Verb}
+use Rattle.wire_lines.specs.declared.call.Verb.TheVariants.{Put, Commit, Fence, Get, GetNow, Publish, Lookup, LookupWait, Unpublish}
+
+abbrev pub text_of_verb : Verb → List ℕ
+text_of_verb Put = codes "put"
+text_of_verb Commit = codes "commit"
+text_of_verb Fence = codes "fence"
+text_of_verb Get = codes "get"
+text_of_verb GetNow = codes "get-now"
+text_of_verb Publish = codes "publish"
+text_of_verb Lookup = codes "lookup"
+text_of_verb LookupWait = codes "lookup-wait"
+text_of_verb Unpublish = codes "unpublish"
