@@ -5,7 +5,7 @@ ghost use Rattle.std.specs.List.{list_all};
 ghost use Rattle.wire_runs.specs.Fences.{has_node};
 ghost use Rattle.wire_rehearsal.specs.Scripts.{Scripts as TheScripts, numbers_of, set_at};
 ghost use Rattle.wire_rehearsal.specs.Planned.{plan_of};
-ghost use Rattle.wire_procmap.specs.Map.{map_of, process_count};
+ghost use Rattle.wire_procmap.specs.Map.{map_of, row_count};
 ghost use Rattle.wire_fence.specs.FenceTable.{FenceInfo, AreFencesOf, fence_at, members_in, full_in, collects_in, reaches_in, fence_number as the_fence_number};
 
 use crate::register::{Register, Row, members_of};
@@ -71,7 +71,7 @@ fn mark(nodes: &mut Vec<bool>, node: u32) -> Result<(), AllocError>
 
 // Of each node whether one of the members is on it, up to the last node that has one.
 fn nodes_of(alloc: Global, map: &ProcMap, members: &[Proc]) -> Result<Vec<bool>, AllocError>
-    requires { (k : ℕ) → k < length members.now → slice_index_or (numbers_of members.now) k 0 < process_count map.now }
+    requires { (k : ℕ) → k < length members.now → slice_index_or (numbers_of members.now) k 0 < row_count map.now }
     ensures { IfOk result (λ nodes. (s : TheScripts) (node : ℕ) → map.now ≡ map_of s
         → slice_index_or nodes.items node false ≡ has_node (plan_of s) (numbers_of members.now) node) }
 {
@@ -89,7 +89,7 @@ fn nodes_of_sets(
     sets: &[Vec<Proc>],
 ) -> Result<Vec<Vec<bool>>, AllocError>
     requires { (set k : ℕ) → k < length (set_at (map_list (λ v. numbers_of v.items) sets.now) set)
-        → slice_index_or (set_at (map_list (λ v. numbers_of v.items) sets.now) set) k 0 < process_count map.now }
+        → slice_index_or (set_at (map_list (λ v. numbers_of v.items) sets.now) set) k 0 < row_count map.now }
     ensures { IfOk result (λ nodes. (s : TheScripts) (set node : ℕ) → map.now ≡ map_of s
         → slice_index_or (slice_index_or (map_list (λ v. v.items) nodes.items) set []) node false ≡ has_node (plan_of s) (set_at (map_list (λ v. numbers_of v.items) sets.now) set) node) }
 {

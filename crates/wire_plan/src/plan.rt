@@ -322,3 +322,21 @@ pub fn fence_of(plan: &Plan, fences: &Fences, event: Event) -> FenceId
 {
     fence_at(&plan.events, fences, event)
 }
+
+impl PartialEq for Plan {
+    ghost use Rattle.std.specs.Prelude.{◌≡◌};
+    ghost use Rattle.std.specs.Bool.{Decides};
+    ghost use Rattle.wire_rehearsal.specs.Same.{same_scripts, scripts_alike};
+
+    ghost eq = { same_scripts };
+
+    ghost laws = { scripts_alike };
+
+    /// Whether both are made of the same scripts: nodes, jobs, ranks and calls, in order. Takes no memory.
+    fn eq(&self, other: &Plan) -> bool
+        ensures tested { result ≡ same_scripts self.now other.now }
+        ensures same { Decides result (self.now ≡ other.now) }
+    {
+        self.scripts() == other.scripts()
+    }
+}

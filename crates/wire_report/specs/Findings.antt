@@ -7,7 +7,7 @@ use Rattle.wire_types.specs.declared.CallAt.{CallAt}
 use Rattle.wire_rehearsal.specs.Scripts.{Scripts, call_at, text_at}
 use Rattle.wire_races.specs.declared.finding.Finding.{Finding}
 use Rattle.wire_races.specs.declared.finding.Finding.TheVariants.{Rewrite, KeyRace, NameRace}
-use Rattle.wire_report.specs.Chain.{proc_text_in, call_text}
+use Rattle.wire_report.specs.Chain.{text_of_process, call_text}
 
 -- the text of the key that a call puts, empty where it puts none
 abbrev pub put_key_text : Scripts → Option Call → List ℕ
@@ -27,7 +27,7 @@ pair_text scripts lower higher = call_text scripts lower ++ codes " " ++ call_te
 abbrev pub finding_line : Scripts → Finding → List ℕ
 finding_line scripts (Rewrite first later) = codes "rewrite " ++ rewrite_text scripts first later ++ codes "\n"
 finding_line scripts (KeyRace lower higher owner key) =
-    codes "race " ++ pair_text scripts lower higher ++ codes " key " ++ proc_text_in scripts (slice_get scripts.processes owner.number) ++ codes " " ++ text_at scripts.keys key ++ codes "\n"
+    codes "race " ++ pair_text scripts lower higher ++ codes " key " ++ text_of_process scripts (slice_get scripts.processes owner.number) ++ codes " " ++ text_at scripts.keys key ++ codes "\n"
 finding_line scripts (NameRace lower higher name) =
     codes "race " ++ pair_text scripts lower higher ++ codes " name " ++ text_at scripts.names name ++ codes "\n"
 

@@ -11,6 +11,7 @@ use Rattle.wire_types.specs.declared.CallEnd.{CallEnd}
 use Rattle.wire_types.specs.declared.CallEnd.TheVariants.{Replied, Waiting, Ready, Unreached}
 use Rattle.wire_types.specs.Outcome.{Ends}
 use Rattle.wire_rehearsal.specs.Scripts.{Scripts, Process, text_at, call_at}
+use Rattle.wire_rehearsal.specs.Canonical.{process_text}
 
 -- the name of a status in the PMIx Standard 5.0
 abbrev pub status_name : Status → List ℕ
@@ -20,11 +21,7 @@ status_name ExistsOutsideScope = codes "PMIX_ERR_EXISTS_OUTSIDE_SCOPE"
 status_name DuplicateKey = codes "PMIX_ERR_DUPLICATE_KEY"
 status_name BadParam = codes "PMIX_ERR_BAD_PARAM"
 
--- a process: the name of its job, a colon, and its rank
-abbrev pub proc_text : Scripts → Process → List ℕ
-proc_text scripts process = text_at scripts.jobs process.job ++ codes ":" ++ decimal process.rank
-
--- what a call is called
+-- the verb of a call
 abbrev pub verb_of : Call → List ℕ
 verb_of (Put scope key value) = codes "put"
 verb_of Commit = codes "commit"
@@ -69,7 +66,7 @@ end_text scripts Unreached = codes "unreached"
 -- the line of a process's call number n
 abbrev pub call_line : Scripts → Process → ℕ → Call → CallEnd → List ℕ
 call_line scripts process n call end =
-    proc_text scripts process ++ codes " " ++ decimal n ++ codes " " ++ verb_of call ++ codes " " ++ end_text scripts end ++ codes "\n"
+    process_text scripts process ++ codes " " ++ decimal n ++ codes " " ++ verb_of call ++ codes " " ++ end_text scripts end ++ codes "\n"
 
 -- the lines of these calls of a process, the first of them its number n, as far as both lists go
 abbrev pub lines_from : Scripts → Process → ℕ → List Call → List CallEnd → List ℕ

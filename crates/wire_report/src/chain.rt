@@ -11,10 +11,11 @@ ghost use Rattle.wire_marks.specs.Clocks.{AreMarks};
 ghost use Rattle.wire_report.specs.Chain.{IsChainText, OneChainText};
 
 use crate::steps::{ordered_text, unordered_text};
+use crate::writing::write_text;
 use std::alloc::Global;
 use wire_marks::Marks;
 use wire_plan::Plan;
-use wire_types::{CallAt, Fault, Sink, write_out};
+use wire_types::{CallAt, Fault, Sink};
 
 /// Whether a chain of events leads from call x to call y: `before` and the events of the chain that is
 /// shown, else `after` and those of the chain from y to x, else `unordered` and which of the two calls
@@ -64,17 +65,6 @@ pub fn write_chain<S: Sink>(
 {
     let text = chain_text(alloc, plan, marks, x, y)?;
     write_text(sink, text.as_slice())
-}
-
-/// Writes a text to the sink.
-fn write_text<S: Sink>(sink: &mut S, text: &[u8]) -> Result<(), Fault>
-    ensures ok { OnOk result (Appends (S.written sink.old) (S.written sink.new) text.now) }
-    ensures quiet { OnOk result (S.failures sink.new ≡ S.failures sink.old) }
-    ensures memory { result ≡ Err Memory → sink.new ≡ sink.old }
-    ensures err { IfErr result (λ e. WritesFront (S.written sink.old) (S.written sink.new) text.now e) }
-    ensures failed { IfErr result (λ e. S.failures sink.new ≡ one_more (S.failures sink.old)) }
-{
-    write_out(sink, text).map_err(Fault::Write)
 }
 
 /// For two calls of a plan there is one text.

@@ -7,7 +7,9 @@ mod lines;
 mod report;
 mod steps;
 mod words;
+mod writing;
 
 pub use chain::{chain_text, one_chain_text, write_chain};
 pub use findings::{findings_text, write_findings};
 pub use report::{report_text, write_report};
+pub use writing::write_text;

@@ -150,7 +150,7 @@ pub fn push_call(out: &mut Vec<u8>, scripts: &Scripts, call: CallAt) -> Result<(
 /// Appends a process by its number; nothing where it isn't there.
 pub fn push_proc(out: &mut Vec<u8>, scripts: &Scripts, proc: Proc) -> Result<(), AllocError>
     ensures { OnOk result (out.new.items ≡ out.old.items
-        ++ spec.proc_text_in scripts.now (slice_get scripts.now.processes proc.number)) }
+        ++ spec.text_of_process scripts.now (slice_get scripts.now.processes proc.number)) }
 {
     match scripts.processes().get(proc.index()) {
         Some(process) => push_process(out, scripts, process),

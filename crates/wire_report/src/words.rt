@@ -2,10 +2,12 @@
 
 ghost use Rattle.std.specs.Prelude.{◌≡◌, ◌++◌, length, decimal, codes, OnOk, option_copied};
 ghost use Rattle.wire_rehearsal.specs.Scripts.{call_at};
+ghost use Rattle.wire_rehearsal.specs.Canonical.{process_text};
 ghost use Rattle.wire_report.specs.Report as spec;
 
 use itoa::Buffer;
 use std::alloc::AllocError;
+use wire_lines::write_proc;
 use wire_rehearsal::{Process, Scripts};
 use wire_types::{Call, CallAt, CallEnd, Reply, Status, Value};
 
@@ -23,11 +25,9 @@ pub fn push_process(
     scripts: &Scripts,
     process: &Process,
 ) -> Result<(), AllocError>
-    ensures { OnOk result (out.new.items ≡ out.old.items ++ spec.proc_text scripts.now process.now) }
+    ensures { OnOk result (out.new.items ≡ out.old.items ++ process_text scripts.now process.now) }
 {
-    out.extend_from_slice(scripts.jobs().text(process.job()))?;
-    out.extend_from_slice(b":")?;
-    push_number(out, u64::from(process.rank()))
+    write_proc(out, scripts.jobs().text(process.job()), process.rank())
 }
 
 /// What a call is called.

@@ -9,13 +9,12 @@ ghost use Rattle.wire_report.specs.Chain.{IsChainText};
 ghost use Rattle.wire_up.specs.Why.{Asks, Answers, WritesAnswer, BreaksOffAnswer, StopsBeforeAnswer};
 
 use crate::replaying::read_scripts;
-use crate::writing::write_text;
 use std::alloc::Global;
 use wire_marks::Marks;
 use wire_order::{Question, calls_asked};
 use wire_plan::Plan;
 use wire_rehearsal::Scripts;
-use wire_report::chain_text;
+use wire_report::{chain_text, write_text};
 use wire_types::{CallAt, Fault, Sink, Source};
 
 /// The two calls that the words of a question name.

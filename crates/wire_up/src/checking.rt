@@ -8,7 +8,6 @@ ghost use Rattle.wire_up.specs.Check as spec;
 ghost use Rattle.wire_up.specs.Check.{IsVerdict, WritesFindings, EndsInOneState, BreaksOffFindings, StopsBeforeFindings};
 
 use crate::replaying::read_scripts;
-use crate::writing::write_text;
 use std::alloc::Global;
 use std::thread::Threads;
 use wire_marks::Marks;
@@ -16,7 +15,7 @@ use wire_plan::Plan;
 use wire_races::laws::settled_exactly;
 use wire_races::{Finding, findings};
 use wire_rehearsal::Scripts;
-use wire_report::findings_text;
+use wire_report::{findings_text, write_text};
 use wire_types::{Fault, Sink, Source};
 
 /// How a check ended: without findings, or with so many.

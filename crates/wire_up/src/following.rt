@@ -14,13 +14,12 @@ ghost use Rattle.wire_up.specs.Follow.{WritesFollowed, BreaksOffFollowed, StopsB
 
 use crate::reading::read_up_to;
 use crate::replaying::read_scripts;
-use crate::writing::write_text;
 use std::alloc::Global;
 use wire_core::Core;
 use wire_order::read_order;
 use wire_plan::Plan;
 use wire_rehearsal::Scripts;
-use wire_report::report_text;
+use wire_report::{report_text, write_text};
 use wire_types::{Fault, Outcome, Proc, Sink, Source};
 
 /// One byte more than an order may have, so that a longer one is seen to be too long.

@@ -6,7 +6,6 @@ mod checking;
 mod following;
 mod reading;
 mod replaying;
-mod writing;
 
 pub use asking::why;
 pub use checking::{Ended, check};

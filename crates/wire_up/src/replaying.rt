@@ -7,12 +7,11 @@ ghost use Rattle.wire_types.specs.Outcome.{ends_of};
 ghost use Rattle.wire_up.specs.Replay.{plain_ends, plain_report, ReadAs, WritesReport, Refuses, BreaksOff};
 
 use crate::reading::read_up_to;
-use crate::writing::write_text;
 use std::alloc::Global;
 use wire_core::Core;
 use wire_plan::Plan;
 use wire_rehearsal::Scripts;
-use wire_report::report_text;
+use wire_report::{report_text, write_text};
 use wire_script::read;
 use wire_types::{Fault, Outcome, Sink, Source};
 

@@ -11,4 +11,4 @@ returns-clause-ok g c =
 pub returns-clause-err : goal.returns-clause-err
 returns-clause-err g c =
     let told = subst (λ (t : List ℕ). IsChainText c.args.plan.now c.args.x c.args.y t) (sym c.as_slice.ensures.value) c.in_ok-text.ensures.ok in
-    if_err c.write_text.result (λ e out. inr (c.as_slice.result.now, told, out)) c.write_text.ensures.err
+    if_err c.write_text.result (λ e out. inr (c.as_slice.result.now, told, out)) c.write_text.ensures.front

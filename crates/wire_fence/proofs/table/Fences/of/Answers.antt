@@ -3,7 +3,7 @@ use Rattle.std.proofs.lemmas.List.FromFn.{length-map-range_with_len}
 use Rattle.wire_runs.specs.Fences.{has_node}
 use Rattle.wire_rehearsal.specs.Scripts.{Process, numbers_of, set_at}
 use Rattle.wire_rehearsal.specs.Planned.{plan_of}
-use Rattle.wire_procmap.specs.Map.{Map, process_count}
+use Rattle.wire_procmap.specs.Map.{Map, row_count}
 use Rattle.wire_procmap.specs.Rows.{row_of}
 use Rattle.wire_fence.specs.FenceTable.{AreFencesOf}
 use Rattle.wire_fence.specs.Register.{info_of, AreRead, AreAllNumbers, read_to}
@@ -17,7 +17,7 @@ nodes_of_sets-requires c = λ k i low.
     let low_there : i < length (set_at s.sets k) = subst (λ (xs : List (List ℕ)). i < length (set_at xs k)) sets low in
     let within = member_within s k i c.processes-processes.ensures.sound low_there in
     let same = ap (λ (xs : List (List ℕ)). get_or (set_at xs k) i 0) sets in
-    let count : process_count c.args.map.now ≡ length s.processes = ap (λ (m : Map). length m.rows) c.requires ∙ length-map-range_with_len (row_of s.processes) 0 (length s.processes) in
+    let count : row_count c.args.map.now ≡ length s.processes = ap (λ (m : Map). length m.rows) c.requires ∙ length-map-range_with_len (row_of s.processes) 0 (length s.processes) in
     omega (arith, within, same, count)
 
 pub returns-clause-ok : goal.returns-clause-ok
