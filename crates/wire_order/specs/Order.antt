@@ -3,17 +3,13 @@ use Rattle.std.specs.Prelude.{ℕ, ◌+◌, ◌==◌, nat_lt, List, [], ◌∷�
 use Rattle.std.specs.Str.{bytes_eq}
 use Rattle.wire_types.specs.declared.Fault.{Fault}
 use Rattle.wire_types.specs.declared.Fault.TheVariants.{BadOrder}
-use Rattle.wire_lines.specs.Said.{spelled_proc}
-use Rattle.wire_rehearsal.specs.Scripts.{Process, Scripts, text_at}
+use Rattle.wire_rehearsal.specs.Scripts.{Scripts}
+use Rattle.wire_rehearsal.specs.Canonical.{process_text}
 use Rattle.wire_script.specs.Statements.{Statement, statements}
-
--- the text of a process: the name of its job, a colon and its rank
-abbrev pub proc_text : Scripts → Process → List ℕ
-proc_text s q = spelled_proc (text_at s.jobs q.job) q.rank
 
 -- the number of the first process whose text is the word
 abbrev pub proc_named : Scripts → List ℕ → Option ℕ
-proc_named s word = position (λ q. bytes_eq word (proc_text s q)) s.processes
+proc_named s word = position (λ q. bytes_eq word (process_text s q)) s.processes
 
 -- the process that the words of a line name: they are one word, and that is the text of a process
 abbrev pub step_of : Scripts → List (List ℕ) → Option ℕ

@@ -1,6 +1,6 @@
 //! From bytes to an order of steps.
 
-ghost use Rattle.std.specs.Prelude.{◌≡◌, ◌≤◌, ◌==◌, ◌⊎◌, ◌+◌, ◌∷◌, ◌++◌, [], count_by, take, length, map, option_map, Ok, Err, OnOk, IfOk, IfErr};
+ghost use Rattle.std.specs.Prelude.{◌≡◌, ◌≤◌, ◌⊎◌, ◌∷◌, ◌++◌, [], length, map, option_map, Ok, Err, OnOk, IfOk, IfErr};
 ghost use Rattle.wire_rehearsal.specs.Scripts.{Scripts as Said, numbers_of};
 ghost use Rattle.wire_script.specs.Statements.{statements};
 ghost use Rattle.wire_order.specs.Order as spec;
@@ -9,12 +9,13 @@ ghost use Rattle.wire_order.specs.Words.{IsTableOf};
 
 use crate::words::ProcWords;
 use std::alloc::{AllocError, Global};
+use wire_lines::line_past;
 use wire_rehearsal::Scripts;
 use wire_script::Cursor;
 use wire_types::{Fault, Proc};
 
 /// The bytes that an order may have.
-const ORDER_BYTES: usize = 8_388_608;
+pub const ORDER_BYTES: usize = 8_388_608;
 
 /// The steps that an order says: each line that isn't skipped is one step, and names its process by the
 /// name of its job, a colon and its rank. The first line of another form, or of a process that isn't
@@ -65,12 +66,4 @@ fn step_of(table: &ProcWords, words: &[&[u8]]) -> Option<Proc>
         [word] => table.proc_of(word),
         _ => None,
     }
-}
-
-/// The number of the line in which the limit falls.
-fn line_past(bytes: &[u8], limit: usize) -> u64
-    requires { limit ≤ length bytes.now }
-    ensures { result ≡ count_by (λ b. b == 10) (take limit bytes.now) + 1 }
-{
-    bytes[..limit].iter().filter(|b| **b == b'\n').count() as u64 + 1
 }

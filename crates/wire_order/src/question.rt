@@ -1,12 +1,12 @@
 //! From the words of a question to the two calls that it is about.
 
-ghost use Rattle.std.specs.Prelude.{◌≡◌, ◌<◌, ◌⊎◌, ◌^◌, ◌≢◌, ℕ, Ok, Err, decimal, IfOk, IfErr, IfSome, IfNone};
+ghost use Rattle.std.specs.Prelude.{◌≡◌, ◌⊎◌, ℕ, Ok, Err, IfOk, IfErr, IfSome, IfNone};
 ghost use Rattle.wire_order.specs.Question.{QuestionReads, IsCallNumber, IsCallNamed, IsProcWrong, IsNumberWrong, OneQuestion, calls_made};
 ghost use Rattle.wire_order.specs.Words.{IsTableOf};
 
 use crate::words::ProcWords;
-use itoa::Buffer;
 use std::alloc::Global;
+use wire_lines::number_of;
 use wire_rehearsal::Scripts;
 use wire_types::{CallAt, Fault, Proc};
 
@@ -97,7 +97,7 @@ fn call_numbered(word: &str, count: usize) -> Option<u32>
     ensures found { IfSome result (IsCallNumber word.now count) }
     ensures none { IfNone result ((call : ℕ) → IsCallNumber word.now count call → ⊥) }
 {
-    let Some(number) = number_of(word) else {
+    let Some(number) = number_of(word.as_bytes()) else {
         return None;
     };
     if number == 0 {
@@ -107,20 +107,4 @@ fn call_numbered(word: &str, count: usize) -> Option<u32>
         return None;
     }
     Some(number - 1)
-}
-
-/// The number that the word is the decimal digits of, one to nine of them.
-fn number_of(word: &str) -> Option<u32>
-    ensures found { IfSome result (λ n. (word.now ≡ decimal n) × (n < 10 ^ 9)) }
-    ensures none { IfNone result ((n : ℕ) → n < 10 ^ 9 → word.now ≢ decimal n) }
-{
-    let Ok(number) = word.parse::<u32>() else {
-        return None;
-    };
-    if number >= 1_000_000_000 {
-        return None;
-    }
-    let mut buffer = Buffer::new();
-    let digits = buffer.format(number);
-    if digits == word { Some(number) } else { None }
 }

@@ -3,12 +3,11 @@
 ghost use Rattle.std.specs.Prelude.{◌≡◌, ℕ, List, Some, None, option_map, OnOk, IfOk, if◌then◌else◌};
 ghost use Rattle.std.specs.Option.{option_or};
 ghost use Rattle.std.specs.Str.{bytes_eq};
-ghost use Rattle.wire_lines.specs.Said.{spelled_proc};
 ghost use Rattle.wire_order.specs.Words.{number_in, IsTableOf};
 
-use itoa::Buffer;
 use std::alloc::{AllocError, Global};
 use std::collections::HashMap;
+use wire_lines::proc_word;
 use wire_rehearsal::Scripts;
 use wire_types::Proc;
 
@@ -16,17 +15,6 @@ use wire_types::Proc;
 #[derive(Drop)]
 pub struct ProcWords {
     procs: HashMap<Vec<u8>, Proc>,
-}
-
-/// The word of a process: the name of its job, a colon and its rank.
-fn proc_word(alloc: Global, job: &[u8], rank: u32) -> Result<Vec<u8>, AllocError>
-    ensures { IfOk result (λ word. word.items ≡ spelled_proc job.now rank) }
-{
-    let mut word = Vec::from_slice(alloc, job)?;
-    word.push(b':')?;
-    let mut digits = Buffer::new();
-    word.extend_from_slice(digits.format(rank).as_bytes())?;
-    Ok(word)
 }
 
 impl ProcWords {
