@@ -16,14 +16,14 @@ use crate::reading::read_up_to;
 use crate::replaying::read_scripts;
 use std::alloc::Global;
 use wire_core::Core;
-use wire_order::read_order;
+use wire_order::{ORDER_BYTES, read_order};
 use wire_plan::Plan;
 use wire_rehearsal::Scripts;
 use wire_report::{report_text, write_text};
 use wire_types::{Fault, Outcome, Proc, Sink, Source};
 
 /// One byte more than an order may have, so that a longer one is seen to be too long.
-const ORDER_BYTES_AND_ONE: usize = 8_388_609;
+const ORDER_BYTES_AND_ONE: usize = ORDER_BYTES + 1;
 
 /// The steps of an order that is read to its end.
 fn read_steps<O: Source>(

@@ -12,11 +12,11 @@ use wire_core::Core;
 use wire_plan::Plan;
 use wire_rehearsal::Scripts;
 use wire_report::{report_text, write_text};
-use wire_script::read;
+use wire_script::{FILE_BYTES, read};
 use wire_types::{Fault, Outcome, Sink, Source};
 
 /// One byte more than a file may have, so that a longer one is seen to be too long.
-const FILE_BYTES_AND_ONE: usize = 4_194_305;
+const FILE_BYTES_AND_ONE: usize = FILE_BYTES + 1;
 
 /// The scripts of a file that is read to its end.
 pub(crate) fn read_scripts<R: Source>(alloc: Global, reader: &mut R) -> Result<Scripts, Fault>
