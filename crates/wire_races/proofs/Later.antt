@@ -19,7 +19,7 @@ use Rattle.wire_races.specs.Adding.{Adds, OfKind}
 use Rattle.wire_races.specs.Rewriting.{IsRewriteBy}
 use Rattle.wire_races.proofs.Growing.{adds_one, adds_none}
 use Rattle.wire_races.proofs.Calls.{low_starts, high_starts, starts_back}
-use Rattle.wire_races.proofs.Findings.{put_key, first_once, one_first}
+use Rattle.wire_races.proofs.Told.{put_key, first_once, one_first}
 
 first_of : (plan : Plan) (x y : Event) (p : ℕ) (r : IsRewrite plan x y) → x.proc ≡ p → IsFirstPut plan (record { proc = p; at = x.at }) r.key
 first_of plan x y p r same =

@@ -1,5 +1,5 @@
 pub mod Calls
-pub mod Findings
+pub mod Told
 pub mod Adding
 pub mod Ordered
 pub mod AllKinds

@@ -13,7 +13,7 @@ use Rattle.wire_races.specs.Findings.{shown, all_shown, AreFindings}
 use Rattle.wire_races.specs.declared.finding.Finding.{Finding as Told}
 use Rattle.wire_races.specs.declared.finding.Finding.TheVariants as told_as
 use Rattle.wire_races.proofs.Calls.{low_of, high_of, longer}
-use Rattle.wire_races.proofs.Findings.{low_call, high_call, shown_low, shown_high}
+use Rattle.wire_races.proofs.Told.{low_call, high_call, shown_low, shown_high}
 
 -- a call is an event at least
 some_event : (call : Call) → 0 < call_size call

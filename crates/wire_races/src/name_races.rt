@@ -166,7 +166,7 @@ fn add_races_with(
 fn run_length(calls: &[Event], proc: Proc) -> usize
     ensures within { result ≤ length calls.now }
     ensures run { AreOf proc.number (map event_of (take result calls.now)) }
-    ensures more { (x : runs.Event) → slice_get calls.now 0 ≡ Some x → x.proc ≡ proc → 0 < result }
+    ensures more { (x : Event) → slice_get calls.now 0 ≡ Some x → x.proc ≡ proc → 0 < result }
 {
     let mut count = 0;
     'run: while count < calls.len() && calls[count].proc.number == proc.number {

@@ -1,7 +1,7 @@
 use Rattle.wire_runs.specs.Plan.{event_of}
 use Rattle.wire_rehearsal.specs.Planned.{plan_of}
 use Rattle.wire_races.specs.declared.found.Race.TheVariants.{OnKey, OnName}
-use Rattle.wire_races.proofs.Findings.{race_low_starts, race_high_starts, race_back}
+use Rattle.wire_races.proofs.Told.{race_low_starts, race_high_starts, race_back}
 use Rattle.wire_races.proofs.Calls.{starts_within}
 use Rattle.wire_races.proofs.found.told_race.Goals as goal
 

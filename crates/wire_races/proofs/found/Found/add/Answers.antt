@@ -5,7 +5,7 @@ use Rattle.wire_runs.specs.Findings.{Rewrite, IsFound}
 use Rattle.wire_runs.specs.Ends.{first_event}
 use Rattle.wire_races.specs.Findings.{shown}
 use Rattle.wire_races.specs.declared.finding.Finding.TheVariants as told
-use Rattle.wire_races.proofs.Findings.{shown_low, shown_high, one_first}
+use Rattle.wire_races.proofs.Told.{shown_low, shown_high, one_first}
 use Rattle.wire_races.proofs.found.Found.add.Goals as goal
 
 pub first_event-requires : goal.first_event-requires
