@@ -1,14 +1,23 @@
-# What a user and a developer of wire_up call. Both need the kit's `rt` on the path; `test` needs python3 besides.
+# What a user and a developer of wire_up call. `run`, `try` and `test` need the kit's `rt` on the path, and python3.
 
-.PHONY: run test
+PREFIX ?= /usr/local
 
-# Proves what the program needs, builds it as ./wire_up, and checks and replays an example.
+.PHONY: run try test install
+
+# An example without proofs, then the proof, and the same example by the proved ./wire_up.
 run:
-	@cd crates/program && rt run -- --help > /dev/null
-	@cp crates/program/out/program wire_up
-	@./wire_up check examples/business-card.plan
-	@./wire_up replay examples/business-card.plan
+	@python3 tests/build.py run
+
+# `make try FILE=my.plan`: checks and replays a file by a build without proofs.
+try:
+	@test -n "$(FILE)" || { echo "which file? make try FILE=my.plan"; exit 1; }
+	@python3 tests/build.py try "$(FILE)"
 
 # The gate: every proof from nothing, every test, and the program as a user calls it.
 test:
 	@python3 tests/gate.py
+
+# Puts the program that `make run` built in place.
+install:
+	@test -x wire_up || { echo "there is no ./wire_up: make run builds it"; exit 1; }
+	install -D -m 755 wire_up "$(DESTDIR)$(PREFIX)/bin/wire_up"

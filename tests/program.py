@@ -15,9 +15,10 @@ TOP = os.path.dirname(os.path.dirname(os.path.abspath(__file__)))
 EXAMPLE, ITS_REPORT = "examples/business-card.plan", "examples/business-card.report"
 NOTHING = b"findings 0\n"
 SECONDS = 60
+FAULTS = "Memory TooLong BadHeader BadLine UnknownName Twice NotMember TooMany Workers Read Write NotReady BadOrder".split()
 
-# What is run, and what must come of it: the status, and what standard output and standard error hold, each all of it
-# or, in a tuple, a part.
+# What is run, and what must come of it: the status, and what standard output and standard error hold. Each is the whole
+# text or, in a tuple, parts of it.
 Run = collections.namedtuple("Run", "name words given status wrote said set_up", defaults=(None, b"", 0, b"", b"", None))
 
 
@@ -30,11 +31,11 @@ def closed(stream):
     return lambda: os.close(stream)
 
 
-def onto(path, stream):
+def onto(path, stream, how=os.O_WRONLY):
     """Opens a file as a standard stream."""
 
     def set_up():
-        os.dup2(os.open(path, os.O_WRONLY if stream else os.O_RDONLY), stream)
+        os.dup2(os.open(path, how), stream)
 
     return set_up
 
@@ -78,8 +79,11 @@ def runs(room):
     yield Run("a file, whatever stands on standard input", ["replay", example], given=b"?", wrote=report)
     yield Run("the largest file", ["replay", large], wrote=b"waiting 0\n")
     yield Run("little memory, and enough", ["replay", example], wrote=report, set_up=with_little_memory)
-    yield Run("help", ["--help"], wrote=usage)
+    yield Run("help", ["--help"], wrote=(*usage, *(b"%4d %s " % (n, it.encode()) for n, it in enumerate(FAULTS, 1))))
+    yield Run("the exit statuses in help", ["--help"], wrote=tuple(b"\n%4d  " % n for n in range(6)))
     yield Run("help in short", ["-h"], wrote=usage)
+    yield Run("the version", ["--version"], wrote=b"wire_up 0.1.0\n")
+    yield Run("the version in short", ["-V"], wrote=b"wire_up 0.1.0\n")
     yield Run("help as a command", ["help"], wrote=usage)
     yield Run("help on a command", ["replay", "--help"], wrote=usage)
     yield Run("a file that is refused", ["replay", odd], status=2, said=b"wire_up: fault 4 BadLine 10\n")
@@ -89,6 +93,7 @@ def runs(room):
     yield Run("no such file", ["replay", os.path.join(room, "none")], status=4, said=b"wire_up: fault 10 Read\n")
     yield Run("a folder", ["replay", room], status=4, said=b"wire_up: fault 10 Read\n")
     yield Run("standard input closed", ["replay"], status=4, said=b"wire_up: fault 10 Read\n", set_up=closed(0))
+    yield Run("a file, and standard input closed", ["replay", example], wrote=report, set_up=closed(0))
     yield Run("standard output closed", ["replay", example], status=4, said=b"wire_up: fault 11 Write 0\n", set_up=closed(1))
     yield Run("a full device", ["replay", example], status=4, said=b"wire_up: fault 11 Write 0\n", set_up=onto("/dev/full", 1))
     yield Run("help on a full device", ["--help"], status=4, said=b"wire_up: fault 11 Write 0\n", set_up=onto("/dev/full", 1))
@@ -125,6 +130,10 @@ def follows(room):
     yield Run("no such order, with a file that is refused", ["follow", none, odd], status=4, said=read)
     yield Run("no such file to follow an order on", ["follow", unknown, none], status=4, said=read)
     yield Run("a folder as order", ["follow", room, example], status=4, said=read)
+    yield Run("an order, and standard input closed", ["follow", order], status=4, said=read, set_up=closed(0))
+    yield Run("scripts as an order, and standard input closed", ["follow", example], status=4, said=read, set_up=closed(0))
+    yield Run("an order and its file, and standard input closed", ["follow", order, example], wrote=report, set_up=closed(0))
+    yield Run("an order, and standard input for writing", ["follow", order], status=4, said=read, set_up=onto("/dev/null", 0, os.O_WRONLY))
     yield Run("an order, and a full device", ["follow", order, example], status=4, said=full, set_up=onto("/dev/full", 1))
     yield Run("follow without an order", ["follow"], given=plan, status=5, said=usage)
     yield Run("follow with two files", ["follow", order, example, example], status=5, said=usage)
@@ -159,6 +168,7 @@ def questions(room):
     yield Run("two wrong words", ["why", "app:0", "0", "app", "1", example], status=2, said=b"wire_up: fault 13 BadOrder 2\n")
     yield Run("a file that is refused, with a wrong word", ["why", "app:9", *words[2:], odd], status=2, said=line)
     yield Run("too little memory for a question", far, status=3, said=memory, set_up=with_little_memory)
+    yield Run("a question, and standard input closed", words, status=4, said=read, set_up=closed(0))
     yield Run("no such file to ask about", [*words, os.path.join(room, "none")], status=4, said=read)
     yield Run("a question, and a full device", [*words, example], status=4, said=full, set_up=onto("/dev/full", 1))
     yield Run("why with three words", words[:4], given=plan, status=5, said=usage)
@@ -184,6 +194,7 @@ def checks(room):
     yield Run("help on check", ["check", "--help"], wrote=(b"Usage: wire_up check",))
     yield Run("a check of a file that is refused", ["check", odd], status=2, said=b"wire_up: fault 4 BadLine 10\n")
     yield Run("too little memory for a check", ["check", fences], status=3, said=memory, set_up=with_little_memory)
+    yield Run("a check, and standard input closed", ["check"], status=4, said=read, set_up=closed(0))
     yield Run("no such file to check", ["check", os.path.join(room, "none")], status=4, said=read)
     yield Run("a check, and a full device", ["check", racy], status=4, said=full, set_up=onto("/dev/full", 1))
     yield Run("a check of two files", ["check", example, example], status=5, said=usage)
@@ -196,7 +207,7 @@ def start(program, run, **streams):
 
 
 def fits(wanted, got):
-    return wanted[0] in got if isinstance(wanted, tuple) else wanted == got
+    return all(part in got for part in wanted) if isinstance(wanted, tuple) else wanted == got
 
 
 def went_well(program, run):

@@ -1,0 +1,123 @@
+"""What `make try` and `make run` do.
+
+Usage: python3 tests/build.py try FILE     checks and replays FILE, by a build without proofs
+       python3 tests/build.py run          does that for an example, then proves the program, builds it as ./wire_up, and does it again
+                                           (only the latter where there is a ./wire_up already)
+"""
+import os
+import re
+import shutil
+import subprocess
+import sys
+import tempfile
+
+sys.dont_write_bytecode = True
+import progress
+
+EXAMPLE = "examples/business-card.plan"
+COMMANDS = ("check", "replay")
+CRATES = os.path.join(progress.TOP, "crates")
+BUILT = os.path.join(CRATES, "program", "out", "program")
+PLACE = os.path.join(progress.TOP, "wire_up")
+
+
+def fail(what, log):
+    """Says what failed and where to read more, and ends."""
+    print(progress.tail_of(log), end="")
+    print(f"{what}. The whole output is in {progress.shown(log)}")
+    sys.exit(1)
+
+
+def cases_of(room, file):
+    """A folder for `rt try`, in which each command gets the file on standard input."""
+    for command in COMMANDS:
+        shutil.copyfile(file, os.path.join(room, command))
+        with open(os.path.join(room, f"{command}.args"), "w", encoding="utf-8") as it:
+            it.write(f"{command}\n")
+    return room
+
+
+def tried(file, log):
+    """What each command wrote about the file and to standard error, by a build without proofs."""
+    with tempfile.TemporaryDirectory(prefix="wire-up-") as room, open(log, "a", encoding="utf-8") as to:
+        words = ["rt", "try", "--cases", cases_of(room, file)]
+        how = {"cwd": os.path.join(CRATES, "program"), "text": True, "errors": "replace", "capture_output": True}
+        ran = subprocess.run(words, stdin=subprocess.DEVNULL, **how)
+        to.write(f"$ rt try\n{ran.stdout}{ran.stderr}")
+    wrote = dict(re.findall(r"^== (\w+)\n((?:(?!== ).*\n)*)", ran.stdout, re.M))
+    ended = dict(re.findall(r"^case=(\w+) run=ended status=(\d+)", ran.stderr, re.M))
+    said = [line for line in ran.stderr.splitlines() if line.startswith("wire_up: ")]
+    return (wrote, ended, said) if set(COMMANDS) <= ended.keys() else None
+
+
+def try_it(file):
+    """Checks and replays a file by a build without proofs."""
+    log = progress.log_at("try.log")
+    open(file, "rb").close()
+    print("This answer isn't proved: its build has run-time checks in place of proofs.", flush=True)
+    with progress.Progress("building without proofs", progress.minutes_of()["try"]):
+        outcome = tried(file, log)
+    if not outcome:
+        fail("rt try failed", log)
+    wrote, ended, said = outcome
+    for command in COMMANDS:
+        print(f"$ wire_up {command} {file}\n{wrote.get(command, '')}", end="")
+        if ended[command] != "0":
+            print(*said[:1], f"(exit status {ended[command]})", sep="\n")
+    return 0
+
+
+def prove(log):
+    """Proves each crate below the program and then the program, lowest first, and builds it. Says what failed, if anything did."""
+    crates, minutes = progress.crates_below("program"), progress.minutes_of()
+    expected = sum(minutes.get(it, 1) for it in crates)
+    with progress.Progress("proving", expected) as line:
+        for n, crate in enumerate(crates, 1):
+            line.now(f"crate {n} of {len(crates)}, {crate}")
+            words = ["rt", "run", "--", "--version"] if crate == "program" else ["rt", "lib"]
+            status = progress.keep(words, os.path.join(CRATES, crate), log)
+            if status:
+                return f"{crate} was not proved: rt ended with status {status}" + (" (it was stopped)" if status > 128 else "")
+    return None
+
+
+def show():
+    """Checks and replays the example by the proved program."""
+    for command in COMMANDS:
+        print(f"$ ./wire_up {command} {EXAMPLE}", flush=True)
+        status = subprocess.run([PLACE, command, EXAMPLE], cwd=progress.TOP, check=False).returncode
+        if status:
+            sys.exit(f"./wire_up {command} ended with status {status}")
+
+
+def run():
+    """The answer without proofs where there is no other yet, the proof, and the same answer."""
+    if not os.path.exists(PLACE):
+        try_it(EXAMPLE)
+    log = progress.log_at("run.log")
+    failed = prove(log)
+    if failed:
+        fail(f"{failed}. ./wire_up is as it was", log)
+    made = os.path.join(progress.LOGS, "wire_up")
+    shutil.copy(BUILT, made)
+    os.replace(made, PLACE)
+    print("Proved, and built as ./wire_up:", flush=True)
+    show()
+
+
+def main(words):
+    progress.need_kit()
+    if words == ["run"]:
+        return run()
+    if len(words) == 2 and words[0] == "try":
+        return try_it(words[1])
+    sys.exit(__doc__)
+
+
+if __name__ == "__main__":
+    try:
+        sys.exit(main(sys.argv[1:]))
+    except OSError as why:
+        sys.exit(f"{why.filename or 'rt'}: {why.strerror}")
+    except KeyboardInterrupt:
+        sys.exit("\nstopped")
