@@ -33,17 +33,17 @@ half_text (Some (Leave members)) = codes " leave"
 half_text _ = []
 
 -- the line of a call, with the text of a half of it
-abbrev pub event_line : Scripts → CallAt → List ℕ → List ℕ
-event_line scripts call half =
+abbrev pub half_line : Scripts → CallAt → List ℕ → List ℕ
+half_line scripts call half =
     call_text scripts call ++ codes " " ++ verb_in (call_at scripts.processes call.proc.number call.call) ++ half ++ codes "\n"
 
--- the line of the event at a place
+-- the line of an event
 abbrev pub event_line : Scripts → Event → List ℕ
-event_line scripts x = event_line scripts (call_of (plan_of scripts) x) (half_text (kind (plan_of scripts) x))
+event_line scripts x = half_line scripts (call_of (plan_of scripts) x) (half_text (kind (plan_of scripts) x))
 
 -- the lines of these events
 abbrev pub event_lines : Scripts → List Event → List ℕ
-event_lines scripts places = flat_map (event_line scripts) places
+event_lines scripts events = flat_map (event_line scripts) events
 
 -- the line of a call whose event isn't live
 abbrev pub dead_line : Scripts → CallAt → List ℕ

@@ -129,7 +129,7 @@ fn push_line(
     call: CallAt,
     half: &str,
 ) -> Result<(), AllocError>
-    ensures { OnOk result (out.new.items ≡ out.old.items ++ spec.line_of scripts.now call half.now) }
+    ensures { OnOk result (out.new.items ≡ out.old.items ++ spec.half_line scripts.now call half.now) }
 {
     push_call(out, scripts, call)?;
     out.extend_from_slice(b" ")?;
