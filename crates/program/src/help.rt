@@ -5,7 +5,7 @@ pub const FAULTS_AND_STATUSES: &str = "\
 Faults, as one line on standard error, such as 'wire_up: fault 4 BadLine 7':
    1 Memory            the system refused memory
    2 TooLong LINE      the file, a name, a key or a value is longer than its limit
-   3 BadHeader LINE    the first line isn't 'rehearsal 1'
+   3 BadHeader LINE    the first line that isn't blank or a comment isn't 'rehearsal 1'
    4 BadLine LINE      a line isn't one of the format, or stands in the wrong place
    5 UnknownName LINE  a node, a job or a rank isn't declared
    6 Twice LINE        a node or a job is declared twice

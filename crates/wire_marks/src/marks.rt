@@ -44,7 +44,7 @@ impl Marks {
         Ok(Marks { clocks })
     }
 
-    /// Whether an event is live: it may come, and all that it waits for is live.
+    /// Whether an event is live: the scripts don't rule it out, and all its sources are live.
     pub fn live(&self, event: Event) -> bool
         ensures { (plan : runs.Plan) → AreMarks plan self.now → (IsTrue result ↔ Live plan (event_of event)) }
     {

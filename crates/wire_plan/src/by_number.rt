@@ -20,7 +20,7 @@ pub(crate) enum Listing {
     NameCalls,
     /// The publishes of a name, by the name.
     Publishes,
-    /// The calls that may take a name away, by the name.
+    /// The calls that can take a name away, by the name.
     Takes,
     /// The gets that are answered at once and ask another process, by the key.
     GetsNow,
@@ -63,7 +63,7 @@ fn name_published(kind: Kind) -> Option<u32>
     }
 }
 
-// The name of a call that may take it away.
+// The name of a call that can take it away.
 fn name_taken(kind: Kind) -> Option<u32>
     ensures { (plan : runs.Plan) (sets : List (List ℕ)) (number : ℕ) (x : runs.Event) → is_listed plan Listing.Takes number x (Some (kind_of sets kind)) ≡ is_number result number }
 {

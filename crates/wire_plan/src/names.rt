@@ -13,7 +13,7 @@ use crate::events::Events;
 use std::alloc::{AllocError, Global};
 use wire_types::Event;
 
-/// The calls on each name, and of these the publishes and what may take the name away.
+/// The calls on each name, and of these the publishes and what can take the name away.
 #[derive(Drop)]
 pub(crate) struct NameTable {
     calls: ByNumber,
@@ -21,7 +21,7 @@ pub(crate) struct NameTable {
     takes: ByNumber,
 }
 
-// The publish of a name, where there is one and nothing may take the name away.
+// The publish of a name, where there is one and nothing can take the name away.
 fn only_publish(publishes: &[Event], takes: &[Event]) -> Option<Event>
     ensures { result ≡ only_of publishes.now takes.now }
 {

@@ -332,7 +332,8 @@ impl PartialEq for Plan {
 
     ghost laws = { scripts_alike };
 
-    /// Whether both are made of the same scripts: nodes, jobs, ranks and calls, in order. Takes no memory.
+    /// Whether both are made of the same scripts, with the same numbers: nodes, jobs, tables, and processes
+    /// with their ranks and calls, in order. Takes no memory.
     fn eq(&self, other: &Plan) -> bool
         ensures tested { result ≡ same_scripts self.now other.now }
         ensures same { Decides result (self.now ≡ other.now) }

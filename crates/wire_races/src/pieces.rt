@@ -1,4 +1,4 @@
-//! The pieces in which threads get_now for findings. Each piece is looked for by itself, and all are
+//! The pieces in which threads look for findings. Each piece is looked for by itself, and all are
 //! added one after another, so that what is found is the same whatever pieces the threads take.
 
 ghost use Rattle.std.specs.Prelude.{OnOk};

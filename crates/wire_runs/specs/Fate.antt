@@ -20,7 +20,7 @@ abbrev pub left_by : Plan → ℕ → List Event → Option Event
 left_by plan name [] = None
 left_by plan name (x ∷ xs) = name_after (left_by plan name xs) x (kind plan x) name
 
--- the calls before y that may change the name, in the order of their chains, the newest first
+-- the calls before y that can change the name, in the order of their chains, the newest first
 pub record IsNameHistory (plan : Plan) (y : Event) (name : ℕ) (calls : List Event) : Type 0 where
   pub those : (z : Event) → IsIn z calls ↔ (Before plan z y × (writes_name plan name z (kind plan z) ≡ true))
   pub in_order : IsInOrder plan calls

@@ -31,7 +31,7 @@ pub struct CallAt {
     pub call: u32,
 }
 
-/// The place of an event: its process, and its number among the events of that process, from 0.
+/// An event: its process, and its number among the events of that process, from 0.
 /// A call is one event, a fence is two.
 #[derive(Clone, Copy, Debug, PartialEq, Eq, PartialOrd, Ord)]
 pub struct Event {

@@ -54,7 +54,7 @@ impl Reply {
 }
 
 /// What became of a call: it was answered, its process stands at it and waits, or stands at it and
-/// may go on, or hasn't come to it.
+/// can run, or hasn't come to it.
 #[derive(Clone, Copy, Debug, PartialEq, Eq)]
 pub enum CallEnd {
     Replied(Reply),

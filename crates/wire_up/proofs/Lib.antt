@@ -1,8 +1,8 @@
 pub mod Came
 pub mod FileFaults
 pub mod Limited
-pub mod Replay
-pub mod Follow
-pub mod Why
+pub mod Replayed
+pub mod Followed
+pub mod Asked
 pub mod Texts
-pub mod Check
+pub mod Checked

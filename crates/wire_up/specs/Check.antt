@@ -7,9 +7,11 @@ use Rattle.wire_types.specs.declared.Fault.TheVariants.{Memory, Read}
 use Rattle.wire_rehearsal.specs.Scripts.{Scripts}
 use Rattle.wire_rehearsal.specs.Planned.{plan_of}
 use Rattle.wire_runs.specs.Races.{IsSettled}
-use Rattle.wire_runs.specs.Laws.{HasOneEnd}
+use Rattle.wire_runs.specs.Findings as runs
+use Rattle.wire_runs.specs.Plan.{Plan}
+use Rattle.wire_runs.specs.Laws.{HasOneEnd, AreUnordered}
 use Rattle.wire_races.specs.declared.finding.Finding.{Finding}
-use Rattle.wire_races.specs.Findings.{AreFindings}
+use Rattle.wire_races.specs.Findings.{AreFindings, all_shown}
 use Rattle.wire_report.specs.Findings.{findings_report}
 use Rattle.wire_up.specs.declared.checking.Ended.{Ended}
 use Rattle.wire_up.specs.declared.checking.Ended.TheVariants.{Clean, Found}
@@ -25,12 +27,19 @@ abbrev pub status_of : Ended → ℕ
 status_of Clean = 0
 status_of (Found count) = 1
 
--- the text of all findings of the scripts, and how a check of them ends: clean exactly where there is nothing to find
+-- the two calls of each race among the findings are live, and no chain orders them
+abbrev pub NoneIsOrdered : Plan → List Finding → Type 0
+NoneIsOrdered plan found = (f : runs.Finding) → runs.Has (all_shown plan found) f → AreUnordered plan f
+
+-- the text of all findings of the scripts, and how a check of them ends: clean exactly where there is nothing to find, and then every
+-- interleaving that can't go on ends in one state
 pub record IsVerdict (scripts : Scripts) (ended : Ended) (text : List ℕ) : Type 0 where
   pub found : List Finding
   pub those : AreFindings (plan_of scripts) found
   pub ends : ended ≡ ended_with found
   pub settled : (ended ≡ Clean) ↔ IsSettled (plan_of scripts)
+  pub one_end : ended ≡ Clean → HasOneEnd (plan_of scripts)
+  pub unordered : NoneIsOrdered (plan_of scripts) found
   pub tells : text ≡ findings_report scripts found
 
 -- what was to come read as scripts, and every interleaving of their plan that can't go on ends in one state, the plain run's: the

@@ -60,8 +60,8 @@ fn plain_text(alloc: Global, scripts: Scripts) -> Result<Vec<u8>, Fault>
     text
 }
 
-/// Replays a file of scripts: reads it to its end, runs its plan, where always the lowest process that
-/// may go on does so, until none may, and then writes what became of every call.
+/// Replays a file of scripts: reads it to its end, runs its plan, where at each step the lowest process that can
+/// run takes one, until none can, and then writes what became of every call.
 ///
 /// After the fault `Write` the front of the report that it counts is written, after any other fault
 /// nothing. `Memory` may come in place of any other answer. What is said of bytes is said where the

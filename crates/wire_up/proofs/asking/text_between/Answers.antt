@@ -1,4 +1,4 @@
-use Rattle.wire_up.proofs.Replay.{handed_on, not_ok}
+use Rattle.wire_up.proofs.Replayed.{handed_on, not_ok}
 use Rattle.wire_up.proofs.asking.text_between.Goals as goal
 
 pub returns-in_err-marks-clause-ok : goal.returns-in_err-marks-clause-ok

@@ -1,7 +1,7 @@
 use Rattle.std.proofs.Common.{inl, refl, map, ap, Err}
-use Rattle.wire_up.proofs.Replay.{handed_on, not_on_ok, same_error, no_read_writing}
-use Rattle.wire_up.proofs.Follow.{on_ok_too, err_always}
-use Rattle.wire_up.proofs.Why.{answer_ok, answer_err, file_stops, word_stops, no_read_of_words}
+use Rattle.wire_up.proofs.Replayed.{handed_on, not_on_ok, same_error, no_read_writing}
+use Rattle.wire_up.proofs.Followed.{on_ok_too, err_always}
+use Rattle.wire_up.proofs.Asked.{answer_ok, answer_err, file_stops, word_stops, no_read_of_words}
 use Rattle.wire_up.proofs.asking.why.Goals as goal
 
 pub returns-in_err-scripts-clause-ok : goal.returns-in_err-scripts-clause-ok
@@ -53,11 +53,11 @@ returns-clause-quiet g c = on_ok_too c.write_text.result _ _ (λ quiet. (c.in_ok
 
 pub returns-clause-err : goal.returns-clause-err
 returns-clause-err g c =
-    answer_err _ (map (λ w. w.now) c.args.words) (g.W.Sink.written c.args.writer.now) (g.W.Sink.written c.write_text.new.writer) c.in_ok-scripts.scripts c.in_ok-text.text.items c.as_slice.result.now _ _ c.write_text.result c.in_ok-scripts.ensures.ok c.in_ok-text.ensures.ok c.as_slice.ensures.value c.write_text.ensures.front c.write_text.ensures.failed
+    answer_err _ (map (λ w. w.now) c.args.words) (g.W.Sink.written c.args.writer.now) (g.W.Sink.written c.write_text.new.sink) c.in_ok-scripts.scripts c.in_ok-text.text.items c.as_slice.result.now _ _ c.write_text.result c.in_ok-scripts.ensures.ok c.in_ok-text.ensures.ok c.as_slice.ensures.value c.write_text.ensures.front c.write_text.ensures.failed
 
 pub returns-clause-read_failed : goal.returns-clause-read_failed
 returns-clause-read_failed g c is =
-    absurd (no_read_writing (g.W.Sink.written c.args.writer.now) (g.W.Sink.written c.write_text.new.writer) c.as_slice.result.now c.write_text.result c.write_text.ensures.front is)
+    absurd (no_read_writing (g.W.Sink.written c.args.writer.now) (g.W.Sink.written c.write_text.new.sink) c.as_slice.result.now c.write_text.result c.write_text.ensures.front is)
 
 pub returns-clause-unfailed : goal.returns-clause-unfailed
 returns-clause-unfailed g c = err_always c.write_text.result _ (λ e memory read. c.in_ok-scripts.ensures.quiet)

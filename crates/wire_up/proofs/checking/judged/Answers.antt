@@ -1,5 +1,5 @@
 use Rattle.wire_rehearsal.specs.Planned.{plan_of}
-use Rattle.wire_up.proofs.Check.{judged_told}
+use Rattle.wire_up.proofs.Checked.{judged_told}
 use Rattle.wire_up.proofs.checking.judged.Goals as goal
 
 pub returns-clause-ok : goal.returns-clause-ok

@@ -1,4 +1,4 @@
-use Rattle.wire_up.proofs.Check.{verdict_too}
+use Rattle.wire_up.proofs.Checked.{verdict_too}
 use Rattle.wire_up.proofs.checking.verdict.Goals as goal
 
 pub returns-clause-ok : goal.returns-clause-ok

@@ -1,7 +1,7 @@
 use Rattle.std.proofs.Common.{inl, inr, ap, refl, Err}
 use Rattle.wire_types.specs.declared.Fault.TheVariants.{Read}
-use Rattle.wire_up.proofs.Replay.{handed_on, not_on_ok, same_error, no_read_writing}
-use Rattle.wire_up.proofs.Follow.{of_file, of_order, of_steps, no_read_of_steps, on_ok_too, followed_ok, followed_err, err_always}
+use Rattle.wire_up.proofs.Replayed.{handed_on, not_on_ok, same_error, no_read_writing}
+use Rattle.wire_up.proofs.Followed.{of_file, of_order, of_steps, no_read_of_steps, on_ok_too, followed_ok, followed_err, err_always}
 use Rattle.wire_up.proofs.following.follow.Goals as goal
 
 pub returns-in_err-scripts-clause-ok : goal.returns-in_err-scripts-clause-ok
@@ -63,11 +63,11 @@ returns-clause-quiet g c = on_ok_too c.write_text.result _ _ (λ quiet. (c.in_ok
 
 pub returns-clause-err : goal.returns-clause-err
 returns-clause-err g c =
-    followed_err _ _ (g.W.Sink.written c.args.writer.now) (g.W.Sink.written c.write_text.new.writer) c.in_ok-scripts.scripts c.in-Ok.order.items c.as_slice.result.now c.in_ok-text.text.items c.as_slice-2.result.now _ _ c.write_text.result c.as_slice.ensures.value c.in_ok-scripts.ensures.ok c.in-Ok.ensures.ok c.in_ok-text.ensures.ok c.as_slice-2.ensures.value c.write_text.ensures.front c.write_text.ensures.failed
+    followed_err _ _ (g.W.Sink.written c.args.writer.now) (g.W.Sink.written c.write_text.new.sink) c.in_ok-scripts.scripts c.in-Ok.order.items c.as_slice.result.now c.in_ok-text.text.items c.as_slice-2.result.now _ _ c.write_text.result c.as_slice.ensures.value c.in_ok-scripts.ensures.ok c.in-Ok.ensures.ok c.in_ok-text.ensures.ok c.as_slice-2.ensures.value c.write_text.ensures.front c.write_text.ensures.failed
 
 pub returns-clause-read_failed : goal.returns-clause-read_failed
 returns-clause-read_failed g c is =
-    absurd (no_read_writing (g.W.Sink.written c.args.writer.now) (g.W.Sink.written c.write_text.new.writer) c.as_slice-2.result.now c.write_text.result c.write_text.ensures.front is)
+    absurd (no_read_writing (g.W.Sink.written c.args.writer.now) (g.W.Sink.written c.write_text.new.sink) c.as_slice-2.result.now c.write_text.result c.write_text.ensures.front is)
 
 pub returns-clause-unfailed : goal.returns-clause-unfailed
 returns-clause-unfailed g c = err_always c.write_text.result _ (λ e memory read. (c.in_ok-scripts.ensures.quiet, c.in-Ok.ensures.quiet))

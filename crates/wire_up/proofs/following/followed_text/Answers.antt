@@ -1,6 +1,6 @@
 use Rattle.std.proofs.Common.{inl}
 use Rattle.wire_rehearsal.specs.Scripts.{numbers_of}
-use Rattle.wire_up.proofs.Replay.{handed_on, not_ok}
+use Rattle.wire_up.proofs.Replayed.{handed_on, not_ok}
 use Rattle.wire_up.proofs.Texts.{leads_too, stops_too}
 use Rattle.wire_up.proofs.following.followed_text.Goals as goal
 

@@ -1,4 +1,4 @@
-use Rattle.wire_up.proofs.Follow.{steps_ok, steps_err, no_read_of_order}
+use Rattle.wire_up.proofs.Followed.{steps_ok, steps_err, no_read_of_order}
 use Rattle.wire_up.proofs.following.read_steps.Goals as goal
 
 pub returns-clause-ok : goal.returns-clause-ok

@@ -1,8 +1,8 @@
 use Rattle.std.proofs.Common.{inl}
 use Rattle.wire_types.specs.Outcome.{ends_of}
 use Rattle.wire_rehearsal.specs.Scripts.{numbers_of}
-use Rattle.wire_up.proofs.Replay.{handed_on, not_ok}
-use Rattle.wire_up.proofs.Follow.{err_too}
+use Rattle.wire_up.proofs.Replayed.{handed_on, not_ok}
+use Rattle.wire_up.proofs.Followed.{err_too}
 use Rattle.wire_up.proofs.Texts.{followed_told}
 use Rattle.wire_up.proofs.following.report_of.Goals as goal
 

@@ -1,6 +1,6 @@
 use Rattle.std.proofs.Common.{◌∙◌, ap, refl, Err}
-use Rattle.wire_up.proofs.Replay.{handed_on, not_on_ok, on_error, only_refused, same_error, before_writing, memory_no_read, memory_no_write, writes_report, breaks_off, no_read_writing, not_refused, untouched, at_error, both_quiet}
-use Rattle.wire_up.proofs.Follow.{err_always}
+use Rattle.wire_up.proofs.Replayed.{handed_on, not_on_ok, on_error, only_refused, same_error, before_writing, memory_no_read, memory_no_write, writes_report, breaks_off, no_read_writing, not_refused, untouched, at_error, both_quiet}
+use Rattle.wire_up.proofs.Followed.{err_always}
 use Rattle.wire_up.proofs.replaying.plain.Goals as goal
 
 pub returns-in_err-scripts-clause-ok : goal.returns-in_err-scripts-clause-ok
@@ -77,11 +77,11 @@ returns-clause-quiet g c = both_quiet _ _ c.write_text.result c.in_ok-scripts.en
 
 pub returns-clause-refused : goal.returns-clause-refused
 returns-clause-refused g c =
-    not_refused _ (g.W.Sink.written c.args.writer.now) (g.W.Sink.written c.write_text.new.writer) c.as_slice.result.now c.write_text.result c.write_text.ensures.front
+    not_refused _ (g.W.Sink.written c.args.writer.now) (g.W.Sink.written c.write_text.new.sink) c.as_slice.result.now c.write_text.result c.write_text.ensures.front
 
 pub returns-clause-read_failed : goal.returns-clause-read_failed
 returns-clause-read_failed g c is =
-    absurd (no_read_writing (g.W.Sink.written c.args.writer.now) (g.W.Sink.written c.write_text.new.writer) c.as_slice.result.now c.write_text.result c.write_text.ensures.front is)
+    absurd (no_read_writing (g.W.Sink.written c.args.writer.now) (g.W.Sink.written c.write_text.new.sink) c.as_slice.result.now c.write_text.result c.write_text.ensures.front is)
 
 pub returns-clause-front : goal.returns-clause-front
 returns-clause-front g c n is =
@@ -92,4 +92,4 @@ returns-clause-write_failed g c n is = at_error c.write_text.result _ _ c.write_
 
 pub returns-clause-untouched : goal.returns-clause-untouched
 returns-clause-untouched g c =
-    untouched _ _ (g.W.Sink.written c.args.writer.now) (g.W.Sink.written c.write_text.new.writer) c.as_slice.result.now c.write_text.result c.write_text.ensures.front
+    untouched _ _ (g.W.Sink.written c.args.writer.now) (g.W.Sink.written c.write_text.new.sink) c.as_slice.result.now c.write_text.result c.write_text.ensures.front

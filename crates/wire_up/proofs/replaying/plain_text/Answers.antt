@@ -1,4 +1,4 @@
-use Rattle.wire_up.proofs.Replay.{handed_on, not_ok}
+use Rattle.wire_up.proofs.Replayed.{handed_on, not_ok}
 use Rattle.wire_up.proofs.Texts.{plain_too}
 use Rattle.wire_up.proofs.replaying.plain_text.Goals as goal
 

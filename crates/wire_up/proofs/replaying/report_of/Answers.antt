@@ -1,5 +1,5 @@
 use Rattle.wire_types.specs.Outcome.{ends_of}
-use Rattle.wire_up.proofs.Replay.{handed_on, not_ok}
+use Rattle.wire_up.proofs.Replayed.{handed_on, not_ok}
 use Rattle.wire_up.proofs.Texts.{plain_told}
 use Rattle.wire_up.proofs.replaying.report_of.Goals as goal
 

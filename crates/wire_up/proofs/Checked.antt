@@ -1,11 +1,12 @@
 -- From what the parts of a check tell to what it tells.
-use Rattle.std.proofs.Common.{◌≡◌, ◌∙◌, ◌↔◌, ap, subst, sym, refl, ℕ, List, [], ◌∷◌, length, Option, Result, Ok, IfOk, Vec, Global}
+use Rattle.std.proofs.Common.{◌≡◌, ◌∙◌, ◌↔◌, ap, subst, sym, refl, ℕ, List, [], ◌∷◌, length, false, Option, Result, Ok, Err, IfOk, Vec, Global}
 use Rattle.wire_types.specs.declared.Fault.{Fault}
 use Rattle.wire_types.specs.Front.{WritesFront}
 use Rattle.wire_rehearsal.specs.Scripts.{Scripts}
 use Rattle.wire_rehearsal.specs.Planned.{plan_of}
 use Rattle.wire_runs.specs.Races.{IsSettled}
 use Rattle.wire_runs.proofs.PlainRun.{plain_runs}
+use Rattle.wire_runs.proofs.Findings.{races_are_unordered}
 use Rattle.wire_races.specs.declared.finding.Finding.{Finding}
 use Rattle.wire_races.specs.Findings.{AreFindings}
 use Rattle.wire_report.specs.Findings.{findings_report}
@@ -34,7 +35,16 @@ pub judged_told : (s shown : Scripts) (found seen counted : List Finding) (ended
 judged_told s shown found seen counted ended text law those same is count told ends =
     let all : findings_report shown seen ≡ findings_report s found = λ i. findings_report (same i) (is i) in
     let ended_so : ended ≡ ended_with found = ends ∙ ap ended_with count in
-    record { found = found; those = those; ends = ended_so; settled = settled_too s found ended ended_so law; tells = told ∙ all }
+    let settled : (ended ≡ Clean) ↔ IsSettled (plan_of s) = settled_too s found ended ended_so law in
+    record {
+      found = found;
+      those = those;
+      ends = ended_so;
+      settled = settled;
+      one_end = λ clean. (plain_runs (plan_of s)).is_the_end (settled.0 clean);
+      unordered = λ f there. races_are_unordered (plan_of s) f (((those (λ a b. false)).those f).0 there);
+      tells = told ∙ all;
+    }
 
 -- the verdict on the plan of scripts is that on the scripts
 pub verdict_too : (s plan : Scripts) (r : Result (Ended × Vec ℕ Global) Fault) → plan ≡ s → IfOk r (λ v. IsVerdict plan v.0 v.1.items) → IfOk r (λ v. IsVerdict s v.0 v.1.items)
@@ -46,8 +56,13 @@ pub broken_off : (coming : Option (List ℕ)) (old new : Option (List ℕ)) (s :
 broken_off coming old new s ended text shown e read verdict is front =
     record { scripts = s; read = read; ended = ended; text = text; verdict = verdict; wrote = subst (λ t. WritesFront old new t e) is front }
 
+abbrev done : Ended → Result Ended Fault
+done ended = Ok ended
+
+abbrev ended_of : Result Ended Fault → Ended
+ended_of (Ok ended) = ended
+ended_of (Err fault) = Clean
 
 -- a check that is clean tells that every run that can't go on has one end
-pub clean_one_end : (coming : Option (List ℕ)) (s : Scripts) (ended : Ended) (text : List ℕ) → ReadAs coming s → IsVerdict s ended text → ended ≡ Clean → EndsInOneState coming
-clean_one_end coming s ended text read verdict clean =
-    record { scripts = s; read = read; one_end = (plain_runs (plan_of s)).is_the_end (verdict.settled.0 clean) }
+pub clean_one_end : (coming : Option (List ℕ)) (s : Scripts) (ended : Ended) (text : List ℕ) → ReadAs coming s → IsVerdict s ended text → done ended ≡ done Clean → EndsInOneState coming
+clean_one_end coming s ended text read verdict clean = record { scripts = s; read = read; one_end = verdict.one_end (ap ended_of clean) }
