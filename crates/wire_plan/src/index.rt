@@ -5,8 +5,8 @@ ghost use Rattle.wire_fence.specs.FenceTable.{AreFencesOf};
 ghost use Rattle.wire_plan.specs.Indexed.{IsIndexed};
 
 use crate::events::Events;
-use crate::keys::KeyTable;
 use crate::gets_now::GetNowTable;
+use crate::keys::KeyTable;
 use crate::meetings::Meetings;
 use crate::names::NameTable;
 use std::alloc::{AllocError, Global};

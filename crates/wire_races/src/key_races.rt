@@ -195,7 +195,14 @@ fn next_arrival(plan: &Plan, owner: Proc, key: u32, node: u32, from: u32) -> Opt
 
 /// Whether a delivery of a key to a node comes before a get in every run. If any does, the first one
 /// does: all arrivals at its fence are before each later arrival of the owner.
-fn comes_surely(plan: &Plan, marks: &Marks, get_now: Event, owner: Proc, key: u32, node: u32) -> bool
+fn comes_surely(
+    plan: &Plan,
+    marks: &Marks,
+    get_now: Event,
+    owner: Proc,
+    key: u32,
+    node: u32,
+) -> bool
     requires marks { AreMarks (plan_of plan.now) marks.now }
     requires once { IsPutOnce (plan_of plan.now) owner.number key }
     ensures { IsTrue result ↔ ComesSurely (plan_of plan.now) owner.number key node (event_of get_now) }
