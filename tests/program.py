@@ -41,7 +41,7 @@ def onto(path, stream, how=os.O_WRONLY):
 
 
 def with_little_memory():
-    resource.setrlimit(resource.RLIMIT_DATA, (2 << 20, 2 << 20))
+    resource.setrlimit(resource.RLIMIT_DATA, (1 << 20, 1 << 20))
 
 
 def examples(ending):
