@@ -101,7 +101,7 @@ impl<'a> Core<'a> {
         }
     }
 
-    /// The place of the next event of a process.
+    /// The next event of a process.
     fn next_event(&self, proc: Proc) -> Event
         ensures { event_of result ≡ next_event (state_of self.now) proc.number }
     {

@@ -24,12 +24,12 @@ pub data IsShown (plan : Plan) (x : Event) : Event → List Event → Type 0 whe
 abbrev pub OneShown : Type 0
 OneShown = (plan : Plan) (x y : Event) (a b : List Event) → Before plan x y → IsShown plan x y a → IsShown plan x y b → a ≡ b
 
--- the lowest of these places that is x or that x is before
+-- the lowest of these events that is x or that x is before
 pub record IsLowest (plan : Plan) (x : Event) (places : List Event) (z : Event) : Type 0 where
   pub source : IsIn z places
   pub leads : LeadsTo plan x z
   pub lowest : (w : Event) → IsIn w places → LeadsTo plan x w → AtMost z w
 
--- what is known once these places are looked at
+-- what is known once these events are looked at
 abbrev pub Lowest : Plan → Event → List Event → Option Event → Type 0
 Lowest plan x places found = MatchOption found ((w : Event) → IsIn w places → LeadsTo plan x w → ⊥) (λ z. IsLowest plan x places z)

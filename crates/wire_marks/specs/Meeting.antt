@@ -11,16 +11,16 @@ use Rattle.wire_marks.specs.Clocks.{Clocks, marked_count, base_at, clock_of}
 use Rattle.wire_marks.specs.Marking.{AreClocks}
 use Rattle.wire_marks.specs.declared.joins.Meeting.{Meeting}
 
--- each of the first n places is marked
+-- each of the first n events is marked
 abbrev pub AreMarked : Clocks → List Event → ℕ → Type 0
 AreMarked clocks places n = (k : ℕ) (z : Event) → k < n → slice_get places k ≡ Some z → z.at < marked_count clocks z.proc
 
--- the clock is the least that is not below those of the first n places
+-- the clock is the least that is not below those of the first n events
 pub record IsJoin (clocks : Clocks) (places : List Event) (n : ℕ) (clock : ℕ → ℕ) : Type 0 where
   pub from : (q m : ℕ) → m < clock q → (k : ℕ) × (z : Event) × (k < n) × (slice_get places k ≡ Some z) × (m < clock_of clocks z q)
   pub covers : (q k : ℕ) (z : Event) → k < n → slice_get places k ≡ Some z → clock_of clocks z q ≤ clock q
 
--- all these places are marked, and the base of this number is the join of their clocks
+-- all these events are marked, and the base of this number is the join of their clocks
 pub record IsJoined (clocks : Clocks) (places : List Event) (n : ℕ) : Type 0 where
   pub there : n < length clocks.bases.items
   pub marked : AreMarked clocks places (length places)

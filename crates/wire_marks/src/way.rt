@@ -1,5 +1,5 @@
-//! The order in which processes are looked at: each is followed by the one that it waits for. What is marked
-//! in the end doesn't hang on it.
+//! The order in which processes are looked at: each is followed by the one that it waits for. The marks are
+//! the same in any order.
 
 ghost use Rattle.std.specs.Prelude.{◌≡◌, ◌++◌, ◌∷◌, [], IfOk, IfSome};
 ghost use Rattle.wire_runs.specs.Plan as runs;

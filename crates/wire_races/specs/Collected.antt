@@ -10,7 +10,7 @@ use Rattle.wire_races.specs.declared.found.Race.TheVariants.{OnKey, OnName}
 abbrev pub rewrite_of : CodeEvent × CodeEvent → Finding
 rewrite_of e = Rewrite (event_of e.1) (event_of e.0)
 
--- a race of two places, the lower first
+-- a race of two events, the lower first
 abbrev pub race_between : Event → Event → Race → Finding
 race_between x y (OnKey owner key) = KeyRace x y owner.number key
 race_between x y (OnName name) = NameRace x y name

@@ -6,7 +6,7 @@ use Rattle.wire_runs.specs.Findings.{Finding, Rewrite, KeyRace, NameRace, IsFind
 use Rattle.wire_races.specs.declared.finding.Finding.{Finding as Told}
 use Rattle.wire_races.specs.declared.finding.Finding.TheVariants as told
 
--- each call by the place of its first event
+-- each call by its first event
 abbrev pub shown : Plan → Told → Finding
 shown plan (told.Rewrite first later) = Rewrite (first_event plan first) (first_event plan later)
 shown plan (told.KeyRace lower higher owner key) = KeyRace (first_event plan lower) (first_event plan higher) owner.number key

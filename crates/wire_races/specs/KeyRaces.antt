@@ -70,26 +70,26 @@ pub record IsLateBy (plan : Plan) (get : Event) (owner key node at : ℕ) (f : F
 abbrev pub AreLateBelow : Plan → Event → ℕ → ℕ → ℕ → ℕ → Finding → Type 0
 AreLateBelow plan get owner key node n f = (at : ℕ) × (at < n) × IsLateBy plan get owner key node at f
 
--- all of these places are live
+-- all of these events are live
 abbrev pub AllLive : Plan → List Event → Type 0
 AllLive plan places = (k : ℕ) (z : Event) → slice_get places k ≡ Some z → Live plan z
 
--- the get is before none of these places
+-- the get is before none of these events
 abbrev pub NoneAfter : Plan → Event → List Event → Type 0
 NoneAfter plan get places = (k : ℕ) (z : Event) → slice_get places k ≡ Some z → ¬ (Before plan get z)
 
--- the first n of these places are before the get
+-- the first n of these events are before the get
 abbrev pub AreBefore : Plan → Event → List Event → ℕ → Type 0
 AreBefore plan get places n = (k : ℕ) (z : Event) → k < n → slice_get places k ≡ Some z → Before plan z get
 
--- the place of number k isn't before the get, and those in front of it are
+-- the event of number k isn't before the get, and those in front of it are
 pub record IsLateAt (plan : Plan) (get : Event) (places : List Event) (x : Event) : Type 0 where
   pub k : ℕ
   pub is : slice_get places k ≡ Some x
   pub not_before : ¬ (Before plan x get)
   pub others : AreBefore plan get places k
 
--- the first of these places that isn't before the get
+-- the first of these events that isn't before the get
 abbrev pub IsFirstLate : Plan → Event → List Event → Option CodeEvent → Type 0
 IsFirstLate plan get places found = MatchOption found (AreBefore plan get places (length places)) (λ x. IsLateAt plan get places (event_of x))
 

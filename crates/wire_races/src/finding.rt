@@ -8,8 +8,8 @@ use wire_types::{CallAt, Proc};
 pub enum Finding {
     /// The first put of a key, and a later put of it by the same process.
     Rewrite(CallAt, CallAt),
-    /// The two calls, the lower place first, then the owner of the key and the key by its number.
+    /// The two calls, the lower first, then the owner of the key and the key by its number.
     KeyRace(CallAt, CallAt, Proc, u32),
-    /// The two calls, the lower place first, then the name by its number.
+    /// The two calls, the lower first, then the name by its number.
     NameRace(CallAt, CallAt, u32),
 }

@@ -23,7 +23,7 @@ pub(crate) enum Race {
 }
 
 /// Findings so far, each once and in their order: the first put of each rewrite by the later put,
-/// and what a race is on by its events, the lower place first.
+/// and what a race is on by its events, the lower first.
 #[derive(Drop)]
 pub(crate) struct Found {
     rewrites: BTreeMap<Event, Event>,
@@ -48,7 +48,7 @@ fn told_rewrite(plan: &Plan, first: Event, later: Event) -> Finding
     Finding::Rewrite(plan.call_of(first), plan.call_of(later))
 }
 
-// The race of two events, the lower place first.
+// The race of two events, the lower first.
 fn told_race(plan: &Plan, lower: Event, higher: Event, race: Race) -> Finding
     requires { IsFound (plan_of plan.now) (race_between (event_of lower) (event_of higher) race) }
     ensures { shown (plan_of plan.now) result ≡ race_between (event_of lower) (event_of higher) race }
@@ -76,7 +76,7 @@ fn push_rewrites(
     Ok(())
 }
 
-// Lists races, by their places.
+// Lists races, by their events.
 fn push_races(
     plan: &Plan,
     races: &BTreeMap<(Event, Event), Race>,
@@ -111,7 +111,7 @@ impl Found {
         Ok(())
     }
 
-    // Adds the race of two events, the lower place first.
+    // Adds the race of two events, the lower first.
     fn add_race(&mut self, lower: Event, higher: Event, race: Race) -> Result<(), AllocError>
         requires { (other : Race) → Has self.old (race_between (event_of lower) (event_of higher) other) → race_between (event_of lower) (event_of higher) other ≡ race_between (event_of lower) (event_of higher) race }
         ensures { OnOk result (IsAdded self.old self.new (race_between (event_of lower) (event_of higher) race)) }

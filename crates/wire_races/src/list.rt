@@ -35,7 +35,7 @@ fn all_findings(
 }
 
 /// The findings of a plan, each once: the rewrites by the later put, then the races by the lower
-/// place and the higher one. Several threads look for the races, and the list is the same whatever
+/// event and the higher one. Several threads look for the races, and the list is the same whatever
 /// pieces they take. The caller ensures that the marks are those of the plan. The one fault is
 /// `Fault::Memory`.
 pub fn findings(

@@ -32,7 +32,7 @@ enum Border {
     FirstAfter,
 }
 
-// Whether an event may change what stands under a name.
+// Whether an event can change what stands under a name.
 fn writes(plan: &Plan, name: u32, event: Event) -> bool
     requires { event.at < event_count (plan_of plan.now) event.proc.number }
     ensures { result ≡ writes_name (plan_of plan.now) name (event_of event) (kind (plan_of plan.now) (event_of event)) }
@@ -87,7 +87,7 @@ fn count_below(marks: &Marks, x: Event, border: Border, run: &[Event]) -> usize
     low
 }
 
-// Adds the races of a live call that may change a name with the calls of another process on it.
+// Adds the races of a live call that can change a name with the calls of another process on it.
 // The one publish of a name and a lookup that waits for it are in order where both are live, so
 // they aren't between the borders.
 fn add_between(
@@ -116,7 +116,7 @@ fn add_between(
     Ok(())
 }
 
-// Adds the races of a call on a name, if it may change it, with the calls of a process on it.
+// Adds the races of a call on a name, if it can change it, with the calls of a process on it.
 fn add_races_of(
     plan: &Plan,
     marks: &Marks,
@@ -140,7 +140,7 @@ fn add_races_of(
     }
 }
 
-// Adds the races of all calls on a name that may change it with the calls of one process on it.
+// Adds the races of all calls on a name that can change it with the calls of one process on it.
 fn add_races_with(
     plan: &Plan,
     marks: &Marks,

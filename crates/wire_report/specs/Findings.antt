@@ -14,12 +14,12 @@ abbrev pub put_key_text : Scripts → Option Call → List ℕ
 put_key_text scripts (Some (Put scope key value)) = text_at scripts.keys key
 put_key_text scripts _ = []
 
--- the first put of a key by its place, a later put by its number, and the key
+-- the first put of a key by its process and number, a later put by its number, and the key
 abbrev pub rewrite_text : Scripts → CallAt → CallAt → List ℕ
 rewrite_text scripts first later =
     call_text scripts first ++ codes " " ++ decimal (later.call + 1) ++ codes " " ++ put_key_text scripts (call_at scripts.processes later.proc.number later.call)
 
--- two calls, the lower place first
+-- two calls, the lower first
 abbrev pub pair_text : Scripts → CallAt → CallAt → List ℕ
 pair_text scripts lower higher = call_text scripts lower ++ codes " " ++ call_text scripts higher
 

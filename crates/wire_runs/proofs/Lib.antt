@@ -17,5 +17,6 @@ pub mod Findings
 pub mod Marks
 pub mod HaveFates
 pub mod Reached
+pub mod Ends
 pub mod Rows
 pub mod SettledRow

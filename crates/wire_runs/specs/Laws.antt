@@ -4,6 +4,7 @@ use Rattle.wire_runs.specs.Plan.{Plan, Event, event_total}
 use Rattle.wire_runs.specs.State.{Answer, State, start, next_event, IsDone}
 use Rattle.wire_runs.specs.Step.{is_enabled, step, IsInterleaving, run, IsEnd, IsReachable}
 use Rattle.wire_runs.specs.PlainRun.{plain_run}
+use Rattle.wire_runs.specs.Ends.{row, calls_of}
 use Rattle.wire_runs.specs.Fate.{Fate, Waits, Says, HasFate, IsSoundCut}
 use Rattle.wire_runs.specs.Order.{Edge, Live, Before}
 use Rattle.wire_runs.specs.Races.{IsUnordered, IsSettled}
@@ -35,6 +36,10 @@ EnabledCommute = (plan : Plan) (s : State) (p q : ℕ) → IsSettled plan → Is
 -- every two runs of a settled plan that can't go on end in the same state: names, replies and who waits
 abbrev pub OneEnd : Type 0
 OneEnd = (plan : Plan) (v w : List ℕ) → IsSettled plan → IsInterleaving plan start v → IsInterleaving plan start w → IsEnd plan (run plan v) → IsEnd plan (run plan w) → run plan v ≡ run plan w
+
+-- in a state that a run can reach, each call of a process has an end, and nothing else has
+abbrev pub RowsAreWhole : Type 0
+RowsAreWhole = (plan : Plan) (s : State) (p : ℕ) → IsReachable plan s → length (row plan s p) ≡ length (calls_of plan p)
 
 -- every interleaving of the plan that can't go on ends in one state, the plain run's: the same reply to every call, the same
 -- names, and the same processes waiting

@@ -1,11 +1,17 @@
 //! The laws of runs of a plan. Each is the contract of a function that does nothing.
 
 ghost use Rattle.wire_runs.specs.Plan.{Plan};
-ghost use Rattle.wire_runs.specs.Laws.{PlainRuns, RacesAreUnordered, RunsEnd, EnabledIsDue, EnabledCommute, OneEnd, FatesTell, OneFate, RunsAreSound, NoFindings, OneList, HaveFates, SoundIsReached};
+ghost use Rattle.wire_runs.specs.Laws.{PlainRuns, RacesAreUnordered, RowsAreWhole, RunsEnd, EnabledIsDue, EnabledCommute, OneEnd, FatesTell, OneFate, RunsAreSound, NoFindings, OneList, HaveFates, SoundIsReached};
 
 /// No run is longer than the number of events.
 pub fn runs_end()
     ensures { RunsEnd }
+{}
+
+/// In a state that a run can reach, each call of a process has an end.
+#[tactic(auto, using(crate::proofs::Ends::rows_are_whole))]
+pub fn rows_are_whole()
+    ensures { RowsAreWhole }
 {}
 
 /// In a state that a run can reach: where a process is enabled, its next event is live, and its sources
