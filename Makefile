@@ -2,7 +2,7 @@
 
 PREFIX ?= /usr/local
 
-.PHONY: run try test install
+.PHONY: run try test bench install
 
 # An example without proofs, then the proof, and the same example by the proved ./wire_up.
 run:
@@ -16,6 +16,10 @@ try:
 # The gate: every proof from nothing, every test, and the program as a user calls it.
 test:
 	@python3 tests/gate.py
+
+# Times ./wire_up on files near the limits. `make bench BESIDE=program` times another program beside it.
+bench:
+	@python3 tests/bench.py $(if $(BESIDE),--beside "$(BESIDE)")
 
 # Puts the program that `make run` built in place.
 install:

@@ -8,6 +8,7 @@ import re
 import sys
 
 sys.dont_write_bytecode = True
+import bench
 import program
 import progress
 import readme
@@ -86,7 +87,7 @@ def main():
         os.remove(BUILT)
     counts = [prove()]
     if os.path.exists(BUILT):
-        counts += [program.all_runs(BUILT), readme.all_commands(BUILT)]
+        counts += [program.all_runs(BUILT), readme.all_commands(BUILT), bench.works(BUILT)]
     else:
         print("the program was not built, and so it was not run")
         counts.append((0, 1))

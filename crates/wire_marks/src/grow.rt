@@ -10,7 +10,7 @@ ghost use Rattle.wire_marks.specs.Marking.{AreClocks, IsStuckAt, IsNextBase, unm
 ghost use Rattle.wire_marks.specs.Meeting.{AreGrowing};
 
 use crate::clocks::Clocks;
-use crate::joins::{Meeting, fence_ended, meet};
+use crate::joins::{Growth, fence_ended, meet};
 use crate::way::{Way, waits_for};
 use std::alloc::{AllocError, Global};
 use wire_fence::Fences;
@@ -54,17 +54,16 @@ fn next_base(
     alloc: Global,
     plan: &Plan,
     fences: &Fences,
-    clocks: &mut Clocks,
-    meetings: &mut Vec<Meeting>,
+    growth: &mut Growth,
     proc: Proc,
 ) -> Result<Option<usize>, AllocError>
     requires fences { AreFencesOf plan.now fences.now }
-    requires growing { AreGrowing (plan_of plan.now) fences.now clocks.old meetings.old.items }
-    ensures growing { OnOk result (AreGrowing (plan_of plan.now) fences.now clocks.new meetings.new.items) }
-    ensures same { OnOk result (clocks.new.numbers.items ≡ clocks.old.numbers.items) }
-    ensures next { IfOk result (λ o. MatchOption o (IsStuckAt (plan_of plan.now) clocks.old proc.number) (λ n. IsNextBase (plan_of plan.now) clocks.new proc.number n)) }
+    requires growing { AreGrowing (plan_of plan.now) fences.now growth.old.clocks growth.old.meetings.items }
+    ensures growing { OnOk result (AreGrowing (plan_of plan.now) fences.now growth.new.clocks growth.new.meetings.items) }
+    ensures same { OnOk result (growth.new.clocks.numbers.items ≡ growth.old.clocks.numbers.items) }
+    ensures next { IfOk result (λ o. MatchOption o (IsStuckAt (plan_of plan.now) growth.old.clocks proc.number) (λ n. IsNextBase (plan_of plan.now) growth.new.clocks proc.number n)) }
 {
-    let at = clocks.marked(proc);
+    let at = growth.clocks.marked(proc);
     if at >= plan.event_count(proc) as usize {
         return Ok(None);
     }
@@ -76,14 +75,21 @@ fn next_base(
         return Ok(None);
     }
     let sources = plan.sources(event);
-    if !clocks.is_source_marked(sources.awaited) {
+    if !growth.clocks.is_source_marked(sources.awaited) {
         return Ok(None);
     }
     let Some(fence) = fence_ended(plan, fences, event) else {
+        let clocks = &mut growth.clocks;
         let number = clocks.base_after(alloc, sources.previous, sources.awaited)?;
         return Ok(Some(number));
     };
-    let met = meet(alloc, clocks, meetings, fence, sources.arrivals)?;
+    let met = meet(
+        alloc,
+        &mut growth.clocks,
+        &mut growth.meetings,
+        fence,
+        sources.arrivals,
+    )?;
     Ok(met)
 }
 
@@ -92,21 +98,20 @@ fn mark_next(
     alloc: Global,
     plan: &Plan,
     fences: &Fences,
-    clocks: &mut Clocks,
-    meetings: &mut Vec<Meeting>,
+    growth: &mut Growth,
     proc: Proc,
 ) -> Result<bool, AllocError>
     requires fences { AreFencesOf plan.now fences.now }
-    requires growing { AreGrowing (plan_of plan.now) fences.now clocks.old meetings.old.items }
-    ensures growing { OnOk result (AreGrowing (plan_of plan.now) fences.now clocks.new meetings.new.items) }
-    ensures falls { IfOk result (λ b. OnTrue b (unmarked (plan_of plan.now) clocks.new < unmarked (plan_of plan.now) clocks.old)) }
-    ensures same { IfOk result (λ b. OnFalse b (clocks.new.numbers.items ≡ clocks.old.numbers.items)) }
-    ensures stuck { IfOk result (λ b. OnFalse b (IsStuckAt (plan_of plan.now) clocks.new proc.number)) }
+    requires growing { AreGrowing (plan_of plan.now) fences.now growth.old.clocks growth.old.meetings.items }
+    ensures growing { OnOk result (AreGrowing (plan_of plan.now) fences.now growth.new.clocks growth.new.meetings.items) }
+    ensures falls { IfOk result (λ b. OnTrue b (unmarked (plan_of plan.now) growth.new.clocks < unmarked (plan_of plan.now) growth.old.clocks)) }
+    ensures same { IfOk result (λ b. OnFalse b (growth.new.clocks.numbers.items ≡ growth.old.clocks.numbers.items)) }
+    ensures stuck { IfOk result (λ b. OnFalse b (IsStuckAt (plan_of plan.now) growth.new.clocks proc.number)) }
 {
-    let Some(number) = next_base(alloc, plan, fences, clocks, meetings, proc)? else {
+    let Some(number) = next_base(alloc, plan, fences, growth, proc)? else {
         return Ok(false);
     };
-    clocks.mark(proc, number)?;
+    growth.clocks.mark(proc, number)?;
     Ok(true)
 }
 
@@ -115,20 +120,19 @@ fn mark_run(
     alloc: Global,
     plan: &Plan,
     fences: &Fences,
-    clocks: &mut Clocks,
-    meetings: &mut Vec<Meeting>,
+    growth: &mut Growth,
     proc: Proc,
 ) -> Result<bool, AllocError>
     requires fences { AreFencesOf plan.now fences.now }
-    requires growing { AreGrowing (plan_of plan.now) fences.now clocks.old meetings.old.items }
-    ensures growing { OnOk result (AreGrowing (plan_of plan.now) fences.now clocks.new meetings.new.items) }
-    ensures not_more { OnOk result (unmarked (plan_of plan.now) clocks.new ≤ unmarked (plan_of plan.now) clocks.old) }
-    ensures falls { IfOk result (λ b. OnTrue b (unmarked (plan_of plan.now) clocks.new < unmarked (plan_of plan.now) clocks.old)) }
-    ensures same { IfOk result (λ b. OnFalse b (clocks.new.numbers.items ≡ clocks.old.numbers.items)) }
-    ensures stuck { OnOk result (IsStuckAt (plan_of plan.now) clocks.new proc.number) }
+    requires growing { AreGrowing (plan_of plan.now) fences.now growth.old.clocks growth.old.meetings.items }
+    ensures growing { OnOk result (AreGrowing (plan_of plan.now) fences.now growth.new.clocks growth.new.meetings.items) }
+    ensures not_more { OnOk result (unmarked (plan_of plan.now) growth.new.clocks ≤ unmarked (plan_of plan.now) growth.old.clocks) }
+    ensures falls { IfOk result (λ b. OnTrue b (unmarked (plan_of plan.now) growth.new.clocks < unmarked (plan_of plan.now) growth.old.clocks)) }
+    ensures same { IfOk result (λ b. OnFalse b (growth.new.clocks.numbers.items ≡ growth.old.clocks.numbers.items)) }
+    ensures stuck { OnOk result (IsStuckAt (plan_of plan.now) growth.new.clocks proc.number) }
 {
     let mut moved = false;
-    'events: while mark_next(alloc, plan, fences, clocks, meetings, proc)? {
+    'events: while mark_next(alloc, plan, fences, growth, proc)? {
         moved = true;
     }
     Ok(moved)
@@ -139,19 +143,18 @@ fn pass(
     alloc: Global,
     plan: &Plan,
     fences: &Fences,
-    clocks: &mut Clocks,
-    meetings: &mut Vec<Meeting>,
+    growth: &mut Growth,
 ) -> Result<bool, AllocError>
     requires fences { AreFencesOf plan.now fences.now }
-    requires growing { AreGrowing (plan_of plan.now) fences.now clocks.old meetings.old.items }
-    ensures growing { OnOk result (AreGrowing (plan_of plan.now) fences.now clocks.new meetings.new.items) }
-    ensures not_more { OnOk result (unmarked (plan_of plan.now) clocks.new ≤ unmarked (plan_of plan.now) clocks.old) }
-    ensures falls { IfOk result (λ b. OnTrue b (unmarked (plan_of plan.now) clocks.new < unmarked (plan_of plan.now) clocks.old)) }
-    ensures stuck { IfOk result (λ b. OnFalse b ((p : ℕ) → p < process_count (plan_of plan.now) → IsStuckAt (plan_of plan.now) clocks.new p)) }
+    requires growing { AreGrowing (plan_of plan.now) fences.now growth.old.clocks growth.old.meetings.items }
+    ensures growing { OnOk result (AreGrowing (plan_of plan.now) fences.now growth.new.clocks growth.new.meetings.items) }
+    ensures not_more { OnOk result (unmarked (plan_of plan.now) growth.new.clocks ≤ unmarked (plan_of plan.now) growth.old.clocks) }
+    ensures falls { IfOk result (λ b. OnTrue b (unmarked (plan_of plan.now) growth.new.clocks < unmarked (plan_of plan.now) growth.old.clocks)) }
+    ensures stuck { IfOk result (λ b. OnFalse b ((p : ℕ) → p < process_count (plan_of plan.now) → IsStuckAt (plan_of plan.now) growth.new.clocks p)) }
 {
     let mut moved = false;
     for number in 0..plan.process_count() {
-        if mark_run(alloc, plan, fences, clocks, meetings, Proc::new(number))? {
+        if mark_run(alloc, plan, fences, growth, Proc::new(number))? {
             moved = true;
         }
     }
@@ -163,24 +166,17 @@ fn go_back(
     alloc: Global,
     plan: &Plan,
     fences: &Fences,
-    clocks: &mut Clocks,
-    meetings: &mut Vec<Meeting>,
+    growth: &mut Growth,
     way: &[Proc],
 ) -> Result<(), AllocError>
     requires fences { AreFencesOf plan.now fences.now }
-    requires growing { AreGrowing (plan_of plan.now) fences.now clocks.old meetings.old.items }
-    ensures growing { OnOk result (AreGrowing (plan_of plan.now) fences.now clocks.new meetings.new.items) }
-    ensures not_more { OnOk result (unmarked (plan_of plan.now) clocks.new ≤ unmarked (plan_of plan.now) clocks.old) }
+    requires growing { AreGrowing (plan_of plan.now) fences.now growth.old.clocks growth.old.meetings.items }
+    ensures growing { OnOk result (AreGrowing (plan_of plan.now) fences.now growth.new.clocks growth.new.meetings.items) }
+    ensures not_more { OnOk result (unmarked (plan_of plan.now) growth.new.clocks ≤ unmarked (plan_of plan.now) growth.old.clocks) }
 {
     for k in 0..way.len() {
-        mark_run(
-            alloc,
-            plan,
-            fences,
-            clocks,
-            meetings,
-            way[way.len() - 1 - k],
-        )?;
+        let proc = way[way.len() - 1 - k];
+        mark_run(alloc, plan, fences, growth, proc)?;
     }
     Ok(())
 }
@@ -191,23 +187,22 @@ fn go_down(
     alloc: Global,
     plan: &Plan,
     fences: &Fences,
-    clocks: &mut Clocks,
-    meetings: &mut Vec<Meeting>,
+    growth: &mut Growth,
     way: &mut Way,
     first: Proc,
 ) -> Result<(), AllocError>
     requires fences { AreFencesOf plan.now fences.now }
-    requires growing { AreGrowing (plan_of plan.now) fences.now clocks.old meetings.old.items }
-    ensures growing { OnOk result (AreGrowing (plan_of plan.now) fences.now clocks.new meetings.new.items) }
-    ensures not_more { OnOk result (unmarked (plan_of plan.now) clocks.new ≤ unmarked (plan_of plan.now) clocks.old) }
+    requires growing { AreGrowing (plan_of plan.now) fences.now growth.old.clocks growth.old.meetings.items }
+    ensures growing { OnOk result (AreGrowing (plan_of plan.now) fences.now growth.new.clocks growth.new.meetings.items) }
+    ensures not_more { OnOk result (unmarked (plan_of plan.now) growth.new.clocks ≤ unmarked (plan_of plan.now) growth.old.clocks) }
 {
     let mut proc = first;
     for _step in 0..plan.process_count() {
         if !way.take(proc)? {
             return Ok(());
         }
-        mark_run(alloc, plan, fences, clocks, meetings, proc)?;
-        let Some(next) = waits_for(plan, fences, clocks, meetings, proc) else {
+        mark_run(alloc, plan, fences, growth, proc)?;
+        let Some(next) = waits_for(plan, fences, growth, proc) else {
             return Ok(());
         };
         proc = next;
@@ -217,31 +212,17 @@ fn go_down(
 
 // Marks what is ready, each process after the one that it waits for, as far as that goes in one round: the
 // passes are then few.
-fn hurry(
-    alloc: Global,
-    plan: &Plan,
-    fences: &Fences,
-    clocks: &mut Clocks,
-    meetings: &mut Vec<Meeting>,
-) -> Result<(), AllocError>
+fn hurry(alloc: Global, plan: &Plan, fences: &Fences, growth: &mut Growth) -> Result<(), AllocError>
     requires fences { AreFencesOf plan.now fences.now }
-    requires growing { AreGrowing (plan_of plan.now) fences.now clocks.old meetings.old.items }
-    ensures growing { OnOk result (AreGrowing (plan_of plan.now) fences.now clocks.new meetings.new.items) }
-    ensures not_more { OnOk result (unmarked (plan_of plan.now) clocks.new ≤ unmarked (plan_of plan.now) clocks.old) }
+    requires growing { AreGrowing (plan_of plan.now) fences.now growth.old.clocks growth.old.meetings.items }
+    ensures growing { OnOk result (AreGrowing (plan_of plan.now) fences.now growth.new.clocks growth.new.meetings.items) }
+    ensures not_more { OnOk result (unmarked (plan_of plan.now) growth.new.clocks ≤ unmarked (plan_of plan.now) growth.old.clocks) }
 {
     let mut way = Way::new(alloc, plan.process_count() as usize)?;
     for number in 0..plan.process_count() {
-        go_down(
-            alloc,
-            plan,
-            fences,
-            clocks,
-            meetings,
-            &mut way,
-            Proc::new(number),
-        )?;
+        go_down(alloc, plan, fences, growth, &mut way, Proc::new(number))?;
     }
-    go_back(alloc, plan, fences, clocks, meetings, &way.procs)?;
+    go_back(alloc, plan, fences, growth, &way.procs)?;
     Ok(())
 }
 
@@ -251,12 +232,14 @@ pub(crate) fn all_clocks(alloc: Global, plan: &Plan) -> Result<Clocks, AllocErro
     ensures few { IfOk result (λ clocks. (p : ℕ) → marked_count clocks p < 2 ^ 32) }
 {
     let fences = plan.fences();
-    let mut clocks = no_clocks(alloc, plan)?;
-    let mut meetings = Vec::new(alloc);
+    let mut growth = Growth {
+        clocks: no_clocks(alloc, plan)?,
+        meetings: Vec::new(alloc),
+    };
     let mut moved = true;
     'passes: while moved {
-        hurry(alloc, plan, fences, &mut clocks, &mut meetings)?;
-        moved = pass(alloc, plan, fences, &mut clocks, &mut meetings)?;
+        hurry(alloc, plan, fences, &mut growth)?;
+        moved = pass(alloc, plan, fences, &mut growth)?;
     }
-    Ok(clocks)
+    Ok(growth.clocks)
 }

@@ -32,6 +32,13 @@ fn arrival_at(arrivals: &[Event], k: usize) -> Event
     arrivals[k]
 }
 
+/// What is marked so far: the clocks of the marked events, and which arrivals have met at each fence.
+#[derive(Drop)]
+pub(crate) struct Growth {
+    pub clocks: Clocks,
+    pub meetings: Vec<Meeting>,
+}
+
 impl Meeting {
     // Counts further arrivals, as far as they are marked. Whether all of them are.
     fn count_on(&mut self, clocks: &Clocks, arrivals: &[Event]) -> bool

@@ -9,8 +9,7 @@ ghost use Rattle.wire_runs.specs.Order.{Edge};
 ghost use Rattle.wire_marks.specs.Marking.{next_of};
 ghost use Rattle.std.specs.Bool.{OnTrue, OnFalse};
 
-use crate::clocks::Clocks;
-use crate::joins::{Meeting, fence_ended, missing_at};
+use crate::joins::{Growth, fence_ended, missing_at};
 use std::alloc::{AllocError, Global};
 use wire_fence::Fences;
 use wire_plan::Plan;
@@ -50,17 +49,11 @@ impl Way {
 
 /// A process whose event the next event of a process waits for, if there is one: of the event that is awaited,
 /// or of an arrival at the fence that it ends.
-pub(crate) fn waits_for(
-    plan: &Plan,
-    fences: &Fences,
-    clocks: &Clocks,
-    meetings: &[Meeting],
-    proc: Proc,
-) -> Option<Proc>
+pub(crate) fn waits_for(plan: &Plan, fences: &Fences, growth: &Growth, proc: Proc) -> Option<Proc>
     requires { AreFencesOf plan.now fences.now }
-    ensures { IfSome result (λ q. (z : runs.Event) × Edge (plan_of plan.now) z (next_of clocks.now proc.number) × (z.proc ≡ q.number)) }
+    ensures { IfSome result (λ q. (z : runs.Event) × Edge (plan_of plan.now) z (next_of growth.now.clocks proc.number) × (z.proc ≡ q.number)) }
 {
-    let at = clocks.marked(proc);
+    let at = growth.clocks.marked(proc);
     if at >= plan.event_count(proc) as usize {
         return None;
     }
@@ -75,5 +68,5 @@ pub(crate) fn waits_for(
     let Some(fence) = fence_ended(plan, fences, event) else {
         return None;
     };
-    missing_at(meetings, fence, sources.arrivals)
+    missing_at(&growth.meetings, fence, sources.arrivals)
 }

@@ -23,50 +23,56 @@ fn reaches(fences: &Fences, fence: FenceId, node: u32) -> bool
     fences.full(fence) && fences.collects(fence) && fences.reaches(fence, node)
 }
 
-/// Whether an event is the arrival of its process at a fence that brings a key of that process, which it
-/// puts once, to a node.
+/// What a fence may bring: a key of its owner, to a node.
+#[derive(Clone, Copy)]
+pub(crate) struct Delivery {
+    pub owner: Proc,
+    pub key: u32,
+    pub node: u32,
+}
+
+/// Whether the owner's event of this number is an arrival at a fence that makes the delivery, of a key that
+/// the owner puts once.
 fn is_delivering(
     events: &Events,
     fences: &Fences,
     keys: &KeyTable,
-    event: Event,
-    key: u32,
-    node: u32,
+    delivery: Delivery,
+    at: u32,
 ) -> bool
     requires fences { AreFencesOf events.now fences.now }
     requires keys { AreKeysOf (plan_of events.now) keys.now }
-    requires there { event.at < event_count (plan_of events.now) event.proc.number }
-    ensures { IsPutOnce (plan_of events.now) event.proc.number key → (IsTrue result ↔ IsDelivering (plan_of events.now) event.proc.number key node event.at) }
+    requires there { at < event_count (plan_of events.now) delivery.owner.number }
+    ensures { IsPutOnce (plan_of events.now) delivery.owner.number delivery.key → (IsTrue result ↔ IsDelivering (plan_of events.now) delivery.owner.number delivery.key delivery.node at) }
 {
+    let Delivery { owner, key, node } = delivery;
+    let event = Event { proc: owner, at };
     match events.kind(event) {
         Kind::Arrive { .. } => {
-            reaches(fences, fence_at(events, fences, event), node)
-                && keys.sends(event.proc, key, event.at)
+            reaches(fences, fence_at(events, fences, event), node) && keys.sends(owner, key, at)
         }
         _ => false,
     }
 }
 
-/// The first arrival of a process, from its event of this number on, at a fence that brings a key of it,
-/// which it puts once, to a node.
+/// The owner's first arrival, from its event of this number on, at a fence that makes the delivery, of a
+/// key that the owner puts once.
 pub(crate) fn next_delivery(
     events: &Events,
     fences: &Fences,
     keys: &KeyTable,
-    owner: Proc,
-    key: u32,
-    node: u32,
+    delivery: Delivery,
     from: u32,
 ) -> Option<Event>
     requires fences { AreFencesOf events.now fences.now }
     requires keys { AreKeysOf (plan_of events.now) keys.now }
-    ensures owner { IfSome result (λ e. e.proc ≡ owner) }
-    ensures next { IsPutOnce (plan_of events.now) owner.number key → IsNextDelivery (plan_of events.now) owner.number key node from (option_map (λ e. e.at) result) }
+    ensures owner { IfSome result (λ e. e.proc ≡ delivery.owner) }
+    ensures next { IsPutOnce (plan_of events.now) delivery.owner.number delivery.key → IsNextDelivery (plan_of events.now) delivery.owner.number delivery.key delivery.node from (option_map (λ e. e.at) result) }
 {
+    let owner = delivery.owner;
     for at in from..events.event_count(owner) {
-        let event = Event { proc: owner, at };
-        if is_delivering(events, fences, keys, event, key, node) {
-            return Some(event);
+        if is_delivering(events, fences, keys, delivery, at) {
+            return Some(Event { proc: owner, at });
         }
     }
     None

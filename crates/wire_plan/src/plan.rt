@@ -18,7 +18,7 @@ ghost use Rattle.wire_plan.specs.Index.{AreSources, AreArrivals, AreNameCalls, A
 ghost use Rattle.wire_plan.specs.Indexed.{IsIndexed};
 ghost use Rattle.wire_plan.specs.Meetings.{is_of_fence, IsMet};
 
-use crate::deliveries::next_delivery;
+use crate::deliveries::{Delivery, next_delivery};
 use crate::events::Events;
 use crate::index::Index;
 use crate::kind::Kind;
@@ -282,9 +282,7 @@ impl Plan {
             &self.events,
             &self.fences,
             &self.index.keys,
-            owner,
-            key,
-            node,
+            Delivery { owner, key, node },
             from,
         )
     }

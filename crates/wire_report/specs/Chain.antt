@@ -10,7 +10,7 @@ use Rattle.wire_runs.specs.Order.{Live, Before}
 use Rattle.wire_runs.specs.Ends.{call_of, first_event}
 use Rattle.wire_marks.specs.Chain.{IsShown}
 use Rattle.wire_rehearsal.specs.Canonical.{process_text}
-use Rattle.wire_report.specs.Report.{verb_of}
+use Rattle.wire_report.specs.Report.{verb_text}
 
 -- the text of a process, empty where there is none
 abbrev pub text_of_process : Scripts → Option Process → List ℕ
@@ -18,9 +18,9 @@ text_of_process scripts None = []
 text_of_process scripts (Some process) = process_text scripts process
 
 -- what a call is called, empty where there is none
-abbrev pub verb_in : Option Call → List ℕ
-verb_in None = []
-verb_in (Some call) = verb_of call
+abbrev pub verb_text_in : Option Call → List ℕ
+verb_text_in None = []
+verb_text_in (Some call) = verb_text call
 
 -- a call: its process, and its number from 1
 abbrev pub call_text : Scripts → CallAt → List ℕ
@@ -35,7 +35,7 @@ half_text _ = []
 -- the line of a call, with the text of a half of it
 abbrev pub half_line : Scripts → CallAt → List ℕ → List ℕ
 half_line scripts call half =
-    call_text scripts call ++ codes " " ++ verb_in (call_at scripts.processes call.proc.number call.call) ++ half ++ codes "\n"
+    call_text scripts call ++ codes " " ++ verb_text_in (call_at scripts.processes call.proc.number call.call) ++ half ++ codes "\n"
 
 -- the line of an event
 abbrev pub event_line : Scripts → Event → List ℕ

@@ -10,6 +10,9 @@ use Rattle.wire_types.specs.declared.Reply.{Reply}
 use Rattle.wire_types.specs.declared.CallEnd.{CallEnd}
 use Rattle.wire_types.specs.declared.CallEnd.TheVariants.{Replied, Waiting, Ready, Unreached}
 use Rattle.wire_types.specs.Outcome.{Ends}
+use Rattle.wire_lines.specs.declared.call.Verb.{Verb}
+use Rattle.wire_lines.specs.declared.call.Verb.TheVariants as verb
+use Rattle.wire_lines.specs.Verbs.{text_of_verb}
 use Rattle.wire_rehearsal.specs.Scripts.{Scripts, Process, text_at, call_at}
 use Rattle.wire_rehearsal.specs.Canonical.{process_text}
 
@@ -22,16 +25,20 @@ status_name DuplicateKey = codes "PMIX_ERR_DUPLICATE_KEY"
 status_name BadParam = codes "PMIX_ERR_BAD_PARAM"
 
 -- the verb of a call
-abbrev pub verb_of : Call → List ℕ
-verb_of (Put scope key value) = codes "put"
-verb_of Commit = codes "commit"
-verb_of (Get owner key) = codes "get"
-verb_of (GetNow owner key) = codes "get-now"
-verb_of (Fence set collect) = codes "fence"
-verb_of (Publish name value) = codes "publish"
-verb_of (Lookup name) = codes "lookup"
-verb_of (LookupWait name) = codes "lookup-wait"
-verb_of (Unpublish name) = codes "unpublish"
+abbrev pub verb_of : Call → Verb
+verb_of (Put scope key value) = verb.Put
+verb_of Commit = verb.Commit
+verb_of (Get owner key) = verb.Get
+verb_of (GetNow owner key) = verb.GetNow
+verb_of (Fence set collect) = verb.Fence
+verb_of (Publish name value) = verb.Publish
+verb_of (Lookup name) = verb.Lookup
+verb_of (LookupWait name) = verb.LookupWait
+verb_of (Unpublish name) = verb.Unpublish
+
+-- its text, as it is spelled in a file
+abbrev pub verb_text : Call → List ℕ
+verb_text call = text_of_verb (verb_of call)
 
 -- the text of the value that a call gives, empty where it gives none
 abbrev pub given_text : Scripts → Option Call → List ℕ
@@ -66,7 +73,7 @@ end_text scripts Unreached = codes "unreached"
 -- the line of a process's call number n
 abbrev pub call_line : Scripts → Process → ℕ → Call → CallEnd → List ℕ
 call_line scripts process n call end =
-    process_text scripts process ++ codes " " ++ decimal n ++ codes " " ++ verb_of call ++ codes " " ++ end_text scripts end ++ codes "\n"
+    process_text scripts process ++ codes " " ++ decimal n ++ codes " " ++ verb_text call ++ codes " " ++ end_text scripts end ++ codes "\n"
 
 -- the lines of these calls of a process, the first of them its number n, as far as both lists go
 abbrev pub lines_from : Scripts → Process → ℕ → List Call → List CallEnd → List ℕ

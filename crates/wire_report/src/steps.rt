@@ -160,7 +160,7 @@ pub fn push_proc(out: &mut Vec<u8>, scripts: &Scripts, proc: Proc) -> Result<(),
 
 /// What the call at a place is called.
 fn verb_at(scripts: &Scripts, place: CallAt) -> &'static str
-    ensures { result.now ≡ spec.verb_in (call_at scripts.now.processes place.proc.number place.call) }
+    ensures { result.now ≡ spec.verb_text_in (call_at scripts.now.processes place.proc.number place.call) }
 {
     match find_call(scripts, place) {
         Some(call) => verb(call),

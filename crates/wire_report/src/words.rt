@@ -32,7 +32,7 @@ pub fn push_process(
 
 /// What a call is called.
 pub fn verb(call: &Call) -> &'static str
-    ensures { result.now ≡ spec.verb_of call.now }
+    ensures { result.now ≡ spec.verb_text call.now }
 {
     match call {
         Call::Put { .. } => "put",

@@ -4,6 +4,6 @@ use Rattle.wire_marks.proofs.grow.all_clocks.Goals as goal
 
 pub returns : goal.returns
 returns c = record {
-  marks = marks_whole (plan_of c.args.plan.now) c.passes.clocks c.passes.invariant.growing.marked (c.passes.invariant.stuck c.passes-test.false);
+  marks = marks_whole (plan_of c.args.plan.now) c.passes.growth.clocks c.passes.invariant.growing.marked (c.passes.invariant.stuck c.passes-test.false);
   few = c.passes.invariant.growing.marked.based.few;
 }

@@ -7,9 +7,9 @@ use Rattle.wire_marks.proofs.grow.all_clocks.Given as goal
 
 abbrev pub invariant-passes : goal.invariant-passes
 invariant-passes l = record {
-  growing : AreGrowing (plan_of l.plan) l.fences l.clocks l.meetings.items;
-  stuck : l.moved ≡ false → (p : ℕ) → p < process_count (plan_of l.plan) → IsStuckAt (plan_of l.plan) l.clocks p;
+  growing : AreGrowing (plan_of l.plan) l.fences l.growth.clocks l.growth.meetings.items;
+  stuck : l.moved ≡ false → (p : ℕ) → p < process_count (plan_of l.plan) → IsStuckAt (plan_of l.plan) l.growth.clocks p;
 }
 
 abbrev pub decreases-passes : goal.decreases-passes
-decreases-passes l = unmarked (plan_of l.plan) l.clocks + (if l.moved then 1 else 0)
+decreases-passes l = unmarked (plan_of l.plan) l.growth.clocks + (if l.moved then 1 else 0)

@@ -6,6 +6,6 @@ use Rattle.wire_marks.proofs.grow.hurry.Given as goal
 
 abbrev pub invariant-loop-number : goal.invariant-loop-number
 invariant-loop-number l = record {
-  growing : AreGrowing (plan_of l.plan) l.fences l.clocks l.meetings.items;
-  not_more : unmarked (plan_of l.plan) l.clocks ≤ unmarked (plan_of l.plan) l.initial.clocks;
+  growing : AreGrowing (plan_of l.plan) l.fences l.growth.clocks l.growth.meetings.items;
+  not_more : unmarked (plan_of l.plan) l.growth.clocks ≤ unmarked (plan_of l.plan) l.initial.growth.clocks;
 }

@@ -6,11 +6,11 @@ use Rattle.wire_marks.proofs.grow.mark_run.Given as goal
 
 abbrev pub invariant-events : goal.invariant-events
 invariant-events l = record {
-  growing : AreGrowing (plan_of l.plan) l.fences l.clocks l.meetings.items;
-  not_more : unmarked (plan_of l.plan) l.clocks ≤ unmarked (plan_of l.plan) l.initial.clocks;
-  falls : l.moved ≡ true → unmarked (plan_of l.plan) l.clocks < unmarked (plan_of l.plan) l.initial.clocks;
-  same : l.moved ≡ false → l.clocks.numbers.items ≡ l.initial.clocks.numbers.items;
+  growing : AreGrowing (plan_of l.plan) l.fences l.growth.clocks l.growth.meetings.items;
+  not_more : unmarked (plan_of l.plan) l.growth.clocks ≤ unmarked (plan_of l.plan) l.initial.growth.clocks;
+  falls : l.moved ≡ true → unmarked (plan_of l.plan) l.growth.clocks < unmarked (plan_of l.plan) l.initial.growth.clocks;
+  same : l.moved ≡ false → l.growth.clocks.numbers.items ≡ l.initial.growth.clocks.numbers.items;
 }
 
 abbrev pub decreases-events : goal.decreases-events
-decreases-events l = unmarked (plan_of l.plan) l.clocks
+decreases-events l = unmarked (plan_of l.plan) l.growth.clocks

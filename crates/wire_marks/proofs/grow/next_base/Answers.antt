@@ -12,7 +12,7 @@ use Rattle.wire_marks.proofs.grow.next_base.Goals as goal
 
 pub returns-then-at-event_count-clause-next : goal.returns-then-at-event_count-clause-next
 returns-then-at-event_count-clause-next c = λ ready.
-    let within = come_within (plan_of c.args.plan.now) (next_of c.args.clocks.now c.args.proc.number) ready.comes in
+    let within = come_within (plan_of c.args.plan.now) (next_of c.args.growth.now.clocks c.args.proc.number) ready.comes in
     let at = c.marked-at.ensures in
     let count = c.event_count.ensures in
     let past = c.if-at-event_count.true in
@@ -22,8 +22,8 @@ pub returns-then-not-is_source_marked-clause-next : goal.returns-then-not-is_sou
 returns-then-not-is_source_marked-clause-next c = λ ready.
     let sources = c.sources-sources.result in
     let are = rw c.marked-at.ensures at c.sources-sources.ensures.sources in
-    let marked : (z : Event) → option_map event_of sources.awaited ≡ Some z → z.at < marked_count c.args.clocks.now z.proc = λ z e.
-    ready.sources z (awaited_edge (plan_of c.args.plan.now) (next_of c.args.clocks.now c.args.proc.number) (option_map event_of sources.previous) (option_map event_of sources.awaited) (map event_of sources.arrivals.now) are z e) in
+    let marked : (z : Event) → option_map event_of sources.awaited ≡ Some z → z.at < marked_count c.args.growth.now.clocks z.proc = λ z e.
+    ready.sources z (awaited_edge (plan_of c.args.plan.now) (next_of c.args.growth.now.clocks c.args.proc.number) (option_map event_of sources.previous) (option_map event_of sources.awaited) (map event_of sources.arrivals.now) are z e) in
     true≢false (sym (c.is_source_marked.ensures.1 marked) ∙ c.if-not-is_source_marked.true)
 
 pub meet-requires-clause-kept : goal.meet-requires-clause-kept
@@ -35,7 +35,7 @@ meet-requires-clause-kept c =
 pub returns-clause-growing : goal.returns-clause-growing
 returns-clause-growing c =
     let plan = plan_of c.args.plan.now in
-    let old = c.args.clocks.now in
+    let old = c.args.growth.now.clocks in
     let new = c.meet.new.clocks in
     let xs = map event_of c.sources-sources.result.arrivals.now in
     let here = arrivals_at_fence c.args.plan.now c.args.fences.now _ c.in-Some.fence.number xs c.in-Some.ensures c.sources-sources.ensures.leave in
@@ -43,22 +43,22 @@ returns-clause-growing c =
     let keeps = grown_keeps old new c.requires.growing.marked.based grown in
     record {
       marked = sound_grown old new c.requires.growing.marked.based grown plan c.requires.growing.marked c.in_ok-met.ensures.based;
-      kept = meetings_on plan c.args.fences.now old new c.args.meetings.now.items c.meet.new.meetings.items c.in-Some.fence.number here.0 xs keeps here.1 here.2 c.in_ok-met.ensures.kept c.in_ok-met.ensures.others c.requires.growing.kept;
+      kept = meetings_on plan c.args.fences.now old new c.args.growth.now.meetings.items c.meet.new.meetings.items c.in-Some.fence.number here.0 xs keeps here.1 here.2 c.in_ok-met.ensures.kept c.in_ok-met.ensures.others c.requires.growing.kept;
     }
 
 pub returns-clause-next : goal.returns-clause-next
 returns-clause-next c = told c.in_ok-met.met c.in_ok-met.ensures.met
   where
-    told : (o : Option ℕ) → MatchOption o (AreMarked c.args.clocks.now (map event_of c.sources-sources.result.arrivals.now) (length c.sources-sources.result.arrivals.now) → ⊥) (λ n. IsJoined c.meet.new.clocks (map event_of c.sources-sources.result.arrivals.now) n) → MatchOption o (IsStuckAt (plan_of c.args.plan.now) c.args.clocks.now c.args.proc.number) (λ n. IsNextBase (plan_of c.args.plan.now) c.meet.new.clocks c.args.proc.number n)
+    told : (o : Option ℕ) → MatchOption o (AreMarked c.args.growth.now.clocks (map event_of c.sources-sources.result.arrivals.now) (length c.sources-sources.result.arrivals.now) → ⊥) (λ n. IsJoined c.meet.new.clocks (map event_of c.sources-sources.result.arrivals.now) n) → MatchOption o (IsStuckAt (plan_of c.args.plan.now) c.args.growth.now.clocks c.args.proc.number) (λ n. IsNextBase (plan_of c.args.plan.now) c.meet.new.clocks c.args.proc.number n)
     told None missing = λ ready.
         let sources = c.sources-sources.result in
         let are = rw c.marked-at.ensures at c.sources-sources.ensures.sources in
         missing (λ k z lt e.
-        ready.sources z (arrival_edge (plan_of c.args.plan.now) (next_of c.args.clocks.now c.args.proc.number) (option_map event_of sources.previous) (option_map event_of sources.awaited) (map event_of sources.arrivals.now) are k z e))
+        ready.sources z (arrival_edge (plan_of c.args.plan.now) (next_of c.args.growth.now.clocks c.args.proc.number) (option_map event_of sources.previous) (option_map event_of sources.awaited) (map event_of sources.arrivals.now) are k z e))
     told (Some n) joined =
         let sources = c.sources-sources in
         let is = c.marked-at.ensures in
-        next_met c.args.plan.now c.args.fences.now c.args.clocks.now c.meet.new.clocks c.args.proc.number n c.in-Some.fence.number (option_map event_of sources.result.previous) (option_map event_of sources.result.awaited) (map event_of sources.result.arrivals.now)
+        next_met c.args.plan.now c.args.fences.now c.args.growth.now.clocks c.meet.new.clocks c.args.proc.number n c.in-Some.fence.number (option_map event_of sources.result.previous) (option_map event_of sources.result.awaited) (map event_of sources.result.arrivals.now)
         c.requires.growing.marked.based
         (sym (rw is at c.may_come.ensures) ∙ c.if-not-may_come.false)
         (rw is at sources.ensures.sources)
@@ -73,12 +73,12 @@ returns-clause-next c = told c.in_ok-met.met c.in_ok-met.ensures.met
 pub returns-in_default-clause-growing : goal.returns-in_default-clause-growing
 returns-in_default-clause-growing c =
     let plan = plan_of c.args.plan.now in
-    let old = c.args.clocks.now in
+    let old = c.args.growth.now.clocks in
     let new = c.base_after.new.self in
     let grown = c.in_ok-number.ensures.grown in
     record {
       marked = sound_grown old new c.requires.growing.marked.based grown plan c.requires.growing.marked c.in_ok-number.ensures.based;
-      kept = meetings_kept plan c.args.fences.now old new c.args.meetings.now.items (grown_keeps old new c.requires.growing.marked.based grown) c.requires.growing.kept;
+      kept = meetings_kept plan c.args.fences.now old new c.args.growth.now.meetings.items (grown_keeps old new c.requires.growing.marked.based grown) c.requires.growing.kept;
     }
 
 pub returns-in_default-clause-next : goal.returns-in_default-clause-next
@@ -87,7 +87,7 @@ returns-in_default-clause-next c =
     let none = rw c.in_default.is at c.fence_ended.ensures in
     let is = c.marked-at.ensures in
     let are = rw (c.marked-at.ensures, sources.ensures.others none) at sources.ensures.sources in
-    next_unmet (plan_of c.args.plan.now) c.args.clocks.now c.base_after.new.self c.args.proc.number c.in_ok-number.number (option_map event_of sources.result.previous) (option_map event_of sources.result.awaited)
+    next_unmet (plan_of c.args.plan.now) c.args.growth.now.clocks c.base_after.new.self c.args.proc.number c.in_ok-number.number (option_map event_of sources.result.previous) (option_map event_of sources.result.awaited)
     c.requires.growing.marked
     (sym (rw is at c.may_come.ensures) ∙ c.if-not-may_come.false)
     are

@@ -5,4 +5,4 @@ use Rattle.wire_plan.specs.Index.{IsDelivering}
 use Rattle.wire_plan.proofs.deliveries.next_delivery.Given as goal
 
 abbrev pub invariant-loop-at : goal.invariant-loop-at
-invariant-loop-at l = IsPutOnce (plan_of l.events) l.owner.number l.key → (k : ℕ) → l.from ≤ k → k < l.at → IsDelivering (plan_of l.events) l.owner.number l.key l.node k → ⊥
+invariant-loop-at l = IsPutOnce (plan_of l.events) l.delivery.owner.number l.delivery.key → (k : ℕ) → l.from ≤ k → k < l.at → IsDelivering (plan_of l.events) l.delivery.owner.number l.delivery.key l.delivery.node k → ⊥

@@ -1,0 +1,243 @@
+"""Times the program on files near the limits, and on files a quarter as large.
+
+Usage: python3 tests/bench.py [PROGRAM] [--beside OTHER] [--only WORD] [--runs N] [--small]
+Prints the tables of docs/performance.md: for each file its bytes, calls and findings; for each command the least time of N runs,
+with the start of the process in it and the output thrown away, how that grows from a quarter of the calls, and the greatest
+resident size. With OTHER, its time and size in the same runs, and the ratio. --small takes files of a few calls, each once: it only
+shows that all of it still works.
+"""
+import argparse
+import collections
+import os
+import subprocess
+import sys
+import tempfile
+import time
+
+TOP = os.path.dirname(os.path.dirname(os.path.abspath(__file__)))
+ONE_NODE = "rehearsal 1\nnode n0\njob app\n"
+TWO_NODES = "rehearsal 1\nnode n0\nnode n1\njob app\n"
+QUARTER, WHOLE = 1, 4
+PLACED = ("rehearsal ", "node ", "job ", "rank ", "#")
+
+# A kind of file: its name, what stands in it, its text for a number of ranks and a number of rounds or calls, the ranks, that number
+# at the limit, and the commands that are timed.
+Kind = collections.namedtuple("Kind", "name what text ranks rounds commands", defaults=(("check", "replay"),))
+
+
+def ranks_of(node, scripts):
+    return "".join(f"rank {node(number)}\n{script}" for number, script in enumerate(scripts))
+
+
+def by_turns(number):
+    """Even ranks on one node, odd ones on the other."""
+    return f"n{number % 2}"
+
+
+def on_one(_number):
+    return "n0"
+
+
+def exchange(ranks, gets):
+    scripts = []
+    for number in range(ranks):
+        asked = "".join(f"get-now app:{(number + step) % ranks} card\n" for step in range(1, gets + 1))
+        scripts.append(f"put global card c{number}\ncommit\nfence all collect\n{asked}")
+    return TWO_NODES + ranks_of(by_turns, scripts)
+
+
+def fences(ranks, rounds):
+    return ONE_NODE + ranks_of(on_one, ["fence all collect\n" * rounds] * ranks)
+
+
+def ring_fences(ranks, rounds):
+    scripts = []
+    for number in range(ranks):
+        after, before = (number + 1) % ranks, (number - 1) % ranks
+        pairs = [(number, after), (before, number)] if number % 2 == 0 else [(before, number), (number, after)]
+        scripts.append("".join(f"fence app:{min(it)},app:{max(it)} collect\n" for it in pairs) * rounds)
+    return TWO_NODES + ranks_of(by_turns, scripts)
+
+
+def falling_chain(ranks, rounds):
+    scripts = []
+    for number in range(ranks):
+        script = ""
+        for turn in range(rounds):
+            if number < ranks - 1:
+                script += f"get app:{number + 1} r{turn}\n"
+            elif turn:
+                script += f"get app:0 r{turn - 1}\n"
+            script += f"put global r{turn} v\ncommit\n"
+        scripts.append(script)
+    return TWO_NODES + ranks_of(by_turns, scripts)
+
+
+def waiters(ranks, rounds):
+    puts = "".join(f"put global k{turn} v\ncommit\n" for turn in range(rounds))
+    return ONE_NODE + ranks_of(on_one, [puts] + ["get app:0 never\n"] * (ranks - 1))
+
+
+def remote_now(_ranks, calls):
+    puts = "".join(f"put global z{turn} v\n" for turn in range(calls))
+    first = f"put global k v\ncommit\nfence all collect\n{puts}"
+    return TWO_NODES + ranks_of(by_turns, [first, "fence all collect\n" + "get-now app:0 k\n" * calls])
+
+
+def early_now(_ranks, calls):
+    met = "fence all collect\n" * (calls * 5 // 6)
+    return TWO_NODES + ranks_of(by_turns, [f"put global k v\ncommit\n{met}", "get-now app:0 k\n" * calls + met])
+
+
+def late_now(_ranks, calls):
+    met = "fence all collect\n" * (calls // 2)
+    return TWO_NODES + ranks_of(by_turns, [f"put global k v\ncommit\n{met}", met + "get-now app:0 k\n" * calls])
+
+
+def races(ranks, lookups):
+    return ONE_NODE + ranks_of(on_one, ["publish x 1\n" + "lookup x\n" * lookups] * ranks)
+
+
+def names(_ranks, count):
+    return ONE_NODE + ranks_of(on_one, ["".join(f"publish x{name} 1\n" for name in range(count))] * 2)
+
+
+def rewrites(_ranks, puts):
+    return TWO_NODES + ranks_of(by_turns, ["put global k v\ncommit\n" * puts, "get app:0 k\n"])
+
+
+def comments(_ranks, lines):
+    return ONE_NODE + "rank n0\n" + ("#" + "x" * 62 + "\n") * lines
+
+
+KINDS = [
+    Kind("exchange", "256 ranks on two nodes put, commit, meet in a collecting fence and ask 61 others without waiting", exchange, 256, 61),
+    Kind("fences", "256 ranks meet in 64 collecting fences", fences, 256, 64),
+    Kind("ring-fences", "256 ranks meet their neighbours, each in 64 fences of two", ring_fences, 256, 32),
+    Kind("falling-chain", "256 ranks, each of which waits for the next one in 21 rounds", falling_chain, 256, 21),
+    Kind("waiters", "255 ranks wait for ever for one that puts and commits 8,000 times", waiters, 256, 8000),
+    Kind("remote-now", "a rank asks one on another node 8,000 times, which has 8,000 calls", remote_now, 2, 8000),
+    Kind("early-now", "a rank asks 6,000 times before 5,000 collecting fences", early_now, 2, 6000),
+    Kind("late-now", "a rank asks 8,000 times after 4,000 collecting fences", late_now, 2, 8000),
+    Kind("races", "256 ranks publish one name and look it up 63 times each", races, 256, 63),
+    Kind("names", "two ranks publish the same 8,000 names", names, 2, 8000),
+    Kind("rewrites", "a rank puts and commits one key 8,000 times", rewrites, 2, 8000),
+    Kind("comments", "4 MiB of comments", comments, 1, 65535),
+]
+WHY = ("fences", "ring-fences", "falling-chain")
+QUESTION = ["why", "app:0", "1", "app:255", "1"]
+
+
+def calls_in(text):
+    """How many calls a file has."""
+    return sum(not line.startswith(PLACED) for line in text.splitlines())
+
+
+def run(words):
+    """The seconds of one run and its greatest resident size in KiB."""
+    began = time.perf_counter()
+    it = subprocess.Popen(words, stdin=subprocess.DEVNULL, stdout=subprocess.DEVNULL, stderr=subprocess.DEVNULL)
+    _, status, used = os.wait4(it.pid, 0)
+    seconds = time.perf_counter() - began
+    it.returncode = os.waitstatus_to_exitcode(status)
+    if it.returncode not in (0, 1):
+        sys.exit(f"{' '.join(words)}: exit status {it.returncode}")
+    return seconds, used.ru_maxrss
+
+
+def best_of(runs, programs, words):
+    """The least seconds and the greatest size of each program, run by turns."""
+    took = [[run([program, *words]) for program in programs] for _ in range(runs)]
+    return [(min(it[0] for it in each), max(it[1] for it in each)) for each in zip(*took)]
+
+
+def findings_in(program, path):
+    """How many findings `check` tells of a file."""
+    with tempfile.TemporaryFile() as told:
+        subprocess.run([program, "check", path], stdin=subprocess.DEVNULL, stdout=told, stderr=subprocess.DEVNULL, check=False)
+        told.seek(max(0, told.tell() - 40))
+        last = told.read().split(b"\n")[-2]
+    return int(last.split()[1])
+
+
+def mebibytes(size, floor):
+    """A resident size. What is no greater than that of a program that does nothing isn't told apart from it."""
+    return f"under {floor / 1024:.0f}" if size <= floor * 1.05 else f"{size / 1024:.1f}"
+
+
+class Bench:
+    """The rows of the tables, as they are measured."""
+
+    def __init__(self, args, room):
+        self.programs = [os.path.abspath(it) for it in (args.program, args.beside) if it]
+        self.room, self.runs, self.is_small = room, args.runs, args.small
+        self.floor = run(["true"])[1]
+
+    def file_of(self, kind, share):
+        """The path and the text of a file, at this many quarters of the limit."""
+        ranks, rounds = (min(kind.ranks, 4), 6) if self.is_small else (kind.ranks, max(1, kind.rounds * share // WHOLE))
+        text = kind.text(ranks, rounds)
+        path = os.path.join(self.room, f"{kind.name}-{share}.plan")
+        with open(path, "w", encoding="ascii") as it:
+            it.write(text)
+        return path, text
+
+    def tell_file(self, kind):
+        """A row of the table of files."""
+        path, text = self.file_of(kind, WHOLE)
+        found = findings_in(self.programs[0], path)
+        print(f"| {kind.name} | {kind.what} | {len(text):,} | {calls_in(text):,} | {found:,} |", flush=True)
+
+    def tell_command(self, kind, words):
+        """A row of the table of times."""
+        small, large = (best_of(self.runs, self.programs, [*words, self.file_of(kind, it)[0]]) for it in (QUARTER, WHOLE))
+        cells = [kind.name, f"{1000 * small[0][0]:.1f}", f"{1000 * large[0][0]:.1f}", f"{large[0][0] / small[0][0]:.1f}"]
+        cells.append(mebibytes(large[0][1], self.floor))
+        for other in large[1:]:
+            cells += [f"{1000 * other[0]:.1f}", mebibytes(other[1], self.floor), f"{other[0] / large[0][0]:.1f}"]
+        print(f"| {' | '.join(cells)} |", flush=True)
+
+    def tell_all(self, kinds):
+        print("| file | what stands in it | bytes | calls | findings |\n|---|---|---|---|---|")
+        for kind in kinds:
+            self.tell_file(kind)
+        for command in ("check", "replay", "why"):
+            its = [it for it in kinds if command in it.commands or (command == "why" and it.name in WHY)]
+            words = [it if not self.is_small else it.replace("255", "3") for it in QUESTION] if command == "why" else [command]
+            heads = ["file", "a quarter, ms", "ms", "growth", "MiB"] + ["other, ms", "other, MiB", "times as fast"][: 3 * (len(self.programs) - 1)]
+            print(f"\n`{' '.join(words)}`:\n\n| {' | '.join(heads)} |\n|{'---|' * len(heads)}")
+            for kind in its:
+                self.tell_command(kind, words)
+
+
+def works(program):
+    """Times the program on files of a few calls. Answers how many such runs passed and failed, of one."""
+    words = [sys.executable, os.path.abspath(__file__), program, "--small", "--beside", program]
+    ran = subprocess.run(words, stdin=subprocess.DEVNULL, capture_output=True, text=True, check=False)
+    is_well = ran.returncode == 0 and ran.stdout.count("\n| ") == 3 * len(KINDS) + len(WHY) + 4
+    if not is_well:
+        print(f"tests/bench.py: {ran.stdout}{ran.stderr}", end="")
+    print(f"tests/bench.py: {int(is_well)} passed, {int(not is_well)} failed", flush=True)
+    return int(is_well), int(not is_well)
+
+
+def main():
+    parser = argparse.ArgumentParser(description=__doc__, formatter_class=argparse.RawDescriptionHelpFormatter)
+    parser.add_argument("program", nargs="?", default=os.path.join(TOP, "wire_up"))
+    parser.add_argument("--beside")
+    parser.add_argument("--only", default="")
+    parser.add_argument("--runs", type=int, default=5)
+    parser.add_argument("--small", action="store_true")
+    args = parser.parse_args()
+    for program in filter(None, (args.program, args.beside)):
+        if not os.path.exists(program):
+            sys.exit(f"there is no {program}: make run builds ./wire_up")
+    if args.small:
+        args.runs = 1
+    with tempfile.TemporaryDirectory(prefix="wire-up-") as room:
+        Bench(args, room).tell_all([it for it in KINDS if args.only in it.name])
+    return 0
+
+
+if __name__ == "__main__":
+    sys.exit(main())
