@@ -214,7 +214,7 @@ def works(program):
     """Times the program on files of a few calls. Answers how many such runs passed and failed, of one."""
     words = [sys.executable, os.path.abspath(__file__), program, "--small", "--beside", program]
     ran = subprocess.run(words, stdin=subprocess.DEVNULL, capture_output=True, text=True, check=False)
-    is_well = ran.returncode == 0 and ran.stdout.count("\n| ") == 3 * len(KINDS) + len(WHY) + 4
+    is_well = ran.returncode == 0 and ran.stdout.count("\n| ") == 3 * len(KINDS) + len(WHY) + 3
     if not is_well:
         print(f"tests/bench.py: {ran.stdout}{ran.stderr}", end="")
     print(f"tests/bench.py: {int(is_well)} passed, {int(not is_well)} failed", flush=True)
