@@ -2,5 +2,6 @@ pub mod Puts
 pub mod Course
 pub mod Seeing
 pub mod Met
+pub mod Waiting
 pub mod Ranks
 pub mod Following

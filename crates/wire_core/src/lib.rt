@@ -2,11 +2,13 @@
 #![tactic(auto)]
 
 mod ends;
+mod lowest;
 mod met;
 mod names;
 mod rank;
 mod replies;
 mod running;
 mod sight;
+mod waits;
 
 pub use running::Core;

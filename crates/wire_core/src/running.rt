@@ -23,6 +23,7 @@ use crate::rank::Rank;
 use crate::replies::{
     is_shown, reply_to_get, reply_to_lookup, reply_to_publish, reply_to_unpublish,
 };
+use crate::waits::{Awaited, Waits, what_comes};
 use std::alloc::Global;
 use std::marker::Model;
 use wire_fence::{Arrivals, Fences};
@@ -38,6 +39,7 @@ pub struct Core<'a> {
     pub(crate) ranks: Vec<Rank>,
     pub(crate) arrivals: Arrivals,
     pub(crate) names: Names,
+    pub(crate) waits: Waits,
     history: Vec<Proc>,
 }
 
@@ -48,12 +50,13 @@ impl<'a> Model for Core<'a> {
     ghost use Rattle.wire_core.specs.Course.{Course};
     ghost use Rattle.wire_runs.specs.Step.{run};
     ghost use Rattle.wire_core.specs.Ranks.{IsCourse, IsShared};
+    ghost use Rattle.wire_core.specs.Waiting.{AreNoted};
 
     ghost Value = { Course };
 
     ghost view = { λ c. record { scripts = c.plan.now; history = map (λ p. p.number) c.history.items } };
 
-    ghost invariant = { λ c. IsCourse c.plan.now (map (λ p. p.number) c.history.items) c.ranks.items × (event_total (plan_of c.plan.now) ≤ vec_capacity c.history) × IsShared c.plan.now (run (plan_of c.plan.now) (map (λ p. p.number) c.history.items)) c.fences.now c.arrivals c.names };
+    ghost invariant = { λ c. IsCourse c.plan.now (map (λ p. p.number) c.history.items) c.ranks.items × (event_total (plan_of c.plan.now) ≤ vec_capacity c.history) × IsShared c.plan.now (run (plan_of c.plan.now) (map (λ p. p.number) c.history.items)) c.fences.now c.arrivals c.names × AreNoted c.plan.now c.fences.now (run (plan_of c.plan.now) (map (λ p. p.number) c.history.items)) c.waits };
 }
 
 /// The ranks of processes that haven't begun.
@@ -80,6 +83,7 @@ impl<'a> Core<'a> {
         let ranks = new_ranks(alloc, plan)?;
         let arrivals = Arrivals::new(alloc, fences)?;
         let names = Names::new(alloc, plan.scripts().names().len())?;
+        let waits = Waits::new(alloc, plan.process_count() as usize)?;
         let history = Vec::with_capacity(alloc, plan.event_total())?;
         Ok(Core {
             plan,
@@ -87,6 +91,7 @@ impl<'a> Core<'a> {
             ranks,
             arrivals,
             names,
+            waits,
             history,
         })
     }
@@ -102,7 +107,7 @@ impl<'a> Core<'a> {
     }
 
     /// The next event of a process.
-    fn next_event(&self, proc: Proc) -> Event
+    pub(crate) fn next_event(&self, proc: Proc) -> Event
         ensures { event_of result ≡ next_event (state_of self.now) proc.number }
     {
         let at = self.done(proc);
@@ -110,7 +115,7 @@ impl<'a> Core<'a> {
     }
 
     /// What the next event of a process is, where it has one.
-    fn next_kind(&self, proc: Proc) -> Option<Kind>
+    pub(crate) fn next_kind(&self, proc: Proc) -> Option<Kind>
         ensures kind { option_map (kind_of self.now.scripts.sets) result ≡ next_kind (plan_of self.now.scripts) (state_of self.now) proc.number }
         ensures fits { OnSome result ((state_of self.now).done proc.number + 1 < 2 ^ 32) }
     {
@@ -124,6 +129,16 @@ impl<'a> Core<'a> {
 
     /// Whether a process has a next event that may happen now. A process that isn't of the plan has none.
     pub fn ready(&self, proc: Proc) -> bool
+        ensures { result ≡ is_enabled (plan_of self.now.scripts) (state_of self.now) proc.number }
+    {
+        if self.waits.is_noted(proc) {
+            return false;
+        }
+        self.looks_ready(proc)
+    }
+
+    /// The same, told by its next event.
+    fn looks_ready(&self, proc: Proc) -> bool
         ensures { result ≡ is_enabled (plan_of self.now.scripts) (state_of self.now) proc.number }
     {
         match self.next_kind(proc) {
@@ -184,6 +199,9 @@ impl<'a> Core<'a> {
         let call = self.plan.call_of(event);
         note_arrival(&mut self.arrivals, fence, proc);
         note_name(&mut self.names, kind, call);
+        self.waits
+            .wake(what_comes(&self.arrivals, fence, kind, proc));
+        self.waits.note(proc, Awaited::Unknown);
         let rank = &mut self.ranks[proc.index()];
         rank.advance(kind, call, reply);
         self.history.push_reserved(proc);
@@ -216,7 +234,7 @@ impl<'a> Core<'a> {
     {
         // The steps so far are an interleaving, which bounds those to come.
         let _ = self.history();
-        'steps: while let Some(proc) = self.lowest_ready() {
+        'steps: while let Some(proc) = self.next_lowest() {
             self.step(proc);
         }
     }

@@ -23,15 +23,15 @@ steps-init c =
     }
 
 pub step-requires : goal.step-requires
-step-requires c = lowest_enabled (plan_of c.steps.self.scripts) (state_of c.steps.self) (process_count (plan_of c.steps.self.scripts)) c.in-Some.proc.number (sym c.in-Some.ensures)
+step-requires c = rw c.in-Some.ensures.same (lowest_enabled (plan_of c.steps.self.scripts) (state_of c.steps.self) (process_count (plan_of c.steps.self.scripts)) c.in-Some.proc.number (sym c.in-Some.ensures.lowest))
 
 pub steps-smaller : goal.steps-smaller
 steps-smaller c =
     let plan = plan_of c.steps.self.scripts in
-    let on = lowest_enabled plan (state_of c.steps.self) (process_count plan) c.in-Some.proc.number (sym c.in-Some.ensures) in
+    let on = lowest_enabled plan (state_of c.steps.self) (process_count plan) c.in-Some.proc.number (sym c.in-Some.ensures.lowest) in
     let room = step_history plan c.steps.self.history c.in-Some.proc.number c.steps.invariant.legal on in
     let longer = length_push c.steps.self.history c.in-Some.proc.number in
-    rw c.step.ensures (omega (arith, room, longer))
+    rw (c.step.ensures, c.in-Some.ensures.same) (omega (arith, room, longer))
 
 pub steps-preserved : goal.steps-preserved
 steps-preserved c =
@@ -39,18 +39,18 @@ steps-preserved c =
     let h = c.steps.self.history in
     let p = c.in-Some.proc.number in
     let initial = c.args.self.now in
-    let on = lowest_enabled plan (state_of c.steps.self) (process_count plan) p (sym c.in-Some.ensures) in
+    let on = lowest_enabled plan (state_of c.steps.self) (process_count plan) p (sym c.in-Some.ensures.lowest) in
     let room = step_history plan h p c.steps.invariant.legal on in
     let push = length_push h p in
     let longer = c.steps.invariant.longer in
     let more : event_total plan - (length h - length initial.history) ≡ suc (event_total plan - (length (h ++ p ∷ []) - length initial.history)) = omega (arith, room, push, longer) in
-    rw c.step.ensures
+    rw (c.step.ensures, c.in-Some.ensures.same)
     record {
       scripts = c.steps.invariant.scripts;
       legal = legal_push plan start h p c.steps.invariant.legal on;
       longer = omega (arith, push, longer);
-      ahead = ahead_step plan h p (event_total plan - (length (h ++ p ∷ []) - length initial.history)) _ _ (sym c.in-Some.ensures) more c.steps.invariant.ahead;
+      ahead = ahead_step plan h p (event_total plan - (length (h ++ p ∷ []) - length initial.history)) _ _ (sym c.in-Some.ensures.lowest) more c.steps.invariant.ahead;
     }
 
 pub returns-clause-ended : goal.returns-clause-ended
-returns-clause-ended c = nobody (plan_of c.steps.self.scripts) (state_of c.steps.self) (sym c.in_default.ensures)
+returns-clause-ended c = rw c.in_default.ensures.same (nobody (plan_of c.steps.self.scripts) (state_of c.steps.self) (sym c.in_default.ensures.lowest))

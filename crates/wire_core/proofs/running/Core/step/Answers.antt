@@ -1,5 +1,5 @@
 use Rattle.std.proofs.Common.{◌≡◌, ◌∙◌, ◌<◌, ap, sym, refl, subst, arith, ◌∷◌, [], ◌++◌, map, length, Some}
-use Rattle.std.specs.Prelude.{option_map}
+use Rattle.std.specs.Prelude.{option_map, slice_set}
 use Rattle.std.proofs.lemmas.List.{length-map, map-append}
 use Rattle.std.proofs.lemmas.Option.{slice_get_read}
 use Rattle.wire_rehearsal.specs.Planned.{plan_of}
@@ -16,6 +16,9 @@ use Rattle.wire_core.specs.Met.{ArrivesAt, after_arrival}
 use Rattle.wire_core.specs.Ranks.{calls_at, IsShared}
 use Rattle.wire_core.proofs.Shared.{shared_step, missing_if, has_name}
 use Rattle.wire_core.specs.Seeing.{replies_in}
+use Rattle.wire_core.specs.Waiting.{after as known_after, coming, AreNoted}
+use Rattle.wire_core.specs.declared.waits.Awaited.TheVariants.{Unknown}
+use Rattle.wire_core.proofs.Waiting.{noted_step}
 use Rattle.wire_core.proofs.Steps.{IsAdvanced, put_anyway, name_anyway, step_room, step_space, step_history, rank_step, course_step, run_push}
 use Rattle.wire_core.proofs.running.Core.step.Goals as goal
 
@@ -130,11 +133,24 @@ invariant_of-self c =
     let arriving = subst (λ x. ArrivesAt c.self.inside.plan.now c.self.inside.fences.now x (option_map (λ f. f.number) c.arrived_at-fence.result)) place c.arrived_at-fence.ensures in
     let shared = shared_step c.self.inside.plan.now s c.self.inside.fences.now c.self.inside.arrivals c.self.inside.names c.args.proc.number (option_map (λ f. f.number) c.arrived_at-fence.result) (kind_of sets c.in-Some.kind) c.self.invariant.2 is arriving in
     let noted : c.note_name.new.names ≡ names_after (calls_at plan c.args.proc.number (s.done c.args.proc.number)) (Some (kind_of sets c.in-Some.kind)) c.self.inside.names =
-    c.note_name.ensures sets ∙ ap (λ a. names_after a (Some (kind_of sets c.in-Some.kind)) c.self.inside.names) call in (
+    c.note_name.ensures sets ∙ ap (λ a. names_after a (Some (kind_of sets c.in-Some.kind)) c.self.inside.names) call in
+    let comes = c.what_comes.ensures sets ∙ ap (λ missing. coming c.args.proc c.arrived_at-fence.result missing (kind_of sets c.in-Some.kind)) c.note_arrival.ensures in
+    let waits = noted_step c.self.inside.plan.now c.self.inside.fences.now s c.self.inside.arrivals c.args.proc c.arrived_at-fence.result (kind_of sets c.in-Some.kind) c.self.inside.waits is arriving c.self.invariant.2.arrived shared.arrived within c.self.invariant.3 in (
       rw (pushed, c.index.ensures) course,
       rw c.push_reserved.ensures.capacity c.self.invariant.1,
       rw (pushed, c.note_arrival.ensures, noted) (subst (λ st. IsShared c.self.inside.plan.now st c.self.inside.fences.now (after_arrival (option_map (λ f. f.number) c.arrived_at-fence.result) c.self.inside.arrivals) (names_after (calls_at plan c.args.proc.number (s.done c.args.proc.number)) (Some (kind_of sets c.in-Some.kind)) c.self.inside.names)) (sym (run_push plan start w c.args.proc.number)) shared),
+      rw (pushed, c.note.ensures, c.wake.ensures, comes) (subst (λ st. AreNoted c.self.inside.plan.now c.self.inside.fences.now st (slice_set (map (known_after (coming c.args.proc c.arrived_at-fence.result (after_arrival (option_map (λ f. f.number) c.arrived_at-fence.result) c.self.inside.arrivals) (kind_of sets c.in-Some.kind))) c.self.inside.waits) c.args.proc.number Unknown)) (sym (run_push plan start w c.args.proc.number)) waits),
     )
+
+pub note-requires : goal.note-requires
+note-requires c =
+    let plan = plan_of c.self.inside.plan.now in
+    let s = run plan (map (λ p. p.number) c.self.inside.history.items) in
+    let is = sym (rw (← c.self.view_is) at c.in-Some.ensures.kind) in
+    let within = process_within plan c.args.proc.number (s.done c.args.proc.number) (kind_of c.self.inside.plan.now.sets c.in-Some.kind) is in
+    let count = c.self.invariant.3.count in
+    let woken : length c.wake.new.self ≡ length c.self.inside.waits = ap length c.wake.ensures ∙ length-map c.self.inside.waits (known_after c.what_comes.result) in
+    omega (arith, within, count, woken)
 
 pub note_arrival-requires : goal.note_arrival-requires
 note_arrival-requires c =
