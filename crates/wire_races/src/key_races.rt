@@ -68,7 +68,7 @@ fn add_race(
     requires found { AreFound (plan_of plan.now) found.old }
     ensures { OnOk result (Adds (plan_of plan.now) found.old found.new (IsRaceOf (event_of source) (event_of get_now) owner.number key)) }
 {
-    found.add(plan, race_of(plan, source, get_now, owner, key))
+    found.add(race_of(plan, source, get_now, owner, key))
 }
 
 /// Adds the race of a get with the commit that stores its key on the same node, if they race.
@@ -388,7 +388,7 @@ fn piece(alloc: Global, plan: &Plan, marks: &Marks, proc: Proc) -> Result<Vec<Fi
 {
     let mut found = Found::new(alloc);
     add_process(plan, marks, &mut found, proc)?;
-    found.into_list(alloc, plan)
+    Ok(found.into_piece())
 }
 
 /// A piece for each process, in their order, made by several threads.
@@ -430,5 +430,5 @@ pub(crate) fn add_key_races(
     ensures all { OnOk result (AllAdded (plan_of plan.now) IsOfKey found.old found.new) }
 {
     let pieces = pieces(rt, alloc, plan, marks)?;
-    add_pieces(plan, found, pieces.as_slice())
+    add_pieces(found, pieces.as_slice())
 }
