@@ -6,10 +6,11 @@ use Rattle.std.proofs.lemmas.Option.{same_Some, slice_get-map, slice_get-get_or,
 use Rattle.wire_runs.specs.Plan.{Plan, Event, Kind, Arrive, Leave, kind, event_of}
 use Rattle.wire_runs.specs.Fences.{arrivals}
 use Rattle.wire_types.specs.declared.place.Event.{Event as CodeEvent}
-use Rattle.wire_runs.specs.Order.{IsArrival, Before}
+use Rattle.wire_runs.specs.Order.{IsArrival, Live, Before}
 use Rattle.wire_plan.specs.Index.{AreArrivals}
 use Rattle.wire_runs.proofs.Basics.{arrivals_rise, arrivals_step}
-use Rattle.wire_races.specs.KeyRaces.{Arrives, IsSure, MayBeLate, IsLate, AllLive, NoneAfter, AreBefore, IsLateAt, IsFirstLate}
+use Rattle.wire_races.proofs.Sooner.{sooner_live, sooner_before}
+use Rattle.wire_races.specs.KeyRaces.{Arrives, IsBehindOwn, IsSure, MayBeLate, IsLate, AllLive, NoneAfter, AreBefore, IsLateAt, IsFirstLate}
 
 abbrev members_in : Kind → List ℕ
 members_in (Arrive members collect) = members
@@ -91,6 +92,16 @@ module _ (plan : Plan) (get arrival : Event) (fence : Arrives plan arrival) (pla
     all_live = λ z h. let i = are.all z h in alive i.0 z i.1;
     all_before = λ z h. let i = are.all z h in before i.0 z (slice_get_within places i.0 z i.1) i.1;
   }
+
+  -- a live get behind its own process's arrival
+  pub behind_sure : IsBehindOwn get places → Live plan get → IsSure plan get arrival
+  behind_sure b alive =
+      let own = subst (λ p. IsArrival plan fence.members fence.j (record { proc = p; at = b.own.at })) b.same (are.only b.k b.own b.is) in
+      record {
+        fence = fence;
+        all_live = λ z h. sooner_live plan get.proc b.own.at get.at fence.members fence.j own b.earlier alive z h;
+        all_before = λ z h. sooner_before plan get.proc b.own.at get.at fence.members fence.j own b.earlier alive z h;
+      }
 
   pub sure_live : IsSure plan get arrival → AllLive plan places
   sure_live s k z is = s.all_live z ((those s.fence.members s.fence.j s.fence.arrival).only k z is)

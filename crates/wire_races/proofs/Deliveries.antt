@@ -10,6 +10,7 @@ use Rattle.wire_runs.specs.Races.{Delivery, ByFence, IsOf, Delivers, ComesSurely
 use Rattle.wire_runs.specs.Findings.{Finding, IsFound, IsKeyRace}
 use Rattle.wire_plan.specs.Index.{IsDelivering, IsNextDelivery}
 use Rattle.wire_runs.proofs.Basics.{event_within, process_within}
+use Rattle.wire_races.specs.declared.finding.Finding.{Finding as Told}
 use Rattle.wire_races.specs.Collected.{AreFound}
 use Rattle.wire_races.specs.FindingKinds.{IsOfKey}
 use Rattle.wire_races.specs.Adding.{Adds, OfKind}
@@ -137,7 +138,7 @@ module _ (plan : Plan) (get : Event) (owner key : ℕ) (n : IsUnsure plan get ow
       go x (inr r) is = delivered x is r.delivery r.delivers r.before_none r.of_it r.not_before r.first
 
   -- the late arrivals are all races of the get
-  pub adds_late : (old new : List Finding) → Adds plan old new (AreLateBelow plan get owner key (node_of plan get.proc) (event_count plan owner)) → Adds plan old new (IsKeyRaceBy plan get)
+  pub adds_late : (old new : List Told) → Adds plan old new (AreLateBelow plan get owner key (node_of plan get.proc) (event_count plan owner)) → Adds plan old new (IsKeyRaceBy plan get)
   adds_late old new h =
       adds_same plan old new (AreLateBelow plan get owner key (node_of plan get.proc) (event_count plan owner)) (IsKeyRaceBy plan get)
       (λ f t. record { source = t.2.source; owner = owner; key = key; race = late_race t.0 t.2.source t.2.delivers t.2.late; is = t.2.is })
@@ -146,17 +147,17 @@ module _ (plan : Plan) (get : Event) (owner key : ℕ) (n : IsUnsure plan get ow
 
 module _ (plan : Plan) (get : Event) (owner key node : ℕ) where
   -- one arrival is looked at
-  pub one_late : (old new : List Finding) (at : ℕ) (x : Event) → IsDelivering plan owner key node at → IsLate plan get (here owner at) x → Adds plan old new (IsRaceOf x get owner key) → Adds plan old new (IsLateBy plan get owner key node at)
+  pub one_late : (old new : List Told) (at : ℕ) (x : Event) → IsDelivering plan owner key node at → IsLate plan get (here owner at) x → Adds plan old new (IsRaceOf x get owner key) → Adds plan old new (IsLateBy plan get owner key node at)
   one_late old new at x d l h =
       adds_same plan old new (IsRaceOf x get owner key) (IsLateBy plan get owner key node at)
       (λ f i. record { source = x; delivers = d; late = l; is = i })
       (λ f t. subst (λ z. IsRaceOf z get owner key f) (late_once plan get (here owner at) x t.source l t.late) t.is)
       h
 
-  pub not_late : (found : List Finding) (at : ℕ) → ((x : Event) → IsLate plan get (here owner at) x → ⊥) → AreFound plan found → Adds plan found found (IsLateBy plan get owner key node at)
+  pub not_late : (found : List Told) (at : ℕ) → ((x : Event) → IsLate plan get (here owner at) x → ⊥) → AreFound plan found → Adds plan found found (IsLateBy plan get owner key node at)
   not_late found at never are = adds_none plan found (IsLateBy plan get owner key node at) are (λ f t. never t.source t.late)
 
-  pub late_more : (old mid new : List Finding) (from at next : ℕ) → from ≤ at → next ≡ suc at → ((k : ℕ) → from ≤ k → k < at → IsDelivering plan owner key node k → ⊥) → Adds plan old mid (AreLateBelow plan get owner key node from) → Adds plan mid new (IsLateBy plan get owner key node at) → Adds plan old new (AreLateBelow plan get owner key node next)
+  pub late_more : (old mid new : List Told) (from at next : ℕ) → from ≤ at → next ≡ suc at → ((k : ℕ) → from ≤ k → k < at → IsDelivering plan owner key node k → ⊥) → Adds plan old mid (AreLateBelow plan get owner key node from) → Adds plan mid new (IsLateBy plan get owner key node at) → Adds plan old new (AreLateBelow plan get owner key node next)
   late_more old mid new from at next le one others first second =
       adds_both plan old mid new (AreLateBelow plan get owner key node from) (IsLateBy plan get owner key node at) (AreLateBelow plan get owner key node next)
       (λ f t. let lt = t.1 in (t.0, omega (arith, lt, le, one), t.2))
@@ -187,14 +188,14 @@ module _ (plan : Plan) (get : Event) (owner key node : ℕ) where
     ]
   ]
 
-  pub late_done : (old new : List Finding) (from count : ℕ) → count ≡ event_count plan owner → ((k : ℕ) → from ≤ k → (f : Finding) → IsLateBy plan get owner key node k f → ⊥) → Adds plan old new (AreLateBelow plan get owner key node from) → Adds plan old new (AreLateBelow plan get owner key node count)
+  pub late_done : (old new : List Told) (from count : ℕ) → count ≡ event_count plan owner → ((k : ℕ) → from ≤ k → (f : Finding) → IsLateBy plan get owner key node k f → ⊥) → Adds plan old new (AreLateBelow plan get owner key node from) → Adds plan old new (AreLateBelow plan get owner key node count)
   late_done old new from count is never h =
       adds_same plan old new (AreLateBelow plan get owner key node from) (AreLateBelow plan get owner key node count)
       (λ f t. let lt = delivering_within plan owner key node t.0 t.2.delivers in (t.0, omega (arith, lt, is), t.2))
       (λ f t. elim (cases_lt t.0 from) [ inl lt ↦ (t.0, lt, t.2) | inr ge ↦ absurd (never t.0 ge f t.2) ])
       h
 
-  pub late_whole : (old new : List Finding) (from count : ℕ) → count ≡ event_count plan owner → ((k : ℕ) → from ≤ k → IsDelivering plan owner key node k → ⊥) → Adds plan old new (AreLateBelow plan get owner key node from) → Adds plan old new (AreLateBelow plan get owner key node count)
+  pub late_whole : (old new : List Told) (from count : ℕ) → count ≡ event_count plan owner → ((k : ℕ) → from ≤ k → IsDelivering plan owner key node k → ⊥) → Adds plan old new (AreLateBelow plan get owner key node from) → Adds plan old new (AreLateBelow plan get owner key node count)
   late_whole old new from count is later h =
       adds_same plan old new (AreLateBelow plan get owner key node from) (AreLateBelow plan get owner key node count)
       (λ f t. let lt = delivering_within plan owner key node t.0 t.2.delivers in (t.0, omega (arith, lt, is), t.2))

@@ -12,6 +12,7 @@ use Rattle.wire_runs.specs.Races.{IsUnordered, IsNodeRace, IsPutOnce, Delivery, 
 use Rattle.wire_runs.specs.Findings.{Finding, KeyRace, IsFound, IsKeyRace}
 use Rattle.wire_runs.proofs.Basics.{event_within}
 use Rattle.wire_plan.proofs.KeyFacts.{stores_once}
+use Rattle.wire_races.specs.declared.finding.Finding.{Finding as Told}
 use Rattle.wire_races.specs.Collected.{AreFound, IsAdded}
 use Rattle.wire_races.specs.Adding.{Adds}
 use Rattle.wire_races.specs.KeyRaces.{IsRaceOf, IsKeyRaceBy, IsOpen}
@@ -131,7 +132,7 @@ pub race_found : (plan : Plan) (x y : Event) (owner key : ℕ) (f : Finding) →
 race_found plan x y owner key f r (inl a) = subst (IsFound plan) (sym a.1) (a.0, inl r)
 race_found plan x y owner key f r (inr a) = subst (IsFound plan) (sym a.1) (a.0, inr r)
 
-pub adds_race : (plan : Plan) (old new : List Finding) (x y : Event) (owner key : ℕ) (g : Finding) → IsKeyRace plan x y owner key → IsRaceOf x y owner key g → AreFound plan old → IsAdded old new g → Adds plan old new (IsRaceOf x y owner key)
+pub adds_race : (plan : Plan) (old new : List Told) (x y : Event) (owner key : ℕ) (g : Finding) → IsKeyRace plan x y owner key → IsRaceOf x y owner key g → AreFound plan old → IsAdded plan old new g → Adds plan old new (IsRaceOf x y owner key)
 adds_race plan old new x y owner key g r is are told =
     adds_one plan old new (IsRaceOf x y owner key) g are (race_found plan x y owner key g r is) told is (λ f h. one_race x y owner key g f is h)
 
@@ -194,14 +195,14 @@ module _ (plan : Plan) (get : Event) (owner key : ℕ) (o : IsOpen plan get owne
     },
   )
 
-  pub adds_node : (old new : List Finding) (commit : Event) → commit.proc ≡ owner → Stores plan commit key → IsUnordered plan commit get → Adds plan old new (IsRaceOf commit get owner key) → Adds plan old new (IsKeyRaceBy plan get)
+  pub adds_node : (old new : List Told) (commit : Event) → commit.proc ≡ owner → Stores plan commit key → IsUnordered plan commit get → Adds plan old new (IsRaceOf commit get owner key) → Adds plan old new (IsKeyRaceBy plan get)
   adds_node old new commit p s u h =
       adds_same plan old new (IsRaceOf commit get owner key) (IsKeyRaceBy plan get)
       (λ f i. record { source = commit; owner = owner; key = key; race = node_race commit p s u; is = i })
       (λ f t. let n = only_node f t in subst (λ x. IsRaceOf x get owner key f) (stores_once plan n.source commit key (n.proc ∙ sym p) n.race.stores s) n.is)
       h
 
-  pub ordered_commit : (found : List Finding) (commit : Event) → commit.proc ≡ owner → Stores plan commit key → (IsUnordered plan commit get → ⊥) → AreFound plan found → Adds plan found found (IsKeyRaceBy plan get)
+  pub ordered_commit : (found : List Told) (commit : Event) → commit.proc ≡ owner → Stores plan commit key → (IsUnordered plan commit get → ⊥) → AreFound plan found → Adds plan found found (IsKeyRaceBy plan get)
   ordered_commit found commit p s never are =
       adds_none plan found (IsKeyRaceBy plan get) are (λ f t.
       let n = only_node f t in

@@ -5,7 +5,8 @@ use Rattle.wire_runs.specs.Plan.{Plan, Event, Put, kind, kind_at, event_count, p
 use Rattle.wire_runs.specs.Puts.{put_count}
 use Rattle.wire_types.specs.declared.Scope.{Scope}
 use Rattle.wire_types.specs.declared.CallAt.{CallAt}
-use Rattle.wire_runs.specs.Findings.{Finding, Rewrite, KeyRace, NameRace, IsFound, Has}
+use Rattle.wire_runs.specs.Findings.{Finding, Rewrite, KeyRace, NameRace, IsFound}
+use Rattle.wire_races.specs.declared.finding.Finding.{Finding as Told}
 use Rattle.wire_runs.specs.Findings as told
 use Rattle.wire_runs.specs.Ends.{call_of, first_event}
 use Rattle.wire_plan.specs.Index.{IsFirstPut}
@@ -60,12 +61,12 @@ pub rewrite_by : (plan : Plan) (f : Finding) → OfKind plan IsOfRewrite f → (
 rewrite_by plan f k = (k.0.1, (k.0.0, subst (IsFound plan) k.0.2 k.1, k.0.2))
 
 -- the finding is added
-pub adds_rewrite : (plan : Plan) (old new : List Finding) (x y : Event) (g : Finding) → IsRewrite plan x y → g ≡ Rewrite x y → AreFound plan old → IsAdded old new g → Adds plan old new (IsRewriteBy plan y)
+pub adds_rewrite : (plan : Plan) (old new : List Told) (x y : Event) (g : Finding) → IsRewrite plan x y → g ≡ Rewrite x y → AreFound plan old → IsAdded plan old new g → Adds plan old new (IsRewriteBy plan y)
 adds_rewrite plan old new x y g r is are told =
     adds_one plan old new (IsRewriteBy plan y) g are (subst (IsFound plan) (sym is) r) told (x, r, is)
     (λ f t. t.2 ∙ ap (λ z. Rewrite z y) (one_first plan t.0 x y t.1 r) ∙ sym is)
 
-pub adds_no_rewrite : (plan : Plan) (found : List Finding) (y : Event) → ((x : Event) → IsRewrite plan x y → ⊥) → AreFound plan found → Adds plan found found (IsRewriteBy plan y)
+pub adds_no_rewrite : (plan : Plan) (found : List Told) (y : Event) → ((x : Event) → IsRewrite plan x y → ⊥) → AreFound plan found → Adds plan found found (IsRewriteBy plan y)
 adds_no_rewrite plan found y never are = adds_none plan found (IsRewriteBy plan y) are (λ f t. never t.0 t.1)
 
 -- how it is shown

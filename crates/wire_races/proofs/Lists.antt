@@ -1,5 +1,5 @@
 -- Lists of places.
-use Rattle.std.proofs.Common.{◌≡◌, ◌⊎◌, inl, inr, ⊎_elim, ℕ, zero, suc, ◌+◌, ◌<◌, List, [], ◌∷◌, ◌++◌, Some, map, take, drop, length, sym, ap, ◌∙◌, subst, arith}
+use Rattle.std.proofs.Common.{◌≡◌, ◌⊎◌, inl, inr, ⊎_elim, ℕ, zero, suc, ◌+◌, ◌<◌, List, [], ◌∷◌, ◌++◌, Some, None, refl, map, take, drop, length, sym, ap, ◌∙◌, subst, arith}
 use Rattle.std.specs.Prelude.{slice_get, slice_index_or, option_map}
 use Rattle.std.proofs.lemmas.Option.{slice_get_within, same_Some, slice_get-map, slice_get-get_or}
 use Rattle.std.proofs.lemmas.List.{map_more, map-append, take-append-drop}
@@ -67,6 +67,10 @@ both_parts rest run others n front back =
     ∙ map-append event_of (take n rest) (drop n rest)
     ∙ ap (λ l. map event_of l ++ map event_of (drop n rest)) (sym front)
     ∙ ap (λ l. map event_of run ++ map event_of l) (sym back)
+
+pub none_there : (calls : List CodeEvent) → slice_get calls 0 ≡ None → calls ≡ []
+none_there [] e = refl
+none_there (x ∷ calls) e = cc
 
 -- one call more of the process
 pub one_more_of : (p : ℕ) (calls : List CodeEvent) (n : ℕ) (d : CodeEvent) → n < length calls → (slice_index_or calls n d).proc.number ≡ p → AreOf p (map event_of (take n calls)) → AreOf p (map event_of (take (n + 1) calls))

@@ -9,10 +9,11 @@ use Rattle.wire_runs.specs.Order.{Live, edge, Announces}
 use Rattle.wire_runs.specs.EventLists.{IsLower}
 use Rattle.wire_runs.specs.Fate.{IsIn}
 use Rattle.wire_runs.specs.Races.{IsNameRace}
-use Rattle.wire_runs.specs.Findings.{Finding, NameRace, Has, IsFound}
+use Rattle.wire_runs.specs.Findings.{Finding, NameRace, IsFound}
+use Rattle.wire_races.specs.declared.finding.Finding.{Finding as Told}
 use Rattle.wire_plan.specs.Index.{AreNameCalls}
 use Rattle.wire_runs.proofs.Histories.{before_live, joined, same_process}
-use Rattle.wire_races.specs.Collected.{IsAdded}
+use Rattle.wire_races.specs.Collected.{Tells, AreFound, IsAdded}
 use Rattle.wire_races.specs.FindingKinds.{IsOfName}
 use Rattle.wire_races.specs.Adding.{Adds}
 use Rattle.wire_races.specs.NameRaces.{name_race, IsRaceOn, IsRaceWith, IsRaceIn, AreCallsOn, AreOf, IsBelow, IsCut}
@@ -79,8 +80,8 @@ pub among_none : (name : ℕ) (x : Event) (calls : List Event) (from to : ℕ) (
 among_none name x calls from to f a = let ge = a.above in let lt = a.done in omega (arith, ge, lt)
 
 -- the race with one call more
-pub among_more : (plan : Plan) (name : ℕ) (x : Event) (calls : List Event) (from to k : ℕ) (z : Event) (old now new : List Finding)
-    → slice_get calls k ≡ Some z → from ≤ k → k < to → IsFound plan (name_race x z name) → Adds plan old now (IsAmong name x calls from to k) → IsAdded now new (name_race x z name) → Adds plan old new (IsAmong name x calls from to (k + 1))
+pub among_more : (plan : Plan) (name : ℕ) (x : Event) (calls : List Event) (from to k : ℕ) (z : Event) (old now new : List Told)
+    → slice_get calls k ≡ Some z → from ≤ k → k < to → IsFound plan (name_race x z name) → Adds plan old now (IsAmong name x calls from to k) → IsAdded plan now new (name_race x z name) → Adds plan old new (IsAmong name x calls from to (k + 1))
 among_more plan name x calls from to k z old now new at ge lt is a told =
     adds_both plan old now new (IsAmong name x calls from to k) (λ f. f ≡ name_race x z name) (IsAmong name x calls from to (k + 1))
     (λ f m. let done = m.done in record { j = m.j; z = m.z; at = m.at; above = m.above; below = m.below; done = omega (arith, done); is = m.is })
@@ -171,16 +172,16 @@ race_in_either plan name xs ys f r = elim (in_parts xs ys r.1.y r.1.there) [
 ]
 
 -- what is found, and what is still to be found in these calls, is what was found before and the races on the name
-abbrev pub IsLeft : Plan → ℕ → List Finding → List Finding → List Event → Type 0
-IsLeft plan name old now rest = (f : Finding) → (Has now f ⊎ IsRaceIn plan name rest f) ↔ (Has old f ⊎ IsRaceOn plan name f)
+abbrev pub IsLeft : Plan → ℕ → List Told → List Told → List Event → Type 0
+IsLeft plan name old now rest = (f : Finding) → (Tells plan now f ⊎ IsRaceIn plan name rest f) ↔ (Tells plan old f ⊎ IsRaceOn plan name f)
 
-pub all_left : (plan : Plan) (name : ℕ) (old : List Finding) (all : List Event) → AreNameCalls plan name all → IsLeft plan name old old all
+pub all_left : (plan : Plan) (name : ℕ) (old : List Told) (all : List Event) → AreNameCalls plan name all → IsLeft plan name old old all
 all_left plan name old all are f = (
   (λ s. elim s [ inl h ↦ inl h | inr r ↦ inr (race_in_on plan name all f r) ]),
   (λ s. elim s [ inl h ↦ inl h | inr r ↦ inr (race_in_all plan name all are f r) ]),
 )
 
-pub less_left : (plan : Plan) (name : ℕ) (old now new : List Finding) (xs ys : List Event) → IsLeft plan name old now (xs ++ ys) → Adds plan now new (IsRaceIn plan name xs) → IsLeft plan name old new ys
+pub less_left : (plan : Plan) (name : ℕ) (old now new : List Told) (xs ys : List Event) → IsLeft plan name old now (xs ++ ys) → Adds plan now new (IsRaceIn plan name xs) → IsLeft plan name old new ys
 less_left plan name old now new xs ys left a f = (
   (λ s. elim s [
     | inl h ↦ elim (a.only f h) [ inl was ↦ (left f).0 (inl was) | inr r ↦ (left f).0 (inr (race_in_first plan name xs ys f r)) ]
@@ -192,6 +193,15 @@ less_left plan name old now new xs ys left a f = (
   ]),
 )
 
+-- nothing is left
+pub none_left : (plan : Plan) (name : ℕ) (old now : List Told) → AreFound plan now → IsLeft plan name old now [] → Adds plan old now (IsRaceOn plan name)
+none_left plan name old now found left = record {
+  found = found;
+  kept = λ f h. elim ((left f).1 (inl h)) [ inl i ↦ i | inr r ↦ absurd r.1.there ];
+  all = λ f r. elim ((left f).1 (inr r)) [ inl i ↦ i | inr none ↦ absurd none.1.there ];
+  only = λ f h. (left f).0 (inl h);
+}
+
 only_one : (x v : Event) → IsIn v (x ∷ []) → v ≡ x
 only_one x v (inl e) = e
 only_one x v (inr i) = absurd i
@@ -201,7 +211,7 @@ abbrev pub IsRaceAmong : Plan → ℕ → List Event → List Event → Finding 
 IsRaceAmong plan name run done f = (v : Event) × IsIn v done × IsRaceWith plan name v run f
 
 -- the races of one call more
-pub with_more : (plan : Plan) (name : ℕ) (run done : List Event) (x : Event) (old now new : List Finding)
+pub with_more : (plan : Plan) (name : ℕ) (run done : List Event) (x : Event) (old now new : List Told)
     → Adds plan old now (IsRaceAmong plan name run done) → Adds plan now new (IsRaceWith plan name x run) → Adds plan old new (IsRaceAmong plan name run (done ++ x ∷ []))
 with_more plan name run done x old now new =
     adds_both plan old now new (IsRaceAmong plan name run done) (IsRaceWith plan name x run) (IsRaceAmong plan name run (done ++ x ∷ []))

@@ -29,7 +29,7 @@ some_event (CallUnpublish name) = omega arith
 some_event (CallFixed reply) = omega arith
 
 -- a later call starts at a later event
-rising : (calls : List Call) (m n : ℕ) → m < n → m < length calls → length (kinds_of (take m calls)) < length (kinds_of (take n calls))
+pub rising : (calls : List Call) (m n : ℕ) → m < n → m < length calls → length (kinds_of (take m calls)) < length (kinds_of (take n calls))
 rising [] m n lt within = absurd (omega (arith, within))
 rising (call ∷ calls) m zero lt within = absurd (omega (arith, lt))
 rising (call ∷ calls) zero (suc n) lt within =

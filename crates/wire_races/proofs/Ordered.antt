@@ -1,27 +1,34 @@
--- The order of the keys is that of the findings.
-use Rattle.std.proofs.Common.{◌≡◌, ap, sym, refl, subst, ℕ, ◌<◌, Bool, List, [], ◌∷◌, map, ◌⊎◌, inl, inr, arith}
-use Rattle.std.specs.BTreeMap.{insert_entry}
-use Rattle.std.specs.Cmp.{ranked}
-use Rattle.std.specs.List.{AllByRecursion}
-use Rattle.std.specs.List.Sorted.{IsStrictlySortedBy}
-use Rattle.std.specs.Map.{keys_of}
+-- The order of the places is that of the findings.
+use Rattle.std.proofs.Common.{◌≡◌, ◌∙◌, ap, sym, refl, subst, ℕ, zero, suc, ◌<◌, Bool, true, false, cond, List, [], ◌∷◌, length, map, take, ◌⊎◌, ◌↔◌, inl, inr, ⊎_elim, Contains, arith}
+use Rattle.std.proofs.lemmas.Bool.{cond_both}
+use Rattle.std.proofs.lemmas.List.Sorted.{Contains-permutation, IsPermutation-sym}
+use Rattle.std.proofs.lemmas.List.Kept.{IsStrictlySortedBy-dedup}
+use Rattle.std.specs.Cmp.{IsTotalOrder, ranked, nat_cmp_total, bool_cmp_total, on_total, then_total}
+use Rattle.std.specs.List.{AllByRecursion, dedup, dedup_from}
+use Rattle.std.specs.List.Sorted.{IsPermutation, IsStrictlySortedBy}
+use Rattle.std.specs.List.Sorted as order
 use Rattle.std.specs.declared.cmp.Ordering.{Ordering}
 use Rattle.std.specs.declared.cmp.Ordering.TheVariants.{Less, Equal, Greater}
-use Rattle.std.specs.Ordering.{ordering_then, ordering_index, nat_cmp}
-use Rattle.wire_runs.specs.Plan.{Plan, Event, event_of}
-use Rattle.wire_types.specs.declared.place.Event.{Event as CodeEvent}
+use Rattle.std.specs.Ordering.{ordering_then, ordering_index, nat_cmp, bool_cmp, eq_by_cmp, is_eq, on}
+use Rattle.wire_runs.specs.Plan.{Plan, Event, kinds_of}
+use Rattle.wire_types.specs.declared.CallAt.{CallAt}
 use Rattle.wire_runs.specs.EventLists.{IsLower}
-use Rattle.wire_runs.specs.Findings.{Finding, Rewrite, IsPairLower, IsSooner, IsFound, Has, IsSorted}
-use Rattle.wire_races.specs.Collected.{rewrite_of, race_between, race_of, listed, AreFound, IsAdded}
-use Rattle.wire_races.specs.declared.found.Race.{Race}
-use Rattle.wire_races.specs.declared.found.Race.TheVariants.{OnKey, OnName}
-use Rattle.wire_races.proofs.Adding.{has_either, has_front, has_back, added_front, added_back, inserted}
+use Rattle.wire_runs.specs.Ends.{calls_of, first_event}
+use Rattle.wire_runs.specs.Findings.{Finding, IsPairLower, IsSooner, IsFound, Has, IsSorted}
+use Rattle.wire_races.specs.declared.finding.Finding.{Finding as Told}
+use Rattle.wire_races.specs.declared.finding.Finding.TheVariants.{Rewrite, KeyRace, NameRace}
+use Rattle.wire_races.specs.declared.found.Place.{Place}
+use Rattle.wire_races.specs.Findings.{shown, all_shown}
+use Rattle.wire_races.specs.Collected.{Tells, AreFound}
+use Rattle.wire_races.specs.Places.{place, call_cmp, place_cmp}
+use Rattle.wire_races.proofs.Told.{low_call, high_call, shown_low, shown_high, one_first, one_place}
+use Rattle.wire_races.proofs.OneList.{rising}
 
-abbrev pub event_cmp : CodeEvent → CodeEvent → Ordering
-event_cmp x y = ordering_then (nat_cmp x.proc.number y.proc.number) (nat_cmp x.at y.at)
+call_total : IsTotalOrder call_cmp
+call_total = then_total (on_total (λ (v : CallAt). v.proc.number) nat_cmp_total) (on_total (λ (v : CallAt). v.call) nat_cmp_total)
 
-abbrev pub pair_cmp : CodeEvent × CodeEvent → CodeEvent × CodeEvent → Ordering
-pair_cmp a b = ordering_then (event_cmp a.0 b.0) (event_cmp a.1 b.1)
+place_total : IsTotalOrder place_cmp
+place_total = then_total (on_total (λ (p : Place). p.is_race) bool_cmp_total) (then_total (on_total (λ (p : Place). p.by) call_total) (on_total (λ (p : Place). p.then) call_total))
 
 equal_both : (r s : Ordering) → ordering_then r s ≡ Equal → (r ≡ Equal) × (s ≡ Equal)
 equal_both Less s e = let d = ap ordering_index e in absurd (omega (arith, d))
@@ -33,112 +40,159 @@ less_either Less s e = inl refl
 less_either Equal s e = inr (refl, e)
 less_either Greater s e = let d = ap ordering_index e in absurd (omega (arith, d))
 
+never_less : (s : Ordering) → ordering_then Greater s ≡ Less → ⊥
+never_less s e = let d = ap ordering_index e in omega (arith, d)
+
 number_one : (m n : ℕ) → nat_cmp m n ≡ Equal → m ≡ n
 number_one m n e = ranked m n Equal (sym e)
 
 number_less : (m n : ℕ) → nat_cmp m n ≡ Less → m < n
 number_less m n e = ranked m n Less (sym e)
 
-pub event_one : (x y : CodeEvent) → event_cmp x y ≡ Equal → x ≡ y
-event_one x y e =
-    let both = equal_both (nat_cmp x.proc.number y.proc.number) (nat_cmp x.at y.at) e in
-    let p = number_one x.proc.number y.proc.number both.0 in
-    let i = number_one x.at y.at both.1 in
-    λ t. record { proc = record { number = p t }; at = i t }
+bool_one : (a b : Bool) → bool_cmp a b ≡ Equal → a ≡ b
+bool_one false false e = refl
+bool_one true true e = refl
+bool_one false true e = let d = ap ordering_index e in absurd (omega (arith, d))
+bool_one true false e = let d = ap ordering_index e in absurd (omega (arith, d))
 
-pub event_lower : (x y : CodeEvent) → event_cmp x y ≡ Less → IsLower (event_of x) (event_of y)
-event_lower x y e = elim (less_either (nat_cmp x.proc.number y.proc.number) (nat_cmp x.at y.at) e) [
-  | inl l ↦ inl (number_less x.proc.number y.proc.number l)
-  | inr l ↦ inr (number_one x.proc.number y.proc.number l.0, number_less x.at y.at l.1)
+call_one : (v w : CallAt) → call_cmp v w ≡ Equal → v ≡ w
+call_one v w e =
+    let both = equal_both (nat_cmp v.proc.number w.proc.number) (nat_cmp v.call w.call) e in
+    let p = number_one v.proc.number w.proc.number both.0 in
+    let n = number_one v.call w.call both.1 in
+    λ t. record { proc = record { number = p t }; call = n t }
+
+place_same : (a b : Place) → place_cmp a b ≡ Equal → a ≡ b
+place_same a b e =
+    let kinds = equal_both (bool_cmp a.is_race b.is_race) (ordering_then (call_cmp a.by b.by) (call_cmp a.then b.then)) e in
+    let calls = equal_both (call_cmp a.by b.by) (call_cmp a.then b.then) kinds.1 in
+    let k = bool_one a.is_race b.is_race kinds.0 in
+    let v = call_one a.by b.by calls.0 in
+    let w = call_one a.then b.then calls.1 in
+    λ t. record { is_race = k t; by = v t; then = w t }
+
+-- of the calls of a plan the lower has the lower event
+call_lower : (plan : Plan) (v w : CallAt) → v.call < length (calls_of plan v.proc.number) → call_cmp v w ≡ Less → IsLower (first_event plan v) (first_event plan w)
+call_lower plan v w within e = elim (less_either (nat_cmp v.proc.number w.proc.number) (nat_cmp v.call w.call) e) [
+  | inl l ↦ inl (number_less v.proc.number w.proc.number l)
+  | inr l ↦ (
+      let p = number_one v.proc.number w.proc.number l.0 in
+      let start = rising (calls_of plan v.proc.number) v.call w.call (number_less v.call w.call l.1) within in
+      inr (p, subst (λ (q : ℕ). length (kinds_of (take v.call (calls_of plan v.proc.number))) < length (kinds_of (take w.call (calls_of plan q)))) p start))
 ]
 
-pub pair_one : (a b : CodeEvent × CodeEvent) → pair_cmp a b ≡ Equal → a ≡ b
-pair_one a b e =
-    let both = equal_both (event_cmp a.0 b.0) (event_cmp a.1 b.1) e in
-    let low = event_one a.0 b.0 both.0 in
-    let high = event_one a.1 b.1 both.1 in
-    λ t. (low t, high t)
+lower_self : (x y : Event) → x ≡ y → IsLower x y → ⊥
+lower_self x y e (inl lt) = let p = ap (λ (z : Event). z.proc) e in omega (arith, lt, p)
+lower_self x y e (inr h) = let i = ap (λ (z : Event). z.at) e in let lt = h.1 in omega (arith, lt, i)
 
-pair_before : (a b : CodeEvent × CodeEvent) → pair_cmp a b ≡ Less → IsPairLower (event_of a.0) (event_of a.1) (event_of b.0) (event_of b.1)
-pair_before a b e = elim (less_either (event_cmp a.0 b.0) (event_cmp a.1 b.1) e) [
-  | inl l ↦ inl (event_lower a.0 b.0 l)
-  | inr l ↦ inr (ap event_of (event_one a.0 b.0 l.0), event_lower a.1 b.1 l.1)
-]
+module _ (plan : Plan) (lower_name : ℕ → ℕ → Bool) where
+  pair_lower : (f g : Told) → IsFound plan (shown plan f) → ordering_then (call_cmp (low_call f) (low_call g)) (call_cmp (high_call f) (high_call g)) ≡ Less → IsPairLower (first_event plan (low_call f)) (first_event plan (high_call f)) (first_event plan (low_call g)) (first_event plan (high_call g))
+  pair_lower f g a e = elim (less_either (call_cmp (low_call f) (low_call g)) (call_cmp (high_call f) (high_call g)) e) [
+    | inl l ↦ inl (call_lower plan (low_call f) (low_call g) (shown_low plan f f refl a) l)
+    | inr l ↦ inr (ap (first_event plan) (call_one (low_call f) (low_call g) l.0), call_lower plan (high_call f) (high_call g) (shown_high plan f f refl a) l.1)
+  ]
 
-sooner_race : (lower_name : ℕ → ℕ → Bool) (x y v w : Event) (a b : Race) → IsPairLower x y v w → IsSooner lower_name (race_between x y a) (race_between v w b)
-sooner_race lower_name x y v w (OnKey p k) (OnKey q l) h = h
-sooner_race lower_name x y v w (OnKey p k) (OnName n) h = h
-sooner_race lower_name x y v w (OnName m) (OnKey q l) h = h
-sooner_race lower_name x y v w (OnName m) (OnName n) h = inl h
+  -- rewrites stand by the later put: it has one first put
+  rewrite_lower : (v w x y : CallAt) → IsFound plan (shown plan (Rewrite v w)) → IsFound plan (shown plan (Rewrite x y)) → ordering_then (call_cmp w y) (call_cmp v x) ≡ Less → IsLower (first_event plan w) (first_event plan y)
+  rewrite_lower v w x y a b e = elim (less_either (call_cmp w y) (call_cmp v x) e) [
+    | inl l ↦ call_lower plan w y (shown_high plan (Rewrite v w) (Rewrite v w) refl a) l
+    | inr l ↦ (
+        let later = call_one w y l.0 in
+        let there = subst (λ c. IsFound plan (shown plan (Rewrite x c))) (sym later) b in
+        absurd (lower_self (first_event plan v) (first_event plan x) (one_first plan (first_event plan v) (first_event plan x) (first_event plan w) a there)
+        (call_lower plan v x (shown_low plan (Rewrite v w) (Rewrite v w) refl a) l.1)))
+  ]
 
-rewrite_first : (lower_name : ℕ → ℕ → Bool) (e : CodeEvent × CodeEvent) (es : List (CodeEvent × CodeEvent)) → AllByRecursion (λ y. event_cmp e.0 y ≡ Less) (keys_of es) → (f : Finding) → Has (map rewrite_of es) f → IsSooner lower_name (rewrite_of e) f
-rewrite_first lower_name e [] a f h = absurd h
-rewrite_first lower_name e (g ∷ es) a f (inl is) = subst (λ t. IsSooner lower_name (rewrite_of e) t) (sym is) (event_lower e.0 g.0 a.0)
-rewrite_first lower_name e (g ∷ es) a f (inr h) = rewrite_first lower_name e es a.1 f h
+  sooner : (f g : Told) → IsFound plan (shown plan f) → IsFound plan (shown plan g) → place_cmp (place f) (place g) ≡ Less → IsSooner lower_name (shown plan f) (shown plan g)
+  sooner (Rewrite v w) (Rewrite x y) a b e = rewrite_lower v w x y a b e
+  sooner (Rewrite v w) (KeyRace x y q l) a b e = tt
+  sooner (Rewrite v w) (NameRace x y m) a b e = tt
+  sooner (KeyRace v w p k) (Rewrite x y) a b e = absurd (never_less (ordering_then (call_cmp v y) (call_cmp w x)) e)
+  sooner (NameRace v w n) (Rewrite x y) a b e = absurd (never_less (ordering_then (call_cmp v y) (call_cmp w x)) e)
+  sooner (KeyRace v w p k) (KeyRace x y q l) a b e = pair_lower (KeyRace v w p k) (KeyRace x y q l) a e
+  sooner (KeyRace v w p k) (NameRace x y m) a b e = pair_lower (KeyRace v w p k) (NameRace x y m) a e
+  sooner (NameRace v w n) (KeyRace x y q l) a b e = pair_lower (NameRace v w n) (KeyRace x y q l) a e
+  sooner (NameRace v w n) (NameRace x y m) a b e = inl (pair_lower (NameRace v w n) (NameRace x y m) a e)
 
-race_first : (lower_name : ℕ → ℕ → Bool) (e : (CodeEvent × CodeEvent) × Race) (es : List ((CodeEvent × CodeEvent) × Race)) → AllByRecursion (λ y. pair_cmp e.0 y ≡ Less) (keys_of es) → (f : Finding) → Has (map race_of es) f → IsSooner lower_name (race_of e) f
-race_first lower_name e [] a f h = absurd h
-race_first lower_name e (g ∷ es) a f (inl is) =
-    subst (λ t. IsSooner lower_name (race_of e) t) (sym is) (sooner_race lower_name (event_of e.0.0) (event_of e.0.1) (event_of g.0.0) (event_of g.0.1) e.1 g.1 (pair_before e.0 g.0 a.0))
-race_first lower_name e (g ∷ es) a f (inr h) = race_first lower_name e es a.1 f h
+  first_sooner : (f : Told) (fs : List Told) → IsFound plan (shown plan f) → AreFound plan fs → AllByRecursion (λ g. on place place_cmp f g ≡ Less) fs → (g : Finding) → Tells plan fs g → IsSooner lower_name (shown plan f) g
+  first_sooner f [] a found all g h = absurd h
+  first_sooner f (x ∷ fs) a found all g (inl is) = subst (λ t. IsSooner lower_name (shown plan f) t) (sym is) (sooner f x a (found (shown plan x) (inl refl)) all.0)
+  first_sooner f (x ∷ fs) a found all g (inr h) = first_sooner f fs a (λ t i. found t (inr i)) all.1 g h
 
-rewrites_sorted : (lower_name : ℕ → ℕ → Bool) (es : List (CodeEvent × CodeEvent)) → IsStrictlySortedBy event_cmp (keys_of es) → IsSorted lower_name (map rewrite_of es)
-unfolding IsStrictlySortedBy
-rewrites_sorted lower_name [] s = tt
-rewrites_sorted lower_name (e ∷ es) s = (rewrite_first lower_name e es s.0, rewrites_sorted lower_name es s.1)
+  all_sorted : (fs : List Told) → AreFound plan fs → IsStrictlySortedBy (on place place_cmp) fs → IsSorted lower_name (all_shown plan fs)
+  unfolding IsStrictlySortedBy
+  all_sorted [] found s = tt
+  all_sorted (f ∷ fs) found s = (
+    first_sooner f fs (found (shown plan f) (inl refl)) (λ t i. found t (inr i)) s.0,
+    all_sorted fs (λ t i. found t (inr i)) s.1,
+  )
 
-races_sorted : (lower_name : ℕ → ℕ → Bool) (es : List ((CodeEvent × CodeEvent) × Race)) → IsStrictlySortedBy pair_cmp (keys_of es) → IsSorted lower_name (map race_of es)
-unfolding IsStrictlySortedBy
-races_sorted lower_name [] s = tt
-races_sorted lower_name (e ∷ es) s = (race_first lower_name e es s.0, races_sorted lower_name es s.1)
+-- whether two findings have one place
+abbrev pub same_place : Told → Told → Bool
+same_place = eq_by_cmp (on place place_cmp)
 
-sooner_by_kind : (lower_name : ℕ → ℕ → Bool) (x y v w : Event) (race : Race) → IsSooner lower_name (Rewrite x y) (race_between v w race)
-sooner_by_kind lower_name x y v w (OnKey p k) = tt
-sooner_by_kind lower_name x y v w (OnName n) = tt
+equal_is : (r : Ordering) → is_eq r ≡ true → r ≡ Equal
+equal_is Less e = cc
+equal_is Equal e = refl
+equal_is Greater e = cc
 
-before_races : (lower_name : ℕ → ℕ → Bool) (x y : Event) (es : List ((CodeEvent × CodeEvent) × Race)) (f : Finding) → Has (map race_of es) f → IsSooner lower_name (Rewrite x y) f
-before_races lower_name x y [] f h = absurd h
-before_races lower_name x y (e ∷ es) f (inl is) = subst (λ t. IsSooner lower_name (Rewrite x y) t) (sym is) (sooner_by_kind lower_name x y (event_of e.0.0) (event_of e.0.1) e.1)
-before_races lower_name x y (e ∷ es) f (inr h) = before_races lower_name x y es f h
+module _ (plan : Plan) where
+  one_there : (x k : Told) → same_place x k ≡ true → IsFound plan (shown plan x) → IsFound plan (shown plan k) → shown plan x ≡ shown plan k
+  one_there x k e a b = one_place plan x k (place_same (place x) (place k) (equal_is (place_cmp (place x) (place k)) e)) a b
 
-both_sorted : (lower_name : ℕ → ℕ → Bool) (es : List (CodeEvent × CodeEvent)) (fs : List ((CodeEvent × CodeEvent) × Race)) → IsSorted lower_name (map rewrite_of es) → IsSorted lower_name (map race_of fs) → IsSorted lower_name (listed es fs)
-both_sorted lower_name [] fs a b = b
-both_sorted lower_name (e ∷ es) fs a b = (
-  (λ f h. elim (has_either (map rewrite_of es) (map race_of fs) f h) [
-    | inl i ↦ a.0 f i
-    | inr i ↦ before_races lower_name (event_of e.1) (event_of e.0) fs f i
-  ]),
-  both_sorted lower_name es fs a.1 b,
-)
+  -- what is told once is told as before
+  kept : (k : Told) (xs : List Told) (f : Finding) → AreFound plan (k ∷ xs) → Tells plan (k ∷ xs) f → Tells plan (dedup_from same_place k xs) f
+  kept k [] f found h = h
+  kept k (x ∷ xs) f found h =
+      let rest : AreFound plan (x ∷ xs) = λ g i. found g (inr i) in
+      let without : AreFound plan (k ∷ xs) = λ g i. found g (⊎_elim (λ e. inl e) (λ j. inr (inr j)) i) in
+      cond_both (same_place x k) (dedup_from same_place k xs) (k ∷ dedup_from same_place x xs) (λ l. Tells plan l f)
+      (λ t. kept k xs f without (elim h [
+        | inl e ↦ inl e
+        | inr i ↦ elim i [
+          | inl e ↦ inl (e ∙ one_there x k t (found (shown plan x) (inr (inl refl))) (found (shown plan k) (inl refl)))
+          | inr j ↦ inr j
+        ]
+      ]))
+      (λ n. elim h [ inl e ↦ inl e | inr i ↦ inr (kept x xs f rest i) ])
 
-pub listed_sorted : (lower_name : ℕ → ℕ → Bool) (es : List (CodeEvent × CodeEvent)) (fs : List ((CodeEvent × CodeEvent) × Race)) → IsStrictlySortedBy event_cmp (keys_of es) → IsStrictlySortedBy pair_cmp (keys_of fs) → IsSorted lower_name (listed es fs)
-listed_sorted lower_name es fs a b = both_sorted lower_name es fs (rewrites_sorted lower_name es a) (races_sorted lower_name fs b)
+  were : (k : Told) (xs : List Told) (f : Finding) → Tells plan (dedup_from same_place k xs) f → Tells plan (k ∷ xs) f
+  were k [] f = λ h. h
+  were k (x ∷ xs) f =
+      cond_both (same_place x k) (dedup_from same_place k xs) (k ∷ dedup_from same_place x xs) (λ l. Tells plan l f → Tells plan (k ∷ x ∷ xs) f)
+      (λ t h. ⊎_elim (λ e. inl e) (λ i. inr (inr i)) (were k xs f h))
+      (λ n h. elim h [ inl e ↦ inl e | inr i ↦ inr (were x xs f i) ])
 
-pub rewrite_added : (old new : List (CodeEvent × CodeEvent)) (races : List ((CodeEvent × CodeEvent) × Race)) (now : List Finding) (later first : CodeEvent) → now ≡ listed old races → ((x : Event) → Has now (Rewrite x (event_of later)) → x ≡ event_of first) → new ≡ insert_entry event_cmp old later first → IsAdded now (listed new races) (Rewrite (event_of first) (event_of later))
-rewrite_added old new races now later first is one e =
-    let same : (w : CodeEvent) → Has (map rewrite_of old) (rewrite_of (later, w)) → rewrite_of (later, w) ≡ rewrite_of (later, first) = λ w h.
-    ap (λ (x : Event). Rewrite x (event_of later)) (one (event_of w) (subst (λ l. Has l (rewrite_of (later, w))) (sym is) (has_front (map rewrite_of old) (map race_of races) (rewrite_of (later, w)) h))) in
-    let here = inserted event_cmp rewrite_of event_one later first old same in
-    let all = added_front (map rewrite_of old) (map rewrite_of (insert_entry event_cmp old later first)) (map race_of races) (rewrite_of (later, first)) here in
-    subst (λ l. IsAdded l (listed new races) (rewrite_of (later, first))) (sym is)
-    (subst (λ l. IsAdded (listed old races) (listed l races) (rewrite_of (later, first))) (sym e) all)
+  once : (xs : List Told) (f : Finding) → AreFound plan xs → Tells plan (dedup same_place xs) f ↔ Tells plan xs f
+  once [] f found = ((λ h. h), (λ h. h))
+  once (x ∷ xs) f found = ((λ h. were x xs f h), (λ h. kept x xs f found h))
 
-pub race_added : (rewrites : List (CodeEvent × CodeEvent)) (old new : List ((CodeEvent × CodeEvent) × Race)) (now : List Finding) (lower higher : CodeEvent) (race : Race) → now ≡ listed rewrites old → ((other : Race) → Has now (race_between (event_of lower) (event_of higher) other) → race_between (event_of lower) (event_of higher) other ≡ race_between (event_of lower) (event_of higher) race) → new ≡ insert_entry pair_cmp old (lower, higher) race → IsAdded now (listed rewrites new) (race_between (event_of lower) (event_of higher) race)
-race_added rewrites old new now lower higher race is one e =
-    let added = race_of ((lower, higher), race) in
-    let same : (w : Race) → Has (map race_of old) (race_of ((lower, higher), w)) → race_of ((lower, higher), w) ≡ added = λ w h.
-    one w (subst (λ l. Has l (race_of ((lower, higher), w))) (sym is) (has_back (map rewrite_of rewrites) (map race_of old) (race_of ((lower, higher), w)) h)) in
-    let here = inserted pair_cmp race_of pair_one (lower, higher) race old same in
-    let all = added_back (map rewrite_of rewrites) (map race_of old) (map race_of (insert_entry pair_cmp old (lower, higher) race)) added here in
-    subst (λ l. IsAdded l (listed rewrites new) added) (sym is)
-    (subst (λ l. IsAdded (listed rewrites old) (listed rewrites l) added) (sym e) all)
+  told_at : (xs : List Told) (f : Finding) → Tells plan xs f → (t : Told) × Contains xs t × (f ≡ shown plan t)
+  told_at [] f h = absurd h
+  told_at (x ∷ xs) f (inl e) = (x, (0, omega arith, refl), e)
+  told_at (x ∷ xs) f (inr h) = let w = told_at xs f h in let lt = w.1.1 in (w.0, (suc w.1.0, omega (arith, lt), w.1.2), w.2)
 
--- of all that is found, the parts
-pub rewrites_found : (plan : Plan) (es : List (CodeEvent × CodeEvent)) (fs : List ((CodeEvent × CodeEvent) × Race)) (now : List Finding) → listed es fs ≡ now → AreFound plan now → AreFound plan (map rewrite_of es)
-rewrites_found plan es fs now is found = λ f h. found f (subst (λ l. Has l f) is (has_front (map rewrite_of es) (map race_of fs) f h))
+  at_told : (xs : List Told) (t : Told) → Contains xs t → Tells plan xs (shown plan t)
+  at_told [] t (k, lt, is) = omega (arith, lt)
+  at_told (x ∷ xs) t (zero, lt, is) = inl (ap (shown plan) (sym is))
+  at_told (x ∷ xs) t (suc k, lt, is) = inr (at_told xs t (k, omega (arith, lt), is))
 
-pub races_found : (plan : Plan) (es : List (CodeEvent × CodeEvent)) (fs : List ((CodeEvent × CodeEvent) × Race)) (now : List Finding) → listed es fs ≡ now → AreFound plan now → AreFound plan (map race_of fs)
-races_found plan es fs now is found = λ f h. found f (subst (λ l. Has l f) is (has_back (map rewrite_of es) (map race_of fs) f h))
+  moved : (xs ys : List Told) (f : Finding) → IsPermutation xs ys → Tells plan xs f → Tells plan ys f
+  moved xs ys f p h = let w = told_at xs f h in subst (λ g. Tells plan ys g) (sym w.2) (at_told ys w.0 (Contains-permutation xs ys w.0 p w.1))
 
-pub first_found : (plan : Plan) (e : CodeEvent × CodeEvent) (es : List (CodeEvent × CodeEvent)) → AreFound plan (map rewrite_of (e ∷ es)) → IsFound plan (rewrite_of e)
-first_found plan e es found = found (rewrite_of e) (inl refl)
+  module _ (xs ys zs : List Told) (p : IsPermutation xs ys) (is : zs ≡ dedup same_place ys) (found : AreFound plan xs) where
+    sorted_found : AreFound plan ys
+    sorted_found f h = found f (moved ys xs f (IsPermutation-sym xs ys p) h)
+
+    -- the list tells what was met
+    pub list_tells : (f : Finding) → Tells plan zs f ↔ Tells plan xs f
+    list_tells f = (
+      (λ h. moved ys xs f (IsPermutation-sym xs ys p) ((once ys f sorted_found).0 (subst (λ l. Tells plan l f) is h))),
+      (λ h. subst (λ l. Tells plan l f) (sym is) ((once ys f sorted_found).1 (moved xs ys f p h))),
+    )
+
+    -- in the order of findings
+    pub list_sorted : order.IsSorted (on place place_cmp) ys → (lower_name : ℕ → ℕ → Bool) → IsSorted lower_name (all_shown plan zs)
+    list_sorted up lower_name =
+        all_sorted plan lower_name zs (λ f h. found f ((list_tells f).0 h))
+        (subst (λ l. IsStrictlySortedBy (on place place_cmp) l) (sym is) (IsStrictlySortedBy-dedup (on_total place place_total) (λ x y. refl) ys up))

@@ -1,5 +1,5 @@
 -- The pieces of the search together are the whole search.
-use Rattle.std.proofs.Common.{◌≡◌, ◌∙◌, ap, sym, subst, ℕ, zero, suc, ◌<◌, List, [], ◌∷◌, ◌++◌, length, map, Some, Ok, Err, inl, inr, arith, refl}
+use Rattle.std.proofs.Common.{◌≡◌, ◌∙◌, ap, sym, subst, ℕ, suc, ◌<◌, List, [], length, map, Some, Ok, Err, inl, inr, arith, refl}
 use Rattle.std.specs.Prelude.{slice_get, Vec, Result, MatchResult, IfOk}
 use Rattle.std.specs.declared.alloc.Global.{Global}
 use Rattle.std.specs.List.{AllZip, Contains, range_with_len}
@@ -9,17 +9,15 @@ use Rattle.std.proofs.lemmas.Option.{slice_get_within, slice_get_cases, same_Som
 use Rattle.wire_runs.specs.Plan.{Plan, kind, process_count}
 use Rattle.wire_rehearsal.specs.Scripts.{Scripts, IsSound}
 use Rattle.wire_rehearsal.specs.Planned.{plan_of}
-use Rattle.wire_runs.specs.Findings.{Finding, IsFound, Has}
+use Rattle.wire_runs.specs.Findings.{Finding}
 use Rattle.wire_races.specs.declared.finding.Finding.{Finding as Told}
-use Rattle.wire_races.specs.Findings.{shown, all_shown}
-use Rattle.wire_races.specs.Collected.{AreFound, IsAdded}
+use Rattle.wire_races.specs.Collected.{Tells, AreFound}
 use Rattle.wire_races.specs.FindingKinds.{AllAdded, IsOfKey, IsOfName}
 use Rattle.wire_races.specs.Adding.{Adds, OfKind}
 use Rattle.wire_races.specs.KeyRaces.{IsKeyRaceOf}
 use Rattle.wire_races.specs.NameRaces.{IsRaceOn}
 use Rattle.wire_races.specs.Pieces.{IsPiece, ArePieces, IsInSome, AreAllFound}
-use Rattle.wire_races.proofs.Adding.{has_front, has_back, has_either}
-use Rattle.wire_races.proofs.Growing.{adds_one, adds_both, adds_same, all_added}
+use Rattle.wire_races.proofs.Growing.{adds_both, adds_same, all_added}
 use Rattle.wire_races.proofs.Calls.{writes_calls}
 use Rattle.wire_races.proofs.Names.{named_within}
 use Rattle.wire_races.proofs.NameRaces.{found_on, on_name, race_on}
@@ -27,57 +25,38 @@ use Rattle.wire_races.proofs.Gathered.{gathered}
 use Rattle.wire_races.proofs.Deliveries.{race_within, race_below, race_told, race_by}
 
 -- what is added to nothing is a piece
-pub piece_of : (plan : Plan) (those : Finding → Type 0) (old new : List Finding) (piece : Vec Told Global) → old ≡ [] → Adds plan old new those → all_shown plan piece.items ≡ new → IsPiece plan those piece
+pub piece_of : (plan : Plan) (those : Finding → Type 0) (old new : List Told) (piece : Vec Told Global) → old ≡ [] → Adds plan old new those → piece.items ≡ new → IsPiece plan those piece
 piece_of plan those old new piece empty h is = record {
   found = subst (λ l. AreFound plan l) (sym is) h.found;
   told = λ f. (
-    (λ t. elim (h.only f (subst (λ l. Has l f) is t)) [
-      | inl was ↦ absurd (subst (λ l. Has l f) empty was)
+    (λ t. elim (h.only f (subst (λ l. Tells plan l f) is t)) [
+      | inl was ↦ absurd (subst (λ l. Tells plan l f) empty was)
       | inr it ↦ it
     ]),
-    (λ t. subst (λ l. Has l f) (sym is) (h.all f t)),
+    (λ t. subst (λ l. Tells plan l f) (sym is) (h.all f t)),
   );
 }
 
--- a finding in the list is one of the plan
-pub found_at : (plan : Plan) (list : List Told) (n : ℕ) (t : Told) → slice_get list n ≡ Some t → AreFound plan (all_shown plan list) → IsFound plan (shown plan t)
-found_at plan (x ∷ xs) zero t is are = are (shown plan t) (inl (ap (shown plan) (sym (same_Some x t is))))
-found_at plan (x ∷ xs) (suc n) t is are = found_at plan xs n t is (λ f h. are f (inr h))
-found_at plan [] n t is are = absurd cc
-
--- one finding more
-pub one_more : (plan : Plan) (old now new xs : List Finding) (g : Finding) → IsFound plan g → IsAdded now new g → Adds plan old now (Has xs) → Adds plan old new (Has (xs ++ g ∷ []))
-one_more plan old now new xs g is added h =
-    adds_both plan old now new (Has xs) (λ f. f ≡ g) (Has (xs ++ g ∷ []))
-    (λ f t. has_front xs (g ∷ []) f t)
-    (λ f e. has_back xs (g ∷ []) f (inl e))
-    (λ f t. elim (has_either xs (g ∷ []) f t) [
-      | inl a ↦ inl a
-      | inr b ↦ elim b [ inl e ↦ inr e | inr never ↦ absurd never ]
-    ])
-    h
-    (adds_one plan now new (λ f. f ≡ g) g h.found is added refl (λ f e. e))
-
 -- one of the first n pieces tells the finding
 abbrev pub IsInFirst : Plan → List (Vec Told Global) → ℕ → Finding → Type 0
-IsInFirst plan pieces n f = (k : ℕ) × (piece : Vec Told Global) × (k < n) × (slice_get pieces k ≡ Some piece) × Has (all_shown plan piece.items) f
+IsInFirst plan pieces n f = (k : ℕ) × (piece : Vec Told Global) × (k < n) × (slice_get pieces k ≡ Some piece) × Tells plan piece.items f
 
 -- one piece more
-pub piece_more : (plan : Plan) (pieces : List (Vec Told Global)) (n m : ℕ) (piece : Vec Told Global) (old now new : List Finding) → slice_get pieces n ≡ Some piece → m ≡ suc n → Adds plan old now (IsInFirst plan pieces n) → Adds plan now new (Has (all_shown plan piece.items)) → Adds plan old new (IsInFirst plan pieces m)
+pub piece_more : (plan : Plan) (pieces : List (Vec Told Global)) (n m : ℕ) (piece : Vec Told Global) (old now new : List Told) → slice_get pieces n ≡ Some piece → m ≡ suc n → Adds plan old now (IsInFirst plan pieces n) → Adds plan now new (Tells plan piece.items) → Adds plan old new (IsInFirst plan pieces m)
 piece_more plan pieces n m piece old now new is one =
-    adds_both plan old now new (IsInFirst plan pieces n) (Has (all_shown plan piece.items)) (IsInFirst plan pieces m)
+    adds_both plan old now new (IsInFirst plan pieces n) (Tells plan piece.items) (IsInFirst plan pieces m)
     (λ f t. let lt = t.2 in (t.0, t.1, omega (arith, lt, one), t.3, t.4))
     (λ f t. (n, piece, omega (arith, one), is, t))
     (λ f t. elim (cases_eq t.0 n) [
       | inl same ↦
           let there = subst (λ k. slice_get pieces k ≡ Some t.1) same t.3 in
           let it : t.1 ≡ piece = same_Some _ _ (sym there ∙ is) in
-          inr (subst (λ p. Has (all_shown plan p.items) f) it t.4)
+          inr (subst (λ (p : Vec Told Global). Tells plan p.items f) it t.4)
       | inr other ↦ let lt = t.2 in inl (t.0, t.1, omega (arith, lt, one, other), t.3, t.4)
     ])
 
 -- all pieces
-pub in_some : (plan : Plan) (pieces : List (Vec Told Global)) (n : ℕ) (old new : List Finding) → n ≡ length pieces → Adds plan old new (IsInFirst plan pieces n) → Adds plan old new (IsInSome plan pieces)
+pub in_some : (plan : Plan) (pieces : List (Vec Told Global)) (n : ℕ) (old new : List Told) → n ≡ length pieces → Adds plan old new (IsInFirst plan pieces n) → Adds plan old new (IsInSome plan pieces)
 in_some plan pieces n old new all h =
     adds_same plan old new (IsInFirst plan pieces n) (IsInSome plan pieces)
     (λ f t. (t.0, t.1, t.3, t.4))
@@ -88,7 +67,7 @@ pub all_found : (plan : Plan) (n : ℕ) (those : ℕ → Finding → Type 0) (pi
 all_found plan n those pieces are = λ k piece is. (are.each k piece is).found
 
 -- the pieces tell all findings of a kind
-pub pieces_added : (plan : Plan) (n : ℕ) (those : ℕ → Finding → Type 0) (kind : Finding → Type 0) (pieces : List (Vec Told Global)) (old new : List Finding)
+pub pieces_added : (plan : Plan) (n : ℕ) (those : ℕ → Finding → Type 0) (kind : Finding → Type 0) (pieces : List (Vec Told Global)) (old new : List Told)
     → ((k : ℕ) (f : Finding) → those k f → OfKind plan kind f)
     → ((f : Finding) → OfKind plan kind f → (k : ℕ) × (k < n) × those k f)
     → ArePieces plan n those pieces → Adds plan old new (IsInSome plan pieces) → AllAdded plan kind old new
@@ -107,7 +86,7 @@ pieces_added plan n those kind pieces old new there back are h =
     h)
 
 -- the pieces of the processes tell all races on keys
-pub key_pieces_added : (plan : Plan) (pieces : List (Vec Told Global)) (old new : List Finding) → ArePieces plan (process_count plan) (IsKeyRaceOf plan) pieces → Adds plan old new (IsInSome plan pieces) → AllAdded plan IsOfKey old new
+pub key_pieces_added : (plan : Plan) (pieces : List (Vec Told Global)) (old new : List Told) → ArePieces plan (process_count plan) (IsKeyRaceOf plan) pieces → Adds plan old new (IsInSome plan pieces) → AllAdded plan IsOfKey old new
 key_pieces_added plan pieces old new =
     pieces_added plan (process_count plan) (IsKeyRaceOf plan) IsOfKey pieces old new
     (λ k f t. race_told plan t.0 f t.1)
@@ -116,7 +95,7 @@ key_pieces_added plan pieces old new =
     (by.0.proc, race_below plan by.0 f by.1, (by.0, by.1, refl, race_within plan by.0 f by.1)))
 
 -- the pieces of the names tell all races on names
-pub name_pieces_added : (s : Scripts) → IsSound s → (pieces : List (Vec Told Global)) (old new : List Finding) → ArePieces (plan_of s) (length s.names) (IsRaceOn (plan_of s)) pieces → Adds (plan_of s) old new (IsInSome (plan_of s) pieces) → AllAdded (plan_of s) IsOfName old new
+pub name_pieces_added : (s : Scripts) → IsSound s → (pieces : List (Vec Told Global)) (old new : List Told) → ArePieces (plan_of s) (length s.names) (IsRaceOn (plan_of s)) pieces → Adds (plan_of s) old new (IsInSome (plan_of s) pieces) → AllAdded (plan_of s) IsOfName old new
 name_pieces_added s sound pieces old new =
     let plan = plan_of s in
     pieces_added plan (length s.names) (IsRaceOn plan) IsOfName pieces old new

@@ -1,5 +1,5 @@
 -- Findings as they are told, and what a race of two events is on.
-use Rattle.std.proofs.Common.{◌≡◌, ◌∙◌, ap, sym, refl, subst, ℕ, ◌<◌, true, Option, Some, length, arith, inl, inr, eqb-true, lt-ltb}
+use Rattle.std.proofs.Common.{◌≡◌, ◌∙◌, ap, sym, refl, subst, ℕ, ◌<◌, true, false, Option, Some, length, arith, inl, inr, eqb-true, lt-ltb}
 use Rattle.std.specs.Prelude.{is_some}
 use Rattle.std.proofs.lemmas.Bool.{cases_lt, true≢false}
 use Rattle.wire_runs.specs.Plan.{Plan, Event, Kind, Put, GetNow, Publish, Lookup, LookupWait, Unpublish, kind}
@@ -8,29 +8,15 @@ use Rattle.wire_runs.specs.Names.{calls_name}
 use Rattle.wire_runs.specs.Races.{IsRewrite}
 use Rattle.wire_plan.specs.Index.{IsFirstPut}
 use Rattle.wire_runs.specs.Findings.{Finding, KeyRace, NameRace, IsFound}
-use Rattle.wire_runs.specs.Ends.{call_of, calls_of, first_event}
+use Rattle.wire_runs.specs.Findings as findings
+use Rattle.wire_runs.specs.Ends.{calls_of, first_event}
 use Rattle.wire_plan.proofs.KeyFacts.{put_exactly}
 use Rattle.wire_races.specs.Findings.{shown}
-use Rattle.wire_races.specs.Collected.{race_between}
+use Rattle.wire_races.specs.Places.{place}
+use Rattle.wire_races.specs.declared.found.Place.{Place}
 use Rattle.wire_races.specs.declared.finding.Finding.{Finding as Told}
 use Rattle.wire_races.specs.declared.finding.Finding.TheVariants as told_as
-use Rattle.wire_races.specs.declared.found.Race.{Race}
-use Rattle.wire_races.specs.declared.found.Race.TheVariants.{OnKey, OnName}
-use Rattle.wire_races.proofs.Calls.{Starts, call_within, low_starts, high_starts, starts_back, node_commit, delivery_arrives, writes_calls}
-
-pub race_low_starts : (plan : Plan) (x y : Event) (race : Race) → IsFound plan (race_between x y race) → Starts plan x
-race_low_starts plan x y (OnKey owner key) f = low_starts plan (KeyRace x y owner.number key) f
-race_low_starts plan x y (OnName name) f = low_starts plan (NameRace x y name) f
-
-pub race_high_starts : (plan : Plan) (x y : Event) (race : Race) → IsFound plan (race_between x y race) → Starts plan y
-race_high_starts plan x y (OnKey owner key) f = high_starts plan (KeyRace x y owner.number key) f
-race_high_starts plan x y (OnName name) f = high_starts plan (NameRace x y name) f
-
-pub race_back : (plan : Plan) (x y : Event) (race found : Race) (v w : CallAt) → race ≡ found → IsFound plan (race_between x y race) → v ≡ call_of plan x → w ≡ call_of plan y → race_between (first_event plan v) (first_event plan w) found ≡ race_between x y race
-race_back plan x y race found v w is f a b =
-    let low : first_event plan v ≡ x = ap (first_event plan) a ∙ starts_back plan x (race_low_starts plan x y race f) in
-    let high : first_event plan w ≡ y = ap (first_event plan) b ∙ starts_back plan y (race_high_starts plan x y race f) in
-    ap (λ (z : Event). race_between z (first_event plan w) found) low ∙ (ap (λ (z : Event). race_between x z found) high ∙ ap (race_between x y) (sym is))
+use Rattle.wire_races.proofs.Calls.{Starts, call_within, low_starts, high_starts, node_commit, delivery_arrives, writes_calls}
 
 -- the name that an event is a call on
 abbrev pub name_of : Option Kind → ℕ
@@ -64,17 +50,34 @@ named plan x y v w name _ p h i = absurd (true≢false (sym h))
 by_events : (plan : Plan) (x y : Event) (a b : Option Kind) (f : Finding) → kind plan x ≡ a → kind plan y ≡ b → told x y a b ≡ f → told x y (kind plan x) (kind plan y) ≡ f
 by_events plan x y a b f e h t = ap (λ (o : Option Kind). told x y o (kind plan y)) e ∙ (ap (told x y a) h ∙ t)
 
-race_told : (plan : Plan) (x y : Event) (race : Race) → IsFound plan (race_between x y race) → told x y (kind plan x) (kind plan y) ≡ race_between x y race
-race_told plan x y (OnKey owner key) (low, inl (inl r)) = by_events plan x y _ _ _ (node_commit plan x y key r.1) (r.1.is) (ap (λ (p : ℕ). KeyRace x y p key) r.0)
-race_told plan x y (OnKey owner key) (low, inl (inr r)) = let a = delivery_arrives plan x y owner.number key r in by_events plan x y _ _ _ a.is r.is refl
-race_told plan x y (OnKey owner key) (low, inr (inl r)) = by_events plan x y _ _ _ r.1.is (node_commit plan y x key r.1) (ap (λ (p : ℕ). KeyRace x y p key) r.0)
-race_told plan x y (OnKey owner key) (low, inr (inr r)) = let a = delivery_arrives plan y x owner.number key r in by_events plan x y _ _ _ r.is a.is refl
-race_told plan x y (OnName name) (low, inl r) = named plan x y x y name (kind plan x) (kind plan y) (writes_calls plan name x (kind plan x) r.x_writes) r.y_calls
-race_told plan x y (OnName name) (low, inr r) = named plan x y x y name (kind plan x) (kind plan y) r.y_calls (writes_calls plan name y (kind plan y) r.x_writes)
+key_told : (plan : Plan) (x y : Event) (p k : ℕ) → IsFound plan (KeyRace x y p k) → told x y (kind plan x) (kind plan y) ≡ KeyRace x y p k
+key_told plan x y p k (low, inl (inl r)) = by_events plan x y _ _ _ (node_commit plan x y k r.1) (r.1.is) (ap (λ (q : ℕ). KeyRace x y q k) r.0)
+key_told plan x y p k (low, inl (inr r)) = let a = delivery_arrives plan x y p k r in by_events plan x y _ _ _ a.is r.is refl
+key_told plan x y p k (low, inr (inl r)) = by_events plan x y _ _ _ r.1.is (node_commit plan y x k r.1) (ap (λ (q : ℕ). KeyRace x y q k) r.0)
+key_told plan x y p k (low, inr (inr r)) = let a = delivery_arrives plan y x p k r in by_events plan x y _ _ _ r.is a.is refl
 
--- a pair of calls is one race
-pub one_race : (plan : Plan) (x y : Event) (a b : Race) → IsFound plan (race_between x y a) → IsFound plan (race_between x y b) → race_between x y a ≡ race_between x y b
-one_race plan x y a b f g = sym (race_told plan x y a f) ∙ race_told plan x y b g
+name_told : (plan : Plan) (x y : Event) (n : ℕ) → IsFound plan (NameRace x y n) → told x y (kind plan x) (kind plan y) ≡ NameRace x y n
+name_told plan x y n (low, inl r) = named plan x y x y n (kind plan x) (kind plan y) (writes_calls plan n x (kind plan x) r.x_writes) r.y_calls
+name_told plan x y n (low, inr r) = named plan x y x y n (kind plan x) (kind plan y) r.y_calls (writes_calls plan n y (kind plan y) r.x_writes)
+
+-- the race of the calls of a place
+abbrev told_there : Plan → Place → Finding
+told_there plan p = told (first_event plan p.by) (first_event plan p.then) (kind plan (first_event plan p.by)) (kind plan (first_event plan p.then))
+
+apart : {A : Type 0} (a b : Place) → a ≡ b → a.is_race ≡ true → b.is_race ≡ false → A
+apart a b e t f = absurd (true≢false (sym t ∙ ap (λ (p : Place). p.is_race) e ∙ f))
+
+-- a place has one finding
+pub one_place : (plan : Plan) (f g : Told) → place f ≡ place g → IsFound plan (shown plan f) → IsFound plan (shown plan g) → shown plan f ≡ shown plan g
+one_place plan (told_as.Rewrite v w) (told_as.Rewrite x y) e a b = ap (λ (p : Place). findings.Rewrite (first_event plan p.then) (first_event plan p.by)) e
+one_place plan (told_as.KeyRace v w p k) (told_as.KeyRace x y q l) e a b = sym (key_told plan _ _ p.number k a) ∙ (ap (told_there plan) e ∙ key_told plan _ _ q.number l b)
+one_place plan (told_as.KeyRace v w p k) (told_as.NameRace x y n) e a b = sym (key_told plan _ _ p.number k a) ∙ (ap (told_there plan) e ∙ name_told plan _ _ n b)
+one_place plan (told_as.NameRace v w m) (told_as.KeyRace x y q l) e a b = sym (name_told plan _ _ m a) ∙ (ap (told_there plan) e ∙ key_told plan _ _ q.number l b)
+one_place plan (told_as.NameRace v w m) (told_as.NameRace x y n) e a b = sym (name_told plan _ _ m a) ∙ (ap (told_there plan) e ∙ name_told plan _ _ n b)
+one_place plan (told_as.Rewrite v w) (told_as.KeyRace x y q l) e a b = apart _ _ (sym e) refl refl
+one_place plan (told_as.Rewrite v w) (told_as.NameRace x y n) e a b = apart _ _ (sym e) refl refl
+one_place plan (told_as.KeyRace v w p k) (told_as.Rewrite x y) e a b = apart _ _ e refl refl
+one_place plan (told_as.NameRace v w m) (told_as.Rewrite x y) e a b = apart _ _ e refl refl
 
 not_sooner : (plan : Plan) (p key i j : ℕ) → IsFirstPut plan (record { proc = p; at = i }) key → IsFirstPut plan (record { proc = p; at = j }) key → i < j → ⊥
 not_sooner plan p key i j a b lt = true≢false (sym (put_exactly plan p key i j a ∙ lt-ltb i j lt) ∙ ap is_some b.first)

@@ -1,15 +1,16 @@
 -- How the list of findings grows: for the contracts of private functions.
 use Rattle.std.specs.Prelude.{◌≡◌, ◌⊎◌, ◌<◌, ℕ, List}
 use Rattle.wire_runs.specs.Plan.{Plan, Event}
-use Rattle.wire_runs.specs.Findings.{Finding, IsFound, Has}
-use Rattle.wire_races.specs.Collected.{AreFound}
+use Rattle.wire_runs.specs.Findings.{Finding, IsFound}
+use Rattle.wire_races.specs.declared.finding.Finding.{Finding as Told}
+use Rattle.wire_races.specs.Collected.{Tells, AreFound}
 
 -- those are added, and nothing else
-pub record Adds (plan : Plan) (old new : List Finding) (those : Finding → Type 0) : Type 0 where
+pub record Adds (plan : Plan) (old new : List Told) (those : Finding → Type 0) : Type 0 where
   pub found : AreFound plan new
-  pub kept : (f : Finding) → Has old f → Has new f
-  pub all : (f : Finding) → those f → Has new f
-  pub only : (f : Finding) → Has new f → Has old f ⊎ those f
+  pub kept : (f : Finding) → Tells plan old f → Tells plan new f
+  pub all : (f : Finding) → those f → Tells plan new f
+  pub only : (f : Finding) → Tells plan new f → Tells plan old f ⊎ those f
 
 -- all findings of a kind
 abbrev pub OfKind : Plan → (Finding → Type 0) → Finding → Type 0

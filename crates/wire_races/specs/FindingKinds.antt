@@ -1,7 +1,9 @@
 -- The kinds of findings, each found by itself: for the contracts of private functions.
 use Rattle.std.specs.Prelude.{◌≡◌, ◌⊎◌, ◌↔◌, ℕ, List}
 use Rattle.wire_runs.specs.Plan.{Plan, Event}
-use Rattle.wire_runs.specs.Findings.{Finding, Rewrite, KeyRace, NameRace, IsFound, Has}
+use Rattle.wire_runs.specs.Findings.{Finding, Rewrite, KeyRace, NameRace, IsFound}
+use Rattle.wire_races.specs.declared.finding.Finding.{Finding as Told}
+use Rattle.wire_races.specs.Collected.{Tells}
 
 abbrev pub IsOfRewrite : Finding → Type 0
 IsOfRewrite f = (x : Event) × (y : Event) × (f ≡ Rewrite x y)
@@ -13,5 +15,5 @@ abbrev pub IsOfName : Finding → Type 0
 IsOfName f = (x : Event) × (y : Event) × (name : ℕ) × (f ≡ NameRace x y name)
 
 -- the same findings, and all of the plan that are of this kind
-abbrev pub AllAdded : Plan → (Finding → Type 0) → List Finding → List Finding → Type 0
-AllAdded plan kind old new = (f : Finding) → Has new f ↔ (Has old f ⊎ (kind f × IsFound plan f))
+abbrev pub AllAdded : Plan → (Finding → Type 0) → List Told → List Told → Type 0
+AllAdded plan kind old new = (f : Finding) → Tells plan new f ↔ (Tells plan old f ⊎ (kind f × IsFound plan f))

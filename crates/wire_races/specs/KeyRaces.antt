@@ -38,6 +38,14 @@ pub record Arrives (plan : Plan) (z : Event) : Type 0 where
   pub j : ℕ
   pub arrival : IsArrival plan members j z
 
+-- one of these events is earlier in the event's own process
+pub record IsBehindOwn (event : Event) (places : List Event) : Type 0 where
+  pub k : ℕ
+  pub own : Event
+  pub is : slice_get places k ≡ Some own
+  pub same : own.proc ≡ event.proc
+  pub earlier : own.at < event.at
+
 -- all arrivals at the fence of this arrival are live, and before the get
 pub record IsSure (plan : Plan) (get arrival : Event) : Type 0 where
   pub fence : Arrives plan arrival

@@ -1,5 +1,6 @@
 pub mod Findings
 pub mod Collected
+pub mod Places
 pub mod FindingKinds
 pub mod Adding
 pub mod Rewriting

@@ -2,15 +2,14 @@
 use Rattle.std.specs.Prelude.{◌≡◌, ◌↔◌, ℕ, List, length, slice_get, Some, Vec}
 use Rattle.std.specs.declared.alloc.Global.{Global}
 use Rattle.wire_runs.specs.Plan.{Plan}
-use Rattle.wire_runs.specs.Findings.{Finding, Has}
+use Rattle.wire_runs.specs.Findings.{Finding}
 use Rattle.wire_races.specs.declared.finding.Finding.{Finding as Told}
-use Rattle.wire_races.specs.Findings.{all_shown}
-use Rattle.wire_races.specs.Collected.{AreFound}
+use Rattle.wire_races.specs.Collected.{Tells, AreFound}
 
 -- a piece tells exactly these findings, and they are of the plan
 pub record IsPiece (plan : Plan) (those : Finding → Type 0) (piece : Vec Told Global) : Type 0 where
-  pub found : AreFound plan (all_shown plan piece.items)
-  pub told : (f : Finding) → Has (all_shown plan piece.items) f ↔ those f
+  pub found : AreFound plan piece.items
+  pub told : (f : Finding) → Tells plan piece.items f ↔ those f
 
 -- there are n pieces, the one of number k of the findings of k
 pub record ArePieces (plan : Plan) (n : ℕ) (those : ℕ → Finding → Type 0) (pieces : List (Vec Told Global)) : Type 0 where
@@ -19,8 +18,8 @@ pub record ArePieces (plan : Plan) (n : ℕ) (those : ℕ → Finding → Type 0
 
 -- some piece tells the finding
 abbrev pub IsInSome : Plan → List (Vec Told Global) → Finding → Type 0
-IsInSome plan pieces f = (k : ℕ) × (piece : Vec Told Global) × (slice_get pieces k ≡ Some piece) × Has (all_shown plan piece.items) f
+IsInSome plan pieces f = (k : ℕ) × (piece : Vec Told Global) × (slice_get pieces k ≡ Some piece) × Tells plan piece.items f
 
 -- each piece tells findings of the plan alone
 abbrev pub AreAllFound : Plan → List (Vec Told Global) → Type 0
-AreAllFound plan pieces = (k : ℕ) (piece : Vec Told Global) → slice_get pieces k ≡ Some piece → AreFound plan (all_shown plan piece.items)
+AreAllFound plan pieces = (k : ℕ) (piece : Vec Told Global) → slice_get pieces k ≡ Some piece → AreFound plan piece.items

@@ -1,94 +1,72 @@
-//! The findings so far, each once and in their order.
+//! The findings so far, and the list that they come to.
 
-ghost use Rattle.std.specs.Prelude.{◌≡◌, ◌++◌, ℕ, Bool, [], map, IfOk, OnOk};
-ghost use Rattle.wire_runs.specs.Plan.{event_of};
+ghost use Rattle.std.specs.Prelude.{◌≡◌, ◌↔◌, ◌++◌, ℕ, Bool, [], OnOk};
+ghost use Rattle.std.specs.Ordering.{eq_by_cmp};
 ghost use Rattle.wire_runs.specs.Plan as runs;
-ghost use Rattle.wire_rehearsal.specs.Planned.{plan_of};
-ghost use Rattle.wire_runs.specs.Findings.{Rewrite, KeyRace, NameRace, IsFound, Has, IsSorted};
+ghost use Rattle.wire_runs.specs.Findings as told;
+ghost use Rattle.wire_runs.specs.Findings.{IsSorted};
 ghost use Rattle.wire_races.specs.Findings.{shown, all_shown};
-ghost use Rattle.wire_races.specs.Collected.{rewrite_of, race_between, race_of, AreFound, IsAdded};
+ghost use Rattle.wire_races.specs.Collected.{Tells, AreFound, IsAdded};
+ghost use Rattle.wire_races.specs.Places.{place, place_cmp};
 
 use crate::finding::Finding;
 use std::alloc::{AllocError, Global};
-use std::collections::BTreeMap;
+use std::cmp::Ordering;
 use std::marker::Model;
-use wire_plan::Plan;
-use wire_types::{Event, Proc};
+use wire_types::CallAt;
 
-/// What a race is on: a key of its owner, or a name, each by its number.
-#[derive(Clone, Copy)]
-pub(crate) enum Race {
-    OnKey(Proc, u32),
-    OnName(u32),
+/// Where a finding stands in the list: a rewrite by the later put, and behind all of them a race by its
+/// calls, the lower first.
+#[derive(Clone, Copy, PartialEq, Eq, PartialOrd, Ord)]
+struct Place {
+    is_race: bool,
+    by: CallAt,
+    then: CallAt,
 }
 
-/// Findings so far, each once and in their order: the first put of each rewrite by the later put,
-/// and what a race is on by its events, the lower first.
+// The place of a finding.
+fn place_of(finding: &Finding) -> Place
+    ensures { result ≡ place finding.now }
+{
+    match finding {
+        Finding::Rewrite(first, later) => Place {
+            is_race: false,
+            by: *later,
+            then: *first,
+        },
+        Finding::KeyRace(lower, higher, _, _) => Place {
+            is_race: true,
+            by: *lower,
+            then: *higher,
+        },
+        Finding::NameRace(lower, higher, _) => Place {
+            is_race: true,
+            by: *lower,
+            then: *higher,
+        },
+    }
+}
+
+// Whether two findings have one place.
+fn is_same_place(x: &Finding, y: &Finding) -> bool
+    ensures { result ≡ eq_by_cmp place_cmp (place x.now) (place y.now) }
+{
+    place_of(x).cmp(&place_of(y)) == Ordering::Equal
+}
+
+/// Findings as they are met, in any order. One that is met twice stands there twice.
 #[derive(Drop)]
 pub(crate) struct Found {
-    rewrites: BTreeMap<Event, Event>,
-    races: BTreeMap<(Event, Event), Race>,
+    list: Vec<Finding>,
 }
 
 impl Model for Found {
     ghost use Rattle.std.specs.Prelude.{List};
-    ghost use Rattle.wire_runs.specs.Findings.{Finding};
-    ghost use Rattle.wire_races.specs.Collected.{listed};
+    ghost use Rattle.wire_races.specs.declared.finding.Finding.{Finding as Told};
 
-    ghost Value = { List Finding };
+    ghost Value = { List Told };
 
-    ghost view = { λ f. listed f.rewrites.entries f.races.entries };
-}
-
-// The rewrite of two puts.
-fn told_rewrite(plan: &Plan, first: Event, later: Event) -> Finding
-    requires { IsFound (plan_of plan.now) (Rewrite (event_of first) (event_of later)) }
-    ensures { shown (plan_of plan.now) result ≡ Rewrite (event_of first) (event_of later) }
-{
-    Finding::Rewrite(plan.call_of(first), plan.call_of(later))
-}
-
-// The race of two events, the lower first.
-fn told_race(plan: &Plan, lower: Event, higher: Event, race: Race) -> Finding
-    requires { IsFound (plan_of plan.now) (race_between (event_of lower) (event_of higher) race) }
-    ensures { shown (plan_of plan.now) result ≡ race_between (event_of lower) (event_of higher) race }
-{
-    let lower = plan.call_of(lower);
-    let higher = plan.call_of(higher);
-    match race {
-        Race::OnKey(owner, key) => Finding::KeyRace(lower, higher, owner, key),
-        Race::OnName(name) => Finding::NameRace(lower, higher, name),
-    }
-}
-
-// Lists rewrites, by the later put.
-fn push_rewrites(
-    plan: &Plan,
-    rewrites: &BTreeMap<Event, Event>,
-    list: &mut Vec<Finding>,
-) -> Result<(), AllocError>
-    requires { AreFound (plan_of plan.now) (map rewrite_of rewrites.now.entries) }
-    ensures { OnOk result (all_shown (plan_of plan.now) list.new.items ≡ all_shown (plan_of plan.now) list.old.items ++ map rewrite_of rewrites.now.entries) }
-{
-    for (later, first) in rewrites {
-        list.push(told_rewrite(plan, *first, *later))?;
-    }
-    Ok(())
-}
-
-// Lists races, by their events.
-fn push_races(
-    plan: &Plan,
-    races: &BTreeMap<(Event, Event), Race>,
-    list: &mut Vec<Finding>,
-) -> Result<(), AllocError>
-    requires { AreFound (plan_of plan.now) (map race_of races.now.entries) }
-    ensures { OnOk result (all_shown (plan_of plan.now) list.new.items ≡ all_shown (plan_of plan.now) list.old.items ++ map race_of races.now.entries) }
-{
-    for (pair, race) in races {
-        list.push(told_race(plan, pair.0, pair.1, *race))?;
-    }
-    Ok(())
+    ghost view = { λ f. f.list.items };
 }
 
 impl Found {
@@ -97,62 +75,41 @@ impl Found {
         ensures { result ≡ [] }
     {
         Found {
-            rewrites: BTreeMap::new(alloc),
-            races: BTreeMap::new(alloc),
+            list: Vec::new(alloc),
         }
     }
 
-    // Adds the rewrite of two puts.
-    fn add_rewrite(&mut self, first: Event, later: Event) -> Result<(), AllocError>
-        requires { (x : runs.Event) → Has self.old (Rewrite x (event_of later)) → x ≡ event_of first }
-        ensures { OnOk result (IsAdded self.old self.new (Rewrite (event_of first) (event_of later))) }
+    /// Adds a finding.
+    pub(crate) fn add(&mut self, finding: Finding) -> Result<(), AllocError>
+        ensures { OnOk result ((plan : runs.Plan) → IsAdded plan self.old self.new (shown plan finding)) }
     {
-        self.rewrites.insert(later, first)?;
+        self.list.push(finding)?;
         Ok(())
     }
 
-    // Adds the race of two events, the lower first.
-    fn add_race(&mut self, lower: Event, higher: Event, race: Race) -> Result<(), AllocError>
-        requires { (other : Race) → Has self.old (race_between (event_of lower) (event_of higher) other) → race_between (event_of lower) (event_of higher) other ≡ race_between (event_of lower) (event_of higher) race }
-        ensures { OnOk result (IsAdded self.old self.new (race_between (event_of lower) (event_of higher) race)) }
+    /// Adds the findings of a piece.
+    pub(crate) fn append(&mut self, piece: &[Finding]) -> Result<(), AllocError>
+        ensures { OnOk result (self.new ≡ self.old ++ piece.now) }
     {
-        self.races.insert((lower, higher), race)?;
+        self.list.extend_from_slice(piece)?;
         Ok(())
     }
 
-    /// Adds a finding of the plan, unless it is there.
-    pub(crate) fn add(&mut self, plan: &Plan, finding: Finding) -> Result<(), AllocError>
-        requires there { AreFound (plan_of plan.now) self.old }
-        requires found { IsFound (plan_of plan.now) (shown (plan_of plan.now) finding) }
-        ensures { OnOk result (IsAdded self.old self.new (shown (plan_of plan.now) finding)) }
+    /// The findings as they were met.
+    pub(crate) fn into_piece(self) -> Vec<Finding>
+        ensures { result.items ≡ self }
     {
-        match finding {
-            Finding::Rewrite(first, later) => {
-                self.add_rewrite(plan.first_event(first), plan.first_event(later))
-            }
-            Finding::KeyRace(lower, higher, owner, key) => self.add_race(
-                plan.first_event(lower),
-                plan.first_event(higher),
-                Race::OnKey(owner, key),
-            ),
-            Finding::NameRace(lower, higher, name) => self.add_race(
-                plan.first_event(lower),
-                plan.first_event(higher),
-                Race::OnName(name),
-            ),
-        }
+        self.list
     }
 
-    /// The findings as they are told, in their order.
-    pub(crate) fn into_list(self, alloc: Global, plan: &Plan) -> Result<Vec<Finding>, AllocError>
-        requires { AreFound (plan_of plan.now) self }
-        ensures shown { IfOk result (λ list. all_shown (plan_of plan.now) list.items ≡ self) }
-        ensures sorted { IfOk result (λ list. (lower_name : ℕ → ℕ → Bool) → IsSorted lower_name (all_shown (plan_of plan.now) list.items)) }
+    /// The findings of a plan, each once, in their order.
+    pub(crate) fn into_list(self) -> Vec<Finding>
+        ensures those { (plan : runs.Plan) → AreFound plan self → (f : told.Finding) → Tells plan result.items f ↔ Tells plan self f }
+        ensures sorted { (plan : runs.Plan) → AreFound plan self → (lower_name : ℕ → ℕ → Bool) → IsSorted lower_name (all_shown plan result.items) }
     {
-        let count = self.rewrites.len() + self.races.len();
-        let mut list = Vec::with_capacity(alloc, count)?;
-        push_rewrites(plan, &self.rewrites, &mut list)?;
-        push_races(plan, &self.races, &mut list)?;
-        Ok(list)
+        let mut list = self.list;
+        list.sort_unstable_by_key(|finding| place_of(finding));
+        list.dedup_by(|x, y| is_same_place(x, y));
+        list
     }
 }

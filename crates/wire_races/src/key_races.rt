@@ -15,7 +15,7 @@ ghost use Rattle.wire_races.specs.Collected.{AreFound};
 ghost use Rattle.wire_races.specs.FindingKinds.{IsOfKey, AllAdded};
 ghost use Rattle.wire_races.specs.Adding.{Adds, ToldIn};
 ghost use Rattle.wire_races.specs.Pieces.{IsPiece, ArePieces};
-ghost use Rattle.wire_races.specs.KeyRaces.{IsRaceOf, IsKeyRaceBy, IsKeyRaceOf, IsOpen, Arrives, IsSure, MayBeLate, IsLate, IsLateBy, AreLateBelow, AllLive, NoneAfter, IsFirstLate, IsUnsure, IsNextArrival};
+ghost use Rattle.wire_races.specs.KeyRaces.{IsRaceOf, IsKeyRaceBy, IsKeyRaceOf, IsOpen, Arrives, IsBehindOwn, IsSure, MayBeLate, IsLate, IsLateBy, AreLateBelow, AllLive, NoneAfter, IsFirstLate, IsUnsure, IsNextArrival};
 
 use crate::finding::Finding;
 use crate::found::Found;
@@ -68,7 +68,7 @@ fn add_race(
     requires found { AreFound (plan_of plan.now) found.old }
     ensures { OnOk result (Adds (plan_of plan.now) found.old found.new (IsRaceOf (event_of source) (event_of get_now) owner.number key)) }
 {
-    found.add(plan, race_of(plan, source, get_now, owner, key))
+    found.add(race_of(plan, source, get_now, owner, key))
 }
 
 /// Adds the race of a get with the commit that stores its key on the same node, if they race.
@@ -155,13 +155,41 @@ fn first_not_before(marks: &Marks, events: &[Event], get_now: Event) -> Option<E
     None
 }
 
-/// Whether all arrivals at the fence of an arrival are live and before a get.
+/// Whether an event stands behind an arrival of its own process among these, which are in process
+/// order. It is looked for by bisection.
+fn is_behind_own(arrivals: &[Event], event: Event) -> bool
+    ensures { IsTrue result → IsBehindOwn (event_of event) (map event_of arrivals.now) }
+{
+    let mut low = 0;
+    let mut high = arrivals.len();
+    'bisection: while low < high {
+        let middle = low + (high - low) / 2;
+        let arrival = arrivals[middle];
+        if arrival.proc.number == event.proc.number {
+            return arrival.at < event.at;
+        }
+        if arrival.proc.number < event.proc.number {
+            low = middle + 1;
+        } else {
+            high = middle;
+        }
+    }
+    false
+}
+
+/// Whether all arrivals at the fence of an arrival are live and before a live get. A get that stands
+/// behind its own process's arrival at the fence comes after the end of the fence, and so after all of
+/// them.
 fn is_sure(plan: &Plan, marks: &Marks, get_now: Event, arrival: Event) -> bool
     requires marks { AreMarks (plan_of plan.now) marks.now }
+    requires live { Live (plan_of plan.now) (event_of get_now) }
     requires fence { Arrives (plan_of plan.now) (event_of arrival) }
     ensures { IsTrue result ↔ IsSure (plan_of plan.now) (event_of get_now) (event_of arrival) }
 {
     let arrivals = all_arrivals(plan, arrival);
+    if is_behind_own(arrivals, get_now) {
+        return true;
+    }
     all_live(marks, arrivals) && first_not_before(marks, arrivals, get_now).is_none()
 }
 
@@ -204,6 +232,7 @@ fn comes_surely(
     node: u32,
 ) -> bool
     requires marks { AreMarks (plan_of plan.now) marks.now }
+    requires live { Live (plan_of plan.now) (event_of get_now) }
     requires once { IsPutOnce (plan_of plan.now) owner.number key }
     ensures { IsTrue result ↔ ComesSurely (plan_of plan.now) owner.number key node (event_of get_now) }
 {
@@ -359,7 +388,7 @@ fn piece(alloc: Global, plan: &Plan, marks: &Marks, proc: Proc) -> Result<Vec<Fi
 {
     let mut found = Found::new(alloc);
     add_process(plan, marks, &mut found, proc)?;
-    found.into_list(alloc, plan)
+    Ok(found.into_piece())
 }
 
 /// A piece for each process, in their order, made by several threads.
@@ -401,5 +430,5 @@ pub(crate) fn add_key_races(
     ensures all { OnOk result (AllAdded (plan_of plan.now) IsOfKey found.old found.new) }
 {
     let pieces = pieces(rt, alloc, plan, marks)?;
-    add_pieces(plan, found, pieces.as_slice())
+    add_pieces(found, pieces.as_slice())
 }

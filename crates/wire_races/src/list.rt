@@ -30,7 +30,7 @@ fn all_findings(
     add_rewrites(plan, &mut found)?;
     add_key_races(rt, alloc, plan, marks, &mut found)?;
     add_name_races(rt, alloc, plan, marks, &mut found)?;
-    let list = found.into_list(alloc, plan)?;
+    let list = found.into_list();
     Ok(list)
 }
 

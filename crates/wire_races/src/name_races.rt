@@ -111,7 +111,7 @@ fn add_between(
     let from = count_below(marks, x, Border::FirstNotBefore, run);
     let to = count_below(marks, x, Border::FirstAfter, run);
     for k in from..to {
-        found.add(plan, race_of(plan, name, x, run[k]))?;
+        found.add(race_of(plan, name, x, run[k]))?;
     }
     Ok(())
 }
@@ -197,7 +197,7 @@ fn piece(alloc: Global, plan: &Plan, marks: &Marks, name: u32) -> Result<Vec<Fin
 {
     let mut found = Found::new(alloc);
     add_races_on(plan, marks, &mut found, name)?;
-    found.into_list(alloc, plan)
+    Ok(found.into_piece())
 }
 
 // A piece for each name, in their order, made by several threads. Most names have few calls, so
@@ -245,5 +245,5 @@ pub(crate) fn add_name_races(
     // Scripts are sound, so each call on a name is on one of theirs.
     let _ = plan.scripts();
     let pieces = pieces(rt, alloc, plan, marks)?;
-    add_pieces(plan, found, pieces.as_slice())
+    add_pieces(found, pieces.as_slice())
 }

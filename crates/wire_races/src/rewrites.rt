@@ -39,7 +39,7 @@ fn add_rewrite(plan: &Plan, found: &mut Found, event: Event) -> Result<(), Alloc
     match first_put_before(plan, event) {
         Some(first) => {
             let finding = Finding::Rewrite(plan.call_of(first), plan.call_of(event));
-            found.add(plan, finding)
+            found.add(finding)
         }
         None => Ok(()),
     }

@@ -1,8 +1,8 @@
-use Rattle.std.proofs.Common.{◌∙◌, sym, map}
+use Rattle.std.proofs.Common.{◌∙◌, refl, sym, map}
 use Rattle.std.proofs.lemmas.Bool.{true≢false}
 use Rattle.wire_runs.specs.Plan.{event_of}
 use Rattle.wire_rehearsal.specs.Planned.{plan_of}
-use Rattle.wire_races.proofs.Arrivals.{sure_tells, sure_live}
+use Rattle.wire_races.proofs.Arrivals.{sure_tells, sure_live, behind_sure}
 use Rattle.wire_races.proofs.key_races.is_sure.Goals as goal
 
 pub returns-then-all_live : goal.returns-then-all_live
@@ -19,3 +19,9 @@ returns-else-all_live c =
       (λ t. absurd (true≢false (sym t ∙ c.if-all_live.false))),
       (λ s. (c.all_live.ensures plan m).1 (sure_live plan (event_of c.args.get_now) (event_of c.args.arrival) c.requires.fence (map event_of c.all_arrivals-arrivals.result.now) c.all_arrivals-arrivals.ensures s)),
     )
+
+pub returns-then-is_behind_own : goal.returns-then-is_behind_own
+returns-then-is_behind_own c = (
+  (λ t. behind_sure (plan_of c.args.plan.now) (event_of c.args.get_now) (event_of c.args.arrival) c.requires.fence (map event_of c.all_arrivals-arrivals.result.now) c.all_arrivals-arrivals.ensures (c.is_behind_own.ensures c.if-is_behind_own.true) c.requires.live),
+  (λ s. refl),
+)

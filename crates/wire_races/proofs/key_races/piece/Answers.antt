@@ -1,4 +1,3 @@
-use Rattle.std.proofs.lemmas.Result.{IfOk-weaker}
 use Rattle.wire_rehearsal.specs.Planned.{plan_of}
 use Rattle.wire_races.specs.KeyRaces.{IsKeyRaceOf}
 use Rattle.wire_races.proofs.Together.{piece_of}
@@ -7,6 +6,4 @@ use Rattle.wire_races.proofs.key_races.piece.Goals as goal
 pub returns : goal.returns
 returns c =
     let plan = plan_of c.args.plan.now in
-    IfOk-weaker c.into_list.result _ _
-    (λ list is. piece_of plan (IsKeyRaceOf plan c.args.proc.number) c.new-found.result c.add_process.new.found list c.new-found.ensures c.in_ok-add_process.ensures is)
-    c.into_list.ensures.shown
+    piece_of plan (IsKeyRaceOf plan c.args.proc.number) c.new-found.result c.add_process.new.found c.into_piece.result c.new-found.ensures c.in_ok-add_process.ensures c.into_piece.ensures

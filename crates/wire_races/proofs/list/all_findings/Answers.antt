@@ -4,5 +4,7 @@ use Rattle.wire_races.proofs.list.all_findings.Goals as goal
 
 pub returns : goal.returns
 returns g c =
-    all_kinds (plan_of c.args.plan.now) c.new-found.result c.add_rewrites.new.found c.add_key_races.new.found c.add_name_races.new.found c.in_ok-list.list.items
-    c.in_ok-add_rewrites.ensures.all c.in_ok-add_key_races.ensures.all c.in_ok-add_name_races.ensures.all c.in_ok-add_name_races.ensures.found c.in_ok-list.ensures.shown c.in_ok-list.ensures.sorted
+    let plan = plan_of c.args.plan.now in
+    let found = c.in_ok-add_name_races.ensures.found in
+    all_kinds plan c.new-found.result c.add_rewrites.new.found c.add_key_races.new.found c.add_name_races.new.found c.into_list-list.result.items
+    c.in_ok-add_rewrites.ensures.all c.in_ok-add_key_races.ensures.all c.in_ok-add_name_races.ensures.all found (c.into_list-list.ensures.those plan found) (c.into_list-list.ensures.sorted plan found)

@@ -14,23 +14,6 @@ race_of-requires-clause-y c =
     let within = c.count_below-to.ensures.within in
     c.requires.calls.each c.loop-k.k _ (place_at c.args.run.now c.loop-k.k _ (omega (arith, lt, within)))
 
-pub add-requires-clause-found : goal.add-requires-clause-found
-add-requires-clause-found c =
-    let lt = c.loop-k-test.true in
-    let within = c.count_below-to.ensures.within in
-    let fits : c.loop-k.k < length c.args.run.now = omega (arith, lt, within) in
-    let above : c.count_below-from.result ≤ c.loop-k.k = omega arith in
-    let plan = plan_of c.args.plan.now in
-    let x = event_of c.args.x in
-    let p = c.args.proc.number in
-    let n = c.args.name in
-    let first = c.count_below-from.ensures.cut plan n p c.requires.marks c.requires.calls c.requires.run in
-    let last = c.count_below-to.ensures.cut plan n p c.requires.marks c.requires.calls c.requires.run in
-    subst (λ f. IsFound plan f) (sym c.race_of.ensures)
-    (race_found plan x _ n
-    (is_race plan n p x (map event_of c.args.run.now) _ _ c.requires.writes c.requires.live c.requires.other c.requires.calls c.requires.run first last c.loop-k.k _
-    (place_at c.args.run.now c.loop-k.k _ fits) above lt))
-
 pub loop-k-init : goal.loop-k-init
 loop-k-init c = adds_none (plan_of c.args.plan.now) c.args.found.now _ c.requires.found (among_none c.args.name (event_of c.args.x) (map event_of c.args.run.now) c.count_below-from.result c.count_below-to.result)
 
@@ -48,7 +31,7 @@ loop-k-preserved c =
     let last = c.count_below-to.ensures.cut plan n p c.requires.marks c.requires.calls c.requires.run in
     let at = place_at c.args.run.now c.loop-k.k _ fits in
     let race = is_race plan n p x (map event_of c.args.run.now) _ _ c.requires.writes c.requires.live c.requires.other c.requires.calls c.requires.run first last c.loop-k.k _ at above lt in
-    let told = subst (λ f. IsAdded c.loop-k.found c.add.new.self f) c.race_of.ensures c.in_ok-add.ensures in
+    let told = subst (λ f. IsAdded plan c.loop-k.found c.add.new.self f) c.race_of.ensures (c.in_ok-add.ensures plan) in
     among_more plan n x (map event_of c.args.run.now) _ _ c.loop-k.k _ c.args.found.now c.loop-k.found c.add.new.self at above lt (race_found plan x _ n race) c.loop-k.invariant told
 
 pub returns : goal.returns

@@ -1,9 +1,9 @@
-use Rattle.std.proofs.Common.{map, subst}
+use Rattle.std.proofs.Common.{◌∙◌, ap, sym, map, subst, option_copied}
 use Rattle.wire_runs.specs.Plan.{event_of}
 use Rattle.wire_rehearsal.specs.Planned.{plan_of}
 use Rattle.wire_races.specs.NameRaces.{AreCallsOn}
-use Rattle.wire_races.proofs.Lists.{both_parts, first_calls, other_calls}
-use Rattle.wire_races.proofs.NameRaces.{IsLeft, all_left, less_left}
+use Rattle.wire_races.proofs.Lists.{both_parts, first_calls, other_calls, none_there}
+use Rattle.wire_races.proofs.NameRaces.{IsLeft, all_left, less_left, none_left}
 use Rattle.wire_races.proofs.name_races.add_races_on.Goals as goal
 
 pub runs-init : goal.runs-init
@@ -33,3 +33,9 @@ runs-preserved c =
       left = less_left plan name c.args.found.now c.runs.found c.add_races_with.new.found run others
           (subst (λ l. IsLeft plan name c.args.found.now c.runs.found l) parts c.runs.invariant.left) c.in_ok-add_races_with.ensures;
     }
+
+pub returns : goal.returns
+returns c =
+    let plan = plan_of c.args.plan.now in
+    let empty = none_there c.runs.rest.now (sym c.first.ensures.value ∙ ap option_copied c.in_default.is) in
+    none_left plan c.args.name c.args.found.now c.runs.found c.runs.invariant.found (subst (λ l. IsLeft plan c.args.name c.args.found.now c.runs.found (map event_of l)) empty c.runs.invariant.left)

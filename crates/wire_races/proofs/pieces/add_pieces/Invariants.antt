@@ -1,7 +1,9 @@
-use Rattle.wire_rehearsal.specs.Planned.{plan_of}
+use Rattle.wire_runs.specs.Plan.{Plan}
+use Rattle.wire_races.specs.Collected.{AreFound}
 use Rattle.wire_races.specs.Adding.{Adds}
+use Rattle.wire_races.specs.Pieces.{AreAllFound}
 use Rattle.wire_races.proofs.Together.{IsInFirst}
 use Rattle.wire_races.proofs.pieces.add_pieces.Given as goal
 
 abbrev pub invariant-loop-piece : goal.invariant-loop-piece
-invariant-loop-piece l = Adds (plan_of l.plan) l.initial.found l.found (IsInFirst (plan_of l.plan) l.pieces l.piece-index)
+invariant-loop-piece l = (plan : Plan) → AreFound plan l.initial.found → AreAllFound plan l.pieces → Adds plan l.initial.found l.found (IsInFirst plan l.pieces l.piece-index)
