@@ -83,7 +83,7 @@ impl<'a> Core<'a> {
         let ranks = new_ranks(alloc, plan)?;
         let arrivals = Arrivals::new(alloc, fences)?;
         let names = Names::new(alloc, plan.scripts().names().len())?;
-        let waits = Waits::new(alloc, plan.process_count() as usize)?;
+        let waits = Waits::new(alloc, plan.process_count())?;
         let history = Vec::with_capacity(alloc, plan.event_total())?;
         Ok(Core {
             plan,
@@ -211,7 +211,7 @@ impl<'a> Core<'a> {
     pub fn lowest_ready(&self) -> Option<Proc>
         ensures { option_map (λ p. p.number) result ≡ lowest (plan_of self.now.scripts) (state_of self.now) (process_count (plan_of self.now.scripts)) }
     {
-        for number in 0..self.plan.process_count() {
+        for number in self.waits.lowest()..self.plan.process_count() {
             let proc = Proc::new(number);
             if self.ready(proc) {
                 return Some(proc);
