@@ -79,6 +79,10 @@ module _ (p : List ℕ → Bool) where
         | false ↦ λ e. ap (λ n. 1 + n) (place_pushed ys x e h)
       ] none
 
+-- a text that is there stays there
+pub among_kept : (t later : Texts) (x : List ℕ) → is_among t x ≡ true → GoesOn t later → is_among later x ≡ true
+among_kept t later x h g = rw g.1 (list_any-append (bytes_eq x) t g.0 ∙ rw h refl)
+
 -- a text that is there keeps its number
 pub number_kept : (t later : Texts) (x : List ℕ) → is_among t x ≡ true → GoesOn t later → number_or_count t x ≡ number_or_count later x
 number_kept t later x h g = sym (rw g.1 (place_kept (bytes_eq x) t g.0 h))

@@ -1,0 +1,59 @@
+//! What was named before, with the numbers of the sets.
+
+ghost use Rattle.std.specs.Prelude.{◌≡◌, ◌⊎◌, [], OnOk, IfSome};
+ghost use Rattle.std.specs.List.{All, Contains};
+
+use crate::members::Target;
+use indexmap::IndexMap;
+use std::alloc::{AllocError, Global};
+use std::marker::Model;
+
+/// What was named, as it was said, each with the number of the set. So a set that is said again is neither
+/// listed nor compared again.
+#[derive(Drop)]
+pub struct Noted {
+    table: IndexMap<Vec<Target>, u32>,
+}
+
+impl Model for Noted {
+    ghost use Rattle.std.specs.Prelude.{List, map};
+    ghost use Rattle.wire_script.specs.Targets.{Note};
+
+    ghost Value = { List Note };
+
+    ghost view = { λ n. map (λ e. (e.0.items, e.1)) n.table.entries };
+}
+
+impl Noted {
+    ghost use Rattle.std.specs.Prelude.{◌≡◌, ◌⊎◌, [], OnOk, IfSome};
+    ghost use Rattle.std.specs.List.{All, Contains};
+
+    /// Nothing noted. Takes no memory.
+    pub fn new(alloc: Global) -> Noted
+        ensures { result ≡ [] }
+    {
+        Noted {
+            table: IndexMap::new(alloc),
+        }
+    }
+
+    /// The number that was noted.
+    pub fn number_of(&self, targets: &[Target]) -> Option<u32>
+        ensures { IfSome result (λ n. Contains self.now (targets.now, n)) }
+    {
+        match self.table.get(targets) {
+            Some(number) => Some(*number),
+            None => None,
+        }
+    }
+
+    /// Notes a number.
+    pub fn note(&mut self, alloc: Global, targets: &[Target], number: u32) -> Result<(), AllocError>
+        ensures { OnOk result
+            (All (λ e. Contains self.old e ⊎ (e ≡ (targets.now, number))) self.new) }
+    {
+        let owned = Vec::from_slice(alloc, targets)?;
+        self.table.insert(owned, number)?;
+        Ok(())
+    }
+}
