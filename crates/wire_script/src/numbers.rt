@@ -18,9 +18,10 @@ pub fn number_text(alloc: Global, texts: &mut Texts, text: &[u8]) -> Result<u32,
     ensures grown { OnOk result (length texts.new ≤ length texts.old + 1) }
 {
     let number = texts.number_or_count(text);
-    if !texts.contains(text) {
-        texts.add(alloc, text)?;
+    if number < texts.len() {
+        return Ok(number);
     }
+    texts.add(alloc, text)?;
     Ok(number)
 }
 
@@ -33,8 +34,9 @@ pub fn number_set(sets: &mut Sets, set: Vec<Proc>) -> Result<u32, AllocError>
     ensures grown { OnOk result (length sets.new ≤ length sets.old + 1) }
 {
     let number = sets.number_or_count(&set);
-    if !sets.contains(&set) {
-        sets.add(set)?;
+    if number < sets.len() {
+        return Ok(number);
     }
+    sets.add(set)?;
     Ok(number)
 }
