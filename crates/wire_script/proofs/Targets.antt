@@ -1,38 +1,23 @@
 -- What a set names, by number, is what is in it.
-use Rattle.std.proofs.Common.{◌≡◌, ◌∙◌, ap, sym, subst, refl, ℕ, suc, ◌+◌, ◌<◌, List, [], ◌∷◌, ◌++◌, Bool, true, false, cond, length, map, take, get_or, arith, true≢false, inl, inr, if◌then◌else◌}
-use Rattle.std.specs.Prelude.{not, ◌||◌, ◌&&◌, ◌==◌, nat_lt}
+use Rattle.std.proofs.Common.{◌≡◌, ◌∙◌, ap, sym, subst, refl, ℕ, ◌+◌, ◌<◌, List, [], ◌∷◌, ◌++◌, Bool, true, false, length, map, take, get_or, true≢false, if◌then◌else◌}
+use Rattle.std.specs.Prelude.{◌||◌, ◌&&◌, ◌==◌}
 use Rattle.std.specs.List.{list_any, list_all}
-use Rattle.std.specs.Str.{bytes_eq}
-use Rattle.std.proofs.lemmas.Bool.{cases_Bool, lt-ltb, le-ltb}
-use borrow.Author.Tests.{eqb-true, ltb-true, ltb-false}
+use borrow.Author.Tests.{eqb-true}
 use Rattle.std.proofs.lemmas.List.Folds.{list_any-append}
 use Rattle.wire_lines.specs.Said as said
-use Rattle.wire_script.specs.FirstPass.{Started, Declared, is_among, number_or_count}
+use Rattle.wire_script.specs.FirstPass.{Started, Declared}
 use Rattle.wire_script.specs.Reads.{names_it, is_in, has_proc, is_declared_item, is_declared_set, set_members}
 use Rattle.wire_script.specs.Targets.{is_target, is_any_target, is_declared_target, named_in, target_by}
 use Rattle.wire_script.specs.declared.members.Target.{Target}
 use Rattle.wire_script.specs.declared.members.Target.TheVariants.{One, Every}
 use Rattle.wire_script.specs.contracts.members.TargetPartialEq.TheImpl as targets
 use Rattle.wire_script.proofs.Places.{places_same}
+use Rattle.wire_script.proofs.Seen.{number_below}
 use Rattle.wire_script.proofs.Steps.{take_on}
 
 item_named : (d : Declared) (i : said.Item) (p : Started) → is_target (target_by d i) p ≡ names_it d i p
 item_named d (said.One job rank) p = refl
 item_named d (said.Every job) p = refl
-
-one_up : (m n : ℕ) → nat_lt (1 + m) (suc n) ≡ nat_lt m n
-one_up m n = elim (cases_Bool (nat_lt m n)) [
-  | inl t ↦ lt-ltb (1 + m) (suc n) (let h = ltb-true m n t in omega arith) ∙ sym t
-  | inr f ↦ le-ltb (1 + m) (suc n) (let h = ltb-false m n f in omega arith) ∙ sym f
-]
-
--- a text is there where its number is below that of all
-pub number_below : (names : List (List ℕ)) (x : List ℕ) → nat_lt (number_or_count names x) (length names) ≡ is_among names x
-number_below [] x = refl
-number_below (y ∷ ys) x = elim (bytes_eq x y) as (λ b. nat_lt (cond (not b) (1 + number_or_count ys x) 0) (length (y ∷ ys)) ≡ (b || is_among ys x)) [
-  | true ↦ lt-ltb 0 (length (y ∷ ys)) (omega arith)
-  | false ↦ one_up (number_or_count ys x) (length ys) ∙ number_below ys x
-]
 
 item_declared : (d : Declared) (i : said.Item) → is_declared_target d (target_by d i) ≡ is_declared_item d i
 unfolding has_proc

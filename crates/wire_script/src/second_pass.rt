@@ -13,7 +13,7 @@ ghost use Rattle.wire_script.specs.Targets.{named_in, AreNoted};
 use crate::draft::{Draft, Placed, Started};
 use crate::members::{Target, are_declared, is_named, listed, named_members, proc_of};
 use crate::noted::Noted;
-use crate::numbers::{number_set, number_text};
+use crate::numbers::{number_pair, number_set, number_text};
 use std::alloc::{AllocError, Global};
 use wire_lines::{CallLine, ProcName, Set};
 use wire_rehearsal::{Process, Scripts, Sets, Tables, Texts};
@@ -157,11 +157,20 @@ fn number_call(
 {
     let line = placed.line;
     match &placed.call {
-        CallLine::Put { scope, key, value } => Ok(Call::Put {
-            scope: *scope,
-            key: number_text(alloc, &mut numbering.tables.keys, key)?,
-            value: number_text(alloc, &mut numbering.tables.values, value)?,
-        }),
+        CallLine::Put { scope, key, value } => {
+            let (key, value) = number_pair(
+                alloc,
+                &mut numbering.tables.keys,
+                &mut numbering.tables.values,
+                key,
+                value,
+            )?;
+            Ok(Call::Put {
+                scope: *scope,
+                key,
+                value,
+            })
+        }
         CallLine::Commit => Ok(Call::Commit),
         CallLine::Fence { set, collect } => Ok(Call::Fence {
             set: number_fence(alloc, draft, numbering, caller, line, set)?,
@@ -190,8 +199,13 @@ fn number_call(
             Ok(Call::GetNow { owner, key })
         }
         CallLine::Publish { name, value } => {
-            let name = number_text(alloc, &mut numbering.tables.names, name)?;
-            let value = number_text(alloc, &mut numbering.tables.values, value)?;
+            let (name, value) = number_pair(
+                alloc,
+                &mut numbering.tables.names,
+                &mut numbering.tables.values,
+                name,
+                value,
+            )?;
             Ok(Call::Publish { name, value })
         }
         CallLine::Lookup { name } => Ok(Call::Lookup {
