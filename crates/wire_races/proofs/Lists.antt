@@ -36,12 +36,12 @@ in_parts [] ys z i = inr i
 in_parts (x ∷ xs) ys z (inl e) = inl (inl e)
 in_parts (x ∷ xs) ys z (inr i) = ⊎_elim (λ a. inl (inr a)) (λ b. inr b) (in_parts xs ys z i)
 
-get_left : (xs ys : List Event) (k : ℕ) (z : Event) → slice_get xs k ≡ Some z → slice_get (xs ++ ys) k ≡ Some z
+pub get_left : (xs ys : List Event) (k : ℕ) (z : Event) → slice_get xs k ≡ Some z → slice_get (xs ++ ys) k ≡ Some z
 get_left [] ys k z e = absurd (let lt = slice_get_within {A = Event} [] k z e in omega (arith, lt))
 get_left (x ∷ xs) ys zero z e = e
 get_left (x ∷ xs) ys (suc k) z e = get_left xs ys k z e
 
-get_right : (xs ys : List Event) (k : ℕ) (z : Event) → slice_get ys k ≡ Some z → slice_get (xs ++ ys) (length xs + k) ≡ Some z
+pub get_right : (xs ys : List Event) (k : ℕ) (z : Event) → slice_get ys k ≡ Some z → slice_get (xs ++ ys) (length xs + k) ≡ Some z
 get_right [] ys k z e = let same : k ≡ 0 + k = omega arith in subst (λ n. slice_get ys n ≡ Some z) same e
 get_right (x ∷ xs) ys k z e =
     let same : suc (length xs + k) ≡ suc (length xs) + k = omega arith in

@@ -6,10 +6,10 @@ use Rattle.std.specs.List.{AllZip, Contains, range_with_len}
 use Rattle.std.specs.declared.alloc.AllocError.{AllocError}
 use Rattle.std.proofs.lemmas.Bool.{cases_eq}
 use Rattle.std.proofs.lemmas.Option.{slice_get_within, slice_get_cases, same_Some}
-use Rattle.wire_runs.specs.Plan.{Plan, kind, process_count}
+use Rattle.wire_runs.specs.Plan.{Plan, process_count}
 use Rattle.wire_rehearsal.specs.Scripts.{Scripts, IsSound}
 use Rattle.wire_rehearsal.specs.Planned.{plan_of}
-use Rattle.wire_runs.specs.Findings.{Finding}
+use Rattle.wire_runs.specs.Findings.{Finding, IsFound}
 use Rattle.wire_races.specs.declared.finding.Finding.{Finding as Told}
 use Rattle.wire_races.specs.Collected.{Tells, AreFound}
 use Rattle.wire_races.specs.FindingKinds.{AllAdded, IsOfKey, IsOfName}
@@ -18,9 +18,8 @@ use Rattle.wire_races.specs.KeyRaces.{IsKeyRaceOf}
 use Rattle.wire_races.specs.NameRaces.{IsRaceOn}
 use Rattle.wire_races.specs.Pieces.{IsPiece, ArePieces, IsInSome, AreAllFound}
 use Rattle.wire_races.proofs.Growing.{adds_both, adds_same, all_added}
-use Rattle.wire_races.proofs.Calls.{writes_calls}
 use Rattle.wire_races.proofs.Names.{named_within}
-use Rattle.wire_races.proofs.NameRaces.{found_on, on_name, race_on}
+use Rattle.wire_races.proofs.NameRaces.{low_calls, on_name, race_on}
 use Rattle.wire_races.proofs.Gathered.{gathered}
 use Rattle.wire_races.proofs.Deliveries.{race_within, race_below, race_told, race_by}
 
@@ -99,10 +98,10 @@ pub name_pieces_added : (s : Scripts) → IsSound s → (pieces : List (Vec Told
 name_pieces_added s sound pieces old new =
     let plan = plan_of s in
     pieces_added plan (length s.names) (IsRaceOn plan) IsOfName pieces old new
-    (λ k f r. (on_name plan k f r, found_on plan k f r))
+    (λ k f r. (on_name plan k f r, r.found))
     (λ f o.
     let w = race_on plan f o.0 o.1 in
-    (w.0, named_within s w.0 w.1.x sound (writes_calls plan w.0 w.1.x (kind plan w.1.x) w.1.race.x_writes), w.1))
+    (w.0, named_within s w.0 w.1.x sound (low_calls plan w.1.x w.1.y w.0 (subst (IsFound plan) w.1.is w.1.found)), w.1))
 
 module _ (plan : Plan) (n : ℕ) (those : ℕ → Finding → Type 0) where
   as_pieces : (r : Result (Vec (Vec Told Global) Global) AllocError)
