@@ -5,6 +5,7 @@ mod ends;
 mod lowest;
 mod met;
 mod names;
+mod plan;
 mod rank;
 mod replies;
 mod running;

@@ -1,0 +1,24 @@
+use Rattle.std.proofs.Common.{◌+◌, ◌∙◌, sym, subst, arith}
+use Rattle.std.specs.Prelude.{replicate}
+use Rattle.std.proofs.lemmas.List.{replicate_more}
+use Rattle.wire_core.specs.Course.{plan_in}
+use Rattle.wire_core.specs.Following.{Follows}
+use Rattle.wire_core.proofs.Steps.{step_history, length_push}
+use Rattle.wire_core.proofs.Following.{follows_push, legal_still}
+use Rattle.wire_locked.proofs.advance.advance_far.Goals as goal
+
+pub steps-smaller : goal.steps-smaller
+steps-smaller c =
+    let now = c.steps.core in
+    let p = c.args.proc.number in
+    let legal = legal_still c.args.core.now now (replicate c.steps.invariant.0 p) c.steps.invariant.1 c.history-before.ensures.legal in
+    let room = step_history (plan_in now) now.history p legal (sym c.ready.ensures ∙ c.steps-test.true) in
+    let longer = length_push now.history p in
+    rw c.step.ensures (omega (arith, room, longer))
+
+pub steps-preserved : goal.steps-preserved
+steps-preserved c =
+    let n = c.steps.invariant.0 in
+    let p = c.args.proc.number in
+    let follows = follows_push c.args.core.now c.steps.core c.step.new.self (replicate n p) p c.steps.invariant.1 (sym c.ready.ensures ∙ c.steps-test.true) c.step.ensures in
+    (n + 1, subst (λ order. Follows c.args.core.now order c.step.new.self) (replicate_more n p) follows)
