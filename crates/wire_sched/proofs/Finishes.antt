@@ -19,7 +19,7 @@ use Rattle.wire_sched.specs.Deques.{IsGathered, AreGathered}
 use Rattle.wire_sched.proofs.Rows.{get_within, get_there}
 use Rattle.wire_sched.proofs.Sharing.{shares, shares_more, shares_within, shares_all, length_deal}
 use Rattle.wire_sched.proofs.Deals.{weigh_ones}
-use Rattle.wire_sched.proofs.Onces.{IsShared, each_once}
+use Rattle.wire_sched.proofs.EachOnce.{IsShared, each_once}
 
 -- the shares of the first workers of the round
 abbrev pub shares_to : Round → (Piece → ℕ) → ℕ → ℕ

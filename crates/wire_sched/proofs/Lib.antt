@@ -8,4 +8,4 @@ pub mod Finishes
 pub mod Rising
 pub mod Joins
 pub mod Members
-pub mod Onces
+pub mod EachOnce

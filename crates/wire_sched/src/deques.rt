@@ -18,7 +18,7 @@ use std::alloc::Global;
 use std::mem;
 use wire_types::{Fault, Proc};
 
-// A deque with the pieces of one worker.
+// A deque with the pieces of one worker. It has room for them from the start.
 fn filled(
     alloc: Global,
     round: u64,
@@ -68,7 +68,7 @@ pub(crate) fn row(alloc: Global, passes: &mut Vec<Pass>) -> Result<Vec<Token>, F
     Ok(row)
 }
 
-// A worker's pass with no token, and a handle for thieves.
+// A worker's pass with no token yet, and a handle with which others steal from it.
 pub(crate) fn start(
     alloc: Global,
     round: u64,
@@ -100,7 +100,7 @@ pub(crate) fn own_from(own: &mut Owner) -> Option<Piece>
     own.pop_as::<Tally>()
 }
 
-// Joins a token into the worker's own.
+// Joins a token of a deque into the deque's owner.
 fn join_one(own: &mut Owner, token: Token)
     requires token { deque.IsPassOf (worker_deque own.old) token }
     requires part { 0 < (worker_view own.old).parts }
@@ -110,7 +110,7 @@ fn join_one(own: &mut Owner, token: Token)
     own.absorb::<Cut>(token);
 }
 
-// Joins a token of each deque into that deque's worker.
+// Joins tokens, one of each deque, into the owners of their deques.
 fn join_row(passes: &mut Vec<Pass>, tokens: Vec<Token>)
     requires { EachPair CanTake passes.old.items tokens.items }
     ensures { AreJoined passes.old.items tokens.items passes.new.items }
@@ -122,7 +122,7 @@ fn join_row(passes: &mut Vec<Pass>, tokens: Vec<Token>)
     }
 }
 
-// Joins all tokens of the passes.
+// Joins the tokens of all passes into the owners of their deques, which then know all that was taken.
 pub(crate) fn join_all(passes: &mut Vec<Pass>)
     requires { CanJoinAll passes.old.items }
     ensures { AreGathered passes.old.items passes.new.items }

@@ -45,8 +45,8 @@ impl Round {
     ghost use Rattle.wire_sched.specs.Taken.{taken_by_all, rest_of_all};
 
     /// Deals one piece for each of the first `ranks` processes: that of process r goes to the deque of worker r modulo
-    /// `workers`, in process order. Gives one pass for each worker, in order. Workers count from 0. The caller ensures
-    /// that there is one at least. The only error is `Fault::Memory`.
+    /// `workers`, in process order. Each piece has the number `round`. Gives one pass for each worker, in order. Workers
+    /// count from 0. The caller ensures that there is one at least. The only error is `Fault::Memory`.
     pub fn deal(
         alloc: Global,
         round: u64,
@@ -88,8 +88,8 @@ impl Round {
         self.thieves.len()
     }
 
-    /// Takes the front piece of the worker's own deque, or tells that there is none. What a pass takes of one deque
-    /// rises by process.
+    /// Takes the front piece of the worker's own deque, or tells that there is none. What a pass takes of one deque rises
+    /// by process.
     pub fn own_take(&self, pass: &mut Pass) -> Option<Piece>
         requires { IsPassOf self.now pass.old }
         ensures kept { IsPassOf self.now pass.new × (worker_of pass.new ≡ worker_of pass.old) }
@@ -99,8 +99,8 @@ impl Round {
         own_from(&mut pass.own)
     }
 
-    /// Tries to take the front piece of another worker's deque. The caller ensures that the victim is another worker of
-    /// the round.
+    /// Tries to take the front piece of the deque of worker number `victim`. The caller ensures that this is another
+    /// worker of the round. What a pass takes of one deque rises by process.
     pub fn steal_take(&self, pass: &mut Pass, victim: usize) -> Take
         requires pass { IsPassOf self.now pass.old }
         requires victim { (victim < workers_of self.now) × (victim ≢ worker_of pass.old) }
