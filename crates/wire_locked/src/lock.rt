@@ -22,15 +22,14 @@ impl<'a> LockedCore<'a> {
         }
     }
 
-    /// Waits for the lock, steps a process until it isn't ready, and answers how many steps that were. It
-    /// takes no memory. Other threads may have stepped any process before and after.
+    /// Waits for the lock, then steps a process until it isn't ready, and answers how many steps that were.
+    /// It takes no memory. No clause says what it did: other threads step the core before and after.
     pub fn serve<R: Wait>(&self, rt: &R, proc: Proc) -> usize {
         let mut core = self.core.lock(rt);
         advance_far(&mut core, proc)
     }
 
-    /// The core. It borrows some plan: the type of a lock doesn't say which. It takes no memory and can't
-    /// fail.
+    /// The core. It runs some plan: the type of a lock doesn't say which. It takes no memory and can't fail.
     pub fn into_core(self) -> Core<'a>
         ensures legal { IsLegal result }
     {
