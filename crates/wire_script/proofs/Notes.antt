@@ -3,7 +3,7 @@ use Rattle.std.proofs.Common.{◌≡◌, ◌∙◌, sym, subst, refl, ℕ, List,
 use Rattle.std.specs.Prelude.{◌&&◌}
 use Rattle.std.specs.List.{All, AllByRecursion, Contains}
 use Rattle.std.specs.Map.{lookup}
-use Rattle.std.proofs.lemmas.List.Elements.{All-from_recursion, All-contains, All-weaker, Contains-get_or, Contains-append_right}
+use Rattle.std.proofs.lemmas.List.Elements.{All-from_recursion, All-nil, All-contains, All-weaker, Contains-get_or, Contains-append_right}
 use lib.Pointwise.{pointwise}
 use Rattle.indexmap.specs.IndexMap.{insert_entry}
 use Rattle.wire_script.specs.FirstPass.{Declared, is_among, number_or_count}
@@ -81,13 +81,17 @@ note_kept d sets later note goes is = record {
 
 -- what a note says
 pub note_says : (d : Declared) (sets : List (List ℕ)) (notes : List Note) (note : Note) → AreNoted d sets notes → Contains notes note → IsNote d sets note
-note_says d sets notes note all there = All-contains (IsNote d sets) notes note all there
+note_says d sets notes note all there = All-contains (IsNote d sets) notes note all.each there
+
+-- nothing is noted
+pub none_noted : (d : Declared) (sets : List (List ℕ)) (notes : List Note) → notes ≡ [] → AreNoted d sets notes
+none_noted d sets notes none = record { each = subst (All (IsNote d sets)) (sym none) (All-nil (IsNote d sets)) }
 
 -- the number of a set that is added may be noted
 pub noted_on : (d : Declared) (sets new : List (List ℕ)) (notes later : List Note) (targets : List Target) (n : ℕ) → AreNoted d sets notes → new ≡ with_text sets (named_in d targets)
     → n ≡ number_or_count new (named_in d targets) → All (λ e. Contains notes e ⊎ (e ≡ (targets, n))) later → AreNoted d new later
 noted_on d sets new notes later targets n all is number either =
-    All-weaker (λ e. Contains notes e ⊎ (e ≡ (targets, n))) (IsNote d new) each later either
+    record { each = All-weaker (λ e. Contains notes e ⊎ (e ≡ (targets, n))) (IsNote d new) each later either }
   where
     each : (e : Note) → Contains notes e ⊎ (e ≡ (targets, n)) → IsNote d new e
     each e (inl there) = note_kept d sets new e (subst (GoesOn sets) (sym is) (with_goes_on sets (named_in d targets))) (note_says d sets notes e all there)
