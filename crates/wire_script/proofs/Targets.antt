@@ -2,7 +2,7 @@
 use Rattle.std.proofs.Common.{◌≡◌, ◌∙◌, ap, sym, subst, refl, ℕ, ◌+◌, ◌<◌, List, [], ◌∷◌, ◌++◌, Bool, true, false, length, map, take, get_or, true≢false, if◌then◌else◌}
 use Rattle.std.specs.Prelude.{◌||◌, ◌&&◌, ◌==◌}
 use Rattle.std.specs.List.{list_any, list_all}
-use borrow.Author.Tests.{eqb-true}
+use borrow.Author.Tests.{eqb-true, eq-eqb}
 use Rattle.std.proofs.lemmas.List.Folds.{list_any-append}
 use Rattle.wire_lines.specs.Said as said
 use Rattle.wire_script.specs.FirstPass.{Started, Declared}
@@ -69,6 +69,10 @@ same_is (One j r) (One k q) e = both (j == k) refl e
 same_is (One j r) (Every k) e = absurd (true≢false (sym e))
 same_is (Every j) (One k q) e = absurd (true≢false (sym e))
 same_is (Every j) (Every k) e = ap Every (eqb-true j k e)
+
+pub same_self : (t : Target) → same_target t t ≡ true
+same_self (One j r) = rw (eq-eqb j j refl, eq-eqb r r refl) refl
+same_self (Every j) = eq-eqb j j refl
 
 -- what is there names nothing new
 there_names : (ts : List Target) (t : Target) (p : Started) → list_any (same_target t) ts ≡ true → is_any_target ts p ≡ (is_any_target ts p || is_target t p)

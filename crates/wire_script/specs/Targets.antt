@@ -40,5 +40,5 @@ pub record IsNote (d : Declared) (sets : List (List ℕ)) (note : Note) : Type 0
   pub there : is_among sets (named_in d note.0) ≡ true
   pub number : note.1 ≡ number_or_count sets (named_in d note.0)
 
-abbrev pub AreNoted : Declared → List (List ℕ) → List Note → Type 0
-AreNoted d sets notes = All (IsNote d sets) notes
+pub record AreNoted (d : Declared) (sets : List (List ℕ)) (notes : List Note) : Type 0 where
+  pub each : All (IsNote d sets) notes

@@ -1,6 +1,6 @@
 //! What was named before, with the numbers of the sets.
 
-ghost use Rattle.std.specs.Prelude.{◌≡◌, ◌⊎◌, [], OnOk, IfSome};
+ghost use Rattle.std.specs.Prelude.{◌≡◌, ◌≢◌, ◌∷◌, ◌++◌, [], OnOk, IfSome, IfNone};
 ghost use Rattle.std.specs.List.{All, Contains};
 
 use crate::members::Target;
@@ -25,9 +25,6 @@ impl Model for Noted {
 }
 
 impl Noted {
-    ghost use Rattle.std.specs.Prelude.{◌≡◌, ◌⊎◌, [], OnOk, IfSome};
-    ghost use Rattle.std.specs.List.{All, Contains};
-
     /// Nothing noted. Takes no memory.
     pub fn new(alloc: Global) -> Noted
         ensures { result ≡ [] }
@@ -37,9 +34,10 @@ impl Noted {
         }
     }
 
-    /// The number that was noted.
+    /// The number that was noted, or nothing where none was.
     pub fn number_of(&self, targets: &[Target]) -> Option<u32>
-        ensures { IfSome result (λ n. Contains self.now (targets.now, n)) }
+        ensures found { IfSome result (λ n. Contains self.now (targets.now, n)) }
+        ensures none { IfNone result (All (λ e. e.0 ≢ targets.now) self.now) }
     {
         match self.table.get(targets) {
             Some(number) => Some(*number),
@@ -47,10 +45,10 @@ impl Noted {
         }
     }
 
-    /// Notes a number.
+    /// Notes the number of what wasn't named before.
     pub fn note(&mut self, alloc: Global, targets: &[Target], number: u32) -> Result<(), AllocError>
-        ensures { OnOk result
-            (All (λ e. Contains self.old e ⊎ (e ≡ (targets.now, number))) self.new) }
+        requires { All (λ e. e.0 ≢ targets.now) self.old }
+        ensures { OnOk result (self.new ≡ self.old ++ (targets.now, number) ∷ []) }
     {
         let owned = Vec::from_slice(alloc, targets)?;
         self.table.insert(owned, number)?;

@@ -1,6 +1,6 @@
 //! The second pass: each call by all that is declared, with numbers for what it names.
 
-ghost use Rattle.std.specs.Prelude.{◌≡◌, ◌⊎◌, ◌+◌, ◌*◌, ◌≤◌, ◌<◌, ◌^◌, List, ℕ, [], Some, None, Ok, Err, true, false, map, length, OnOk, IfOk, IfErr};
+ghost use Rattle.std.specs.Prelude.{◌≡◌, ◌⊎◌, ◌+◌, ◌*◌, ◌≤◌, ◌<◌, ◌^◌, List, ℕ, Some, None, Ok, Err, true, false, map, length, OnOk, IfOk, IfErr};
 ghost use Rattle.wire_lines.specs.Shown.{call_by, set_by};
 ghost use Rattle.wire_script.specs.FirstPass.{number_or_count};
 ghost use Rattle.wire_script.specs.Reads as spec;
@@ -289,7 +289,7 @@ fn number_processes(
     requires within { IsWithinLimits (declared_of draft.now) }
     requires declared { IsDeclared (declared_of draft.now) }
     requires empty { seen_of numbering.old.tables ≡ nothing_seen }
-    requires noted { numbering.old.noted ≡ [] }
+    requires noted { AreNoted (declared_of draft.now) numbering.old.tables.sets numbering.old.noted }
     ensures tables { OnOk result (seen_of numbering.new.tables
         ≡ all_seen (declared_of draft.now) nothing_seen (map started_of draft.now.processes.items)) }
     ensures processes { IfOk result (λ v. v.items

@@ -11,13 +11,13 @@ pub returns-in-Some-clause-number : goal.returns-in-Some-clause-number
 returns-in-Some-clause-number c = λ later goes.
     let d = declared_of c.args.draft.now in
     let sets = c.args.sets.now in
-    let says = note_says d sets c.args.noted.now (c.args.targets.now, c.in-Some.number) c.requires.noted c.in-Some.ensures in
+    let says = note_says d sets c.args.noted.now (c.args.targets.now, c.in-Some.number) c.requires.noted c.in-Some.ensures.found in
     says.number ∙ number_kept sets later (named_in d c.args.targets.now) says.there goes
 
 pub returns-in-Some-clause-sets : goal.returns-in-Some-clause-sets
 returns-in-Some-clause-sets c =
     let d = declared_of c.args.draft.now in
-    let says = note_says d c.args.sets.now c.args.noted.now (c.args.targets.now, c.in-Some.number) c.requires.noted c.in-Some.ensures in
+    let says = note_says d c.args.sets.now c.args.noted.now (c.args.targets.now, c.in-Some.number) c.requires.noted c.in-Some.ensures.found in
     rw says.there refl
 
 pub returns-clause-noted : goal.returns-clause-noted

@@ -3,7 +3,11 @@ use Rattle.wire_script.specs.Reads.{unless_fault}
 use Rattle.wire_script.specs.Drafted.{declared_of}
 use Rattle.wire_script.specs.Tabled.{seen_of}
 use Rattle.wire_script.proofs.Sound.{scripts_are, sound_parts, second_fault}
+use Rattle.wire_script.proofs.Notes.{none_noted}
 use Rattle.wire_script.proofs.second_pass.scripts_of.Goals as goal
+
+pub number_processes-requires-clause-noted : goal.number_processes-requires-clause-noted
+number_processes-requires-clause-noted c = none_noted (declared_of c.args.draft) _ _ c.new-5.ensures
 
 pub new-requires-in-Ok : goal.new-requires-in-Ok
 new-requires-in-Ok c =
