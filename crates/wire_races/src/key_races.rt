@@ -430,5 +430,5 @@ pub(crate) fn add_key_races(
     ensures all { OnOk result (AllAdded (plan_of plan.now) IsOfKey found.old found.new) }
 {
     let pieces = pieces(rt, alloc, plan, marks)?;
-    add_pieces(found, pieces.as_slice())
+    add_pieces(found, pieces)
 }
