@@ -1,5 +1,5 @@
 -- Races on names: where the calls stand that race with one call, and how the findings grow.
-use Rattle.std.proofs.Common.{◌≡◌, ◌≢◌, ◌⊎◌, ◌↔◌, inl, inr, ⊎_elim, ℕ, ◌+◌, ◌<◌, ◌≤◌, List, [], ◌∷◌, ◌++◌, true, Some, refl, sym, ap, ◌∙◌, subst, arith}
+use Rattle.std.proofs.Common.{◌≡◌, ◌≢◌, ◌⊎◌, ◌↔◌, inl, inr, ℕ, ◌+◌, ◌<◌, ◌≤◌, List, [], ◌∷◌, ◌++◌, true, Some, refl, sym, ap, ◌∙◌, subst, arith}
 use Rattle.std.specs.Prelude.{slice_get}
 use Rattle.std.proofs.lemmas.Option.{same_Some}
 use Rattle.std.proofs.lemmas.Bool.{cases_eq, cases_lt}
@@ -8,7 +8,7 @@ use Rattle.wire_runs.specs.Names.{writes_name, calls_name}
 use Rattle.wire_runs.specs.Order.{Live, edge, Announces}
 use Rattle.wire_runs.specs.EventLists.{IsLower}
 use Rattle.wire_runs.specs.Fate.{IsIn}
-use Rattle.wire_runs.specs.Races.{IsUnordered, IsNameRace}
+use Rattle.wire_runs.specs.Races.{IsUnordered}
 use Rattle.wire_runs.specs.Findings.{Finding, NameRace, IsFound}
 use Rattle.wire_races.specs.declared.finding.Finding.{Finding as Told}
 use Rattle.wire_plan.specs.Index.{AreNameCalls}
@@ -16,7 +16,7 @@ use Rattle.wire_runs.proofs.Histories.{before_live, joined, same_process}
 use Rattle.wire_races.specs.Collected.{Tells, AreFound, IsAdded}
 use Rattle.wire_races.specs.FindingKinds.{IsOfName}
 use Rattle.wire_races.specs.Adding.{Adds}
-use Rattle.wire_races.specs.NameRaces.{IsRaceOn, IsRaceFrom, IsRaceWith, AreCallsOn, AreOf, IsStretch, AreRivals, HasRivals, IsBelow, IsCut}
+use Rattle.wire_races.specs.NameRaces.{IsRaceOn, IsRaceFrom, IsRaceWith, AreCallsOn, AreOf, AreRivals, HasRivals, IsBelow, IsCut}
 use Rattle.wire_races.specs.declared.name_races.Border.{Border}
 use Rattle.wire_races.specs.declared.name_races.Border.TheVariants.{FirstNotBefore, FirstAfter}
 use Rattle.wire_races.proofs.Lists.{in_index, index_in, in_left, in_right, in_parts, get_left, get_right, first_calls, other_calls}

@@ -1,5 +1,5 @@
 -- The order of the places is that of the findings.
-use Rattle.std.proofs.Common.{◌≡◌, ◌∙◌, ap, sym, refl, subst, ℕ, zero, suc, ◌<◌, Bool, true, false, cond, List, [], ◌∷◌, length, map, take, ◌⊎◌, ◌↔◌, inl, inr, ⊎_elim, Contains, arith}
+use Rattle.std.proofs.Common.{◌≡◌, ◌∙◌, ap, sym, refl, subst, ℕ, zero, suc, ◌<◌, Bool, true, false, List, [], ◌∷◌, length, take, ◌⊎◌, ◌↔◌, inl, inr, ⊎_elim, Contains, arith}
 use Rattle.std.proofs.lemmas.Bool.{cond_both}
 use Rattle.std.proofs.lemmas.List.Sorted.{Contains-permutation, IsPermutation-sym}
 use Rattle.std.proofs.lemmas.List.Kept.{IsStrictlySortedBy-dedup}
@@ -14,7 +14,7 @@ use Rattle.wire_runs.specs.Plan.{Plan, Event, kinds_of}
 use Rattle.wire_types.specs.declared.CallAt.{CallAt}
 use Rattle.wire_runs.specs.EventLists.{IsLower}
 use Rattle.wire_runs.specs.Ends.{calls_of, first_event}
-use Rattle.wire_runs.specs.Findings.{Finding, IsPairLower, IsSooner, IsFound, Has, IsSorted}
+use Rattle.wire_runs.specs.Findings.{Finding, IsPairLower, IsSooner, IsFound, IsSorted}
 use Rattle.wire_races.specs.declared.finding.Finding.{Finding as Told}
 use Rattle.wire_races.specs.declared.finding.Finding.TheVariants.{Rewrite, KeyRace, NameRace}
 use Rattle.wire_races.specs.declared.found.Place.{Place}

@@ -1,15 +1,14 @@
 -- With which higher calls a call on a name may race.
-use Rattle.std.proofs.Common.{◌≡◌, ◌∙◌, ◌⊎◌, inl, inr, ℕ, suc, ◌+◌, ◌<◌, ◌≤◌, List, [], ◌∷◌, ◌++◌, length, map, take, drop, true, Some, sym, ap, subst, arith}
+use Rattle.std.proofs.Common.{◌≡◌, ◌∙◌, inl, inr, ℕ, suc, ◌+◌, ◌<◌, ◌≤◌, List, [], ◌∷◌, ◌++◌, length, true, Some, sym, ap, subst, arith}
 use Rattle.std.specs.Prelude.{slice_get}
 use Rattle.std.proofs.lemmas.Bool.{cases_eq, cases_lt}
 use Rattle.std.proofs.lemmas.Option.{same_Some, slice_get_within}
 use Rattle.wire_runs.specs.Plan.{Plan, Event, kind}
 use Rattle.wire_runs.specs.Names.{writes_name}
-use Rattle.wire_runs.specs.EventLists.{IsLower, AreAll}
+use Rattle.wire_runs.specs.EventLists.{AreAll}
 use Rattle.wire_runs.specs.Fate.{IsIn}
-use Rattle.wire_runs.specs.Findings.{NameRace, IsFound}
 use Rattle.wire_plan.specs.Index.{AreNameCalls}
-use Rattle.wire_runs.proofs.EventLists.{all_of_none, all_same, all_and_one}
+use Rattle.wire_runs.proofs.EventLists.{all_same, all_and_one}
 use Rattle.wire_races.specs.NameRaces.{AreCallsOn, AreRivals, HasRivals, AreWriters, IsAbove, IsCut}
 use Rattle.wire_races.proofs.Calls.{writes_calls}
 use Rattle.wire_races.proofs.Lists.{in_index, index_in, in_parts, get_left, get_right, other_calls}
@@ -71,9 +70,6 @@ abbrev pub IsWriterBelow : Plan → ℕ → List Event → ℕ → Event → Typ
 IsWriterBelow plan name calls k z = (j : ℕ) × (j < k) × (slice_get calls j ≡ Some z) × (writes_name plan name z (kind plan z) ≡ true)
 
 module _ (plan : Plan) (name : ℕ) (calls : List Event) (are : AreNameCalls plan name calls) where
-  pub no_writers : AreAll (IsWriterBelow plan name calls 0) []
-  no_writers = all_of_none (IsWriterBelow plan name calls 0) (λ z w. let lt = w.1 in omega (arith, lt))
-
   pub one_writer : (k m : ℕ) (writers : List Event) (x : Event) → m ≡ suc k → slice_get calls k ≡ Some x → writes_name plan name x (kind plan x) ≡ true → AreAll (IsWriterBelow plan name calls k) writers → AreAll (IsWriterBelow plan name calls m) (writers ++ x ∷ [])
   one_writer k m writers x one at writes =
       all_and_one (IsWriterBelow plan name calls k) (IsWriterBelow plan name calls m) writers x

@@ -16,7 +16,7 @@ use Rattle.wire_races.specs.Places.{place}
 use Rattle.wire_races.specs.declared.found.Place.{Place}
 use Rattle.wire_races.specs.declared.finding.Finding.{Finding as Told}
 use Rattle.wire_races.specs.declared.finding.Finding.TheVariants as told_as
-use Rattle.wire_races.proofs.Calls.{Starts, call_within, low_starts, high_starts, node_commit, delivery_arrives, writes_calls}
+use Rattle.wire_races.proofs.Calls.{call_within, low_starts, high_starts, node_commit, delivery_arrives, writes_calls}
 
 -- the name that an event is a call on
 abbrev pub name_of : Option Kind → ℕ

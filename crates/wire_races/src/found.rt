@@ -87,11 +87,15 @@ impl Found {
         Ok(())
     }
 
-    /// Adds the findings of a piece.
-    pub(crate) fn append(&mut self, piece: &[Finding]) -> Result<(), AllocError>
-        ensures { OnOk result (self.new ≡ self.old ++ piece.now) }
+    /// Adds the findings of a piece. Where nothing is there yet, they needn't be moved.
+    pub(crate) fn append(&mut self, mut piece: Vec<Finding>) -> Result<(), AllocError>
+        ensures { OnOk result (self.new ≡ self.old ++ piece.items) }
     {
-        self.list.extend_from_slice(piece)?;
+        if self.list.is_empty() {
+            self.list = piece;
+        } else {
+            self.list.append(&mut piece)?;
+        }
         Ok(())
     }
 

@@ -311,5 +311,5 @@ pub(crate) fn add_name_races(
     // Scripts are sound, so each call on a name is on one of theirs.
     let _ = plan.scripts();
     let pieces = pieces(rt, alloc, plan, marks)?;
-    add_pieces(found, pieces.as_slice())
+    add_pieces(found, pieces)
 }
