@@ -116,17 +116,31 @@ fn add_between(
     Ok(())
 }
 
-// How many of the first calls are of this process.
-fn run_length(calls: &[Event], proc: Proc) -> usize
+// How many of these calls in process order are of processes up to this one, by bisection.
+fn count_upto(calls: &[Event], proc: Proc) -> usize
     ensures within { result ≤ length calls.now }
-    ensures run { AreOf proc.number (map event_of (take result calls.now)) }
-    ensures more { (x : Event) → slice_get calls.now 0 ≡ Some x → x.proc ≡ proc → 0 < result }
+    ensures cut { (plan : runs.Plan) (name : ℕ) → AreCallsOn plan name (map event_of calls.now) → IsCut (λ z. z.proc ≤ proc.number) (map event_of calls.now) result }
 {
-    let mut count = 0;
-    'run: while count < calls.len() && calls[count].proc.number == proc.number {
-        count += 1;
+    let mut low = 0;
+    let mut high = calls.len();
+    'bisection: while low < high {
+        let middle = low + (high - low) / 2;
+        if calls[middle].proc.number <= proc.number {
+            low = middle + 1;
+        } else {
+            high = middle;
+        }
     }
-    count
+    low
+}
+
+// How many of the first of these calls in process order are of this process, which is that of the first one.
+fn stretch_length(calls: &[Event], proc: Proc) -> usize
+    ensures within { result ≤ length calls.now }
+    ensures stretch { (plan : runs.Plan) (name : ℕ) (x : Event) → AreCallsOn plan name (map event_of calls.now) → slice_get calls.now 0 ≡ Some x → x.proc ≡ proc → AreOf proc.number (map event_of (take result calls.now)) }
+    ensures more { (plan : runs.Plan) (name : ℕ) (x : Event) → AreCallsOn plan name (map event_of calls.now) → slice_get calls.now 0 ≡ Some x → x.proc ≡ proc → 0 < result }
+{
+    count_upto(calls, proc)
 }
 
 // Adds the races of a live call with higher calls, which are cut into stretches of one process each.
@@ -145,9 +159,9 @@ fn add_rivals(
     ensures { OnOk result (Adds (plan_of plan.now) found.old found.new (IsRaceWith (plan_of plan.now) x.name (event_of x.event) (map event_of rivals.now))) }
 {
     let mut rest = rivals;
-    'runs: while let Some(first) = rest.first() {
-        let (run, others) = rest.split_at(run_length(rest, first.proc));
-        add_between(plan, marks, found, x, run)?;
+    'stretches: while let Some(first) = rest.first() {
+        let (stretch, others) = rest.split_at(stretch_length(rest, first.proc));
+        add_between(plan, marks, found, x, stretch)?;
         rest = others;
     }
     Ok(())
@@ -173,24 +187,6 @@ fn add_call(
     } else {
         Ok(())
     }
-}
-
-// How many of these calls in process order are of processes up to this one, by bisection.
-fn count_upto(calls: &[Event], proc: Proc) -> usize
-    ensures within { result ≤ length calls.now }
-    ensures cut { (plan : runs.Plan) (name : ℕ) → AreCallsOn plan name (map event_of calls.now) → IsCut (λ z. z.proc ≤ proc.number) (map event_of calls.now) result }
-{
-    let mut low = 0;
-    let mut high = calls.len();
-    'bisection: while low < high {
-        let middle = low + (high - low) / 2;
-        if calls[middle].proc.number <= proc.number {
-            low = middle + 1;
-        } else {
-            high = middle;
-        }
-    }
-    low
 }
 
 // The calls of processes above this one.
