@@ -1,6 +1,6 @@
 //! What fences have brought from a process to a node, looked for once.
 
-ghost use Rattle.std.specs.Prelude.{◌≡◌, ◌+◌, ◌<◌, ◌≤◌, ◌^◌, ℕ, Some, false, length, slice_get, IfOk, IfErr, IfSome, if◌then◌else◌};
+ghost use Rattle.std.specs.Prelude.{◌≡◌, ◌+◌, ◌*◌, ◌-◌, ◌<◌, ◌≤◌, ◌^◌, min, length, ℕ, Some, false, slice_get, IfOk, IfErr, IfSome, if◌then◌else◌};
 ghost use Rattle.wire_runs.specs.Plan.{Plan as ThePlan, event_count, process_count};
 ghost use Rattle.wire_runs.specs.Sight.{delivered};
 ghost use Rattle.wire_rehearsal.specs.Planned.{plan_of};
@@ -89,6 +89,7 @@ impl Looks {
     /// No event was looked at.
     pub fn new(alloc: Global, processes: u32, nodes: u32) -> Result<Looks, Fault>
         ensures ok { IfOk result (λ looks. (plan : ThePlan) → AreLooks plan looks) }
+        ensures room { IfOk result (λ looks. length looks ≡ min (nodes * processes) (2 ^ 64 - 1)) }
         ensures err { IfErr result (λ e. e ≡ Fault.Memory) }
     {
         let nodes = nodes as usize;
