@@ -1,9 +1,9 @@
 -- A process that isn't enabled stays so while what its next event awaits doesn't come.
-use Rattle.std.proofs.Common.{◌≡◌, ◌∙◌, ap, sym, refl, subst, ℕ, zero, suc, ◌<◌, List, [], ◌∷◌, map, true, false, cond, ◌==◌, Option, Some, None, is_some, inl, inr, arith}
+use Rattle.std.proofs.Common.{◌≡◌, ◌∙◌, ap, sym, refl, subst, ℕ, zero, suc, ◌<◌, ◌≤◌, List, [], ◌∷◌, length, map, true, false, cond, ◌==◌, Option, Some, None, is_some, inl, inr, arith}
 use Rattle.std.specs.Prelude.{option_map, replicate, slice_set, slice_index_or}
-use Rattle.std.proofs.lemmas.Bool.{true≢false, cases_eq, cases_Bool, cond_both, eq-eqb, eqb-true}
+use Rattle.std.proofs.lemmas.Bool.{true≢false, cases_eq, cases_lt, cases_Bool, cond_both, eq-eqb, eqb-true}
 use Rattle.std.proofs.lemmas.Option.{same_Some}
-use Rattle.std.proofs.lemmas.List.{length-map, length-set, length-replicate, get_or-set_same, get_or-set_other}
+use Rattle.std.proofs.lemmas.List.{length-map, length-set, length-replicate, get_or-set_same, get_or-set_other, get_or_past}
 use Rattle.wire_types.specs.declared.Proc.{Proc}
 use Rattle.wire_runs.specs.Plan.{Plan, Kind, Put, Commit, Arrive, Leave, Get, GetNow, Publish, Lookup, LookupWait, Unpublish, Fixed, Event, kind, kind_at, process_count, same_node}
 use Rattle.wire_runs.specs.Puts.{own, stored}
@@ -20,7 +20,8 @@ use Rattle.wire_fence.specs.Arrivals.{TellsMissing, missing_at}
 use Rattle.wire_fence.proofs.Missing.{complete_is}
 use Rattle.wire_plan.specs.Meetings.{IsMet}
 use Rattle.wire_core.specs.Met.{ArrivesAt, after_arrival}
-use Rattle.wire_core.specs.Waiting.{is_known, is_same_thing, after, coming, Awaits, AreNoted}
+use Rattle.wire_core.specs.Waiting.{is_known, is_same_thing, after, coming, Awaits, AreNoted, IsFirst, AreUnknown}
+use Rattle.wire_runs.specs.PlainRun.{or_else, lowest}
 use Rattle.wire_core.specs.declared.waits.Awaited.{Awaited}
 use Rattle.wire_core.specs.declared.waits.Awaited.TheVariants as wait
 use Rattle.wire_core.proofs.Meet.{complete_at, leave_enabled}
@@ -199,3 +200,43 @@ noted_more s table state notes p w noted within off awaits = record {
         subst (λ v. is_known v ≡ true → (is_enabled (plan_of s) state q ≡ false) × Awaits s table (next_event state q) v) (sym here) (noted.each q) known
   ];
 }
+
+-- notes that what comes leaves as they are
+unknown_only : (w : Awaited) → is_known w ≡ false → w ≡ wait.Unknown
+unknown_only wait.Unknown none = refl
+unknown_only (wait.Commit p) none = absurd (true≢false none)
+unknown_only (wait.Fence f) none = absurd (true≢false none)
+unknown_only (wait.Publish name) none = absurd (true≢false none)
+unknown_only wait.Nothing none = absurd (true≢false none)
+
+pub nothing_comes : (comes : Awaited) (notes : List Awaited) → is_known comes ≡ false → notes ≡ map (after comes) notes
+nothing_comes comes notes none = go notes ∙ ap (λ w. map (after w) notes) (sym (unknown_only comes none))
+  where
+    go : (notes : List Awaited) → notes ≡ map (after wait.Unknown) notes
+    go [] = refl
+    go (w ∷ notes) = ap (λ ws. w ∷ ws) (go notes)
+
+pub nothing_noted : (comes : Awaited) (notes : List Awaited) → AreUnknown notes → notes ≡ map (after comes) notes
+nothing_noted comes [] none = refl
+nothing_noted comes (w ∷ notes) none =
+    ap (λ v. v ∷ notes) (unknown_only w (none 0) ∙ sym (unknown_after comes) ∙ ap (after comes) (sym (unknown_only w (none 0))))
+    ∙ ap (λ ws. after comes w ∷ ws) (nothing_noted comes notes (λ p. none (suc p)))
+
+-- of the first processes something is known, so none of them is enabled
+known_within : (notes : List Awaited) (n : ℕ) → ((p : ℕ) → p < n → is_known (slice_index_or notes p wait.Unknown) ≡ true) → n ≤ length notes
+known_within notes n below = elim (cases_lt (length notes) n) [
+  | inl past ↦ absurd (true≢false (sym (below (length notes) past) ∙ ap is_known (get_or_past notes (length notes) wait.Unknown (omega arith))))
+  | inr le ↦ le
+]
+
+pub first_within : (s : Scripts) (table : FenceTable) (state : State) (notes : List Awaited) (n : ℕ) → AreNoted s table state notes → IsFirst notes n → n ≤ process_count (plan_of s)
+first_within s table state notes n noted first = let le = known_within notes n first.below in let count = noted.count in omega (arith, le, count)
+
+pub none_before : (s : Scripts) (table : FenceTable) (state : State) (notes : List Awaited) (n : ℕ) → AreNoted s table state notes → IsFirst notes n → lowest (plan_of s) state n ≡ None
+none_before s table state notes n noted first = go n (λ p lt. first.below p lt)
+  where
+    go : (m : ℕ) → ((p : ℕ) → p < m → is_known (slice_index_or notes p wait.Unknown) ≡ true) → lowest (plan_of s) state m ≡ None
+    go zero below = refl
+    go (suc m) below =
+        ap (λ o. or_else o (cond (is_enabled (plan_of s) state m) (Some m) None)) (go m (λ p lt. below p (omega (arith, lt))))
+        ∙ ap (λ b. cond b (Some m) None) (noted.each m (below m (omega arith))).0

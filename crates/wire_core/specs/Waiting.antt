@@ -1,5 +1,5 @@
 -- What processes that aren't ready wait for, and what an event brings.
-use Rattle.std.specs.Prelude.{◌≡◌, ℕ, List, Bool, true, false, Option, Some, None, length, ◌==◌, slice_index_or, if◌then◌else◌}
+use Rattle.std.specs.Prelude.{◌≡◌, ◌<◌, ℕ, List, Bool, true, false, Option, Some, None, length, ◌==◌, slice_index_or, if◌then◌else◌}
 use Rattle.wire_types.specs.declared.Proc.{Proc}
 use Rattle.wire_runs.specs.Plan.{Event, Kind, kind, process_count}
 use Rattle.wire_runs.specs.Plan as plan
@@ -53,3 +53,12 @@ IsNoted s table state p awaited = is_known awaited ≡ true → (is_enabled (pla
 pub record AreNoted (s : Scripts) (table : FenceTable) (state : State) (notes : List Awaited) : Type 0 where
   pub count : length notes ≡ process_count (plan_of s)
   pub each : (p : ℕ) → IsNoted s table state p (slice_index_or notes p Unknown)
+
+-- of the process of this number nothing is known, and of each before it something is
+pub record IsFirst (notes : List Awaited) (n : ℕ) : Type 0 where
+  pub below : (p : ℕ) → p < n → is_known (slice_index_or notes p Unknown) ≡ true
+  pub here : is_known (slice_index_or notes n Unknown) ≡ false
+
+-- nothing is known of any process
+abbrev pub AreUnknown : List Awaited → Type 0
+AreUnknown notes = (p : ℕ) → is_known (slice_index_or notes p Unknown) ≡ false

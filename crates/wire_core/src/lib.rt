@@ -2,6 +2,7 @@
 #![tactic(auto)]
 
 mod ends;
+mod looks;
 mod lowest;
 mod met;
 mod names;

@@ -33,7 +33,7 @@ impl<'a> Core<'a> {
         ensures lowest { option_map (λ p. p.number) result ≡ lowest (plan_of self.old.scripts) (state_of self.old) (process_count (plan_of self.old.scripts)) }
         ensures same { self.new ≡ self.old }
     {
-        for number in 0..self.plan.process_count() {
+        for number in self.waits.lowest()..self.plan.process_count() {
             let proc = Proc::new(number);
             if self.ready(proc) {
                 return Some(proc);

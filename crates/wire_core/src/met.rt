@@ -50,7 +50,13 @@ pub(crate) fn note_arrival(arrivals: &mut Arrivals, fence: Option<FenceId>, proc
 
 /// Whether an event of the plan is an arrival at a fence that has brought the data of its process to a
 /// node.
-fn brings(plan: &Plan, fences: &Fences, arrivals: &Arrivals, event: Event, node: u32) -> bool
+pub(crate) fn brings(
+    plan: &Plan,
+    fences: &Fences,
+    arrivals: &Arrivals,
+    event: Event,
+    node: u32,
+) -> bool
     requires fences { AreFencesOf plan.now fences.now }
     requires there { event.at < event_count (plan_of plan.now) event.proc.number }
     ensures { (cut : ℕ → ℕ) → TellsMissing plan.now cut fences.now arrivals.now → result ≡ brings_at (plan_of plan.now) cut event.proc.number node event.at }
@@ -64,28 +70,21 @@ fn brings(plan: &Plan, fences: &Fences, arrivals: &Arrivals, event: Event, node:
     }
 }
 
-/// Of the arrivals of a process, so many of whose events are done, the last at a fence that has brought
-/// its data to a node.
-pub(crate) fn last_bringing(
-    plan: &Plan,
-    fences: &Fences,
-    arrivals: &Arrivals,
-    owner: Proc,
-    done: u32,
-    node: u32,
-) -> Option<u32>
+/// Whether an event of the plan may bring the data of its process to a node, once what else it takes has
+/// come.
+pub(crate) fn may_bring(plan: &Plan, fences: &Fences, event: Event, node: u32) -> bool
     requires fences { AreFencesOf plan.now fences.now }
-    requires within { done ≤ event_count (plan_of plan.now) owner.number }
-    ensures brought { (cut : ℕ → ℕ) (key : ℕ) → TellsMissing plan.now cut fences.now arrivals.now → cut owner.number ≡ done
-        → delivered (plan_of plan.now) cut owner.number node key (event_count (plan_of plan.now) owner.number) ≡ stored_at (plan_of plan.now) owner.number key result }
-    ensures done { IfSome result (λ at. at < done) }
+    requires there { event.at < event_count (plan_of plan.now) event.proc.number }
+    ensures { result ≡ false → (cut : ℕ → ℕ) → brings_at (plan_of plan.now) cut event.proc.number node event.at ≡ false }
 {
-    let mut at = done;
-    'events: while at > 0 {
-        at -= 1;
-        if brings(plan, fences, arrivals, Event { proc: owner, at }, node) {
-            return Some(at);
+    match plan.kind(event) {
+        Kind::Arrive { .. } => {
+            let fence = fence_of(plan, fences, event);
+            if !fences.collects(fence) {
+                return false;
+            }
+            fences.reaches(fence, node)
         }
+        _ => false,
     }
-    None
 }

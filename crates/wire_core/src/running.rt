@@ -17,6 +17,7 @@ ghost use Rattle.wire_core.specs.Ranks.{AreRanksOf};
 ghost use Rattle.wire_core.specs.Following.{Follows, StopsAt};
 
 use crate::ends::{add_unanswered, replied};
+use crate::looks::Looks;
 use crate::met::{arrived_at, is_complete, note_arrival};
 use crate::names::note_name;
 use crate::rank::Rank;
@@ -40,6 +41,7 @@ pub struct Core<'a> {
     pub(crate) arrivals: Arrivals,
     pub(crate) names: Names,
     pub(crate) waits: Waits,
+    pub(crate) looks: Looks,
     history: Vec<Proc>,
 }
 
@@ -51,12 +53,13 @@ impl<'a> Model for Core<'a> {
     ghost use Rattle.wire_runs.specs.Step.{run};
     ghost use Rattle.wire_core.specs.Ranks.{IsCourse, IsShared};
     ghost use Rattle.wire_core.specs.Waiting.{AreNoted};
+    ghost use Rattle.wire_core.specs.Looks.{AreLooks};
 
     ghost Value = { Course };
 
     ghost view = { λ c. record { scripts = c.plan.now; history = map (λ p. p.number) c.history.items } };
 
-    ghost invariant = { λ c. IsCourse c.plan.now (map (λ p. p.number) c.history.items) c.ranks.items × (event_total (plan_of c.plan.now) ≤ vec_capacity c.history) × IsShared c.plan.now (run (plan_of c.plan.now) (map (λ p. p.number) c.history.items)) c.fences.now c.arrivals c.names × AreNoted c.plan.now c.fences.now (run (plan_of c.plan.now) (map (λ p. p.number) c.history.items)) c.waits };
+    ghost invariant = { λ c. IsCourse c.plan.now (map (λ p. p.number) c.history.items) c.ranks.items × (event_total (plan_of c.plan.now) ≤ vec_capacity c.history) × IsShared c.plan.now (run (plan_of c.plan.now) (map (λ p. p.number) c.history.items)) c.fences.now c.arrivals c.names × AreNoted c.plan.now c.fences.now (run (plan_of c.plan.now) (map (λ p. p.number) c.history.items)) c.waits × AreLooks (plan_of c.plan.now) c.looks };
 }
 
 /// The ranks of processes that haven't begun.
@@ -83,7 +86,8 @@ impl<'a> Core<'a> {
         let ranks = new_ranks(alloc, plan)?;
         let arrivals = Arrivals::new(alloc, fences)?;
         let names = Names::new(alloc, plan.scripts().names().len())?;
-        let waits = Waits::new(alloc, plan.process_count() as usize)?;
+        let waits = Waits::new(alloc, plan.process_count())?;
+        let looks = Looks::new(alloc, plan.process_count(), plan.scripts().nodes().len())?;
         let history = Vec::with_capacity(alloc, plan.event_total())?;
         Ok(Core {
             plan,
@@ -92,6 +96,7 @@ impl<'a> Core<'a> {
             arrivals,
             names,
             waits,
+            looks,
             history,
         })
     }
@@ -190,6 +195,15 @@ impl<'a> Core<'a> {
         requires { is_enabled (plan_of self.old.scripts) (state_of self.old) proc.number ≡ true }
         ensures { self.new ≡ record { scripts = self.old.scripts; history = self.old.history ++ proc.number ∷ [] } }
     {
+        self.look_back(proc);
+        self.take(proc);
+    }
+
+    /// Takes one event of a process that is ready.
+    fn take(&mut self, proc: Proc)
+        requires { is_enabled (plan_of self.old.scripts) (state_of self.old) proc.number ≡ true }
+        ensures { self.new ≡ record { scripts = self.old.scripts; history = self.old.history ++ proc.number ∷ [] } }
+    {
         let Some(kind) = self.next_kind(proc) else {
             unreachable!();
         };
@@ -211,7 +225,7 @@ impl<'a> Core<'a> {
     pub fn lowest_ready(&self) -> Option<Proc>
         ensures { option_map (λ p. p.number) result ≡ lowest (plan_of self.now.scripts) (state_of self.now) (process_count (plan_of self.now.scripts)) }
     {
-        for number in 0..self.plan.process_count() {
+        for number in self.waits.lowest()..self.plan.process_count() {
             let proc = Proc::new(number);
             if self.ready(proc) {
                 return Some(proc);

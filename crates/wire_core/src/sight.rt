@@ -8,7 +8,6 @@ ghost use Rattle.wire_runs.specs.Sight.{held, served, get_sees, get_now_sees, br
 ghost use Rattle.wire_core.specs.Course.{plan_in, state_of};
 ghost use Rattle.wire_core.specs.Seeing.{seen_as};
 
-use crate::met::last_bringing;
 use crate::replies::brought_of;
 use crate::running::Core;
 use wire_store::Seen;
@@ -76,7 +75,7 @@ impl<'a> Core<'a> {
         ensures { result ≡ seen_as (plan_in self.now) owner.number (held (brought (plan_in self.now) (state_of self.now) owner.number key node)) }
     {
         let done = self.done(owner);
-        match last_bringing(self.plan, self.fences, &self.arrivals, owner, done, node) {
+        match self.last_bringing(owner, node, done) {
             None => Seen::Nothing,
             Some(at) => brought_of(self.ranks[owner.index()].store.as_of(key, at)),
         }

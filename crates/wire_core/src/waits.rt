@@ -1,11 +1,11 @@
 //! What processes that aren't ready wait for.
 
-ghost use Rattle.std.specs.Prelude.{◌≡◌, ◌<◌, ℕ, List, Some, length, map, option_map, replicate, slice_set, slice_index_or, IfOk, IfErr};
+ghost use Rattle.std.specs.Prelude.{◌≡◌, ◌<◌, ◌^◌, ℕ, List, Some, true, length, map, option_map, replicate, slice_set, slice_index_or, IfOk, IfErr};
 ghost use Rattle.wire_runs.specs.Plan.{event_of, kind as kind_in};
 ghost use Rattle.wire_rehearsal.specs.Planned.{plan_of};
 ghost use Rattle.wire_fence.specs.FenceTable.{AreFencesOf};
 ghost use Rattle.wire_plan.specs.Kinds.{kind_of};
-ghost use Rattle.wire_core.specs.Waiting.{is_known as is_known_wait, is_same_thing as is_same, after as after_it, coming, Awaits};
+ghost use Rattle.wire_core.specs.Waiting.{is_known as is_known_wait, is_same_thing as is_same, after as after_it, coming, Awaits, IsFirst};
 
 use std::alloc::Global;
 use std::marker::Model;
@@ -105,29 +105,68 @@ pub(crate) fn what_comes(
     }
 }
 
+/// Whether it is known what the process of this number waits for.
+fn is_known_of(awaited: &[Awaited], number: u32) -> bool
+    ensures { result ≡ is_known_wait (slice_index_or awaited.now number Awaited.Unknown) }
+{
+    match awaited.get(number as usize) {
+        Some(awaited) => is_known(*awaited),
+        None => false,
+    }
+}
+
+/// The first process, from this one on, of which nothing is known.
+fn first_unknown(awaited: &[Awaited], from: u32) -> u32
+    requires few { length awaited.now < 2 ^ 32 }
+    requires below { (p : ℕ) → p < from → is_known_wait (slice_index_or awaited.now p Awaited.Unknown) ≡ true }
+    ensures { IsFirst awaited.now result }
+{
+    let mut number = from;
+    'known: while is_known_of(awaited, number) {
+        number += 1;
+    }
+    number
+}
+
+/// Forgets what was known of each process that waits for this.
+fn forget(awaited: &mut Vec<Awaited>, comes: Awaited)
+    ensures { awaited.new.items ≡ map (after_it comes) awaited.old.items }
+{
+    for awaited in awaited.iter_mut() {
+        *awaited = known_after(comes, *awaited);
+    }
+}
+
 /// What each process is known to wait for.
 #[derive(Drop)]
 pub(crate) struct Waits {
     awaited: Vec<Awaited>,
+    lowest: u32,
+    any: bool,
 }
 
 impl Model for Waits {
-    ghost use Rattle.std.specs.Prelude.{List};
+    ghost use Rattle.std.specs.Prelude.{◌≡◌, ◌<◌, ◌^◌, List, length, false};
     ghost use Rattle.wire_core.specs.declared.waits.Awaited.{Awaited};
+    ghost use Rattle.wire_core.specs.Waiting.{IsFirst, AreUnknown};
 
     ghost Value = { List Awaited };
 
     ghost view = { λ s. s.awaited.items };
+
+    ghost invariant = { λ s. (length s.awaited.items < 2 ^ 32) × IsFirst s.awaited.items s.lowest × (s.any ≡ false → AreUnknown s.awaited.items) };
 }
 
 impl Waits {
     /// Nothing is known of so many processes.
-    pub fn new(alloc: Global, count: usize) -> Result<Waits, Fault>
+    pub fn new(alloc: Global, count: u32) -> Result<Waits, Fault>
         ensures ok { IfOk result (λ waits. waits ≡ replicate count Awaited.Unknown) }
         ensures err { IfErr result (λ e. e ≡ Fault.Memory) }
     {
         Ok(Waits {
-            awaited: vec![in alloc; Awaited::Unknown; count]?,
+            awaited: vec![in alloc; Awaited::Unknown; count as usize]?,
+            lowest: 0,
+            any: false,
         })
     }
 
@@ -135,10 +174,14 @@ impl Waits {
     pub fn is_noted(&self, proc: Proc) -> bool
         ensures { result ≡ is_known_wait (slice_index_or self.now proc.number Awaited.Unknown) }
     {
-        match self.awaited.get(proc.index()) {
-            Some(awaited) => is_known(*awaited),
-            None => false,
-        }
+        is_known_of(&self.awaited, proc.number)
+    }
+
+    /// The number of the first process of which nothing is known.
+    pub fn lowest(&self) -> u32
+        ensures { IsFirst self.now result }
+    {
+        self.lowest
     }
 
     /// Notes what a process waits for.
@@ -147,14 +190,19 @@ impl Waits {
         ensures { self.new ≡ slice_set self.old proc.number awaited }
     {
         self.awaited[proc.index()] = awaited;
+        self.any = self.any | is_known(awaited);
+        let from = self.lowest.min(proc.number);
+        self.lowest = first_unknown(&self.awaited, from);
     }
 
     /// Forgets what was known of each process that waits for this.
     pub fn wake(&mut self, comes: Awaited)
         ensures { self.new ≡ map (after_it comes) self.old }
     {
-        for awaited in self.awaited.iter_mut() {
-            *awaited = known_after(comes, *awaited);
+        if self.any && is_known(comes) {
+            forget(&mut self.awaited, comes);
+            self.any = self.awaited.iter().any(|awaited| is_known(*awaited));
+            self.lowest = first_unknown(&self.awaited, 0);
         }
     }
 }

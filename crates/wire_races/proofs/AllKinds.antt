@@ -1,5 +1,5 @@
 -- The three kinds are all findings.
-use Rattle.std.proofs.Common.{◌≡◌, ◌↔◌, refl, ℕ, Bool, List, inl, inr}
+use Rattle.std.proofs.Common.{◌↔◌, refl, ℕ, Bool, List, inl, inr}
 use Rattle.wire_runs.specs.Plan.{Plan}
 use Rattle.wire_runs.specs.Findings.{Finding, Rewrite, KeyRace, NameRace, IsFound, IsSorted}
 use Rattle.wire_races.specs.Findings.{all_shown, AreFindings}

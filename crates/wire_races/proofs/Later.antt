@@ -76,6 +76,3 @@ shown_rewrite plan x y a b first later r =
     ∙ ap (λ c. told.Rewrite (first_event plan (call_of plan x)) (first_event plan c)) later
     ∙ ap (λ z. Rewrite z (first_event plan (call_of plan y))) (first_stands plan x y r)
     ∙ ap (Rewrite x) (later_stands plan x y r)
-
-pub shown_found : (plan : Plan) (x y : Event) (a b : CallAt) → a ≡ call_of plan x → b ≡ call_of plan y → IsRewrite plan x y → IsFound plan (told.Rewrite (first_event plan a) (first_event plan b))
-shown_found plan x y a b first later r = subst (IsFound plan) (sym (shown_rewrite plan x y a b first later r)) r

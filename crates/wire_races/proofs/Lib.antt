@@ -13,6 +13,7 @@ pub mod Deliveries
 pub mod Lists
 pub mod Names
 pub mod NameRaces
+pub mod Rivals
 pub mod OneList
 pub mod Marked
 pub mod Gathered

@@ -1,13 +1,13 @@
 -- Lists of places.
-use Rattle.std.proofs.Common.{◌≡◌, ◌⊎◌, inl, inr, ⊎_elim, ℕ, zero, suc, ◌+◌, ◌<◌, List, [], ◌∷◌, ◌++◌, Some, None, refl, map, take, drop, length, sym, ap, ◌∙◌, subst, arith}
+use Rattle.std.proofs.Common.{◌≡◌, ◌⊎◌, inl, inr, ⊎_elim, ℕ, zero, suc, ◌+◌, ◌<◌, ◌≤◌, List, [], ◌∷◌, ◌++◌, Some, None, refl, map, take, drop, length, sym, ap, ◌∙◌, subst, arith}
 use Rattle.std.specs.Prelude.{slice_get, slice_index_or, option_map}
 use Rattle.std.proofs.lemmas.Option.{slice_get_within, same_Some, slice_get-map, slice_get-get_or}
-use Rattle.std.proofs.lemmas.List.{map_more, map-append, take-append-drop}
+use Rattle.std.proofs.lemmas.List.{length-map, length-take-le, map-append, take-append-drop}
 use Rattle.wire_runs.specs.Plan.{Plan, Event, event_of}
 use Rattle.wire_types.specs.declared.place.Event.{Event as CodeEvent}
+use Rattle.wire_runs.specs.EventLists.{IsLower}
 use Rattle.wire_runs.specs.Fate.{IsIn}
-use Rattle.wire_runs.proofs.EventLists.{in_either}
-use Rattle.wire_races.specs.NameRaces.{AreCallsOn, AreOf}
+use Rattle.wire_races.specs.NameRaces.{AreCallsOn, AreOf, IsCut}
 
 pub in_index : (xs : List Event) (z : Event) → IsIn z xs → (k : ℕ) × (slice_get xs k ≡ Some z)
 in_index [] z i = absurd i
@@ -36,12 +36,12 @@ in_parts [] ys z i = inr i
 in_parts (x ∷ xs) ys z (inl e) = inl (inl e)
 in_parts (x ∷ xs) ys z (inr i) = ⊎_elim (λ a. inl (inr a)) (λ b. inr b) (in_parts xs ys z i)
 
-get_left : (xs ys : List Event) (k : ℕ) (z : Event) → slice_get xs k ≡ Some z → slice_get (xs ++ ys) k ≡ Some z
+pub get_left : (xs ys : List Event) (k : ℕ) (z : Event) → slice_get xs k ≡ Some z → slice_get (xs ++ ys) k ≡ Some z
 get_left [] ys k z e = absurd (let lt = slice_get_within {A = Event} [] k z e in omega (arith, lt))
 get_left (x ∷ xs) ys zero z e = e
 get_left (x ∷ xs) ys (suc k) z e = get_left xs ys k z e
 
-get_right : (xs ys : List Event) (k : ℕ) (z : Event) → slice_get ys k ≡ Some z → slice_get (xs ++ ys) (length xs + k) ≡ Some z
+pub get_right : (xs ys : List Event) (k : ℕ) (z : Event) → slice_get ys k ≡ Some z → slice_get (xs ++ ys) (length xs + k) ≡ Some z
 get_right [] ys k z e = let same : k ≡ 0 + k = omega arith in subst (λ n. slice_get ys n ≡ Some z) same e
 get_right (x ∷ xs) ys k z e =
     let same : suc (length xs + k) ≡ suc (length xs) + k = omega arith in
@@ -72,10 +72,28 @@ pub none_there : (calls : List CodeEvent) → slice_get calls 0 ≡ None → cal
 none_there [] e = refl
 none_there (x ∷ calls) e = cc
 
--- one call more of the process
-pub one_more_of : (p : ℕ) (calls : List CodeEvent) (n : ℕ) (d : CodeEvent) → n < length calls → (slice_index_or calls n d).proc.number ≡ p → AreOf p (map event_of (take n calls)) → AreOf p (map event_of (take (n + 1) calls))
-one_more_of p calls n d lt is are k z e =
-    elim (in_either (map event_of (take n calls)) (event_of (slice_index_or calls n d)) k z (subst (λ l. slice_get l k ≡ Some z) (map_more event_of calls n d lt) e)) [
-      | inl was ↦ are k z was
-      | inr w ↦ ap (λ (v : Event). v.proc) (sym w.1) ∙ is
-    ]
+-- what stands in the front of a list
+in_front : (calls : List CodeEvent) (n k : ℕ) (z : Event) → n ≤ length calls → slice_get (map event_of (take n calls)) k ≡ Some z → (k < n) × (slice_get (map event_of calls) k ≡ Some z)
+in_front calls n k z le e = (
+  subst (λ m. k < m) (length-map (take n calls) event_of ∙ length-take-le n calls le) (slice_get_within (map event_of (take n calls)) k z e),
+  subst (λ l. slice_get l k ≡ Some z) (sym (both_parts calls (take n calls) (drop n calls) n refl refl)) (get_left (map event_of (take n calls)) (map event_of (drop n calls)) k z e),
+)
+
+-- calls of processes up to that of the first one, the lower first, are of that process
+pub stretch : (plan : Plan) (name : ℕ) (calls : List CodeEvent) (n : ℕ) (x : CodeEvent) → n ≤ length calls → AreCallsOn plan name (map event_of calls) → slice_get calls 0 ≡ Some x → IsCut (λ z. z.proc ≤ x.proc.number) (map event_of calls) n → AreOf x.proc.number (map event_of (take n calls))
+stretch plan name calls n x le are first cut zero z e =
+    let here = in_front calls n 0 z le e in
+    ap (λ (v : Event). v.proc) (sym (same_Some (event_of x) z (sym (slice_get-map event_of calls 0 ∙ ap (option_map event_of) first) ∙ here.1)))
+stretch plan name calls n x le are first cut (suc k) z e =
+    let here = in_front calls n (suc k) z le e in
+    let most = cut.below (suc k) z here.0 here.1 in
+    at_least (are.rising 0 (suc k) (event_of x) z (omega arith) (slice_get-map event_of calls 0 ∙ ap (option_map event_of) first) here.1) most
+  where
+    at_least : IsLower (event_of x) z → z.proc ≤ x.proc.number → z.proc ≡ x.proc.number
+    at_least (inl lt) most = omega (arith, lt, most)
+    at_least (inr same) most = sym same.0
+
+-- there is one at least
+pub stretch_more : (calls : List CodeEvent) (n : ℕ) (x : CodeEvent) → slice_get calls 0 ≡ Some x → IsCut (λ z. z.proc ≤ x.proc.number) (map event_of calls) n → 0 < n
+stretch_more calls zero x first cut = absurd (cut.above 0 (event_of x) (omega arith) (slice_get-map event_of calls 0 ∙ ap (option_map event_of) first) (omega arith))
+stretch_more calls (suc n) x first cut = omega arith

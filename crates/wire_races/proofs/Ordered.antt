@@ -1,5 +1,5 @@
--- The order of the places is that of the findings.
-use Rattle.std.proofs.Common.{◌≡◌, ◌∙◌, ap, sym, refl, subst, ℕ, zero, suc, ◌<◌, Bool, true, false, cond, List, [], ◌∷◌, length, map, take, ◌⊎◌, ◌↔◌, inl, inr, ⊎_elim, Contains, arith}
+-- The order of the standings is that of the findings.
+use Rattle.std.proofs.Common.{◌≡◌, ◌∙◌, ap, sym, refl, subst, ℕ, zero, suc, ◌<◌, Bool, true, false, List, [], ◌∷◌, length, take, ◌⊎◌, ◌↔◌, inl, inr, ⊎_elim, Contains, arith}
 use Rattle.std.proofs.lemmas.Bool.{cond_both}
 use Rattle.std.proofs.lemmas.List.Sorted.{Contains-permutation, IsPermutation-sym}
 use Rattle.std.proofs.lemmas.List.Kept.{IsStrictlySortedBy-dedup}
@@ -14,21 +14,21 @@ use Rattle.wire_runs.specs.Plan.{Plan, Event, kinds_of}
 use Rattle.wire_types.specs.declared.CallAt.{CallAt}
 use Rattle.wire_runs.specs.EventLists.{IsLower}
 use Rattle.wire_runs.specs.Ends.{calls_of, first_event}
-use Rattle.wire_runs.specs.Findings.{Finding, IsPairLower, IsSooner, IsFound, Has, IsSorted}
+use Rattle.wire_runs.specs.Findings.{Finding, IsPairLower, IsSooner, IsFound, IsSorted}
 use Rattle.wire_races.specs.declared.finding.Finding.{Finding as Told}
 use Rattle.wire_races.specs.declared.finding.Finding.TheVariants.{Rewrite, KeyRace, NameRace}
-use Rattle.wire_races.specs.declared.found.Place.{Place}
+use Rattle.wire_races.specs.declared.found.Standing.{Standing}
 use Rattle.wire_races.specs.Findings.{shown, all_shown}
 use Rattle.wire_races.specs.Collected.{Tells, AreFound}
-use Rattle.wire_races.specs.Places.{place, call_cmp, place_cmp}
-use Rattle.wire_races.proofs.Told.{low_call, high_call, shown_low, shown_high, one_first, one_place}
+use Rattle.wire_races.specs.Standings.{standing, call_cmp, standing_cmp}
+use Rattle.wire_races.proofs.Told.{low_call, high_call, shown_low, shown_high, one_first, one_standing}
 use Rattle.wire_races.proofs.OneList.{rising}
 
 call_total : IsTotalOrder call_cmp
 call_total = then_total (on_total (λ (v : CallAt). v.proc.number) nat_cmp_total) (on_total (λ (v : CallAt). v.call) nat_cmp_total)
 
-place_total : IsTotalOrder place_cmp
-place_total = then_total (on_total (λ (p : Place). p.is_race) bool_cmp_total) (then_total (on_total (λ (p : Place). p.by) call_total) (on_total (λ (p : Place). p.then) call_total))
+standing_total : IsTotalOrder standing_cmp
+standing_total = then_total (on_total (λ (p : Standing). p.is_race) bool_cmp_total) (then_total (on_total (λ (p : Standing). p.by) call_total) (on_total (λ (p : Standing). p.then) call_total))
 
 equal_both : (r s : Ordering) → ordering_then r s ≡ Equal → (r ≡ Equal) × (s ≡ Equal)
 equal_both Less s e = let d = ap ordering_index e in absurd (omega (arith, d))
@@ -62,8 +62,8 @@ call_one v w e =
     let n = number_one v.call w.call both.1 in
     λ t. record { proc = record { number = p t }; call = n t }
 
-place_same : (a b : Place) → place_cmp a b ≡ Equal → a ≡ b
-place_same a b e =
+standing_same : (a b : Standing) → standing_cmp a b ≡ Equal → a ≡ b
+standing_same a b e =
     let kinds = equal_both (bool_cmp a.is_race b.is_race) (ordering_then (call_cmp a.by b.by) (call_cmp a.then b.then)) e in
     let calls = equal_both (call_cmp a.by b.by) (call_cmp a.then b.then) kinds.1 in
     let k = bool_one a.is_race b.is_race kinds.0 in
@@ -103,7 +103,7 @@ module _ (plan : Plan) (lower_name : ℕ → ℕ → Bool) where
         (call_lower plan v x (shown_low plan (Rewrite v w) (Rewrite v w) refl a) l.1)))
   ]
 
-  sooner : (f g : Told) → IsFound plan (shown plan f) → IsFound plan (shown plan g) → place_cmp (place f) (place g) ≡ Less → IsSooner lower_name (shown plan f) (shown plan g)
+  sooner : (f g : Told) → IsFound plan (shown plan f) → IsFound plan (shown plan g) → standing_cmp (standing f) (standing g) ≡ Less → IsSooner lower_name (shown plan f) (shown plan g)
   sooner (Rewrite v w) (Rewrite x y) a b e = rewrite_lower v w x y a b e
   sooner (Rewrite v w) (KeyRace x y q l) a b e = tt
   sooner (Rewrite v w) (NameRace x y m) a b e = tt
@@ -114,12 +114,12 @@ module _ (plan : Plan) (lower_name : ℕ → ℕ → Bool) where
   sooner (NameRace v w n) (KeyRace x y q l) a b e = pair_lower (NameRace v w n) (KeyRace x y q l) a e
   sooner (NameRace v w n) (NameRace x y m) a b e = inl (pair_lower (NameRace v w n) (NameRace x y m) a e)
 
-  first_sooner : (f : Told) (fs : List Told) → IsFound plan (shown plan f) → AreFound plan fs → AllByRecursion (λ g. on place place_cmp f g ≡ Less) fs → (g : Finding) → Tells plan fs g → IsSooner lower_name (shown plan f) g
+  first_sooner : (f : Told) (fs : List Told) → IsFound plan (shown plan f) → AreFound plan fs → AllByRecursion (λ g. on standing standing_cmp f g ≡ Less) fs → (g : Finding) → Tells plan fs g → IsSooner lower_name (shown plan f) g
   first_sooner f [] a found all g h = absurd h
   first_sooner f (x ∷ fs) a found all g (inl is) = subst (λ t. IsSooner lower_name (shown plan f) t) (sym is) (sooner f x a (found (shown plan x) (inl refl)) all.0)
   first_sooner f (x ∷ fs) a found all g (inr h) = first_sooner f fs a (λ t i. found t (inr i)) all.1 g h
 
-  all_sorted : (fs : List Told) → AreFound plan fs → IsStrictlySortedBy (on place place_cmp) fs → IsSorted lower_name (all_shown plan fs)
+  all_sorted : (fs : List Told) → AreFound plan fs → IsStrictlySortedBy (on standing standing_cmp) fs → IsSorted lower_name (all_shown plan fs)
   unfolding IsStrictlySortedBy
   all_sorted [] found s = tt
   all_sorted (f ∷ fs) found s = (
@@ -127,9 +127,9 @@ module _ (plan : Plan) (lower_name : ℕ → ℕ → Bool) where
     all_sorted fs (λ t i. found t (inr i)) s.1,
   )
 
--- whether two findings have one place
-abbrev pub same_place : Told → Told → Bool
-same_place = eq_by_cmp (on place place_cmp)
+-- whether two findings have one standing
+abbrev pub same_standing : Told → Told → Bool
+same_standing = eq_by_cmp (on standing standing_cmp)
 
 equal_is : (r : Ordering) → is_eq r ≡ true → r ≡ Equal
 equal_is Less e = cc
@@ -137,16 +137,16 @@ equal_is Equal e = refl
 equal_is Greater e = cc
 
 module _ (plan : Plan) where
-  one_there : (x k : Told) → same_place x k ≡ true → IsFound plan (shown plan x) → IsFound plan (shown plan k) → shown plan x ≡ shown plan k
-  one_there x k e a b = one_place plan x k (place_same (place x) (place k) (equal_is (place_cmp (place x) (place k)) e)) a b
+  one_there : (x k : Told) → same_standing x k ≡ true → IsFound plan (shown plan x) → IsFound plan (shown plan k) → shown plan x ≡ shown plan k
+  one_there x k e a b = one_standing plan x k (standing_same (standing x) (standing k) (equal_is (standing_cmp (standing x) (standing k)) e)) a b
 
   -- what is told once is told as before
-  kept : (k : Told) (xs : List Told) (f : Finding) → AreFound plan (k ∷ xs) → Tells plan (k ∷ xs) f → Tells plan (dedup_from same_place k xs) f
+  kept : (k : Told) (xs : List Told) (f : Finding) → AreFound plan (k ∷ xs) → Tells plan (k ∷ xs) f → Tells plan (dedup_from same_standing k xs) f
   kept k [] f found h = h
   kept k (x ∷ xs) f found h =
       let rest : AreFound plan (x ∷ xs) = λ g i. found g (inr i) in
       let without : AreFound plan (k ∷ xs) = λ g i. found g (⊎_elim (λ e. inl e) (λ j. inr (inr j)) i) in
-      cond_both (same_place x k) (dedup_from same_place k xs) (k ∷ dedup_from same_place x xs) (λ l. Tells plan l f)
+      cond_both (same_standing x k) (dedup_from same_standing k xs) (k ∷ dedup_from same_standing x xs) (λ l. Tells plan l f)
       (λ t. kept k xs f without (elim h [
         | inl e ↦ inl e
         | inr i ↦ elim i [
@@ -156,14 +156,14 @@ module _ (plan : Plan) where
       ]))
       (λ n. elim h [ inl e ↦ inl e | inr i ↦ inr (kept x xs f rest i) ])
 
-  were : (k : Told) (xs : List Told) (f : Finding) → Tells plan (dedup_from same_place k xs) f → Tells plan (k ∷ xs) f
+  were : (k : Told) (xs : List Told) (f : Finding) → Tells plan (dedup_from same_standing k xs) f → Tells plan (k ∷ xs) f
   were k [] f = λ h. h
   were k (x ∷ xs) f =
-      cond_both (same_place x k) (dedup_from same_place k xs) (k ∷ dedup_from same_place x xs) (λ l. Tells plan l f → Tells plan (k ∷ x ∷ xs) f)
+      cond_both (same_standing x k) (dedup_from same_standing k xs) (k ∷ dedup_from same_standing x xs) (λ l. Tells plan l f → Tells plan (k ∷ x ∷ xs) f)
       (λ t h. ⊎_elim (λ e. inl e) (λ i. inr (inr i)) (were k xs f h))
       (λ n h. elim h [ inl e ↦ inl e | inr i ↦ inr (were x xs f i) ])
 
-  once : (xs : List Told) (f : Finding) → AreFound plan xs → Tells plan (dedup same_place xs) f ↔ Tells plan xs f
+  once : (xs : List Told) (f : Finding) → AreFound plan xs → Tells plan (dedup same_standing xs) f ↔ Tells plan xs f
   once [] f found = ((λ h. h), (λ h. h))
   once (x ∷ xs) f found = ((λ h. were x xs f h), (λ h. kept x xs f found h))
 
@@ -180,7 +180,7 @@ module _ (plan : Plan) where
   moved : (xs ys : List Told) (f : Finding) → IsPermutation xs ys → Tells plan xs f → Tells plan ys f
   moved xs ys f p h = let w = told_at xs f h in subst (λ g. Tells plan ys g) (sym w.2) (at_told ys w.0 (Contains-permutation xs ys w.0 p w.1))
 
-  module _ (xs ys zs : List Told) (p : IsPermutation xs ys) (is : zs ≡ dedup same_place ys) (found : AreFound plan xs) where
+  module _ (xs ys zs : List Told) (p : IsPermutation xs ys) (is : zs ≡ dedup same_standing ys) (found : AreFound plan xs) where
     sorted_found : AreFound plan ys
     sorted_found f h = found f (moved ys xs f (IsPermutation-sym xs ys p) h)
 
@@ -192,7 +192,7 @@ module _ (plan : Plan) where
     )
 
     -- in the order of findings
-    pub list_sorted : order.IsSorted (on place place_cmp) ys → (lower_name : ℕ → ℕ → Bool) → IsSorted lower_name (all_shown plan zs)
+    pub list_sorted : order.IsSorted (on standing standing_cmp) ys → (lower_name : ℕ → ℕ → Bool) → IsSorted lower_name (all_shown plan zs)
     list_sorted up lower_name =
         all_sorted plan lower_name zs (λ f h. found f ((list_tells f).0 h))
-        (subst (λ l. IsStrictlySortedBy (on place place_cmp) l) (sym is) (IsStrictlySortedBy-dedup (on_total place place_total) (λ x y. refl) ys up))
+        (subst (λ l. IsStrictlySortedBy (on standing standing_cmp) l) (sym is) (IsStrictlySortedBy-dedup (on_total standing standing_total) (λ x y. refl) ys up))

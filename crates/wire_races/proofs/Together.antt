@@ -1,15 +1,14 @@
 -- The pieces of the search together are the whole search.
-use Rattle.std.proofs.Common.{◌≡◌, ◌∙◌, ap, sym, subst, ℕ, suc, ◌<◌, List, [], length, map, Some, Ok, Err, inl, inr, arith, refl}
+use Rattle.std.proofs.Common.{◌≡◌, sym, subst, ℕ, ◌<◌, List, [], ◌∷◌, ◌++◌, length, map, Some, Ok, Err, inl, inr, arith, refl}
 use Rattle.std.specs.Prelude.{slice_get, Vec, Result, MatchResult, IfOk}
 use Rattle.std.specs.declared.alloc.Global.{Global}
 use Rattle.std.specs.List.{AllZip, Contains, range_with_len}
 use Rattle.std.specs.declared.alloc.AllocError.{AllocError}
-use Rattle.std.proofs.lemmas.Bool.{cases_eq}
-use Rattle.std.proofs.lemmas.Option.{slice_get_within, slice_get_cases, same_Some}
-use Rattle.wire_runs.specs.Plan.{Plan, kind, process_count}
+use Rattle.std.proofs.lemmas.Option.{slice_get_within, slice_get_cases}
+use Rattle.wire_runs.specs.Plan.{Plan, process_count}
 use Rattle.wire_rehearsal.specs.Scripts.{Scripts, IsSound}
 use Rattle.wire_rehearsal.specs.Planned.{plan_of}
-use Rattle.wire_runs.specs.Findings.{Finding}
+use Rattle.wire_runs.specs.Findings.{Finding, IsFound}
 use Rattle.wire_races.specs.declared.finding.Finding.{Finding as Told}
 use Rattle.wire_races.specs.Collected.{Tells, AreFound}
 use Rattle.wire_races.specs.FindingKinds.{AllAdded, IsOfKey, IsOfName}
@@ -17,10 +16,10 @@ use Rattle.wire_races.specs.Adding.{Adds, OfKind}
 use Rattle.wire_races.specs.KeyRaces.{IsKeyRaceOf}
 use Rattle.wire_races.specs.NameRaces.{IsRaceOn}
 use Rattle.wire_races.specs.Pieces.{IsPiece, ArePieces, IsInSome, AreAllFound}
-use Rattle.wire_races.proofs.Growing.{adds_both, adds_same, all_added}
-use Rattle.wire_races.proofs.Calls.{writes_calls}
+use Rattle.wire_runs.proofs.EventLists.{in_either, in_front, at_end}
+use Rattle.wire_races.proofs.Growing.{adds_none, adds_both, adds_same, all_added}
 use Rattle.wire_races.proofs.Names.{named_within}
-use Rattle.wire_races.proofs.NameRaces.{found_on, on_name, race_on}
+use Rattle.wire_races.proofs.NameRaces.{low_calls, on_name, race_on}
 use Rattle.wire_races.proofs.Gathered.{gathered}
 use Rattle.wire_races.proofs.Deliveries.{race_within, race_below, race_told, race_by}
 
@@ -37,31 +36,20 @@ piece_of plan those old new piece empty h is = record {
   );
 }
 
--- one of the first n pieces tells the finding
-abbrev pub IsInFirst : Plan → List (Vec Told Global) → ℕ → Finding → Type 0
-IsInFirst plan pieces n f = (k : ℕ) × (piece : Vec Told Global) × (k < n) × (slice_get pieces k ≡ Some piece) × Tells plan piece.items f
-
 -- one piece more
-pub piece_more : (plan : Plan) (pieces : List (Vec Told Global)) (n m : ℕ) (piece : Vec Told Global) (old now new : List Told) → slice_get pieces n ≡ Some piece → m ≡ suc n → Adds plan old now (IsInFirst plan pieces n) → Adds plan now new (Tells plan piece.items) → Adds plan old new (IsInFirst plan pieces m)
-piece_more plan pieces n m piece old now new is one =
-    adds_both plan old now new (IsInFirst plan pieces n) (Tells plan piece.items) (IsInFirst plan pieces m)
-    (λ f t. let lt = t.2 in (t.0, t.1, omega (arith, lt, one), t.3, t.4))
-    (λ f t. (n, piece, omega (arith, one), is, t))
-    (λ f t. elim (cases_eq t.0 n) [
-      | inl same ↦
-          let there = subst (λ k. slice_get pieces k ≡ Some t.1) same t.3 in
-          let it : t.1 ≡ piece = same_Some _ _ (sym there ∙ is) in
-          inr (subst (λ (p : Vec Told Global). Tells plan p.items f) it t.4)
-      | inr other ↦ let lt = t.2 in inl (t.0, t.1, omega (arith, lt, one, other), t.3, t.4)
+pub some_more : (plan : Plan) (done : List (Vec Told Global)) (piece : Vec Told Global) (old now new : List Told) → Adds plan old now (IsInSome plan done) → Adds plan now new (Tells plan piece.items) → Adds plan old new (IsInSome plan (done ++ piece ∷ []))
+some_more plan done piece old now new =
+    adds_both plan old now new (IsInSome plan done) (Tells plan piece.items) (IsInSome plan (done ++ piece ∷ []))
+    (λ f t. (t.0, t.1, in_front done piece t.0 t.1 t.2, t.3))
+    (λ f t. (length done, piece, at_end done piece, t))
+    (λ f t. elim (in_either done piece t.0 t.1 t.2) [
+      | inl there ↦ inl (t.0, t.1, there, t.3)
+      | inr last ↦ inr (subst (λ (p : Vec Told Global). Tells plan p.items f) (sym last.1) t.3)
     ])
 
--- all pieces
-pub in_some : (plan : Plan) (pieces : List (Vec Told Global)) (n : ℕ) (old new : List Told) → n ≡ length pieces → Adds plan old new (IsInFirst plan pieces n) → Adds plan old new (IsInSome plan pieces)
-in_some plan pieces n old new all h =
-    adds_same plan old new (IsInFirst plan pieces n) (IsInSome plan pieces)
-    (λ f t. (t.0, t.1, t.3, t.4))
-    (λ f t. let lt = slice_get_within pieces t.0 t.1 t.2 in (t.0, t.1, omega (arith, lt, all), t.2, t.3))
-    h
+-- none at all
+pub none_more : (plan : Plan) (found : List Told) → AreFound plan found → Adds plan found found (IsInSome plan [])
+none_more plan found are = adds_none plan found (IsInSome plan []) are (λ f t. let lt = slice_get_within {A = Vec Told Global} [] t.0 t.1 t.2 in omega (arith, lt))
 
 pub all_found : (plan : Plan) (n : ℕ) (those : ℕ → Finding → Type 0) (pieces : List (Vec Told Global)) → ArePieces plan n those pieces → AreAllFound plan pieces
 all_found plan n those pieces are = λ k piece is. (are.each k piece is).found
@@ -99,10 +87,10 @@ pub name_pieces_added : (s : Scripts) → IsSound s → (pieces : List (Vec Told
 name_pieces_added s sound pieces old new =
     let plan = plan_of s in
     pieces_added plan (length s.names) (IsRaceOn plan) IsOfName pieces old new
-    (λ k f r. (on_name plan k f r, found_on plan k f r))
+    (λ k f r. (on_name plan k f r, r.found))
     (λ f o.
     let w = race_on plan f o.0 o.1 in
-    (w.0, named_within s w.0 w.1.x sound (writes_calls plan w.0 w.1.x (kind plan w.1.x) w.1.race.x_writes), w.1))
+    (w.0, named_within s w.0 w.1.x sound (low_calls plan w.1.x w.1.y w.0 (subst (IsFound plan) w.1.is w.1.found)), w.1))
 
 module _ (plan : Plan) (n : ℕ) (those : ℕ → Finding → Type 0) where
   as_pieces : (r : Result (Vec (Vec Told Global) Global) AllocError)

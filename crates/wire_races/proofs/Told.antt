@@ -12,11 +12,11 @@ use Rattle.wire_runs.specs.Findings as findings
 use Rattle.wire_runs.specs.Ends.{calls_of, first_event}
 use Rattle.wire_plan.proofs.KeyFacts.{put_exactly}
 use Rattle.wire_races.specs.Findings.{shown}
-use Rattle.wire_races.specs.Places.{place}
-use Rattle.wire_races.specs.declared.found.Place.{Place}
+use Rattle.wire_races.specs.Standings.{standing}
+use Rattle.wire_races.specs.declared.found.Standing.{Standing}
 use Rattle.wire_races.specs.declared.finding.Finding.{Finding as Told}
 use Rattle.wire_races.specs.declared.finding.Finding.TheVariants as told_as
-use Rattle.wire_races.proofs.Calls.{Starts, call_within, low_starts, high_starts, node_commit, delivery_arrives, writes_calls}
+use Rattle.wire_races.proofs.Calls.{call_within, low_starts, high_starts, node_commit, delivery_arrives, writes_calls}
 
 -- the name that an event is a call on
 abbrev pub name_of : Option Kind → ℕ
@@ -60,24 +60,24 @@ name_told : (plan : Plan) (x y : Event) (n : ℕ) → IsFound plan (NameRace x y
 name_told plan x y n (low, inl r) = named plan x y x y n (kind plan x) (kind plan y) (writes_calls plan n x (kind plan x) r.x_writes) r.y_calls
 name_told plan x y n (low, inr r) = named plan x y x y n (kind plan x) (kind plan y) r.y_calls (writes_calls plan n y (kind plan y) r.x_writes)
 
--- the race of the calls of a place
-abbrev told_there : Plan → Place → Finding
+-- the race of the calls of a standing
+abbrev told_there : Plan → Standing → Finding
 told_there plan p = told (first_event plan p.by) (first_event plan p.then) (kind plan (first_event plan p.by)) (kind plan (first_event plan p.then))
 
-apart : {A : Type 0} (a b : Place) → a ≡ b → a.is_race ≡ true → b.is_race ≡ false → A
-apart a b e t f = absurd (true≢false (sym t ∙ ap (λ (p : Place). p.is_race) e ∙ f))
+apart : {A : Type 0} (a b : Standing) → a ≡ b → a.is_race ≡ true → b.is_race ≡ false → A
+apart a b e t f = absurd (true≢false (sym t ∙ ap (λ (p : Standing). p.is_race) e ∙ f))
 
--- a place has one finding
-pub one_place : (plan : Plan) (f g : Told) → place f ≡ place g → IsFound plan (shown plan f) → IsFound plan (shown plan g) → shown plan f ≡ shown plan g
-one_place plan (told_as.Rewrite v w) (told_as.Rewrite x y) e a b = ap (λ (p : Place). findings.Rewrite (first_event plan p.then) (first_event plan p.by)) e
-one_place plan (told_as.KeyRace v w p k) (told_as.KeyRace x y q l) e a b = sym (key_told plan _ _ p.number k a) ∙ (ap (told_there plan) e ∙ key_told plan _ _ q.number l b)
-one_place plan (told_as.KeyRace v w p k) (told_as.NameRace x y n) e a b = sym (key_told plan _ _ p.number k a) ∙ (ap (told_there plan) e ∙ name_told plan _ _ n b)
-one_place plan (told_as.NameRace v w m) (told_as.KeyRace x y q l) e a b = sym (name_told plan _ _ m a) ∙ (ap (told_there plan) e ∙ key_told plan _ _ q.number l b)
-one_place plan (told_as.NameRace v w m) (told_as.NameRace x y n) e a b = sym (name_told plan _ _ m a) ∙ (ap (told_there plan) e ∙ name_told plan _ _ n b)
-one_place plan (told_as.Rewrite v w) (told_as.KeyRace x y q l) e a b = apart _ _ (sym e) refl refl
-one_place plan (told_as.Rewrite v w) (told_as.NameRace x y n) e a b = apart _ _ (sym e) refl refl
-one_place plan (told_as.KeyRace v w p k) (told_as.Rewrite x y) e a b = apart _ _ e refl refl
-one_place plan (told_as.NameRace v w m) (told_as.Rewrite x y) e a b = apart _ _ e refl refl
+-- a standing has one finding
+pub one_standing : (plan : Plan) (f g : Told) → standing f ≡ standing g → IsFound plan (shown plan f) → IsFound plan (shown plan g) → shown plan f ≡ shown plan g
+one_standing plan (told_as.Rewrite v w) (told_as.Rewrite x y) e a b = ap (λ (p : Standing). findings.Rewrite (first_event plan p.then) (first_event plan p.by)) e
+one_standing plan (told_as.KeyRace v w p k) (told_as.KeyRace x y q l) e a b = sym (key_told plan _ _ p.number k a) ∙ (ap (told_there plan) e ∙ key_told plan _ _ q.number l b)
+one_standing plan (told_as.KeyRace v w p k) (told_as.NameRace x y n) e a b = sym (key_told plan _ _ p.number k a) ∙ (ap (told_there plan) e ∙ name_told plan _ _ n b)
+one_standing plan (told_as.NameRace v w m) (told_as.KeyRace x y q l) e a b = sym (name_told plan _ _ m a) ∙ (ap (told_there plan) e ∙ key_told plan _ _ q.number l b)
+one_standing plan (told_as.NameRace v w m) (told_as.NameRace x y n) e a b = sym (name_told plan _ _ m a) ∙ (ap (told_there plan) e ∙ name_told plan _ _ n b)
+one_standing plan (told_as.Rewrite v w) (told_as.KeyRace x y q l) e a b = apart _ _ (sym e) refl refl
+one_standing plan (told_as.Rewrite v w) (told_as.NameRace x y n) e a b = apart _ _ (sym e) refl refl
+one_standing plan (told_as.KeyRace v w p k) (told_as.Rewrite x y) e a b = apart _ _ e refl refl
+one_standing plan (told_as.NameRace v w m) (told_as.Rewrite x y) e a b = apart _ _ e refl refl
 
 not_sooner : (plan : Plan) (p key i j : ℕ) → IsFirstPut plan (record { proc = p; at = i }) key → IsFirstPut plan (record { proc = p; at = j }) key → i < j → ⊥
 not_sooner plan p key i j a b lt = true≢false (sym (put_exactly plan p key i j a ∙ lt-ltb i j lt) ∙ ap is_some b.first)

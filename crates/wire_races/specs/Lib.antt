@@ -1,6 +1,6 @@
 pub mod Findings
 pub mod Collected
-pub mod Places
+pub mod Standings
 pub mod FindingKinds
 pub mod Adding
 pub mod Rewriting

@@ -1,36 +1,33 @@
 -- The findings on names, and where the calls stand that race with one call: for the contracts of private functions.
-use Rattle.std.specs.Prelude.{◌≡◌, ◌<◌, ◌≤◌, ℕ, List, Some, true, nat_lt, slice_get, if◌then◌else◌}
+use Rattle.std.specs.Prelude.{◌≡◌, ◌⊎◌, ◌<◌, ◌≤◌, ℕ, List, ◌++◌, Some, true, slice_get}
 use Rattle.wire_runs.specs.Plan.{Plan, Event, kind}
-use Rattle.wire_runs.specs.Names.{calls_name}
+use Rattle.wire_runs.specs.Names.{writes_name, calls_name}
 use Rattle.wire_runs.specs.Order.{Live, Before}
-use Rattle.wire_runs.specs.EventLists.{IsLower}
+use Rattle.wire_runs.specs.EventLists.{IsLower, AreAll}
 use Rattle.wire_runs.specs.Fate.{IsIn}
-use Rattle.wire_runs.specs.Races.{IsNameRace}
-use Rattle.wire_runs.specs.Findings.{Finding, NameRace}
+use Rattle.wire_runs.specs.Findings.{Finding, NameRace, IsFound}
 use Rattle.wire_races.specs.declared.name_races.Border.{Border}
 use Rattle.wire_races.specs.declared.name_races.Border.TheVariants.{FirstNotBefore, FirstAfter}
 
--- the finding that two calls of different processes on a name are, the lower first
-abbrev pub name_race : Event → Event → ℕ → Finding
-name_race x y name = if nat_lt x.proc y.proc then NameRace x y name else NameRace y x name
-
--- a race on the name, of a call that may change it
+-- a race on the name, the lower call first
 pub record IsRaceOn (plan : Plan) (name : ℕ) (f : Finding) : Type 0 where
   pub x : Event
   pub y : Event
-  pub race : IsNameRace plan x y name
-  pub is : f ≡ name_race x y name
+  pub is : f ≡ NameRace x y name
+  pub found : IsFound plan f
 
--- a race on the name, of the call x that may change it with one of these calls
+-- a race on the name of the call x with a higher one
+pub record IsRaceFrom (plan : Plan) (name : ℕ) (x : Event) (f : Finding) : Type 0 where
+  pub y : Event
+  pub is : f ≡ NameRace x y name
+  pub found : IsFound plan f
+
+-- a race on the name of the call x with one of these calls
 pub record IsRaceWith (plan : Plan) (name : ℕ) (x : Event) (calls : List Event) (f : Finding) : Type 0 where
   pub y : Event
   pub there : IsIn y calls
-  pub race : IsNameRace plan x y name
-  pub is : f ≡ name_race x y name
-
--- a race on the name, of any call that may change it with one of these calls
-abbrev pub IsRaceIn : Plan → ℕ → List Event → Finding → Type 0
-IsRaceIn plan name calls f = (x : Event) × IsRaceWith plan name x calls f
+  pub is : f ≡ NameRace x y name
+  pub found : IsFound plan f
 
 -- calls on the name, the lower first
 pub record AreCallsOn (plan : Plan) (name : ℕ) (calls : List Event) : Type 0 where
@@ -40,6 +37,31 @@ pub record AreCallsOn (plan : Plan) (name : ℕ) (calls : List Event) : Type 0 w
 -- all are of the process
 abbrev pub AreOf : ℕ → List Event → Type 0
 AreOf p calls = (k : ℕ) (z : Event) → slice_get calls k ≡ Some z → z.proc ≡ p
+
+-- all are of one process
+abbrev pub IsStretch : List Event → Type 0
+IsStretch calls = (p : ℕ) × AreOf p calls
+
+-- calls on the name of higher processes than that of x: each of them may change the name, or x may
+pub record AreRivals (plan : Plan) (name : ℕ) (x : Event) (calls : List Event) : Type 0 where
+  pub calls_on : AreCallsOn plan name calls
+  pub higher : (k : ℕ) (z : Event) → slice_get calls k ≡ Some z → x.proc < z.proc
+  pub change : (k : ℕ) (z : Event) → slice_get calls k ≡ Some z → (writes_name plan name x (kind plan x) ≡ true) ⊎ (writes_name plan name z (kind plan z) ≡ true)
+
+-- each higher call that races with x is among these
+abbrev pub HasRivals : Plan → ℕ → Event → List Event → Type 0
+HasRivals plan name x calls = (y : Event) → IsFound plan (NameRace x y name) → IsIn y calls
+
+-- the calls that may change the name
+abbrev pub AreWriters : Plan → ℕ → List Event → Type 0
+AreWriters plan name places = AreAll (λ z. writes_name plan name z (kind plan z) ≡ true) places
+
+-- the rest of the calls are those of higher processes than p
+pub record IsAbove (p : ℕ) (calls rest : List Event) : Type 0 where
+  pub front : List Event
+  pub parts : calls ≡ front ++ rest
+  pub lower : (k : ℕ) (z : Event) → slice_get front k ≡ Some z → z.proc ≤ p
+  pub higher : (k : ℕ) (z : Event) → slice_get rest k ≡ Some z → p < z.proc
 
 -- whether a call stands below a border of the calls that may race with x
 abbrev pub IsBelow : Plan → Event → Border → Event → Type 0

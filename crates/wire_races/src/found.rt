@@ -7,7 +7,7 @@ ghost use Rattle.wire_runs.specs.Findings as told;
 ghost use Rattle.wire_runs.specs.Findings.{IsSorted};
 ghost use Rattle.wire_races.specs.Findings.{shown, all_shown};
 ghost use Rattle.wire_races.specs.Collected.{Tells, AreFound, IsAdded};
-ghost use Rattle.wire_races.specs.Places.{place, place_cmp};
+ghost use Rattle.wire_races.specs.Standings.{standing, standing_cmp};
 
 use crate::finding::Finding;
 use std::alloc::{AllocError, Global};
@@ -18,28 +18,28 @@ use wire_types::CallAt;
 /// Where a finding stands in the list: a rewrite by the later put, and behind all of them a race by its
 /// calls, the lower first.
 #[derive(Clone, Copy, PartialEq, Eq, PartialOrd, Ord)]
-struct Place {
+struct Standing {
     is_race: bool,
     by: CallAt,
     then: CallAt,
 }
 
-// The place of a finding.
-fn place_of(finding: &Finding) -> Place
-    ensures { result ≡ place finding.now }
+// The standing of a finding.
+fn standing_of(finding: &Finding) -> Standing
+    ensures { result ≡ standing finding.now }
 {
     match finding {
-        Finding::Rewrite(first, later) => Place {
+        Finding::Rewrite(first, later) => Standing {
             is_race: false,
             by: *later,
             then: *first,
         },
-        Finding::KeyRace(lower, higher, _, _) => Place {
+        Finding::KeyRace(lower, higher, _, _) => Standing {
             is_race: true,
             by: *lower,
             then: *higher,
         },
-        Finding::NameRace(lower, higher, _) => Place {
+        Finding::NameRace(lower, higher, _) => Standing {
             is_race: true,
             by: *lower,
             then: *higher,
@@ -47,11 +47,11 @@ fn place_of(finding: &Finding) -> Place
     }
 }
 
-// Whether two findings have one place.
-fn is_same_place(x: &Finding, y: &Finding) -> bool
-    ensures { result ≡ eq_by_cmp place_cmp (place x.now) (place y.now) }
+// Whether two findings have one standing.
+fn is_same_standing(x: &Finding, y: &Finding) -> bool
+    ensures { result ≡ eq_by_cmp standing_cmp (standing x.now) (standing y.now) }
 {
-    place_of(x).cmp(&place_of(y)) == Ordering::Equal
+    standing_of(x).cmp(&standing_of(y)) == Ordering::Equal
 }
 
 /// Findings as they are met, in any order. One that is met twice stands there twice.
@@ -87,11 +87,15 @@ impl Found {
         Ok(())
     }
 
-    /// Adds the findings of a piece.
-    pub(crate) fn append(&mut self, piece: &[Finding]) -> Result<(), AllocError>
-        ensures { OnOk result (self.new ≡ self.old ++ piece.now) }
+    /// Adds the findings of a piece. Where nothing is there yet, they needn't be moved.
+    pub(crate) fn append(&mut self, mut piece: Vec<Finding>) -> Result<(), AllocError>
+        ensures { OnOk result (self.new ≡ self.old ++ piece.items) }
     {
-        self.list.extend_from_slice(piece)?;
+        if self.list.is_empty() {
+            self.list = piece;
+        } else {
+            self.list.append(&mut piece)?;
+        }
         Ok(())
     }
 
@@ -108,8 +112,8 @@ impl Found {
         ensures sorted { (plan : runs.Plan) → AreFound plan self → (lower_name : ℕ → ℕ → Bool) → IsSorted lower_name (all_shown plan result.items) }
     {
         let mut list = self.list;
-        list.sort_unstable_by_key(|finding| place_of(finding));
-        list.dedup_by(|x, y| is_same_place(x, y));
+        list.sort_unstable_by_key(|finding| standing_of(finding));
+        list.dedup_by(|x, y| is_same_standing(x, y));
         list
     }
 }

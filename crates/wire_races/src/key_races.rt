@@ -27,6 +27,14 @@ use wire_marks::Marks;
 use wire_plan::{Kind, Plan};
 use wire_types::{Event, Proc};
 
+/// A get that is answered at once, and the key for which it asks.
+#[derive(Clone, Copy)]
+struct Asked {
+    get_now: Event,
+    owner: Proc,
+    key: u32,
+}
+
 /// Whether an event stands before another in process order, or earlier in the same process.
 fn is_lower(x: Event, y: Event) -> bool
     ensures { IsTrue result ↔ IsLower (event_of x) (event_of y) }
@@ -42,33 +50,26 @@ fn are_unordered(marks: &Marks, x: Event, y: Event) -> bool
 }
 
 /// The race of a get with an event, the lower call first.
-fn race_of(plan: &Plan, source: Event, get_now: Event, owner: Proc, key: u32) -> Finding
-    requires { IsKeyRace (plan_of plan.now) (event_of source) (event_of get_now) owner.number key }
-    ensures { IsRaceOf (event_of source) (event_of get_now) owner.number key (shown (plan_of plan.now) result) }
+fn race_of(plan: &Plan, source: Event, asked: Asked) -> Finding
+    requires { IsKeyRace (plan_of plan.now) (event_of source) (event_of asked.get_now) asked.owner.number asked.key }
+    ensures { IsRaceOf (event_of source) (event_of asked.get_now) asked.owner.number asked.key (shown (plan_of plan.now) result) }
 {
     let first = plan.call_of(source);
-    let second = plan.call_of(get_now);
-    if is_lower(source, get_now) {
-        Finding::KeyRace(first, second, owner, key)
+    let second = plan.call_of(asked.get_now);
+    if is_lower(source, asked.get_now) {
+        Finding::KeyRace(first, second, asked.owner, asked.key)
     } else {
-        Finding::KeyRace(second, first, owner, key)
+        Finding::KeyRace(second, first, asked.owner, asked.key)
     }
 }
 
 /// Adds the race of a get with an event.
-fn add_race(
-    plan: &Plan,
-    found: &mut Found,
-    source: Event,
-    get_now: Event,
-    owner: Proc,
-    key: u32,
-) -> Result<(), AllocError>
-    requires race { IsKeyRace (plan_of plan.now) (event_of source) (event_of get_now) owner.number key }
+fn add_race(plan: &Plan, found: &mut Found, source: Event, asked: Asked) -> Result<(), AllocError>
+    requires race { IsKeyRace (plan_of plan.now) (event_of source) (event_of asked.get_now) asked.owner.number asked.key }
     requires found { AreFound (plan_of plan.now) found.old }
-    ensures { OnOk result (Adds (plan_of plan.now) found.old found.new (IsRaceOf (event_of source) (event_of get_now) owner.number key)) }
+    ensures { OnOk result (Adds (plan_of plan.now) found.old found.new (IsRaceOf (event_of source) (event_of asked.get_now) asked.owner.number asked.key)) }
 {
-    found.add(race_of(plan, source, get_now, owner, key))
+    found.add(race_of(plan, source, asked))
 }
 
 /// Adds the race of a get with the commit that stores its key on the same node, if they race.
@@ -76,21 +77,19 @@ fn add_node_race(
     plan: &Plan,
     marks: &Marks,
     found: &mut Found,
-    get_now: Event,
-    owner: Proc,
-    key: u32,
+    asked: Asked,
 ) -> Result<(), AllocError>
     requires marks { AreMarks (plan_of plan.now) marks.now }
     requires found { AreFound (plan_of plan.now) found.old }
-    requires get { IsOpen (plan_of plan.now) (event_of get_now) owner.number key }
-    requires node { same_node (plan_of plan.now) owner.number get_now.proc.number ≡ true }
-    ensures { OnOk result (Adds (plan_of plan.now) found.old found.new (IsKeyRaceBy (plan_of plan.now) (event_of get_now))) }
+    requires get { IsOpen (plan_of plan.now) (event_of asked.get_now) asked.owner.number asked.key }
+    requires node { same_node (plan_of plan.now) asked.owner.number asked.get_now.proc.number ≡ true }
+    ensures { OnOk result (Adds (plan_of plan.now) found.old found.new (IsKeyRaceBy (plan_of plan.now) (event_of asked.get_now))) }
 {
-    let Some(commit) = plan.store_of(owner, key) else {
+    let Some(commit) = plan.store_of(asked.owner, asked.key) else {
         return Ok(());
     };
-    if are_unordered(marks, commit, get_now) {
-        add_race(plan, found, commit, get_now, owner, key)
+    if are_unordered(marks, commit, asked.get_now) {
+        add_race(plan, found, commit, asked)
     } else {
         Ok(())
     }
@@ -223,21 +222,14 @@ fn next_arrival(plan: &Plan, owner: Proc, key: u32, node: u32, from: u32) -> Opt
 
 /// Whether a delivery of a key to a node comes before a get in every run. If any does, the first one
 /// does: all arrivals at its fence are before each later arrival of the owner.
-fn comes_surely(
-    plan: &Plan,
-    marks: &Marks,
-    get_now: Event,
-    owner: Proc,
-    key: u32,
-    node: u32,
-) -> bool
+fn comes_surely(plan: &Plan, marks: &Marks, asked: Asked, node: u32) -> bool
     requires marks { AreMarks (plan_of plan.now) marks.now }
-    requires live { Live (plan_of plan.now) (event_of get_now) }
-    requires once { IsPutOnce (plan_of plan.now) owner.number key }
-    ensures { IsTrue result ↔ ComesSurely (plan_of plan.now) owner.number key node (event_of get_now) }
+    requires live { Live (plan_of plan.now) (event_of asked.get_now) }
+    requires once { IsPutOnce (plan_of plan.now) asked.owner.number asked.key }
+    ensures { IsTrue result ↔ ComesSurely (plan_of plan.now) asked.owner.number asked.key node (event_of asked.get_now) }
 {
-    match next_arrival(plan, owner, key, node, 0) {
-        Some(first) => is_sure(plan, marks, get_now, first),
+    match next_arrival(plan, asked.owner, asked.key, node, 0) {
+        Some(first) => is_sure(plan, marks, asked.get_now, first),
         None => false,
     }
 }
@@ -247,21 +239,19 @@ fn add_late(
     plan: &Plan,
     marks: &Marks,
     found: &mut Found,
-    get_now: Event,
-    owner: Proc,
-    key: u32,
+    asked: Asked,
     arrival: Event,
 ) -> Result<(), AllocError>
     requires marks { AreMarks (plan_of plan.now) marks.now }
     requires found { AreFound (plan_of plan.now) found.old }
-    requires late { IsUnsure (plan_of plan.now) (event_of get_now) owner.number key }
-    requires may { MayBeLate (plan_of plan.now) (event_of get_now) (event_of arrival) }
-    requires proc { arrival.proc ≡ owner }
-    requires delivers { IsDelivering (plan_of plan.now) owner.number key (node_of (plan_of plan.now) get_now.proc.number) arrival.at }
-    ensures { OnOk result (Adds (plan_of plan.now) found.old found.new (IsLateBy (plan_of plan.now) (event_of get_now) owner.number key (node_of (plan_of plan.now) get_now.proc.number) arrival.at)) }
+    requires late { IsUnsure (plan_of plan.now) (event_of asked.get_now) asked.owner.number asked.key }
+    requires may { MayBeLate (plan_of plan.now) (event_of asked.get_now) (event_of arrival) }
+    requires proc { arrival.proc ≡ asked.owner }
+    requires delivers { IsDelivering (plan_of plan.now) asked.owner.number asked.key (node_of (plan_of plan.now) asked.get_now.proc.number) arrival.at }
+    ensures { OnOk result (Adds (plan_of plan.now) found.old found.new (IsLateBy (plan_of plan.now) (event_of asked.get_now) asked.owner.number asked.key (node_of (plan_of plan.now) asked.get_now.proc.number) arrival.at)) }
 {
-    match late_source(plan, marks, get_now, arrival) {
-        Some(source) => add_race(plan, found, source, get_now, owner, key),
+    match late_source(plan, marks, asked.get_now, arrival) {
+        Some(source) => add_race(plan, found, source, asked),
         None => Ok(()),
     }
 }
@@ -273,27 +263,25 @@ fn add_all_late(
     plan: &Plan,
     marks: &Marks,
     found: &mut Found,
-    get_now: Event,
-    owner: Proc,
-    key: u32,
+    asked: Asked,
     node: u32,
 ) -> Result<(), AllocError>
     requires marks { AreMarks (plan_of plan.now) marks.now }
     requires found { AreFound (plan_of plan.now) found.old }
-    requires late { IsUnsure (plan_of plan.now) (event_of get_now) owner.number key }
-    requires node { node ≡ node_of (plan_of plan.now) get_now.proc.number }
-    ensures { OnOk result (Adds (plan_of plan.now) found.old found.new (AreLateBelow (plan_of plan.now) (event_of get_now) owner.number key (node_of (plan_of plan.now) get_now.proc.number) (event_count (plan_of plan.now) owner.number))) }
+    requires late { IsUnsure (plan_of plan.now) (event_of asked.get_now) asked.owner.number asked.key }
+    requires node { node ≡ node_of (plan_of plan.now) asked.get_now.proc.number }
+    ensures { OnOk result (Adds (plan_of plan.now) found.old found.new (AreLateBelow (plan_of plan.now) (event_of asked.get_now) asked.owner.number asked.key (node_of (plan_of plan.now) asked.get_now.proc.number) (event_count (plan_of plan.now) asked.owner.number))) }
 {
-    let count = plan.event_count(owner);
+    let count = plan.event_count(asked.owner);
     let mut from = 0;
     'deliveries: while from < count {
-        let Some(arrival) = next_arrival(plan, owner, key, node, from) else {
+        let Some(arrival) = next_arrival(plan, asked.owner, asked.key, node, from) else {
             return Ok(());
         };
-        if !may_be_late(plan, marks, get_now, arrival) {
+        if !may_be_late(plan, marks, asked.get_now, arrival) {
             return Ok(());
         }
-        add_late(plan, marks, found, get_now, owner, key, arrival)?;
+        add_late(plan, marks, found, asked, arrival)?;
         from = arrival.at + 1;
     }
     Ok(())
@@ -304,30 +292,30 @@ fn add_delivery_races(
     plan: &Plan,
     marks: &Marks,
     found: &mut Found,
-    get_now: Event,
-    owner: Proc,
-    key: u32,
+    asked: Asked,
 ) -> Result<(), AllocError>
     requires marks { AreMarks (plan_of plan.now) marks.now }
     requires found { AreFound (plan_of plan.now) found.old }
-    requires get { IsOpen (plan_of plan.now) (event_of get_now) owner.number key }
-    requires node { same_node (plan_of plan.now) owner.number get_now.proc.number ≡ false }
-    ensures { OnOk result (Adds (plan_of plan.now) found.old found.new (IsKeyRaceBy (plan_of plan.now) (event_of get_now))) }
+    requires get { IsOpen (plan_of plan.now) (event_of asked.get_now) asked.owner.number asked.key }
+    requires node { same_node (plan_of plan.now) asked.owner.number asked.get_now.proc.number ≡ false }
+    ensures { OnOk result (Adds (plan_of plan.now) found.old found.new (IsKeyRaceBy (plan_of plan.now) (event_of asked.get_now))) }
 {
-    let node = plan.node_of(get_now.proc);
-    if comes_surely(plan, marks, get_now, owner, key, node) {
+    let node = plan.node_of(asked.get_now.proc);
+    if comes_surely(plan, marks, asked, node) {
         return Ok(());
     }
-    add_all_late(plan, marks, found, get_now, owner, key, node)
+    add_all_late(plan, marks, found, asked, node)
 }
 
 /// Whether a get that is answered at once is live, and of a key that another process puts once.
-fn is_open(plan: &Plan, marks: &Marks, get_now: Event, owner: Proc, key: u32) -> bool
+fn is_open(plan: &Plan, marks: &Marks, asked: Asked) -> bool
     requires marks { AreMarks (plan_of plan.now) marks.now }
-    requires get { kind (plan_of plan.now) (event_of get_now) ≡ Some (GetNow owner.number key) }
-    ensures { IsTrue result ↔ IsOpen (plan_of plan.now) (event_of get_now) owner.number key }
+    requires get { kind (plan_of plan.now) (event_of asked.get_now) ≡ Some (GetNow asked.owner.number asked.key) }
+    ensures { IsTrue result ↔ IsOpen (plan_of plan.now) (event_of asked.get_now) asked.owner.number asked.key }
 {
-    get_now.proc.number != owner.number && plan.put_count(owner, key) == 1 && marks.live(get_now)
+    asked.get_now.proc.number != asked.owner.number
+        && plan.put_count(asked.owner, asked.key) == 1
+        && marks.live(asked.get_now)
 }
 
 /// Adds the races of a get that is answered at once.
@@ -335,24 +323,22 @@ fn add_get_now(
     plan: &Plan,
     marks: &Marks,
     found: &mut Found,
-    get_now: Event,
-    owner: Proc,
-    key: u32,
+    asked: Asked,
 ) -> Result<(), AllocError>
     requires marks { AreMarks (plan_of plan.now) marks.now }
     requires found { AreFound (plan_of plan.now) found.old }
-    requires get { kind (plan_of plan.now) (event_of get_now) ≡ Some (GetNow owner.number key) }
-    ensures { OnOk result (Adds (plan_of plan.now) found.old found.new (IsKeyRaceBy (plan_of plan.now) (event_of get_now))) }
+    requires get { kind (plan_of plan.now) (event_of asked.get_now) ≡ Some (GetNow asked.owner.number asked.key) }
+    ensures { OnOk result (Adds (plan_of plan.now) found.old found.new (IsKeyRaceBy (plan_of plan.now) (event_of asked.get_now))) }
 {
-    if !is_open(plan, marks, get_now, owner, key) {
+    if !is_open(plan, marks, asked) {
         return Ok(());
     }
-    let home = plan.node_of(owner);
-    let away = plan.node_of(get_now.proc);
+    let home = plan.node_of(asked.owner);
+    let away = plan.node_of(asked.get_now.proc);
     if home == away {
-        add_node_race(plan, marks, found, get_now, owner, key)
+        add_node_race(plan, marks, found, asked)
     } else {
-        add_delivery_races(plan, marks, found, get_now, owner, key)
+        add_delivery_races(plan, marks, found, asked)
     }
 }
 
@@ -364,7 +350,14 @@ fn add_event(plan: &Plan, marks: &Marks, found: &mut Found, event: Event) -> Res
     ensures { OnOk result (Adds (plan_of plan.now) found.old found.new (IsKeyRaceBy (plan_of plan.now) (event_of event))) }
 {
     match plan.kind(event) {
-        Kind::GetNow { owner, key } => add_get_now(plan, marks, found, event, owner, key),
+        Kind::GetNow { owner, key } => {
+            let asked = Asked {
+                get_now: event,
+                owner,
+                key,
+            };
+            add_get_now(plan, marks, found, asked)
+        }
         _ => Ok(()),
     }
 }
@@ -430,5 +423,5 @@ pub(crate) fn add_key_races(
     ensures all { OnOk result (AllAdded (plan_of plan.now) IsOfKey found.old found.new) }
 {
     let pieces = pieces(rt, alloc, plan, marks)?;
-    add_pieces(found, pieces.as_slice())
+    add_pieces(found, pieces)
 }

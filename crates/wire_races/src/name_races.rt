@@ -1,18 +1,20 @@
 //! Races on names.
 
-ghost use Rattle.std.specs.Prelude.{◌≡◌, ◌≢◌, ◌<◌, ◌≤◌, ◌↔◌, ℕ, Some, true, IsTrue, IfOk, OnOk, length, map, take, slice_get};
+ghost use Rattle.std.specs.Prelude.{◌≡◌, ◌<◌, ◌≤◌, ◌↔◌, ℕ, Some, true, IsTrue, IfOk, OnOk, length, map, take, slice_get};
 ghost use Rattle.wire_runs.specs.Plan.{event_of, kind, event_count};
 ghost use Rattle.wire_runs.specs.Plan as runs;
 ghost use Rattle.wire_rehearsal.specs.Planned.{plan_of};
 ghost use Rattle.wire_runs.specs.Names.{calls_name, writes_name};
 ghost use Rattle.wire_runs.specs.Order.{Live};
+ghost use Rattle.wire_runs.specs.Findings.{NameRace};
+ghost use Rattle.wire_plan.specs.Index.{AreNameCalls};
 ghost use Rattle.wire_marks.specs.Clocks.{AreMarks};
 ghost use Rattle.wire_races.specs.Findings.{shown};
 ghost use Rattle.wire_races.specs.FindingKinds.{IsOfName, AllAdded};
 ghost use Rattle.wire_races.specs.Collected.{AreFound};
 ghost use Rattle.wire_races.specs.Adding.{Adds};
 ghost use Rattle.wire_races.specs.Pieces.{IsPiece, ArePieces};
-ghost use Rattle.wire_races.specs.NameRaces.{name_race, IsRaceOn, IsRaceWith, IsRaceIn, AreCallsOn, AreOf, IsBelow, IsCut};
+ghost use Rattle.wire_races.specs.NameRaces.{IsRaceOn, IsRaceFrom, IsRaceWith, AreCallsOn, AreOf, IsStretch, AreRivals, HasRivals, AreWriters, IsAbove, IsBelow, IsCut};
 
 use crate::finding::Finding;
 use crate::found::Found;
@@ -32,30 +34,32 @@ enum Border {
     FirstAfter,
 }
 
-// Whether an event can change what stands under a name.
-fn writes(plan: &Plan, name: u32, event: Event) -> bool
-    requires { event.at < event_count (plan_of plan.now) event.proc.number }
-    ensures { result ≡ writes_name (plan_of plan.now) name (event_of event) (kind (plan_of plan.now) (event_of event)) }
+// A call on a name.
+#[derive(Clone, Copy)]
+struct NameCall {
+    name: u32,
+    event: Event,
+}
+
+// Whether a call can change what stands under its name.
+fn writes(plan: &Plan, x: NameCall) -> bool
+    requires { x.event.at < event_count (plan_of plan.now) x.event.proc.number }
+    ensures { result ≡ writes_name (plan_of plan.now) x.name (event_of x.event) (kind (plan_of plan.now) (event_of x.event)) }
 {
-    match plan.kind(event) {
-        Kind::Publish { name: published } => published == name,
-        Kind::Unpublish { name: taken } => taken == name,
+    match plan.kind(x.event) {
+        Kind::Publish { name } => name == x.name,
+        Kind::Unpublish { name } => name == x.name,
         _ => false,
     }
 }
 
-// The finding that two calls of different processes on a name are.
-fn race_of(plan: &Plan, name: u32, x: Event, y: Event) -> Finding
-    requires x { calls_name (plan_of plan.now) name (event_of x) (kind (plan_of plan.now) (event_of x)) ≡ true }
-    requires y { calls_name (plan_of plan.now) name (event_of y) (kind (plan_of plan.now) (event_of y)) ≡ true }
-    ensures { shown (plan_of plan.now) result ≡ name_race (event_of x) (event_of y) name }
+// The race of a call with a higher one on the same name.
+fn race_of(plan: &Plan, x: NameCall, y: Event) -> Finding
+    requires x { calls_name (plan_of plan.now) x.name (event_of x.event) (kind (plan_of plan.now) (event_of x.event)) ≡ true }
+    requires y { calls_name (plan_of plan.now) x.name (event_of y) (kind (plan_of plan.now) (event_of y)) ≡ true }
+    ensures { shown (plan_of plan.now) result ≡ NameRace (event_of x.event) (event_of y) x.name }
 {
-    let (first, second) = (plan.call_of(x), plan.call_of(y));
-    if x.proc.number < y.proc.number {
-        Finding::NameRace(first, second, name)
-    } else {
-        Finding::NameRace(second, first, name)
-    }
+    Finding::NameRace(plan.call_of(x.event), plan.call_of(y), x.name)
 }
 
 // Whether a call stands below a border of the calls that may race with x.
@@ -87,105 +91,162 @@ fn count_below(marks: &Marks, x: Event, border: Border, run: &[Event]) -> usize
     low
 }
 
-// Adds the races of a live call that can change a name with the calls of another process on it.
-// The one publish of a name and a lookup that waits for it are in order where both are live, so
-// they aren't between the borders.
+// Adds the races of a live call with higher calls of one process. The one publish of a name and a
+// lookup that waits for it are in order where both are live, so they aren't between the borders.
 fn add_between(
     plan: &Plan,
     marks: &Marks,
     found: &mut Found,
-    name: u32,
-    x: Event,
-    proc: Proc,
+    x: NameCall,
     run: &[Event],
 ) -> Result<(), AllocError>
     requires marks { AreMarks (plan_of plan.now) marks.now }
     requires found { AreFound (plan_of plan.now) found.old }
-    requires writes { writes_name (plan_of plan.now) name (event_of x) (kind (plan_of plan.now) (event_of x)) ≡ true }
-    requires live { Live (plan_of plan.now) (event_of x) }
-    requires other { x.proc.number ≢ proc.number }
-    requires calls { AreCallsOn (plan_of plan.now) name (map event_of run.now) }
-    requires run { AreOf proc.number (map event_of run.now) }
-    ensures { OnOk result (Adds (plan_of plan.now) found.old found.new (IsRaceWith (plan_of plan.now) name (event_of x) (map event_of run.now))) }
+    requires x { calls_name (plan_of plan.now) x.name (event_of x.event) (kind (plan_of plan.now) (event_of x.event)) ≡ true }
+    requires live { Live (plan_of plan.now) (event_of x.event) }
+    requires rivals { AreRivals (plan_of plan.now) x.name (event_of x.event) (map event_of run.now) }
+    requires run { IsStretch (map event_of run.now) }
+    ensures { OnOk result (Adds (plan_of plan.now) found.old found.new (IsRaceWith (plan_of plan.now) x.name (event_of x.event) (map event_of run.now))) }
 {
-    let from = count_below(marks, x, Border::FirstNotBefore, run);
-    let to = count_below(marks, x, Border::FirstAfter, run);
+    let from = count_below(marks, x.event, Border::FirstNotBefore, run);
+    let to = count_below(marks, x.event, Border::FirstAfter, run);
     for k in from..to {
-        found.add(race_of(plan, name, x, run[k]))?;
+        found.add(race_of(plan, x, run[k]))?;
     }
     Ok(())
 }
 
-// Adds the races of a call on a name, if it can change it, with the calls of a process on it.
-fn add_races_of(
+// How many of these calls in process order are of processes up to this one, by bisection.
+fn count_upto(calls: &[Event], proc: Proc) -> usize
+    ensures within { result ≤ length calls.now }
+    ensures cut { (plan : runs.Plan) (name : ℕ) → AreCallsOn plan name (map event_of calls.now) → IsCut (λ z. z.proc ≤ proc.number) (map event_of calls.now) result }
+{
+    let mut low = 0;
+    let mut high = calls.len();
+    'bisection: while low < high {
+        let middle = low + (high - low) / 2;
+        if calls[middle].proc.number <= proc.number {
+            low = middle + 1;
+        } else {
+            high = middle;
+        }
+    }
+    low
+}
+
+// How many of the first of these calls in process order are of this process, which is that of the first one.
+fn stretch_length(calls: &[Event], proc: Proc) -> usize
+    ensures within { result ≤ length calls.now }
+    ensures stretch { (plan : runs.Plan) (name : ℕ) (x : Event) → AreCallsOn plan name (map event_of calls.now) → slice_get calls.now 0 ≡ Some x → x.proc ≡ proc → AreOf proc.number (map event_of (take result calls.now)) }
+    ensures more { (plan : runs.Plan) (name : ℕ) (x : Event) → AreCallsOn plan name (map event_of calls.now) → slice_get calls.now 0 ≡ Some x → x.proc ≡ proc → 0 < result }
+{
+    count_upto(calls, proc)
+}
+
+// Adds the races of a live call with higher calls, which are cut into stretches of one process each.
+fn add_rivals(
     plan: &Plan,
     marks: &Marks,
     found: &mut Found,
-    name: u32,
-    x: Event,
-    proc: Proc,
-    run: &[Event],
+    x: NameCall,
+    rivals: &[Event],
 ) -> Result<(), AllocError>
     requires marks { AreMarks (plan_of plan.now) marks.now }
     requires found { AreFound (plan_of plan.now) found.old }
-    requires x { calls_name (plan_of plan.now) name (event_of x) (kind (plan_of plan.now) (event_of x)) ≡ true }
-    requires calls { AreCallsOn (plan_of plan.now) name (map event_of run.now) }
-    requires run { AreOf proc.number (map event_of run.now) }
-    ensures { OnOk result (Adds (plan_of plan.now) found.old found.new (IsRaceWith (plan_of plan.now) name (event_of x) (map event_of run.now))) }
+    requires x { calls_name (plan_of plan.now) x.name (event_of x.event) (kind (plan_of plan.now) (event_of x.event)) ≡ true }
+    requires live { Live (plan_of plan.now) (event_of x.event) }
+    requires rivals { AreRivals (plan_of plan.now) x.name (event_of x.event) (map event_of rivals.now) }
+    ensures { OnOk result (Adds (plan_of plan.now) found.old found.new (IsRaceWith (plan_of plan.now) x.name (event_of x.event) (map event_of rivals.now))) }
 {
-    if x.proc.number != proc.number && writes(plan, name, x) && marks.live(x) {
-        add_between(plan, marks, found, name, x, proc, run)
+    let mut rest = rivals;
+    'stretches: while let Some(first) = rest.first() {
+        let (stretch, others) = rest.split_at(stretch_length(rest, first.proc));
+        add_between(plan, marks, found, x, stretch)?;
+        rest = others;
+    }
+    Ok(())
+}
+
+// Adds the races of a call with all higher ones.
+fn add_call(
+    plan: &Plan,
+    marks: &Marks,
+    found: &mut Found,
+    x: NameCall,
+    rivals: &[Event],
+) -> Result<(), AllocError>
+    requires marks { AreMarks (plan_of plan.now) marks.now }
+    requires found { AreFound (plan_of plan.now) found.old }
+    requires x { calls_name (plan_of plan.now) x.name (event_of x.event) (kind (plan_of plan.now) (event_of x.event)) ≡ true }
+    requires rivals { AreRivals (plan_of plan.now) x.name (event_of x.event) (map event_of rivals.now) }
+    requires all { HasRivals (plan_of plan.now) x.name (event_of x.event) (map event_of rivals.now) }
+    ensures { OnOk result (Adds (plan_of plan.now) found.old found.new (IsRaceFrom (plan_of plan.now) x.name (event_of x.event))) }
+{
+    if marks.live(x.event) {
+        add_rivals(plan, marks, found, x, rivals)
     } else {
         Ok(())
     }
 }
 
-// Adds the races of all calls on a name that can change it with the calls of one process on it.
-fn add_races_with(
+// The calls of processes above this one.
+fn above(calls: &[Event], proc: Proc) -> &[Event]
+    ensures { (plan : runs.Plan) (name : ℕ) → AreCallsOn plan name (map event_of calls.now) → IsAbove proc.number (map event_of calls.now) (map event_of result.now) }
+{
+    calls.split_at(count_upto(calls, proc)).1
+}
+
+// The calls with which a call on a name may race as the lower one: those of higher processes, and if it
+// can't change the name, only such as can.
+fn rivals_of<'a>(plan: &Plan, x: NameCall, calls: &'a [Event], writers: &'a [Event]) -> &'a [Event]
+    requires x { calls_name (plan_of plan.now) x.name (event_of x.event) (kind (plan_of plan.now) (event_of x.event)) ≡ true }
+    requires calls { AreNameCalls (plan_of plan.now) x.name (map event_of calls.now) }
+    requires writers { AreWriters (plan_of plan.now) x.name (map event_of writers.now) }
+    ensures rivals { AreRivals (plan_of plan.now) x.name (event_of x.event) (map event_of result.now) }
+    ensures all { HasRivals (plan_of plan.now) x.name (event_of x.event) (map event_of result.now) }
+{
+    if writes(plan, x) {
+        above(calls, x.event.proc)
+    } else {
+        above(writers, x.event.proc)
+    }
+}
+
+// The calls on a name that can change it.
+fn writers_of(alloc: Global, plan: &Plan, name: u32) -> Result<Vec<Event>, AllocError>
+    ensures { IfOk result (λ writers. AreWriters (plan_of plan.now) name (map event_of writers.items)) }
+{
+    let calls = plan.name_calls(name);
+    let mut writers = Vec::new(alloc);
+    for event in calls {
+        let event = *event;
+        if writes(plan, NameCall { name, event }) {
+            writers.push(event)?;
+        }
+    }
+    Ok(writers)
+}
+
+// Adds the races on a name, from the lower call of each.
+fn add_races_on(
     plan: &Plan,
     marks: &Marks,
     found: &mut Found,
     name: u32,
-    proc: Proc,
-    run: &[Event],
+    writers: &[Event],
 ) -> Result<(), AllocError>
     requires marks { AreMarks (plan_of plan.now) marks.now }
     requires found { AreFound (plan_of plan.now) found.old }
-    requires calls { AreCallsOn (plan_of plan.now) name (map event_of run.now) }
-    requires run { AreOf proc.number (map event_of run.now) }
-    ensures { OnOk result (Adds (plan_of plan.now) found.old found.new (IsRaceIn (plan_of plan.now) name (map event_of run.now))) }
-{
-    let calls = plan.name_calls(name);
-    for x in calls {
-        add_races_of(plan, marks, found, name, *x, proc, run)?;
-    }
-    Ok(())
-}
-
-// How many of the first calls are of this process.
-fn run_length(calls: &[Event], proc: Proc) -> usize
-    ensures within { result ≤ length calls.now }
-    ensures run { AreOf proc.number (map event_of (take result calls.now)) }
-    ensures more { (x : Event) → slice_get calls.now 0 ≡ Some x → x.proc ≡ proc → 0 < result }
-{
-    let mut count = 0;
-    'run: while count < calls.len() && calls[count].proc.number == proc.number {
-        count += 1;
-    }
-    count
-}
-
-// Adds the races on a name.
-fn add_races_on(plan: &Plan, marks: &Marks, found: &mut Found, name: u32) -> Result<(), AllocError>
-    requires marks { AreMarks (plan_of plan.now) marks.now }
-    requires found { AreFound (plan_of plan.now) found.old }
+    requires writers { AreWriters (plan_of plan.now) name (map event_of writers.now) }
     ensures { OnOk result (Adds (plan_of plan.now) found.old found.new (IsRaceOn (plan_of plan.now) name)) }
 {
-    let mut rest = plan.name_calls(name);
-    'runs: while let Some(first) = rest.first() {
-        let (run, others) = rest.split_at(run_length(rest, first.proc));
-        add_races_with(plan, marks, found, name, first.proc, run)?;
-        rest = others;
+    let calls = plan.name_calls(name);
+    for event in calls {
+        let x = NameCall {
+            name,
+            event: *event,
+        };
+        add_call(plan, marks, found, x, rivals_of(plan, x, calls, writers))?;
     }
     Ok(())
 }
@@ -196,7 +257,8 @@ fn piece(alloc: Global, plan: &Plan, marks: &Marks, name: u32) -> Result<Vec<Fin
     ensures { IfOk result (IsPiece (plan_of plan.now) (IsRaceOn (plan_of plan.now) name)) }
 {
     let mut found = Found::new(alloc);
-    add_races_on(plan, marks, &mut found, name)?;
+    let writers = writers_of(alloc, plan, name)?;
+    add_races_on(plan, marks, &mut found, name, writers.as_slice())?;
     Ok(found.into_piece())
 }
 
@@ -227,9 +289,9 @@ fn pieces(
 /// of them a publish or an unpublish, that no chain orders (PMIx Standard 5.0, PMIx_Publish,
 /// PMIx_Lookup, PMIx_Unpublish). The only error is that memory ran out.
 ///
-/// The calls on a name are cut into stretches, those of one process each. Those of a stretch that
-/// race with a call stand between two borders, which are found by bisection. Two calls that may both
-/// change the name are met from either side, and found once.
+/// Each call on a name is compared with those of higher processes, which are cut into stretches of one
+/// process each. Those of a stretch that race with a call stand between two borders, which are found by
+/// bisection. So the races on a name are found in their order.
 pub(crate) fn add_name_races(
     rt: &(impl Threads + Sync),
     alloc: Global,
@@ -245,5 +307,5 @@ pub(crate) fn add_name_races(
     // Scripts are sound, so each call on a name is on one of theirs.
     let _ = plan.scripts();
     let pieces = pieces(rt, alloc, plan, marks)?;
-    add_pieces(found, pieces.as_slice())
+    add_pieces(found, pieces)
 }

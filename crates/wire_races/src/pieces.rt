@@ -12,11 +12,11 @@ use crate::found::Found;
 use std::alloc::AllocError;
 
 /// Adds the findings of all pieces. The one error is that memory ran out.
-pub(crate) fn add_pieces(found: &mut Found, pieces: &[Vec<Finding>]) -> Result<(), AllocError>
-    ensures { OnOk result ((plan : runs.Plan) → AreFound plan found.old → AreAllFound plan pieces.now → Adds plan found.old found.new (IsInSome plan pieces.now)) }
+pub(crate) fn add_pieces(found: &mut Found, pieces: Vec<Vec<Finding>>) -> Result<(), AllocError>
+    ensures { OnOk result ((plan : runs.Plan) → AreFound plan found.old → AreAllFound plan pieces.items → Adds plan found.old found.new (IsInSome plan pieces.items)) }
 {
     for piece in pieces {
-        found.append(piece.as_slice())?;
+        found.append(piece)?;
     }
     Ok(())
 }

@@ -6,6 +6,7 @@ pub mod Lists
 pub mod Places
 pub mod Steps
 pub mod Targets
+pub mod Notes
 pub mod Seen
 pub mod Tables
 pub mod Sound
@@ -13,6 +14,7 @@ pub mod Recut
 pub mod Changed
 pub mod Order
 pub mod Ranked
+pub mod Standing
 pub mod Numbered
 pub mod SameMembers
 pub mod Again

@@ -1,11 +1,13 @@
 -- Texts as they are first seen, one by one and at once.
-use Rattle.std.proofs.Common.{◌≡◌, ◌∙◌, ap, sym, subst, refl, ℕ, zero, suc, ◌+◌, ◌<◌, List, [], ◌∷◌, ◌++◌, Bool, true, false, cond, Some, length, filter, append_assoc, arith, true≢false, if◌then◌else◌}
-use Rattle.std.specs.Prelude.{not, ◌||◌, slice_get, slice_index_or, ⊤}
+use Rattle.std.proofs.Common.{◌≡◌, ◌∙◌, ap, sym, subst, refl, ℕ, zero, suc, ◌+◌, ◌<◌, ◌≤◌, List, [], ◌∷◌, ◌++◌, Bool, true, false, cond, Some, inl, inr, length, filter, append_assoc, arith, true≢false, if◌then◌else◌}
+use Rattle.std.specs.Prelude.{not, nat_lt, ◌||◌, slice_get, slice_index_or, ⊤}
 use Rattle.std.specs.List.{list_any, position_or_len, flat_map}
 use Rattle.std.specs.Str.{bytes_eq}
 use Rattle.std.proofs.lemmas.List.{append-nil}
 use Rattle.std.proofs.lemmas.List.Folds.{list_any-append}
 use Rattle.std.proofs.lemmas.List.Concat.{flat_map-cons}
+use Rattle.std.proofs.lemmas.Bool.{cases_Bool, lt-ltb, le-ltb}
+use borrow.Author.Tests.{ltb-true, ltb-false}
 use Rattle.std.proofs.lemmas.Slice.Eq.{bytes_eq-Decides}
 use Rattle.wire_script.specs.FirstPass.{is_among, number_or_count}
 use Rattle.wire_script.specs.Reads.{first_seen}
@@ -78,6 +80,10 @@ module _ (p : List ℕ → Bool) where
         | true ↦ λ e. refl
         | false ↦ λ e. ap (λ n. 1 + n) (place_pushed ys x e h)
       ] none
+
+-- a text that is there stays there
+pub among_kept : (t later : Texts) (x : List ℕ) → is_among t x ≡ true → GoesOn t later → is_among later x ≡ true
+among_kept t later x h g = rw g.1 (list_any-append (bytes_eq x) t g.0 ∙ rw h refl)
 
 -- a text that is there keeps its number
 pub number_kept : (t later : Texts) (x : List ℕ) → is_among t x ≡ true → GoesOn t later → number_or_count t x ≡ number_or_count later x
@@ -268,3 +274,25 @@ text_at_number (y ∷ ys) x h = elim (bytes_eq x y) as (λ b. bytes_eq x y ≡ b
           let one : 1 + number_or_count ys x ≡ suc (number_or_count ys x) = omega arith in
           (let l = r.0 in omega arith, rw one r.1)
     ] refl h
+
+one_up : (m n : ℕ) → nat_lt (1 + m) (suc n) ≡ nat_lt m n
+one_up m n = elim (cases_Bool (nat_lt m n)) [
+  | inl t ↦ lt-ltb (1 + m) (suc n) (let h = ltb-true m n t in omega arith) ∙ sym t
+  | inr f ↦ le-ltb (1 + m) (suc n) (let h = ltb-false m n f in omega arith) ∙ sym f
+]
+
+-- a text is there where its number is below that of all
+pub number_below : (names : List (List ℕ)) (x : List ℕ) → nat_lt (number_or_count names x) (length names) ≡ is_among names x
+number_below [] x = refl
+number_below (y ∷ ys) x = elim (bytes_eq x y) as (λ b. nat_lt (cond (not b) (1 + number_or_count ys x) 0) (length (y ∷ ys)) ≡ (b || is_among ys x)) [
+  | true ↦ lt-ltb 0 (length (y ∷ ys)) (omega arith)
+  | false ↦ one_up (number_or_count ys x) (length ys) ∙ number_below ys x
+]
+
+-- a text whose number is below that of all is there
+pub known_below : (t : Texts) (x : List ℕ) (n all : ℕ) → n ≡ number_or_count t x → all ≡ length t → n < all → is_among t x ≡ true
+known_below t x n all is len h = sym (number_below t x) ∙ lt-ltb (number_or_count t x) (length t) (omega arith)
+
+-- and one whose number isn't is new
+pub new_past : (t : Texts) (x : List ℕ) (n all : ℕ) → n ≡ number_or_count t x → all ≡ length t → all ≤ n → is_among t x ≡ false
+new_past t x n all is len h = sym (number_below t x) ∙ le-ltb (number_or_count t x) (length t) (omega arith)

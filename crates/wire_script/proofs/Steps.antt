@@ -31,6 +31,13 @@ taken f xs i d lt = grind (arith, common_steps)
 pub take_at : {A B : Type 0} (f : A → B) (xs : List A) (i : ℕ) (x : A) → i < length xs → x ≡ get_or xs i x → map f (take (i + 1) xs) ≡ map f (take i xs) ++ f x ∷ []
 take_at f xs i x lt is = taken f xs i x lt ∙ ap (λ z. map f (take i xs) ++ f z ∷ []) (sym is)
 
+pub take_on : {A : Type 0} (xs : List A) (i : ℕ) (d : A) → i < length xs → take (i + 1) xs ≡ take i xs ++ get_or xs i d ∷ []
+take_on [] i d lt = absurd (omega arith)
+take_on (x ∷ xs) zero d lt = refl
+take_on (x ∷ xs) (suc i) d lt =
+    let one : suc i + 1 ≡ suc (i + 1) = omega arith in
+    rw one (ap (λ l. x ∷ l) (take_on xs i d (omega arith)))
+
 -- one element more is made
 pub made_on : {A B C : Type 0} (f : B → C) (g : A → B) (out new : List C) (xs : List A) (i : ℕ) (x : A) (y : C) → i < length xs → x ≡ get_or xs i x
     → new ≡ out ++ y ∷ [] → out ≡ map f (map g (take i xs)) → y ≡ f (g x) → new ≡ map f (map g (take (i + 1) xs))

@@ -1,9 +1,9 @@
 -- What the items of a set name, by number: for the contracts of private functions. What is read is said in Reads.
-use Rattle.std.specs.Prelude.{ℕ, ◌==◌, ◌&&◌, Bool, false, nat_lt, List, length}
-use Rattle.std.specs.List.{list_any, position_or_len}
+use Rattle.std.specs.Prelude.{◌≡◌, ℕ, ◌==◌, Bool, true, nat_lt, List, length}
+use Rattle.std.specs.List.{All, list_any, position_or_len}
 use Rattle.wire_lines.specs.Said as said
-use Rattle.wire_script.specs.FirstPass.{number_or_count, Started, Declared}
-use Rattle.wire_script.specs.Reads.{is_proc}
+use Rattle.wire_script.specs.FirstPass.{is_among, number_or_count, Started, Declared}
+use Rattle.wire_script.specs.Reads.{is_proc, places_from}
 use Rattle.wire_script.specs.declared.members.Target.{Target}
 use Rattle.wire_script.specs.declared.members.Target.TheVariants.{One, Every}
 
@@ -27,8 +27,18 @@ abbrev pub is_declared_target : Declared → Target → Bool
 is_declared_target d (One job rank) = has_number d job rank
 is_declared_target d (Every job) = nat_lt job (length d.jobs)
 
-abbrev pub same_target : Target → Target → Bool
-same_target (One job rank) (One other_job other_rank) = (job == other_job) && (rank == other_rank)
-same_target (One job rank) (Every other_job) = false
-same_target (Every job) (One other_job other_rank) = false
-same_target (Every job) (Every other_job) = job == other_job
+-- the members of the set of what is named
+abbrev pub named_in : Declared → List Target → List ℕ
+named_in d targets = places_from (is_any_target targets) 0 d.processes
+
+-- what was named, with a number
+abbrev pub Note : Type 0
+Note = List Target × ℕ
+
+-- a note tells the number of a set that is there
+pub record IsNote (d : Declared) (sets : List (List ℕ)) (note : Note) : Type 0 where
+  pub there : is_among sets (named_in d note.0) ≡ true
+  pub number : note.1 ≡ number_or_count sets (named_in d note.0)
+
+pub record AreNoted (d : Declared) (sets : List (List ℕ)) (notes : List Note) : Type 0 where
+  pub each : All (IsNote d sets) notes

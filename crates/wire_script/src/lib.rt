@@ -6,6 +6,7 @@ mod first_pass;
 mod limits;
 mod lines;
 mod members;
+mod noted;
 mod numbers;
 mod reader;
 mod second_pass;

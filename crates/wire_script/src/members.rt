@@ -1,23 +1,23 @@
 //! The processes that a call names.
 
-ghost use Rattle.std.specs.Prelude.{◌≡◌, ◌≤◌, ◌==◌, true, false, map, length, IfOk, IfSome, IfNone};
-ghost use Rattle.wire_lines.specs.Shown.{item_by, set_by};
+ghost use Rattle.std.specs.Prelude.{◌≡◌, ◌+◌, ◌≤◌, ◌==◌, ℕ, Some, true, false, map, length, slice_get, IfOk, IfSome, IfNone};
+ghost use Rattle.wire_lines.specs.Shown.{item_by};
 ghost use Rattle.wire_rehearsal.specs.Scripts.{numbers_of};
 ghost use Rattle.wire_script.specs.Reads as spec;
-ghost use Rattle.wire_script.specs.Reads.{is_declared_item, is_declared_set, is_in, names_it, places_from};
 ghost use Rattle.wire_script.specs.FirstPass as pass;
-ghost use Rattle.wire_script.specs.Targets.{has_number, is_target, is_any_target, is_declared_target, same_target, target_by};
-ghost use Rattle.wire_script.specs.Within.{IsWithinLimits};
+ghost use Rattle.wire_script.specs.Targets.{has_number, is_target, is_any_target, is_declared_target, named_in, target_by};
+ghost use Rattle.wire_script.specs.Within.{IsWithinLimits, IsDeclared};
 ghost use Rattle.wire_script.specs.Drafted.{declared_of, started_of};
-ghost use Rattle.std.specs.List.{position_or_len, list_any, list_all};
+ghost use Rattle.std.specs.List.{position_or_len, list_all};
 
 use crate::draft::{Draft, Started};
+use indexmap::IndexSet;
 use std::alloc::{AllocError, Global};
-use wire_lines::{Item, ProcName, Set};
+use wire_lines::{Item, ProcName};
 use wire_types::Proc;
 
 /// What an item of a set names, with the number of the job.
-#[derive(Clone, Copy)]
+#[derive(Clone, Copy, PartialEq, Eq, Hash)]
 pub enum Target {
     One { job: u32, rank: u32 },
     Every { job: u32 },
@@ -29,22 +29,38 @@ fn is_proc(job: u32, rank: u32, process: &Started) -> bool
     process.job == job && process.rank == rank
 }
 
-/// The number of the process of a job and a rank, or that of all where there is none.
+/// How many processes stand before those of a job.
+fn count_before(draft: &Draft, job: u32) -> usize
+    requires declared { IsDeclared (declared_of draft.now) }
+    ensures within { result ≤ length draft.now.processes.items }
+    ensures place { (k : ℕ) (p : pass.Started) → slice_get (map started_of draft.now.processes.items) k ≡ Some p
+        → p.job ≡ job → result + p.rank ≡ k }
+{
+    draft.processes.partition_point(|process| process.job < job)
+}
+
+/// The number of the process of a job and a rank, or that of all where there is none. The ranks of a job
+/// count its processes, which stand together.
 fn place_of(draft: &Draft, job: u32, rank: u32) -> usize
+    requires within { IsWithinLimits (declared_of draft.now) }
+    requires declared { IsDeclared (declared_of draft.now) }
     ensures place { result ≡ position_or_len (spec.is_proc job rank) (map started_of draft.now.processes.items) }
     ensures within { result ≤ length draft.now.processes.items }
 {
-    let mut place = 0;
-    for process in &draft.processes {
-        if is_proc(job, rank, process) {
-            return place;
-        }
-        place += 1;
+    let place = count_before(draft, job) + rank as usize;
+    let Some(process) = draft.processes.get(place) else {
+        return draft.processes.len();
+    };
+    if is_proc(job, rank, process) {
+        place
+    } else {
+        draft.processes.len()
     }
-    place
 }
 
 fn has_place(draft: &Draft, job: u32, rank: u32) -> bool
+    requires within { IsWithinLimits (declared_of draft.now) }
+    requires declared { IsDeclared (declared_of draft.now) }
     ensures { result ≡ has_number (declared_of draft.now) job rank }
 {
     place_of(draft, job, rank) < draft.processes.len()
@@ -53,7 +69,8 @@ fn has_place(draft: &Draft, job: u32, rank: u32) -> bool
 /// The process that a name names.
 #[tactic(auto, unfolding(crate::specs::Reads::has_proc))]
 pub fn proc_of(draft: &Draft, name: ProcName) -> Option<Proc>
-    requires { IsWithinLimits (declared_of draft.now) }
+    requires within { IsWithinLimits (declared_of draft.now) }
+    requires declared { IsDeclared (declared_of draft.now) }
     ensures declared { IfSome result
         (λ p. spec.has_proc (declared_of draft.now) name.entry.job.now name.entry.rank ≡ true) }
     ensures number { IfSome result
@@ -84,7 +101,20 @@ fn target_of(draft: &Draft, item: &Item) -> Target
     }
 }
 
+/// What items name, declared or not.
+pub fn listed(alloc: Global, draft: &Draft, items: &[Item]) -> Result<Vec<Target>, AllocError>
+    ensures { IfOk result (λ v. v.items ≡ map (target_by (declared_of draft.now)) (map item_by items.now)) }
+{
+    let mut targets = Vec::with_capacity(alloc, items.len())?;
+    for item in items {
+        targets.push(target_of(draft, item))?;
+    }
+    Ok(targets)
+}
+
 fn is_declared(draft: &Draft, target: Target) -> bool
+    requires within { IsWithinLimits (declared_of draft.now) }
+    requires declared { IsDeclared (declared_of draft.now) }
     ensures { result ≡ is_declared_target (declared_of draft.now) target }
 {
     match target {
@@ -93,73 +123,18 @@ fn is_declared(draft: &Draft, target: Target) -> bool
     }
 }
 
-fn is_same(left: Target, right: Target) -> bool
-    ensures { result ≡ same_target left right }
+/// Whether all that is named is declared.
+pub fn are_declared(draft: &Draft, targets: &[Target]) -> bool
+    requires within { IsWithinLimits (declared_of draft.now) }
+    requires declared { IsDeclared (declared_of draft.now) }
+    ensures { result ≡ list_all (is_declared_target (declared_of draft.now)) targets.now }
 {
-    match (left, right) {
-        (
-            Target::One { job, rank },
-            Target::One {
-                job: other_job,
-                rank: other_rank,
-            },
-        ) => { job == other_job && rank == other_rank }
-        (Target::Every { job }, Target::Every { job: other_job }) => job == other_job,
-        _ => false,
-    }
-}
-
-fn is_listed(targets: &[Target], target: Target) -> bool
-    ensures { result ≡ list_any (same_target target) targets.now }
-{
-    targets.iter().any(|listed| is_same(target, *listed))
-}
-
-/// What items name, or nothing where one of them isn't declared. What is named again isn't listed again,
-/// which keeps long sets cheap.
-fn listed(alloc: Global, draft: &Draft, items: &[Item]) -> Result<Option<Vec<Target>>, AllocError>
-    ensures declared { IfOk result (λ o. IfSome o
-        (λ v. list_all (is_declared_item (declared_of draft.now)) (map item_by items.now) ≡ true)) }
-    ensures targets { IfOk result (λ o. IfSome o (λ v. (p : pass.Started)
-        → is_any_target v.items p ≡ list_any (λ i. names_it (declared_of draft.now) i p) (map item_by items.now))) }
-    ensures none { IfOk result (λ o. IfNone o
-        (list_all (is_declared_item (declared_of draft.now)) (map item_by items.now) ≡ false)) }
-{
-    let mut targets = Vec::new(alloc);
-    for item in items {
-        let target = target_of(draft, item);
-        if is_listed(&targets, target) {
-            continue;
+    for target in targets {
+        if !is_declared(draft, *target) {
+            return false;
         }
-        if !is_declared(draft, target) {
-            return Ok(None);
-        }
-        targets.push(target)?;
     }
-    Ok(Some(targets))
-}
-
-/// What a set names that a process of this job says, or nothing where a part of it isn't declared.
-pub fn targets_of(
-    alloc: Global,
-    draft: &Draft,
-    own_job: u32,
-    set: &Set,
-) -> Result<Option<Vec<Target>>, AllocError>
-    ensures declared { IfOk result (λ o. IfSome o
-        (λ v. is_declared_set (declared_of draft.now) (set_by set.now) ≡ true)) }
-    ensures targets { IfOk result (λ o. IfSome o (λ v. (p : pass.Started)
-        → is_any_target v.items p ≡ is_in (declared_of draft.now) own_job (set_by set.now) p)) }
-    ensures none { IfOk result (λ o. IfNone o (is_declared_set (declared_of draft.now) (set_by set.now) ≡ false)) }
-{
-    match set {
-        Set::Own => {
-            let mut targets = Vec::with_capacity(alloc, 1)?;
-            targets.push(Target::Every { job: own_job })?;
-            Ok(Some(targets))
-        }
-        Set::Listed(items) => listed(alloc, draft, items),
-    }
+    true
 }
 
 fn is_target_of(target: Target, process: &Started) -> bool
@@ -178,11 +153,21 @@ pub fn is_named(targets: &[Target], process: &Started) -> bool
     targets.iter().any(|target| is_target_of(*target, process))
 }
 
+/// What is named, each once, which keeps long sets cheap.
+fn distinct(alloc: Global, targets: &[Target]) -> Result<IndexSet<Target>, AllocError>
+    ensures { IfOk result (λ s. (p : pass.Started) → is_any_target s.keys p ≡ is_any_target targets.now p) }
+{
+    let mut kept = IndexSet::new(alloc);
+    for target in targets {
+        kept.insert_full(*target)?;
+    }
+    Ok(kept)
+}
+
 /// The processes that are named, each once, in process order.
-pub fn members_of(alloc: Global, draft: &Draft, targets: &[Target]) -> Result<Vec<Proc>, AllocError>
+fn members_of(alloc: Global, draft: &Draft, targets: &[Target]) -> Result<Vec<Proc>, AllocError>
     requires { IsWithinLimits (declared_of draft.now) }
-    ensures { IfOk result (λ v. numbers_of v.items
-        ≡ places_from (is_any_target targets.now) 0 (map started_of draft.now.processes.items)) }
+    ensures { IfOk result (λ v. numbers_of v.items ≡ named_in (declared_of draft.now) targets.now) }
 {
     let mut members = Vec::new(alloc);
     let mut number = 0;
@@ -193,4 +178,17 @@ pub fn members_of(alloc: Global, draft: &Draft, targets: &[Target]) -> Result<Ve
         number += 1;
     }
     Ok(members)
+}
+
+/// The members of the set of what is named.
+pub fn named_members(
+    alloc: Global,
+    draft: &Draft,
+    targets: &[Target],
+) -> Result<Vec<Proc>, AllocError>
+    requires { IsWithinLimits (declared_of draft.now) }
+    ensures { IfOk result (λ v. numbers_of v.items ≡ named_in (declared_of draft.now) targets.now) }
+{
+    let kept = distinct(alloc, targets)?;
+    members_of(alloc, draft, kept.as_slice())
 }

@@ -18,10 +18,34 @@ pub fn number_text(alloc: Global, texts: &mut Texts, text: &[u8]) -> Result<u32,
     ensures grown { OnOk result (length texts.new ≤ length texts.old + 1) }
 {
     let number = texts.number_or_count(text);
-    if !texts.contains(text) {
-        texts.add(alloc, text)?;
+    if number < texts.len() {
+        return Ok(number);
     }
+    texts.add(alloc, text)?;
     Ok(number)
+}
+
+/// The numbers of two texts, each in its table.
+pub fn number_pair(
+    alloc: Global,
+    names: &mut Texts,
+    values: &mut Texts,
+    name: &[u8],
+    value: &[u8],
+) -> Result<(u32, u32), AllocError>
+    requires name_room { length names.old + 1 < 2 ^ 32 }
+    requires value_room { length values.old + 1 < 2 ^ 32 }
+    ensures names { OnOk result (names.new ≡ with_text names.old name.now) }
+    ensures values { OnOk result (values.new ≡ with_text values.old value.now) }
+    ensures name { IfOk result
+        (λ p. (later : List (List ℕ)) → GoesOn names.new later → p.0 ≡ number_or_count later name.now) }
+    ensures value { IfOk result
+        (λ p. (later : List (List ℕ)) → GoesOn values.new later → p.1 ≡ number_or_count later value.now) }
+    ensures grown { OnOk result (length names.new + length values.new ≤ length names.old + length values.old + 2) }
+{
+    let first = number_text(alloc, names, name)?;
+    let second = number_text(alloc, values, value)?;
+    Ok((first, second))
 }
 
 /// The number of a set, which is added where it isn't there.
@@ -33,8 +57,9 @@ pub fn number_set(sets: &mut Sets, set: Vec<Proc>) -> Result<u32, AllocError>
     ensures grown { OnOk result (length sets.new ≤ length sets.old + 1) }
 {
     let number = sets.number_or_count(&set);
-    if !sets.contains(&set) {
-        sets.add(set)?;
+    if number < sets.len() {
+        return Ok(number);
     }
+    sets.add(set)?;
     Ok(number)
 }

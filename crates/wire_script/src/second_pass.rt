@@ -8,14 +8,23 @@ ghost use Rattle.wire_script.specs.Reads.{Seen, is_declared_set, is_in, set_memb
 ghost use Rattle.wire_script.specs.Within.{IsWithinLimits, IsDeclared};
 ghost use Rattle.wire_script.specs.Drafted.{declared_of, started_of, placed_of};
 ghost use Rattle.wire_script.specs.Tabled.{seen_of, seen_with, seen_after, all_seen, nothing_seen, entry_count, with_text, GoesOn, GoOn};
+ghost use Rattle.wire_script.specs.Targets.{named_in, AreNoted};
 
 use crate::draft::{Draft, Placed, Started};
-use crate::members::{is_named, members_of, proc_of, targets_of};
-use crate::numbers::{number_set, number_text};
-use std::alloc::Global;
+use crate::members::{Target, are_declared, is_named, listed, named_members, proc_of};
+use crate::noted::Noted;
+use crate::numbers::{number_pair, number_set, number_text};
+use std::alloc::{AllocError, Global};
 use wire_lines::{CallLine, ProcName, Set};
 use wire_rehearsal::{Process, Scripts, Sets, Tables, Texts};
 use wire_types::{Call, Fault, Proc};
+
+/// The tables so far, and the sets that were named, with their numbers.
+#[derive(Drop)]
+struct Numbering {
+    tables: Tables,
+    noted: Noted,
+}
 
 /// The owner and the number of the key of a get, of either kind.
 fn number_get(
@@ -27,6 +36,7 @@ fn number_get(
     key: &[u8],
 ) -> Result<(Proc, u32), Fault>
     requires within { IsWithinLimits (declared_of draft.now) }
+    requires declared { IsDeclared (declared_of draft.now) }
     requires room { length keys.old + 1 < 2 ^ 32 }
     ensures declared { OnOk result
         (has_proc (declared_of draft.now) owner.entry.job.now owner.entry.rank ≡ true) }
@@ -46,57 +56,100 @@ fn number_get(
     Ok((owner, key))
 }
 
+/// The number of the set of what is named, which is added where it isn't there.
+fn number_targets(
+    alloc: Global,
+    draft: &Draft,
+    sets: &mut Sets,
+    noted: &mut Noted,
+    targets: &[Target],
+) -> Result<u32, AllocError>
+    requires within { IsWithinLimits (declared_of draft.now) }
+    requires room { length sets.old + 1 < 2 ^ 32 }
+    requires noted { AreNoted (declared_of draft.now) sets.old noted.old }
+    ensures number { IfOk result (λ n. (later : List (List ℕ)) → GoesOn sets.new later
+        → n ≡ number_or_count later (named_in (declared_of draft.now) targets.now)) }
+    ensures sets { OnOk result (sets.new ≡ with_text sets.old (named_in (declared_of draft.now) targets.now)) }
+    ensures grown { OnOk result (length sets.new ≤ length sets.old + 1) }
+    ensures noted { OnOk result (AreNoted (declared_of draft.now) sets.new noted.new) }
+{
+    if let Some(number) = noted.number_of(targets) {
+        return Ok(number);
+    }
+    let members = named_members(alloc, draft, targets)?;
+    let number = number_set(sets, members)?;
+    noted.note(alloc, targets, number)?;
+    Ok(number)
+}
+
 /// The number of the set of a fence.
 fn number_fence(
     alloc: Global,
     draft: &Draft,
-    sets: &mut Sets,
+    numbering: &mut Numbering,
     caller: &Started,
     line: u64,
     set: &Set,
 ) -> Result<u32, Fault>
     requires within { IsWithinLimits (declared_of draft.now) }
-    requires room { length sets.old + 1 < 2 ^ 32 }
+    requires declared { IsDeclared (declared_of draft.now) }
+    requires room { length numbering.old.tables.sets + 1 < 2 ^ 32 }
+    requires noted { AreNoted (declared_of draft.now) numbering.old.tables.sets numbering.old.noted }
     ensures declared { OnOk result (is_declared_set (declared_of draft.now) (set_by set.now) ≡ true) }
     ensures caller { OnOk result
         (is_in (declared_of draft.now) caller.now.job (set_by set.now) (started_of caller.now) ≡ true) }
-    ensures number { IfOk result (λ n. (later : List (List ℕ)) → GoesOn sets.new later
+    ensures number { IfOk result (λ n. (later : List (List ℕ)) → GoesOn numbering.new.tables.sets later
         → n ≡ number_or_count later (set_members (declared_of draft.now) caller.now.job (set_by set.now))) }
-    ensures sets { OnOk result
-        (sets.new ≡ with_text sets.old (set_members (declared_of draft.now) caller.now.job (set_by set.now))) }
-    ensures grown { OnOk result (length sets.new ≤ length sets.old + 1) }
+    ensures tables { OnOk result (seen_of numbering.new.tables ≡ record (seen_of numbering.old.tables) {
+      sets = with_text numbering.old.tables.sets (set_members (declared_of draft.now) caller.now.job (set_by set.now));
+    }) }
+    ensures grown { OnOk result (length numbering.new.tables.sets ≤ length numbering.old.tables.sets + 1) }
+    ensures noted { OnOk result (AreNoted (declared_of draft.now) numbering.new.tables.sets numbering.new.noted) }
     ensures err { IfErr result (λ e. (e ≡ Fault.Memory)
         ⊎ ((is_declared_set (declared_of draft.now) (set_by set.now) ≡ false) × (e ≡ Fault.UnknownName line))
         ⊎ ((is_declared_set (declared_of draft.now) (set_by set.now) ≡ true)
         × (is_in (declared_of draft.now) caller.now.job (set_by set.now) (started_of caller.now) ≡ false)
         × (e ≡ Fault.NotMember line))) }
 {
-    let Some(targets) = targets_of(alloc, draft, caller.job, set)? else {
-        return Err(Fault::UnknownName(line));
-    };
-    if !is_named(&targets, caller) {
-        return Err(Fault::NotMember(line));
+    let (sets, noted) = (&mut numbering.tables.sets, &mut numbering.noted);
+    match set {
+        Set::Own => {
+            let own = [Target::Every { job: caller.job }];
+            let number = number_targets(alloc, draft, sets, noted, &own)?;
+            Ok(number)
+        }
+        Set::Listed(items) => {
+            let targets = listed(alloc, draft, items)?;
+            if !are_declared(draft, &targets) {
+                return Err(Fault::UnknownName(line));
+            }
+            if !is_named(&targets, caller) {
+                return Err(Fault::NotMember(line));
+            }
+            let number = number_targets(alloc, draft, sets, noted, &targets)?;
+            Ok(number)
+        }
     }
-    let members = members_of(alloc, draft, &targets)?;
-    let number = number_set(sets, members)?;
-    Ok(number)
 }
 
 /// A call with numbers for what it names, or its fault.
 fn number_call(
     alloc: Global,
     draft: &Draft,
-    tables: &mut Tables,
+    numbering: &mut Numbering,
     caller: &Started,
     placed: &Placed,
 ) -> Result<Call, Fault>
     requires within { IsWithinLimits (declared_of draft.now) }
-    requires room { entry_count (seen_of tables.old) + 2 < 2 ^ 32 }
-    ensures tables { OnOk result (seen_of tables.new
-        ≡ seen_with (declared_of draft.now) (seen_of tables.old) caller.now.job (call_by placed.now.call)) }
-    ensures call { IfOk result (λ c. (later : Seen) → GoOn (seen_of tables.new) later
+    requires declared { IsDeclared (declared_of draft.now) }
+    requires room { entry_count (seen_of numbering.old.tables) + 2 < 2 ^ 32 }
+    requires noted { AreNoted (declared_of draft.now) numbering.old.tables.sets numbering.old.noted }
+    ensures tables { OnOk result (seen_of numbering.new.tables
+        ≡ seen_with (declared_of draft.now) (seen_of numbering.old.tables) caller.now.job (call_by placed.now.call)) }
+    ensures call { IfOk result (λ c. (later : Seen) → GoOn (seen_of numbering.new.tables) later
         → c ≡ numbered (declared_of draft.now) later caller.now.job (call_by placed.now.call)) }
-    ensures grown { OnOk result (entry_count (seen_of tables.new) ≤ entry_count (seen_of tables.old) + 2) }
+    ensures grown { OnOk result (entry_count (seen_of numbering.new.tables) ≤ entry_count (seen_of numbering.old.tables) + 2) }
+    ensures noted { OnOk result (AreNoted (declared_of draft.now) numbering.new.tables.sets numbering.new.noted) }
     ensures ok { OnOk result
         (call_fault (declared_of draft.now) (started_of caller.now) placed.now.line (call_by placed.now.call) ≡ None) }
     ensures err { IfErr result (λ e. (e ≡ Fault.Memory)
@@ -104,37 +157,65 @@ fn number_call(
 {
     let line = placed.line;
     match &placed.call {
-        CallLine::Put { scope, key, value } => Ok(Call::Put {
-            scope: *scope,
-            key: number_text(alloc, &mut tables.keys, key)?,
-            value: number_text(alloc, &mut tables.values, value)?,
-        }),
+        CallLine::Put { scope, key, value } => {
+            let (key, value) = number_pair(
+                alloc,
+                &mut numbering.tables.keys,
+                &mut numbering.tables.values,
+                key,
+                value,
+            )?;
+            Ok(Call::Put {
+                scope: *scope,
+                key,
+                value,
+            })
+        }
         CallLine::Commit => Ok(Call::Commit),
         CallLine::Fence { set, collect } => Ok(Call::Fence {
-            set: number_fence(alloc, draft, &mut tables.sets, caller, line, set)?,
+            set: number_fence(alloc, draft, numbering, caller, line, set)?,
             collect: *collect,
         }),
         CallLine::Get { owner, key } => {
-            let (owner, key) = number_get(alloc, draft, &mut tables.keys, line, *owner, key)?;
+            let (owner, key) = number_get(
+                alloc,
+                draft,
+                &mut numbering.tables.keys,
+                line,
+                *owner,
+                key,
+            )?;
             Ok(Call::Get { owner, key })
         }
         CallLine::GetNow { owner, key } => {
-            let (owner, key) = number_get(alloc, draft, &mut tables.keys, line, *owner, key)?;
+            let (owner, key) = number_get(
+                alloc,
+                draft,
+                &mut numbering.tables.keys,
+                line,
+                *owner,
+                key,
+            )?;
             Ok(Call::GetNow { owner, key })
         }
         CallLine::Publish { name, value } => {
-            let name = number_text(alloc, &mut tables.names, name)?;
-            let value = number_text(alloc, &mut tables.values, value)?;
+            let (name, value) = number_pair(
+                alloc,
+                &mut numbering.tables.names,
+                &mut numbering.tables.values,
+                name,
+                value,
+            )?;
             Ok(Call::Publish { name, value })
         }
         CallLine::Lookup { name } => Ok(Call::Lookup {
-            name: number_text(alloc, &mut tables.names, name)?,
+            name: number_text(alloc, &mut numbering.tables.names, name)?,
         }),
         CallLine::LookupWait { name } => Ok(Call::LookupWait {
-            name: number_text(alloc, &mut tables.names, name)?,
+            name: number_text(alloc, &mut numbering.tables.names, name)?,
         }),
         CallLine::Unpublish { name } => Ok(Call::Unpublish {
-            name: number_text(alloc, &mut tables.names, name)?,
+            name: number_text(alloc, &mut numbering.tables.names, name)?,
         }),
     }
 }
@@ -143,17 +224,20 @@ fn number_call(
 fn number_calls(
     alloc: Global,
     draft: &Draft,
-    tables: &mut Tables,
+    numbering: &mut Numbering,
     caller: &Started,
 ) -> Result<Vec<Call>, Fault>
     requires within { IsWithinLimits (declared_of draft.now) }
-    requires room { entry_count (seen_of tables.old) + 2 * length caller.now.calls.items < 2 ^ 32 }
-    ensures tables { OnOk result (seen_of tables.new
-        ≡ seen_after (declared_of draft.now) (seen_of tables.old) caller.now.job (map placed_of caller.now.calls.items)) }
-    ensures calls { IfOk result (λ v. (later : Seen) → GoOn (seen_of tables.new) later
+    requires declared { IsDeclared (declared_of draft.now) }
+    requires room { entry_count (seen_of numbering.old.tables) + 2 * length caller.now.calls.items < 2 ^ 32 }
+    requires noted { AreNoted (declared_of draft.now) numbering.old.tables.sets numbering.old.noted }
+    ensures tables { OnOk result (seen_of numbering.new.tables
+        ≡ seen_after (declared_of draft.now) (seen_of numbering.old.tables) caller.now.job (map placed_of caller.now.calls.items)) }
+    ensures calls { IfOk result (λ v. (later : Seen) → GoOn (seen_of numbering.new.tables) later
         → v.items ≡ map (λ c. numbered (declared_of draft.now) later caller.now.job c.1) (map placed_of caller.now.calls.items)) }
     ensures grown { OnOk result
-        (entry_count (seen_of tables.new) ≤ entry_count (seen_of tables.old) + 2 * length caller.now.calls.items) }
+        (entry_count (seen_of numbering.new.tables) ≤ entry_count (seen_of numbering.old.tables) + 2 * length caller.now.calls.items) }
+    ensures noted { OnOk result (AreNoted (declared_of draft.now) numbering.new.tables.sets numbering.new.noted) }
     ensures ok { OnOk result
         (fault_in (declared_of draft.now) (started_of caller.now) (map placed_of caller.now.calls.items) ≡ None) }
     ensures err { IfErr result (λ e. (e ≡ Fault.Memory)
@@ -162,7 +246,7 @@ fn number_calls(
 {
     let mut calls = Vec::with_capacity(alloc, caller.calls.len())?;
     for placed in &caller.calls {
-        let call = number_call(alloc, draft, tables, caller, placed)?;
+        let call = number_call(alloc, draft, numbering, caller, placed)?;
         if calls.push(call).is_err() {
             return Err(Fault::Memory);
         }
@@ -173,23 +257,26 @@ fn number_calls(
 fn number_process(
     alloc: Global,
     draft: &Draft,
-    tables: &mut Tables,
+    numbering: &mut Numbering,
     process: &Started,
 ) -> Result<Process, Fault>
     requires within { IsWithinLimits (declared_of draft.now) }
-    requires room { entry_count (seen_of tables.old) + 2 * length process.now.calls.items < 2 ^ 32 }
-    ensures tables { OnOk result (seen_of tables.new
-        ≡ seen_after (declared_of draft.now) (seen_of tables.old) process.now.job (map placed_of process.now.calls.items)) }
-    ensures process { IfOk result (λ p. (later : Seen) → GoOn (seen_of tables.new) later
+    requires declared { IsDeclared (declared_of draft.now) }
+    requires room { entry_count (seen_of numbering.old.tables) + 2 * length process.now.calls.items < 2 ^ 32 }
+    requires noted { AreNoted (declared_of draft.now) numbering.old.tables.sets numbering.old.noted }
+    ensures tables { OnOk result (seen_of numbering.new.tables
+        ≡ seen_after (declared_of draft.now) (seen_of numbering.old.tables) process.now.job (map placed_of process.now.calls.items)) }
+    ensures process { IfOk result (λ p. (later : Seen) → GoOn (seen_of numbering.new.tables) later
         → p ≡ process_of (declared_of draft.now) later (started_of process.now)) }
     ensures grown { OnOk result
-        (entry_count (seen_of tables.new) ≤ entry_count (seen_of tables.old) + 2 * length process.now.calls.items) }
+        (entry_count (seen_of numbering.new.tables) ≤ entry_count (seen_of numbering.old.tables) + 2 * length process.now.calls.items) }
+    ensures noted { OnOk result (AreNoted (declared_of draft.now) numbering.new.tables.sets numbering.new.noted) }
     ensures ok { OnOk result
         (fault_in (declared_of draft.now) (started_of process.now) (map placed_of process.now.calls.items) ≡ None) }
     ensures err { IfErr result (λ e. (e ≡ Fault.Memory)
         ⊎ (fault_in (declared_of draft.now) (started_of process.now) (map placed_of process.now.calls.items) ≡ Some e)) }
 {
-    let calls = number_calls(alloc, draft, tables, process)?;
+    let calls = number_calls(alloc, draft, numbering, process)?;
     Ok(Process::new(process.job, process.rank, process.node, calls))
 }
 
@@ -197,14 +284,16 @@ fn number_process(
 fn number_processes(
     alloc: Global,
     draft: &Draft,
-    tables: &mut Tables,
+    numbering: &mut Numbering,
 ) -> Result<Vec<Process>, Fault>
     requires within { IsWithinLimits (declared_of draft.now) }
-    requires empty { seen_of tables.old ≡ nothing_seen }
-    ensures tables { OnOk result (seen_of tables.new
+    requires declared { IsDeclared (declared_of draft.now) }
+    requires empty { seen_of numbering.old.tables ≡ nothing_seen }
+    requires noted { AreNoted (declared_of draft.now) numbering.old.tables.sets numbering.old.noted }
+    ensures tables { OnOk result (seen_of numbering.new.tables
         ≡ all_seen (declared_of draft.now) nothing_seen (map started_of draft.now.processes.items)) }
     ensures processes { IfOk result (λ v. v.items
-        ≡ map (process_of (declared_of draft.now) (seen_of tables.new)) (map started_of draft.now.processes.items)) }
+        ≡ map (process_of (declared_of draft.now) (seen_of numbering.new.tables)) (map started_of draft.now.processes.items)) }
     ensures ok { OnOk result
         (first_fault (declared_of draft.now) (map started_of draft.now.processes.items) ≡ None) }
     ensures err { IfErr result (λ e. (e ≡ Fault.Memory)
@@ -212,7 +301,7 @@ fn number_processes(
 {
     let mut processes = Vec::with_capacity(alloc, draft.processes.len())?;
     for process in &draft.processes {
-        let numbered = number_process(alloc, draft, tables, process)?;
+        let numbered = number_process(alloc, draft, numbering, process)?;
         if processes.push(numbered).is_err() {
             return Err(Fault::Memory);
         }
@@ -227,16 +316,32 @@ pub fn scripts_of(alloc: Global, draft: Draft) -> Result<Scripts, Fault>
     ensures ok { IfOk result (λ s. second_pass (declared_of draft.entry) ≡ Ok s) }
     ensures err { IfErr result (λ e. (e ≡ Fault.Memory) ⊎ (second_pass (declared_of draft.entry) ≡ Err e)) }
 {
-    let mut tables = Tables {
-        keys: Texts::new(alloc),
-        names: Texts::new(alloc),
-        values: Texts::new(alloc),
-        sets: Sets::new(alloc),
+    let mut numbering = Numbering {
+        tables: Tables {
+            keys: Texts::new(alloc),
+            names: Texts::new(alloc),
+            values: Texts::new(alloc),
+            sets: Sets::new(alloc),
+        },
+        noted: Noted::new(alloc),
     };
-    let processes = match number_processes(alloc, &draft, &mut tables) {
-        Ok(processes) => processes,
-        Err(fault) => return Err(fault),
-    };
-    let Draft { nodes, jobs, .. } = draft;
-    Ok(Scripts::new(nodes, jobs, tables, processes))
+    match number_processes(alloc, &draft, &mut numbering) {
+        Ok(processes) => {
+            let Numbering { tables, noted } = numbering;
+            drop(noted);
+            let Draft {
+                nodes,
+                jobs,
+                processes: said,
+                ..
+            } = draft;
+            drop(said);
+            Ok(Scripts::new(nodes, jobs, tables, processes))
+        }
+        Err(fault) => {
+            drop(numbering);
+            drop(draft);
+            Err(fault)
+        }
+    }
 }

@@ -10,6 +10,9 @@ use Rattle.wire_rehearsal.specs.Scripts.{Scripts, numbers_of}
 use Rattle.wire_script.specs.Statements.{Statement, statements}
 use Rattle.wire_order.specs.Order.{order_read, order_within, order_of, step_of, with_step}
 use Rattle.wire_order.proofs.Limited.{order_limited}
+use Rattle.wire_runs.specs.Step.{is_enabled}
+use Rattle.wire_core.specs.Course.{Course, plan_in, state_of}
+use Rattle.wire_core.specs.Following.{StopsAt}
 use Rattle.wire_up.specs.Replay.{ReadAs, Refuses}
 use Rattle.wire_up.proofs.Texts.{LeadsTo}
 use Rattle.wire_up.specs.Follow.{OrdersAs, RefusesSteps, StopsAfter, StopsBefore, OrderedAs, WritesFollowed, BreaksOffFollowed}
@@ -141,3 +144,17 @@ no_read_of_order s bytes (Err e) (inr reads) is =
 pub err_always : {A : Type 0} (r : Result A Fault) (P : Fault → Type 0) → ((e : Fault) → P e) → IfErr r P
 err_always (Ok x) P f = tt
 err_always (Err e) P f = f e
+
+-- a run from the start that stops in an order stops after the steps before
+pub stopped_first : (s : Scripts) (new : Course) (steps : List ℕ) (e : Fault) → StopsAt (record { scripts = s; history = [] }) steps new e → StopsAfter s steps e
+stopped_first s new steps e stops = record {
+  n = stops.n;
+  is = stops.is;
+  enabled = stops.before.enabled;
+  p = stops.p;
+  next = stops.next;
+  not_enabled = subst (λ c. is_enabled (plan_in c) (state_of c) stops.p ≡ false) stops.before.taken stops.not_enabled;
+}
+
+pub stopped : (s : Scripts) (old new : Course) (steps : List ℕ) (e : Fault) → old ≡ record { scripts = s; history = [] } → StopsAt old steps new e → StopsAfter s steps e
+stopped s old new steps e is stops = stopped_first s new steps e (subst (λ o. StopsAt o steps new e) is stops)

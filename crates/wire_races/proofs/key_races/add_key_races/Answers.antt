@@ -1,19 +1,17 @@
-use Rattle.std.proofs.Common.{sym, subst}
 use Rattle.std.proofs.lemmas.Result.{on_ok_weaker}
 use Rattle.wire_runs.specs.Plan.{process_count}
 use Rattle.wire_rehearsal.specs.Planned.{plan_of}
 use Rattle.wire_races.specs.KeyRaces.{IsKeyRaceOf}
-use Rattle.wire_races.specs.Pieces.{ArePieces, AreAllFound}
 use Rattle.wire_races.proofs.Together.{all_found, key_pieces_added}
 use Rattle.wire_races.proofs.key_races.add_key_races.Goals as goal
 
 pub returns-clause-found : goal.returns-clause-found
 returns-clause-found g c =
     let plan = plan_of c.args.plan.now in
-    on_ok_weaker c.add_pieces.result (λ h. (h plan c.requires.found (subst (λ l. AreAllFound plan l) (sym c.as_slice.ensures.value) (all_found plan (process_count plan) (IsKeyRaceOf plan) c.in_ok-pieces.pieces.items c.in_ok-pieces.ensures))).found) c.add_pieces.ensures
+    on_ok_weaker c.add_pieces.result (λ h. (h plan c.requires.found (all_found plan (process_count plan) (IsKeyRaceOf plan) c.in_ok-pieces.pieces.items c.in_ok-pieces.ensures)).found) c.add_pieces.ensures
 
 pub returns-clause-all : goal.returns-clause-all
 returns-clause-all g c =
     let plan = plan_of c.args.plan.now in
-    let pieces = subst (λ l. ArePieces plan (process_count plan) (IsKeyRaceOf plan) l) (sym c.as_slice.ensures.value) c.in_ok-pieces.ensures in
-    on_ok_weaker c.add_pieces.result (λ h. key_pieces_added plan c.as_slice.result.now c.args.found.now c.add_pieces.new.found pieces (h plan c.requires.found (all_found plan (process_count plan) (IsKeyRaceOf plan) c.as_slice.result.now pieces))) c.add_pieces.ensures
+    let pieces = c.in_ok-pieces.ensures in
+    on_ok_weaker c.add_pieces.result (λ h. key_pieces_added plan c.in_ok-pieces.pieces.items c.args.found.now c.add_pieces.new.found pieces (h plan c.requires.found (all_found plan (process_count plan) (IsKeyRaceOf plan) c.in_ok-pieces.pieces.items pieces))) c.add_pieces.ensures

@@ -1,17 +1,9 @@
-use Rattle.std.proofs.Common.{map, length}
+use Rattle.std.proofs.Common.{map, take}
 use Rattle.wire_runs.specs.Plan.{event_of}
 use Rattle.wire_rehearsal.specs.Planned.{plan_of}
-use Rattle.wire_races.specs.Collected.{AreFound}
-use Rattle.wire_races.specs.NameRaces.{AreCallsOn}
-use Rattle.wire_races.proofs.NameRaces.{IsLeft}
+use Rattle.wire_races.specs.Adding.{Adds}
+use Rattle.wire_races.proofs.NameRaces.{IsRaceAmong}
 use Rattle.wire_races.proofs.name_races.add_races_on.Given as goal
 
-abbrev pub invariant-runs : goal.invariant-runs
-invariant-runs l = record {
-  found : AreFound (plan_of l.plan) l.found;
-  calls : AreCallsOn (plan_of l.plan) l.name (map event_of l.rest);
-  left : IsLeft (plan_of l.plan) l.name l.initial.found l.found (map event_of l.rest);
-}
-
-abbrev pub decreases-runs : goal.decreases-runs
-decreases-runs l = length l.rest
+abbrev pub invariant-loop-event : goal.invariant-loop-event
+invariant-loop-event l = Adds (plan_of l.plan) l.initial.found l.found (IsRaceAmong (plan_of l.plan) l.name (map event_of (take l.event-index l.calls)))

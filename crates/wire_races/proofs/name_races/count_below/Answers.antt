@@ -1,8 +1,9 @@
 use Rattle.std.proofs.Common.{◌∙◌, ◌+◌, ◌-◌, ◌/◌, ◌<◌, map, length, sym, arith}
 use Rattle.std.proofs.lemmas.Bool.{true≢false}
 use Rattle.wire_runs.specs.Plan.{event_of}
+use Rattle.wire_races.specs.NameRaces.{IsBelow}
 use Rattle.wire_races.proofs.Lists.{place_at}
-use Rattle.wire_races.proofs.NameRaces.{low_rises, high_falls, narrowed_cut}
+use Rattle.wire_races.proofs.NameRaces.{low_rises, high_falls, narrowed_cut, borders}
 use Rattle.wire_races.proofs.name_races.count_below.Goals as goal
 
 pub bisection-preserved-then-is_below : goal.bisection-preserved-then-is_below
@@ -16,7 +17,7 @@ bisection-preserved-then-is_below c =
       order = omega (arith, lt);
       within = within;
       narrowed = λ plan name p marks are one.
-          low_rises plan (event_of c.args.x) c.args.border name p (map event_of c.args.run.now) are one low high _ _ (place_at c.args.run.now (low + (high - low) / 2) _ fits)
+          low_rises (IsBelow plan (event_of c.args.x) c.args.border) (map event_of c.args.run.now) (borders plan (event_of c.args.x) c.args.border name p (map event_of c.args.run.now) are one) low high _ _ (place_at c.args.run.now (low + (high - low) / 2) _ fits)
           ((c.is_below.ensures plan marks).0 c.if-is_below.true) (c.bisection.invariant.narrowed plan name p marks are one);
     }
 
@@ -31,7 +32,7 @@ bisection-preserved c =
       order = omega arith;
       within = omega (arith, fits);
       narrowed = λ plan name p marks are one.
-          high_falls plan (event_of c.args.x) c.args.border name p (map event_of c.args.run.now) are one low high _ _ (place_at c.args.run.now (low + (high - low) / 2) _ fits)
+          high_falls (IsBelow plan (event_of c.args.x) c.args.border) (map event_of c.args.run.now) (borders plan (event_of c.args.x) c.args.border name p (map event_of c.args.run.now) are one) low high _ _ (place_at c.args.run.now (low + (high - low) / 2) _ fits)
           (λ h. true≢false (sym ((c.is_below.ensures plan marks).1 h) ∙ c.if-is_below.false)) (c.bisection.invariant.narrowed plan name p marks are one);
     }
 

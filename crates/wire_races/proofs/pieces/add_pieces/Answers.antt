@@ -1,23 +1,46 @@
-use Rattle.std.proofs.Common.{◌≡◌, ◌∙◌, ap, ◌+◌, ◌++◌, length, arith, refl}
-use Rattle.std.proofs.lemmas.Option.{slice_get_read}
+use Rattle.std.proofs.Common.{◌≡◌, ◌∙◌, ap, sym, subst, ◌+◌, ◌∷◌, [], List, Some, slice_get, length, refl, append_assoc, append-nil, arith}
+use Rattle.std.specs.Vec.Iter.{into_iter_items}
+use Rattle.wire_races.specs.Pieces.{IsInSome, AreAllFound}
+use Rattle.wire_races.specs.Adding.{Adds}
 use Rattle.wire_races.proofs.Adding.{appended}
-use Rattle.wire_races.proofs.Growing.{adds_none}
-use Rattle.wire_races.proofs.Together.{IsInFirst, piece_more, in_some}
+use Rattle.wire_races.proofs.Calls.{get_right}
+use Rattle.wire_races.proofs.Together.{some_more, none_more}
 use Rattle.wire_races.proofs.pieces.add_pieces.Goals as goal
 
+nothing_left : {X : Type 0} (l : List X) → length l ≡ 0 → l ≡ []
+nothing_left [] h = refl
+nothing_left (x ∷ xs) h = absurd (omega arith)
+
 pub loop-piece-init : goal.loop-piece-init
-loop-piece-init c = λ plan found all. adds_none plan c.args.found.now (IsInFirst plan c.args.pieces.now 0) found (λ f t. let lt = t.2 in omega (arith, lt))
+loop-piece-init c =
+    let given = c.into_iter-piece-iterator.ensures.into_iter_gives in
+    let items = ap length given.0 in
+    let size = given.1 in
+    let fits = c.args.pieces.ok.0 in
+    (refl, omega (arith, items, size, fits), λ plan found all. none_more plan c.args.found.now found)
 
 pub loop-piece-preserved : goal.loop-piece-preserved
-loop-piece-preserved c = λ plan found all.
-    let n = c.loop-piece.piece-index in
-    let pieces = c.args.pieces.now in
-    let is = slice_get_read pieces (length pieces) n c.piece-item.result refl c.loop-piece-test.true c.piece-item.is in
-    let before = c.loop-piece.invariant plan found all in
-    let told = appended plan c.loop-piece.found c.append.new.self c.piece-item.result.items (c.in_ok-append.ensures ∙ ap (λ l. c.loop-piece.found ++ l) c.as_slice.ensures.value) before.found (all n c.piece-item.result is) in
-    piece_more plan pieces n (n + 1) c.piece-item.result c.args.found.now c.loop-piece.found c.append.new.self is (omega arith) before told
+loop-piece-preserved c =
+    let at = c.loop-piece in
+    let x = c.in-Some.piece in
+    let steps : into_iter_items at.piece-iterator ≡ x ∷ into_iter_items c.next.new.self = c.in-Some.ensures.steps.0 in
+    let split = rw steps at at.invariant.0 in (
+      append_assoc at.yielded (x ∷ []) _ ∙ split,
+      let was = at.invariant.1 in
+          let gone = c.in-Some.ensures.steps.1 in
+          let short = ap length steps in
+          omega arith,
+      λ plan found all.
+          let before = at.invariant.2 plan found all in
+          let here = all (length at.yielded + 0) x (subst (λ l. slice_get l (length at.yielded + 0) ≡ Some x) split (get_right at.yielded (x ∷ into_iter_items c.next.new.self) 0)) in
+          some_more plan at.yielded x c.args.found.now at.found c.append.new.self before (appended plan at.found c.append.new.self x.items c.in_ok-append.ensures before.found here),
+    )
 
 pub returns : goal.returns
 returns c = λ plan found all.
-    let end : c.loop-piece.piece-index ≡ length c.args.pieces.now = omega arith in
-    in_some plan c.args.pieces.now c.loop-piece.piece-index c.args.found.now c.loop-piece.found end (c.loop-piece.invariant plan found all)
+    let at = c.loop-piece in
+    let none = c.in-None.ensures.steps in
+    let empty : into_iter_items at.piece-iterator ≡ [] = nothing_left _ (sym at.invariant.1 ∙ none.0) in
+    let given = c.into_iter-piece-iterator.ensures.into_iter_gives.0 in
+    let every = sym (append-nil at.yielded) ∙ rw empty at at.invariant.0 ∙ given in
+    subst (λ l. Adds plan c.args.found.now at.found (IsInSome plan l)) every (at.invariant.2 plan found (subst (λ l. AreAllFound plan l) (sym given) all))

@@ -1,17 +1,26 @@
-use Rattle.std.proofs.Common.{◌≡◌, ◌∙◌, rules, false, true, [], ◌∷◌, ◌++◌}
-use Rattle.wire_script.specs.FirstPass.{is_among, number_or_count}
-use Rattle.wire_script.proofs.Seen.{number_kept, number_pushed}
+use Rattle.std.proofs.Common.{◌∙◌, refl}
+use Rattle.wire_script.proofs.Seen.{known_below, new_past, number_kept, number_pushed}
 use Rattle.wire_script.proofs.numbers.number_text.Goals as goal
 
-pub returns-in_ok-add-clause-number : goal.returns-in_ok-add-clause-number
-returns-in_ok-add-clause-number c = λ later goes.
-    let number : c.number_or_count-number.result ≡ number_or_count c.args.texts.now c.args.text.now = search rules in
-    let new : is_among c.args.texts.now c.args.text.now ≡ false = search rules in
-    let added : c.add.new.self ≡ c.args.texts.now ++ c.args.text.now ∷ [] = search rules in
-    number ∙ number_pushed c.args.texts.now later c.args.text.now new (rw added at goes)
+pub returns-then-number-len-clause-texts : goal.returns-then-number-len-clause-texts
+returns-then-number-len-clause-texts c =
+    let known = known_below c.args.texts.now c.args.text.now c.number_or_count-number.result c.len.result c.number_or_count-number.ensures c.len.ensures c.if-number-len.true in
+    rw known refl
 
-pub returns-else-not-contains-clause-number : goal.returns-else-not-contains-clause-number
-returns-else-not-contains-clause-number c = λ later goes.
-    let number : c.number_or_count-number.result ≡ number_or_count c.args.texts.now c.args.text.now = search rules in
-    let known : is_among c.args.texts.now c.args.text.now ≡ true = search rules in
-    number ∙ number_kept c.args.texts.now later c.args.text.now known goes
+pub returns-then-number-len-clause-number : goal.returns-then-number-len-clause-number
+returns-then-number-len-clause-number c = λ later goes.
+    let known = known_below c.args.texts.now c.args.text.now c.number_or_count-number.result c.len.result c.number_or_count-number.ensures c.len.ensures c.if-number-len.true in
+    c.number_or_count-number.ensures ∙ number_kept c.args.texts.now later c.args.text.now known goes
+
+pub add-requires-clause-new : goal.add-requires-clause-new
+add-requires-clause-new c = new_past c.args.texts.now c.args.text.now c.number_or_count-number.result c.len.result c.number_or_count-number.ensures c.len.ensures c.if-number-len.false
+
+pub returns-clause-texts : goal.returns-clause-texts
+returns-clause-texts c =
+    let new = new_past c.args.texts.now c.args.text.now c.number_or_count-number.result c.len.result c.number_or_count-number.ensures c.len.ensures c.if-number-len.false in
+    rw new c.in_ok-add.ensures.ok
+
+pub returns-clause-number : goal.returns-clause-number
+returns-clause-number c = λ later goes.
+    let new = new_past c.args.texts.now c.args.text.now c.number_or_count-number.result c.len.result c.number_or_count-number.ensures c.len.ensures c.if-number-len.false in
+    c.number_or_count-number.ensures ∙ number_pushed c.args.texts.now later c.args.text.now new (rw c.in_ok-add.ensures.ok at goes)

@@ -14,8 +14,8 @@ loop-placed-preserved c =
     let cs = c.args.caller.now.calls.items in
     let i = c.loop-placed.placed-index in
     let x = c.placed-item.result in
-    let old = seen_of c.loop-placed.tables in
-    let new = seen_of c.number_call.new.tables in
+    let old = seen_of c.loop-placed.numbering.tables in
+    let new = seen_of c.number_call.new.numbering.tables in
     let lt : i < length cs = rw c.deref-placed-items.ensures.value at c.loop-placed-test.true in
     let is : x ≡ get_or cs i x = rw c.deref-placed-items.ensures.value at c.placed-item.is in
     let pushed : c.push.new.self.items ≡ c.loop-placed.calls.items ++ c.in_ok-call.call ∷ [] = search rules in
@@ -23,6 +23,7 @@ loop-placed-preserved c =
     record {
       so_far = calls_on d _ old new job cs i x lt is c.loop-placed.invariant.so_far c.in_ok-call.ensures.tables;
       grown = let a = c.loop-placed.invariant.grown in let b = c.in_ok-call.ensures.grown in omega arith;
+      noted = c.in_ok-call.ensures.noted;
       numbers = λ later goes.
           made_on (λ y. numbered d later job y.1) placed_of c.loop-placed.calls.items c.push.new.self.items cs i x c.in_ok-call.call lt is pushed
           (c.loop-placed.invariant.numbers later (go_on_more old new later grows goes)) (c.in_ok-call.ensures.call later goes);

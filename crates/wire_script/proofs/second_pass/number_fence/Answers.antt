@@ -1,17 +1,77 @@
-use Rattle.std.proofs.Common.{◌≡◌, ◌∙◌, ap}
-use Rattle.wire_lines.specs.Shown.{set_by}
-use Rattle.wire_script.specs.FirstPass.{Started, number_or_count}
-use Rattle.wire_script.specs.Reads.{is_in, places_from}
-use Rattle.wire_script.specs.Targets.{is_any_target}
-use Rattle.wire_script.specs.Drafted.{declared_of}
-use Rattle.wire_script.proofs.Targets.{targets_members}
+use Rattle.std.proofs.Common.{◌≡◌, ◌∙◌, ap, sym, refl, map, true, inl, inr}
+use Rattle.std.specs.List.{list_all}
+use Rattle.wire_lines.specs.Said as said
+use Rattle.wire_lines.specs.Shown.{set_by, item_by}
+use Rattle.wire_script.specs.FirstPass.{number_or_count}
+use Rattle.wire_script.specs.Reads.{is_declared_set}
+use Rattle.wire_script.specs.Drafted.{declared_of, started_of}
+use Rattle.wire_script.specs.Tabled.{seen_of, with_text}
+use Rattle.wire_script.specs.Targets.{named_in, target_by, is_declared_target, is_any_target}
+use Rattle.wire_script.proofs.Targets.{set_declared, set_named, listed_members, own_members}
 use Rattle.wire_script.proofs.second_pass.number_fence.Goals as goal
 
-pub returns-clause-number : goal.returns-clause-number
-returns-clause-number c = λ later goes.
+pub returns-then-not-are_declared-clause-err : goal.returns-then-not-are_declared-clause-err
+returns-then-not-are_declared-clause-err c =
     let d = declared_of c.args.draft.now in
-    let job = c.args.caller.now.job in
-    let set = set_by c.args.set.now in
-    let named : (p : Started) → is_any_target c.in-Some.targets.items p ≡ is_in d job set p = rw c.in-Some.is at c.in_ok-targets.ensures.targets in
-    let members = c.in_ok-members.ensures ∙ ap (λ t. places_from (is_any_target t) 0 d.processes) c.deref-2.ensures.value ∙ targets_members d job set c.in-Some.targets.items named in
-    c.in_ok-number.ensures.number later goes ∙ ap (number_or_count later) members
+    let items = map item_by c.in-Listed.items.items in
+    let set : set_by c.args.set.now ≡ said.Listed items = ap set_by c.in-Listed.is in
+    let named : c.in_ok-targets-in-Listed.targets.items ≡ map (target_by d) items = c.in_ok-targets-in-Listed.ensures ∙ ap (λ l. map (target_by d) (map item_by l)) c.deref.ensures.value in
+    inr (inl (sym (set_declared d (set_by c.args.set.now) items c.in_ok-targets-in-Listed.targets.items set named) ∙ ap (list_all (is_declared_target d)) (sym c.deref-in-Listed.ensures.value) ∙ sym c.if-not-are_declared.ensures, refl))
+
+pub returns-then-not-is_named-clause-err : goal.returns-then-not-is_named-clause-err
+returns-then-not-is_named-clause-err c =
+    let d = declared_of c.args.draft.now in
+    let items = map item_by c.in-Listed.items.items in
+    let set : set_by c.args.set.now ≡ said.Listed items = ap set_by c.in-Listed.is in
+    let named : c.in_ok-targets-in-Listed.targets.items ≡ map (target_by d) items = c.in_ok-targets-in-Listed.ensures ∙ ap (λ l. map (target_by d) (map item_by l)) c.deref.ensures.value in
+    let declared : is_declared_set d (set_by c.args.set.now) ≡ true =
+    sym (set_declared d (set_by c.args.set.now) items c.in_ok-targets-in-Listed.targets.items set named) ∙ ap (list_all (is_declared_target d)) (sym c.deref-in-Listed.ensures.value) ∙ sym c.if-not-are_declared.ensures in
+    inr (inr (declared, sym (set_named d (set_by c.args.set.now) items c.in_ok-targets-in-Listed.targets.items set named c.args.caller.now.job (started_of c.args.caller.now)) ∙ ap (λ l. is_any_target l (started_of c.args.caller.now)) (sym c.deref-in-Listed-2.ensures.value) ∙ sym c.if-not-is_named.ensures, refl))
+
+pub returns-in_ok-number-in-Listed-clause-declared : goal.returns-in_ok-number-in-Listed-clause-declared
+returns-in_ok-number-in-Listed-clause-declared c =
+    let d = declared_of c.args.draft.now in
+    let items = map item_by c.in-Listed.items.items in
+    let set : set_by c.args.set.now ≡ said.Listed items = ap set_by c.in-Listed.is in
+    let named : c.in_ok-targets-in-Listed.targets.items ≡ map (target_by d) items = c.in_ok-targets-in-Listed.ensures ∙ ap (λ l. map (target_by d) (map item_by l)) c.deref.ensures.value in
+    let declared : is_declared_set d (set_by c.args.set.now) ≡ true =
+    sym (set_declared d (set_by c.args.set.now) items c.in_ok-targets-in-Listed.targets.items set named) ∙ ap (list_all (is_declared_target d)) (sym c.deref-in-Listed.ensures.value) ∙ sym c.if-not-are_declared.ensures in
+    declared
+
+pub returns-in_ok-number-in-Listed-clause-caller : goal.returns-in_ok-number-in-Listed-clause-caller
+returns-in_ok-number-in-Listed-clause-caller c =
+    let d = declared_of c.args.draft.now in
+    let items = map item_by c.in-Listed.items.items in
+    let set : set_by c.args.set.now ≡ said.Listed items = ap set_by c.in-Listed.is in
+    let named : c.in_ok-targets-in-Listed.targets.items ≡ map (target_by d) items = c.in_ok-targets-in-Listed.ensures ∙ ap (λ l. map (target_by d) (map item_by l)) c.deref.ensures.value in
+    sym (set_named d (set_by c.args.set.now) items c.in_ok-targets-in-Listed.targets.items set named c.args.caller.now.job (started_of c.args.caller.now)) ∙ ap (λ l. is_any_target l (started_of c.args.caller.now)) (sym c.deref-in-Listed-2.ensures.value) ∙ sym c.if-not-is_named.ensures
+
+pub returns-in_ok-number-in-Listed-clause-number : goal.returns-in_ok-number-in-Listed-clause-number
+returns-in_ok-number-in-Listed-clause-number c = λ later goes.
+    let d = declared_of c.args.draft.now in
+    let items = map item_by c.in-Listed.items.items in
+    let set : set_by c.args.set.now ≡ said.Listed items = ap set_by c.in-Listed.is in
+    let named : c.in_ok-targets-in-Listed.targets.items ≡ map (target_by d) items = c.in_ok-targets-in-Listed.ensures ∙ ap (λ l. map (target_by d) (map item_by l)) c.deref.ensures.value in
+    let members = ap (λ l. named_in d l) c.deref-in-Listed-3.ensures.value ∙ listed_members d (set_by c.args.set.now) items c.in_ok-targets-in-Listed.targets.items set named c.args.caller.now.job in
+    c.in_ok-number-in-Listed.ensures.number later goes ∙ ap (number_or_count later) members
+
+pub returns-in_ok-number-in-Listed-clause-tables : goal.returns-in_ok-number-in-Listed-clause-tables
+returns-in_ok-number-in-Listed-clause-tables c =
+    let d = declared_of c.args.draft.now in
+    let items = map item_by c.in-Listed.items.items in
+    let set : set_by c.args.set.now ≡ said.Listed items = ap set_by c.in-Listed.is in
+    let named : c.in_ok-targets-in-Listed.targets.items ≡ map (target_by d) items = c.in_ok-targets-in-Listed.ensures ∙ ap (λ l. map (target_by d) (map item_by l)) c.deref.ensures.value in
+    let members = ap (λ l. named_in d l) c.deref-in-Listed-3.ensures.value ∙ listed_members d (set_by c.args.set.now) items c.in_ok-targets-in-Listed.targets.items set named c.args.caller.now.job in
+    ap (λ m. record (seen_of c.args.numbering.now.tables) { sets = m }) (c.in_ok-number-in-Listed.ensures.sets ∙ ap (with_text c.args.numbering.now.tables.sets) members)
+
+pub returns-in_ok-number-in-Own-clause-number : goal.returns-in_ok-number-in-Own-clause-number
+returns-in_ok-number-in-Own-clause-number c = λ later goes.
+    let d = declared_of c.args.draft.now in
+    let members = own_members d c.args.caller.now.job (set_by c.args.set.now) (ap set_by c.in-Own.is) in
+    c.in_ok-number-in-Own.ensures.number later goes ∙ ap (number_or_count later) members
+
+pub returns-in_ok-number-in-Own-clause-tables : goal.returns-in_ok-number-in-Own-clause-tables
+returns-in_ok-number-in-Own-clause-tables c =
+    let d = declared_of c.args.draft.now in
+    let members = own_members d c.args.caller.now.job (set_by c.args.set.now) (ap set_by c.in-Own.is) in
+    ap (λ m. record (seen_of c.args.numbering.now.tables) { sets = m }) (c.in_ok-number-in-Own.ensures.sets ∙ ap (with_text c.args.numbering.now.tables.sets) members)

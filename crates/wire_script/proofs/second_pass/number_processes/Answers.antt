@@ -13,8 +13,8 @@ loop-process-preserved c =
     let ps = c.args.draft.now.processes.items in
     let i = c.loop-process.process-index in
     let x = c.process-item.result in
-    let old = seen_of c.loop-process.tables in
-    let new = seen_of c.number_process.new.tables in
+    let old = seen_of c.loop-process.numbering.tables in
+    let new = seen_of c.number_process.new.numbering.tables in
     let lt : i < length ps = rw c.deref-process-items.ensures.value at c.loop-process-test.true in
     let is : x ≡ get_or ps i x = rw c.deref-process-items.ensures.value at c.process-item.is in
     let pushed : c.push.new.self.items ≡ c.loop-process.processes.items ++ c.in_ok-numbered.numbered ∷ [] = search rules in
@@ -22,6 +22,7 @@ loop-process-preserved c =
     record {
       so_far = processes_on d _ old new ps i x lt is c.loop-process.invariant.so_far c.in_ok-numbered.ensures.tables;
       room = room_on old new (2 * limits.calls) ps i x lt is c.loop-process.invariant.room c.in_ok-numbered.ensures.grown;
+      noted = c.in_ok-numbered.ensures.noted;
       numbers = λ later goes.
           made_on (process_of d later) started_of c.loop-process.processes.items c.push.new.self.items ps i x c.in_ok-numbered.numbered lt is pushed
           (c.loop-process.invariant.numbers later (go_on_more old new later grows goes)) (c.in_ok-numbered.ensures.process later goes);
@@ -30,7 +31,7 @@ loop-process-preserved c =
 
 pub returns-clause-processes : goal.returns-clause-processes
 returns-clause-processes c =
-    let last = seen_of c.loop-process.tables in
+    let last = seen_of c.loop-process.numbering.tables in
     let past : length c.args.draft.now.processes.items ≤ c.loop-process.process-index = rw c.deref-process-items.ensures.value at c.loop-process-test.false in
     made_all (process_of (declared_of c.args.draft.now) last) started_of c.loop-process.processes.items c.args.draft.now.processes.items c.loop-process.process-index past
     (c.loop-process.invariant.numbers last (go_on_self last))

@@ -3,18 +3,9 @@ use Rattle.std.proofs.lemmas.Option.{slice_get_read}
 use Rattle.wire_rehearsal.specs.Planned.{plan_of}
 use Rattle.wire_runs.specs.Sight.{held, for_others}
 use Rattle.wire_runs.specs.Step.{run}
-use Rattle.wire_runs.proofs.Due.{reachable_sound}
 use Rattle.wire_core.specs.Seeing.{seen_as, brought_of}
 use Rattle.wire_core.proofs.Ranks.{before_shown}
 use Rattle.wire_core.proofs.running.Core.brought_seen.Goals as goal
-
-pub last_bringing-requires-clause-within : goal.last_bringing-requires-clause-within
-last_bringing-requires-clause-within c =
-    let plan = plan_of c.self.inside.plan.now in
-    let w = map (λ p. p.number) c.self.inside.history.items in
-    let done = rw (← c.self.view_is) at c.done-done.ensures in
-    let within = (reachable_sound plan (run plan w) (w, c.self.invariant.0.legal, refl)).within c.args.owner.number in
-    omega (arith, done, within)
 
 pub returns-in-Some : goal.returns-in-Some
 returns-in-Some c =
@@ -30,7 +21,7 @@ returns-in-Some c =
     let within : p ≤ length ranks = omega (arith, there, count) in
     let read = rw c.index.ensures at c.index-in-Some.ensures in
     let told = c.self.invariant.0.told.each p rank (slice_get_read ranks (length ranks) p rank refl (omega (arith, there, count)) read) in
-    let brought = c.in-Some.ensures.brought s.done c.args.key c.self.invariant.2.arrived (sym done) in
+    let brought = rw (← c.self.view_is) at (c.in-Some.ensures.told c.args.key) in
     let before = c.in-Some.ensures.done in
     let le : c.in-Some.at ≤ s.done p = omega (arith, before, done) in
     rw (← c.self.view_is)

@@ -1,7 +1,8 @@
-use Rattle.std.proofs.Common.{◌≡◌, Some, suc, ap, sym, refl, arith, true}
+use Rattle.std.proofs.Common.{◌≡◌, map, Some, suc, ap, sym, refl, arith, true}
 use Rattle.wire_runs.specs.Plan.{process_count}
 use Rattle.wire_rehearsal.specs.Planned.{plan_of}
-use Rattle.wire_runs.specs.Step.{is_enabled}
+use Rattle.wire_runs.specs.Step.{is_enabled, run}
+use Rattle.wire_core.proofs.Waiting.{first_within, none_before}
 use Rattle.wire_runs.specs.PlainRun.{lowest}
 use Rattle.wire_runs.proofs.PlainRun.{lowest_stays}
 use Rattle.wire_core.specs.Course.{state_of}
@@ -13,8 +14,19 @@ returns-then-ready c =
     let plan = plan_of c.args.self.now.scripts in
     let s = state_of c.args.self.now in
     let on : is_enabled plan s c.loop-number.number ≡ true = rw number at (sym c.if-ready.ensures) in
-    let here : lowest plan s (suc c.loop-number.number) ≡ Some c.loop-number.number = rw (c.loop-number.invariant, on) refl in
+    let here : lowest plan s (suc c.loop-number.number) ≡ Some c.loop-number.number = rw (c.loop-number.invariant.none, on) refl in
     let scripts = ap (λ course. course.scripts) c.self.view_is in
     let count = rw scripts at c.process_count-number-end.ensures in
     let below = c.loop-number-test.true in
     rw number (sym (lowest_stays plan s (suc c.loop-number.number) (process_count plan) c.loop-number.number (omega (arith, count, below)) here))
+
+pub loop-number-init : goal.loop-number-init
+loop-number-init c =
+    let scripts = c.self.inside.plan.now in
+    let s = run (plan_of scripts) (map (λ p. p.number) c.self.inside.history.items) in
+    let le = first_within scripts c.self.inside.fences.now s c.self.inside.waits c.lowest-number.result c.self.invariant.3 c.lowest-number.ensures in
+    let count = c.process_count-number-end.ensures in
+    record {
+      within = omega (arith, le, count);
+      none = rw (← c.self.view_is) (none_before scripts c.self.inside.fences.now s c.self.inside.waits c.lowest-number.result c.self.invariant.3 c.lowest-number.ensures);
+    }

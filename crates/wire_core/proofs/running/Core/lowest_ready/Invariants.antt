@@ -1,8 +1,11 @@
-use Rattle.std.proofs.Common.{◌≡◌, None}
+use Rattle.std.proofs.Common.{◌≡◌, ◌≤◌, None}
 use Rattle.wire_rehearsal.specs.Planned.{plan_of}
 use Rattle.wire_runs.specs.PlainRun.{lowest}
 use Rattle.wire_core.specs.Course.{state_of}
 use Rattle.wire_core.proofs.running.Core.lowest_ready.Given as goal
 
 abbrev pub invariant-loop-number : goal.invariant-loop-number
-invariant-loop-number l = lowest (plan_of l.self.scripts) (state_of l.self) l.number ≡ None
+invariant-loop-number l = record {
+  within : l.number ≤ l.number-end;
+  none : lowest (plan_of l.self.scripts) (state_of l.self) l.number ≡ None;
+}

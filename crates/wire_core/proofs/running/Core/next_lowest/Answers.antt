@@ -1,7 +1,8 @@
-use Rattle.std.proofs.Common.{◌≡◌, Some, suc, ap, sym, refl, arith, true}
+use Rattle.std.proofs.Common.{◌≡◌, map, Some, suc, ap, sym, refl, arith, true}
 use Rattle.wire_runs.specs.Plan.{process_count}
 use Rattle.wire_rehearsal.specs.Planned.{plan_of}
-use Rattle.wire_runs.specs.Step.{is_enabled}
+use Rattle.wire_runs.specs.Step.{is_enabled, run}
+use Rattle.wire_core.proofs.Waiting.{first_within, none_before}
 use Rattle.wire_runs.specs.PlainRun.{lowest}
 use Rattle.wire_runs.proofs.PlainRun.{lowest_stays}
 use Rattle.wire_core.specs.Course.{state_of}
@@ -22,3 +23,15 @@ returns-then-ready-clause-lowest c =
 
 pub returns-then-ready-clause-same : goal.returns-then-ready-clause-same
 returns-then-ready-clause-same c = c.loop-number.invariant.same
+
+pub loop-number-init : goal.loop-number-init
+loop-number-init c =
+    let scripts = c.self.inside.plan.now in
+    let s = run (plan_of scripts) (map (λ p. p.number) c.self.inside.history.items) in
+    let le = first_within scripts c.self.inside.fences.now s c.self.inside.waits c.lowest-number.result c.self.invariant.3 c.lowest-number.ensures in
+    let count = c.process_count-number-end.ensures in
+    record {
+      same = refl;
+      within = omega (arith, le, count);
+      none = rw (← c.self.view_is) (none_before scripts c.self.inside.fences.now s c.self.inside.waits c.lowest-number.result c.self.invariant.3 c.lowest-number.ensures);
+    }

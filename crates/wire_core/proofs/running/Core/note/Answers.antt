@@ -29,4 +29,5 @@ invariant_of-self c =
       c.self.invariant.1,
       c.self.invariant.2,
       rw c.note.ensures (noted_more scripts table s c.self.inside.waits p c.match-next_kind.awaited c.self.invariant.3 within off awaits),
+      c.self.invariant.4,
     )

@@ -1,14 +1,10 @@
-use Rattle.std.proofs.Common.{◌∙◌, ◌<◌, ap, length, arith}
-use Rattle.std.proofs.Math.ListN.{set}
-use Rattle.wire_store.proofs.Elements.{map_step}
-use Rattle.wire_core.specs.Waiting.{after}
+use Rattle.std.proofs.Common.{◌∙◌, sym}
+use Rattle.wire_core.proofs.Waiting.{nothing_comes, nothing_noted}
+use Rattle.wire_core.proofs.waits.Waits.wake.Goals.{else-self-via-then-self+else-is_known, else-self-via-else-self}
 use Rattle.wire_core.proofs.waits.Waits.wake.Goals as goal
 
-pub loop-awaited-preserved : goal.loop-awaited-preserved
-loop-awaited-preserved c =
-    let here = c.deref_mut-awaited-items.ensures.value ∙ c.self.view_is in
-    let now = ap length here in
-    let test = c.loop-awaited-test.true in
-    let low : c.loop-awaited.awaited-index < length c.args.self.now = omega (arith, test, now) in
-    ap (set c.loop-awaited.awaited-items c.loop-awaited.awaited-index) c.known_after.ensures
-    ∙ map_step (after c.args.comes) c.args.self.now c.loop-awaited.awaited-items c.loop-awaited.awaited-index _ low c.loop-awaited.invariant
+pub returns-else-self : goal.returns-else-self
+returns-else-self c = elim c.else-self.branch [
+  | else-self-via-then-self+else-is_known w ↦ nothing_comes c.args.comes c.args.self.now (sym w.is_known.ensures ∙ w.if-is_known.false)
+  | else-self-via-else-self w ↦ rw (← c.self.view_is) (nothing_noted c.args.comes c.self.inside.awaited.items (c.self.invariant.2 w.if-self.false))
+]

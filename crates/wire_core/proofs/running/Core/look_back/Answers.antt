@@ -1,0 +1,12 @@
+use Rattle.wire_rehearsal.specs.Planned.{plan_of}
+use Rattle.wire_core.proofs.running.Core.look_back.Goals as goal
+
+pub invariant_of-self : goal.invariant_of-self
+invariant_of-self c =
+    let look = rw (← c.self.view_is) at c.look_on-look.ensures in (
+      c.self.invariant.0,
+      c.self.invariant.1,
+      c.self.invariant.2,
+      c.self.invariant.3,
+      c.put.ensures (plan_of c.self.inside.plan.now) c.self.invariant.4 look,
+    )

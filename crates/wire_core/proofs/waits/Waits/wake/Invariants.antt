@@ -1,6 +1,0 @@
-use Rattle.std.proofs.Common.{◌≡◌, map, take, drop, ◌++◌}
-use Rattle.wire_core.specs.Waiting.{after}
-use Rattle.wire_core.proofs.waits.Waits.wake.Given as goal
-
-abbrev pub invariant-loop-awaited : goal.invariant-loop-awaited
-invariant-loop-awaited l = l.awaited-items ≡ map (after l.comes) (take l.awaited-index l.fn.self) ++ drop l.awaited-index l.fn.self

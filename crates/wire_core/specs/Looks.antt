@@ -1,0 +1,31 @@
+-- How far a process's events were looked through for those that may bring its data to a node.
+use Rattle.std.specs.Prelude.{◌≡◌, ℕ, ◌+◌, ◌-◌, ◌<◌, ◌≤◌, List, Bool, false, Option, Some, None, slice_get, if◌then◌else◌}
+use Rattle.wire_runs.specs.Plan.{Plan}
+use Rattle.wire_runs.specs.Puts.{stored}
+use Rattle.wire_core.specs.Met.{brings_at}
+use Rattle.wire_core.specs.declared.looks.Look.{Look}
+
+-- whatever has come, none of p's events from the first of these numbers to below the second has brought its data to the node
+abbrev pub BringNothing : Plan → ℕ → ℕ → ℕ → ℕ → Type 0
+BringNothing plan p node from to = (n : ℕ) → from ≤ n → n < to → (cut : ℕ → ℕ) → brings_at plan cut p node n ≡ false
+
+-- what a look has found is so
+pub record IsLook (plan : Plan) (look : Look) : Type 0 where
+  pub last_seen : look.last ≤ look.seen
+  pub before_last : look.before ≤ look.last - 1
+  pub after : BringNothing plan look.owner.number look.node look.last look.seen
+  pub between : BringNothing plan look.owner.number look.node look.before (look.last - 1)
+
+abbrev pub AreLooks : Plan → List Look → Type 0
+AreLooks plan looks = (i : ℕ) (look : Look) → slice_get looks i ≡ Some look → IsLook plan look
+
+-- the look after one event more, which may bring something or not
+abbrev pub look_after : Look → Bool → Look
+look_after look may =
+    if may then record { owner = look.owner; node = look.node; seen = look.seen + 1; last = look.seen + 1; before = look.last }
+    else record { owner = look.owner; node = look.node; seen = look.seen + 1; last = look.last; before = look.before }
+
+-- what p had stored under the key at an event, or else this
+abbrev pub stored_or : Plan → ℕ → ℕ → Option ℕ → Option ℕ → Option ℕ
+stored_or plan p key None before = before
+stored_or plan p key (Some n) before = stored plan p key n

@@ -1,0 +1,42 @@
+use Rattle.std.proofs.Common.{◌∙◌, ◌+◌, ap, map, sym, subst, arith}
+use Rattle.std.proofs.lemmas.Bool.{true≢false}
+use Rattle.std.proofs.lemmas.List.{length-map, map-append}
+use Rattle.wire_runs.specs.Plan.{event_of}
+use Rattle.wire_rehearsal.specs.Planned.{plan_of}
+use Rattle.wire_runs.specs.EventLists.{AreAll}
+use Rattle.wire_races.proofs.Lists.{place_at}
+use Rattle.wire_races.proofs.Calls.{starts_within, starts_named}
+use Rattle.wire_races.proofs.Rivals.{IsWriterBelow, one_writer, no_writer, every_writer}
+use Rattle.wire_races.proofs.name_races.writers_of.Goals as goal
+use Rattle.wire_races.proofs.name_races.writers_of.Goals.{then-writes+in_ok-push, else-writes}
+
+pub writes-requires : goal.writes-requires
+writes-requires c =
+    let plan = plan_of c.args.plan.now in
+    let calls = c.name_calls-calls.result.now in
+    starts_within plan _ (starts_named plan c.args.name _ (c.name_calls-calls.ensures.only c.loop-event.event-index _ (place_at calls c.loop-event.event-index _ c.loop-event-test.true)))
+
+pub loop-event-preserved : goal.loop-event-preserved
+loop-event-preserved c =
+    let plan = plan_of c.args.plan.now in
+    let name = c.args.name in
+    let calls = c.name_calls-calls.result.now in
+    let all = c.name_calls-calls.ensures in
+    let n = c.loop-event.event-index in
+    let at = place_at calls n _ c.loop-event-test.true in
+    let before = map event_of c.loop-event.writers.items in
+    elim c.if-writes.branch [
+      | then-writes+in_ok-push w ↦
+          let items = ap (map event_of) w.in_ok-push.ensures.items ∙ map-append event_of c.loop-event.writers.items _ in
+          rw w.writers-is (subst (λ l. AreAll (IsWriterBelow plan name (map event_of calls) (n + 1)) l) (sym items)
+          (one_writer plan name (map event_of calls) all n (n + 1) before _ (omega arith) at (sym c.writes.ensures ∙ w.if-writes.true) c.loop-event.invariant))
+      | else-writes w ↦
+          rw w.writers-is (no_writer plan name (map event_of calls) all n (n + 1) before _ (omega arith) at (λ t. true≢false (sym t ∙ sym c.writes.ensures ∙ w.if-writes.false)) c.loop-event.invariant)
+    ]
+
+pub returns : goal.returns
+returns c =
+    let calls = c.name_calls-calls.result.now in
+    let size = length-map calls event_of in
+    let end = c.loop-event-test.false in
+    every_writer (plan_of c.args.plan.now) c.args.name (map event_of calls) c.name_calls-calls.ensures c.loop-event.event-index (map event_of c.loop-event.writers.items) (omega (arith, size, end)) c.loop-event.invariant

@@ -1,0 +1,11 @@
+pub mod Deals
+pub mod Passes
+pub mod Rows
+pub mod Starts
+pub mod Drains
+pub mod Sharing
+pub mod Finishes
+pub mod Rising
+pub mod Joins
+pub mod Members
+pub mod EachOnce

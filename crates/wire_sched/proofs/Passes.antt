@@ -1,0 +1,97 @@
+-- A pass of a round stays one when it took a piece.
+use Rattle.std.proofs.Common.{◌≡◌, ◌≢◌, ℕ, zero, suc, ◌+◌, List, [], ◌∷◌, Option, Some, None, MatchOption, set, map, sym, refl, ap, ◌∙◌, subst, ⊎_elim, length-set}
+use mathlib.Core.Option.{some, some-ne-none, some-injective}
+use lib.ListN.{get_elem?}
+use Rattle.std.specs.Vec.{with_item}
+use Rattle.crossbeam_deque.specs.Handles as deque
+use Rattle.crossbeam_deque.proofs.Lists.{at_set}
+use Rattle.wire_sched.specs.declared.rule.Piece.{Piece}
+use Rattle.wire_sched.specs.declared.rule.Hand.{Hand}
+use Rattle.wire_sched.specs.declared.round.Round.{Round}
+use Rattle.wire_sched.specs.declared.round.Pass.{Pass}
+use Rattle.wire_sched.specs.declared.round.Take.{Take}
+use Rattle.wire_sched.specs.declared.round.Take.TheVariants.{Got, Empty, Again}
+use Rattle.wire_sched.specs.Hands.{Takes, IsRising, TookRising}
+use Rattle.wire_sched.specs.Rules.{Finds}
+use Rattle.wire_sched.specs.Rounds.{Owner, Token, IsPassOf, IsToken, workers_of, worker_of, own_hand, MatchTake, TookAt, TookNone}
+use Rattle.wire_sched.specs.Deques.{SameDeque}
+use Rattle.wire_sched.proofs.Rising.{share_rises, rises_more}
+
+-- the same parts of the same deal, and what was taken rises as before
+abbrev SameShare : Hand → Hand → Type 0
+SameShare v w = (w.parts ≡ v.parts) × (w.dealt ≡ v.dealt) × (IsRising v.dealt → TookRising v → TookRising w)
+
+share_of_take : (v w : Hand) (x : Piece) → Takes v (x ∷ []) w → SameShare v w
+share_of_take v w x h = (ap (λ (y : Hand). y.parts) h.5, ap (λ (y : Hand). y.dealt) h.5, rises_more v w x h)
+
+share_of_same : (v w : Hand) → w ≡ v → SameShare v w
+share_of_same v w h = (ap (λ (y : Hand). y.parts) h, ap (λ (y : Hand). y.dealt) h, λ _ rises. subst TookRising (sym h) rises)
+
+pub own_share : (r : Option Piece) (v w : Hand) → MatchOption r ((w ≡ v) × Finds v) (λ x. Takes v (x ∷ []) w) → SameShare v w
+own_share None v w h = share_of_same v w h.0
+own_share (Some x) v w h = share_of_take v w x h
+
+pub token_share : (r : Take) (v w : Hand) → MatchTake r (λ x. Takes v (x ∷ []) w) (w ≡ v) → SameShare v w
+token_share (Got x) v w h = share_of_take v w x h
+token_share Empty v w h = share_of_same v w h
+token_share Again v w h = share_of_same v w h
+
+pub with_own : (r : Round) (p : Pass) (o : Owner) → IsPassOf r p → SameDeque p.own o → SameShare (own_hand p) (deque.worker_view o)
+    → IsPassOf r (record { worker = p.worker; own = o; tokens = p.tokens })
+with_own r p o is same share = record {
+  within = is.within;
+  few = is.few;
+  own = λ s at. same.0 ∙ is.own s at;
+  fifo = same.1 ∙ is.fifo;
+  parts = ap (λ n. n + workers_of r) share.0 ∙ is.parts;
+  dealt = share.1 ∙ is.dealt;
+  rising = share.2 (subst IsRising (sym is.dealt) (share_rises (worker_of p) (workers_of r) r.round r.ranks)) is.rising;
+  count = is.count;
+  tokens = is.tokens;
+  fifos = is.fifos;
+}
+
+pub with_token : (r : Round) (p : Pass) (k : ℕ) (t u : Token) → IsPassOf r p → get_elem? p.tokens.items k ≡ some t → deque.SamePass t u → SameShare (deque.view t) (deque.view u)
+    → IsPassOf r (record { worker = p.worker; own = p.own; tokens = with_item p.tokens k u })
+with_token r p k t u is at same share = record {
+  within = is.within;
+  few = is.few;
+  own = is.own;
+  fifo = is.fifo;
+  parts = is.parts;
+  dealt = is.dealt;
+  rising = is.rising;
+  count = length-set p.tokens.items k u ∙ is.count;
+  tokens = λ j s y thief here.
+      ⊎_elim (λ (x : (j ≡ k) × (u ≡ y)).
+      let old : IsToken r j s t = is.tokens j s t thief (subst (λ i. get_elem? p.tokens.items i ≡ some t) (sym x.0) at) in
+      subst (IsToken r j s) x.1 ((same.0 ∙ old.0.0, same.1 ∙ old.0.1, same.3, same.4), share.0 ∙ old.1, share.1 ∙ old.2, share.2 (subst IsRising (sym old.2) (share_rises j (workers_of r) r.round r.ranks)) old.3))
+      (λ (x : (j ≢ k) × (get_elem? p.tokens.items j ≡ some y)). is.tokens j s y thief x.1) (at_set p.tokens.items k j u y here);
+  fifos = is.fifos;
+}
+
+map_set : (f : Token → Hand) (ts : List Token) (k : ℕ) (u : Token) → map f (set ts k u) ≡ set (map f ts) k (f u)
+map_set f [] k u = refl
+map_set f (t ∷ ts) zero u = refl
+map_set f (t ∷ ts) (suc k) u = ap (λ l. f t ∷ l) (map_set f ts k u)
+
+map_at : (f : Token → Hand) (ts : List Token) (k : ℕ) (t : Token) → get_elem? ts k ≡ some t → get_elem? (map f ts) k ≡ some (f t)
+map_at f [] k t e = absurd (some-ne-none t (sym e))
+map_at f (x ∷ ts) zero t e = ap some (ap f (some-injective x t e))
+map_at f (x ∷ ts) (suc k) t e = map_at f ts k t e
+
+set_same : (vs : List Hand) (k : ℕ) (v w : Hand) → get_elem? vs k ≡ some v → w ≡ v → set vs k w ≡ vs
+set_same [] k v w e h = refl
+set_same (x ∷ vs) zero v w e h = ap (λ y. y ∷ vs) (h ∙ sym (some-injective x v e))
+set_same (x ∷ vs) (suc k) v w e h = ap (λ l. x ∷ l) (set_same vs k v w e h)
+
+took_none : (p : Pass) (k : ℕ) (t u : Token) → get_elem? p.tokens.items k ≡ some t → deque.view u ≡ deque.view t → TookNone p (record { worker = p.worker; own = p.own; tokens = with_item p.tokens k u })
+took_none p k t u at h =
+    let f : Token → Hand = λ y. deque.view y in (refl, map_set f p.tokens.items k u ∙ set_same (map f p.tokens.items) k (f t) (f u) (map_at f p.tokens.items k t at) h)
+
+pub took_at : (r : Take) (p : Pass) (k : ℕ) (t u : Token) → get_elem? p.tokens.items k ≡ some t → MatchTake r (λ x. Takes (deque.view t) (x ∷ []) (deque.view u)) (deque.view u ≡ deque.view t)
+    → let q : Pass = record { worker = p.worker; own = p.own; tokens = with_item p.tokens k u } in MatchTake r (TookAt k p q) (TookNone p q)
+took_at (Got x) p k t u at h =
+    let f : Token → Hand = λ y. deque.view y in (deque.view t, deque.view u, map_at f p.tokens.items k t at, h, map_set f p.tokens.items k u, refl)
+took_at Empty p k t u at h = took_none p k t u at h
+took_at Again p k t u at h = took_none p k t u at h

@@ -1,0 +1,66 @@
+-- The deques of a round while it is dealt, and while it is brought to its end. Only private contracts cite this.
+use Rattle.std.specs.Prelude.{◌≡◌, ℕ, ◌+◌, ◌-◌, ◌<◌, List, [], ◌++◌, length}
+use mathlib.Core.Option.{some}
+use lib.ListN.{get_elem?}
+use Rattle.crossbeam_deque.specs.Handles as deque
+use Rattle.wire_sched.specs.declared.rule.Piece.{Piece}
+use Rattle.wire_sched.specs.declared.round.Pass.{Pass}
+use Rattle.wire_sched.specs.Hands.{hand, all_parts}
+use Rattle.wire_sched.specs.Rules.{joined}
+use Rattle.wire_sched.specs.Rounds.{Owner, Thief, Token, own_hand}
+use Rattle.wire_sched.specs.Taken.{stolen}
+
+-- the lists are of one length, and R holds of each two that stand at one place
+abbrev pub EachPair : {A B : Type 0} → (A → B → Type 0) → List A → List B → Type 0
+EachPair {A} {B} R xs ys = (length xs ≡ length ys) × ((k : ℕ) (x : A) (y : B) → get_elem? xs k ≡ some x → get_elem? ys k ≡ some y → R x y)
+
+abbrev pub SameDeque : Owner → Owner → Type 0
+SameDeque a b = (deque.worker_deque b ≡ deque.worker_deque a) × (deque.worker_flavor b ≡ deque.worker_flavor a)
+
+-- the pieces stand in a deque from which nobody took yet
+abbrev pub IsFilled : List Piece → Owner → Type 0
+IsFilled pieces own = (deque.worker_flavor own ≡ 0) × (deque.worker_view own ≡ hand all_parts 0 pieces [])
+
+-- the deque of a pass, full, with a handle for thieves
+abbrev pub IsStart : List Piece → ℕ → Pass → Thief → Type 0
+IsStart pieces worker p s =
+    (p.worker ≡ worker) × IsFilled pieces p.own × (deque.stealer_deque s ≡ deque.worker_deque p.own) × (deque.stealer_flavor s ≡ 0)
+
+-- a token of the deque, with one part, with which nothing was taken
+abbrev pub IsTokenOf : Owner → Token → Type 0
+IsTokenOf own t =
+    deque.IsPassOf (deque.worker_deque own) t × (deque.view t ≡ hand 1 0 (deque.worker_view own).dealt [])
+
+-- the pass gave one part away, and is the same otherwise
+abbrev pub IsCut : Pass → Pass → Type 0
+IsCut a b =
+    (b.worker ≡ a.worker) × SameDeque a.own b.own × (b.tokens ≡ a.tokens)
+    × (own_hand b ≡ hand ((own_hand a).parts - 1) (own_hand a).below (own_hand a).dealt (own_hand a).taken)
+
+-- the token is one of the deque of the pass
+abbrev pub CanTake : Pass → Token → Type 0
+CanTake p t = deque.IsPassOf (deque.worker_deque p.own) t × ((deque.view t).parts ≡ 1) × (0 < (own_hand p).parts)
+
+-- the token was joined into the deque of the pass
+abbrev pub IsJoined : Pass → Token → Pass → Type 0
+IsJoined a t b = (b.worker ≡ a.worker) × SameDeque a.own b.own × (b.tokens ≡ a.tokens) × (own_hand b ≡ joined (own_hand a) (deque.view t))
+
+-- the tokens were joined into the deques, each into its own
+abbrev pub AreJoined : List Pass → List Token → List Pass → Type 0
+AreJoined old ts new =
+    (length new ≡ length old)
+    × ((k : ℕ) (a b : Pass) (t : Token) → get_elem? old k ≡ some a → get_elem? ts k ≡ some t → get_elem? new k ≡ some b → IsJoined a t b)
+
+-- each pass has a token of each deque
+abbrev pub CanJoinAll : List Pass → Type 0
+CanJoinAll ps = (i : ℕ) (p : Pass) → get_elem? ps i ≡ some p → EachPair CanTake ps p.tokens.items
+
+-- the deque of pass k got the tokens of all passes back, and knows what was taken with them
+abbrev pub IsGathered : List Pass → ℕ → Pass → Pass → Type 0
+IsGathered ps k a b =
+    (b.worker ≡ a.worker) × SameDeque a.own b.own
+    × (own_hand b ≡ hand ((own_hand a).parts + length ps) (own_hand a).below (own_hand a).dealt ((own_hand a).taken ++ stolen k ps))
+
+abbrev pub AreGathered : List Pass → List Pass → Type 0
+AreGathered old new =
+    (length new ≡ length old) × ((k : ℕ) (a b : Pass) → get_elem? old k ≡ some a → get_elem? new k ≡ some b → IsGathered old k a b)

@@ -1,0 +1,6 @@
+pub mod Hands
+pub mod Rules
+pub mod Shares
+pub mod Rounds
+pub mod Taken
+pub mod Deques
