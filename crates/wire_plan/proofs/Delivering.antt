@@ -1,18 +1,19 @@
--- Which arrivals bring a key to a node.
-use Rattle.std.proofs.Common.{◌≡◌, ◌∙◌, ap, sym, subst, refl, ℕ, suc, ◌<◌, ◌≤◌, List, Bool, true, false, ◌&&◌, Some, arith, inl, inr}
-use Rattle.std.proofs.lemmas.Bool.{true≢false, cases_lt}
-use Rattle.wire_runs.specs.Plan.{Plan, Event, Arrive, kind_at, event_count}
+-- Which arrivals bring data, and a key, to a node.
+use Rattle.std.proofs.Common.{◌≡◌, ◌∙◌, ap, sym, subst, refl, ℕ, suc, ◌<◌, ◌≤◌, ◌↔◌, List, Bool, true, false, ◌&&◌, Option, Some, None, option_map, arith, inl, inr}
+use Rattle.std.proofs.lemmas.Bool.{true≢false, cases_lt, cases_eq}
+use Rattle.wire_runs.specs.Plan.{Plan, Event, Arrive, kind_at}
 use Rattle.wire_runs.specs.Fences.{arrivals, is_full, is_collecting, has_node}
-use Rattle.wire_runs.specs.Puts.{stored}
+use Rattle.wire_types.specs.declared.Event.{Event as CodeEvent}
+use Rattle.wire_runs.specs.Puts.{own, stored, stored_with}
 use Rattle.wire_rehearsal.specs.Scripts.{Scripts, set_at}
 use Rattle.wire_rehearsal.specs.Planned.{plan_of}
 use Rattle.wire_fence.specs.FenceTable.{FenceTable, AreFencesOf, fence_at, fence_over, full_in, collects_in, reaches_in}
 use Rattle.wire_runs.specs.Order.{IsArrival}
-use Rattle.wire_plan.specs.Index.{IsDelivering}
+use Rattle.wire_plan.specs.Index.{IsDelivering, IsNextDelivery}
 use Rattle.wire_plan.specs.Keys.{IsSent}
+use Rattle.wire_plan.specs.Bringing.{BringsTo, IsArrivalFrom, IsFirstFrom}
 use Rattle.wire_plan.specs.Meetings.{IsMet, fence_members}
 use Rattle.wire_runs.proofs.Basics.{arrivals_step, arrivals_rise}
-use Rattle.wire_plan.proofs.KeyFacts.{event_past}
 
 both_true : (a b : Bool) → (a && b) ≡ true → (a ≡ true) × (b ≡ true)
 both_true true b is = (refl, is)
@@ -49,16 +50,67 @@ sent_there plan p key node at d =
     let same = arrives_once plan p d.brings.at at d.members d.j d.brings.arrival d.arrival in
     record { put = d.brings.put; committed = subst (λ n. stored plan p key n ≡ Some d.brings.put) same d.brings.committed; admitted = d.brings.admitted }
 
--- what isn't an arrival delivers nothing
-pub no_arrival_delivers : (plan : Plan) (p key node at : ℕ) → ((members : List ℕ) (collect : Bool) → kind_at plan p at ≡ Some (Arrive members collect) → ⊥) → IsDelivering plan p key node at → ⊥
-no_arrival_delivers plan p key node at other d = other d.members d.arrival.collect d.arrival.is
+-- a delivering arrival brings data to the node
+pub brings_there : (plan : Plan) (p key node at : ℕ) → IsDelivering plan p key node at → BringsTo plan node (here p at)
+brings_there plan p key node at d = record { members = d.members; j = d.j; arrival = d.arrival; full = d.brings.full; collecting = d.brings.collecting; reaches = d.brings.reaches }
 
--- nor does what is past the last event
-pub none_past : (plan : Plan) (p key node at : ℕ) → event_count plan p ≤ at → IsDelivering plan p key node at → ⊥
-none_past plan p key node at past d = let none = event_past plan p at past in let is = d.arrival.is in cc
+-- and an arrival that brings data brings what was stored before it
+pub delivers_there : (plan : Plan) (p key node at : ℕ) → BringsTo plan node (here p at) → IsSent plan p key at → IsDelivering plan p key node at
+delivers_there plan p key node at b sent = record {
+  members = b.members;
+  j = b.j;
+  arrival = b.arrival;
+  brings = record {
+    full = b.full;
+    collecting = b.collecting;
+    member = b.arrival.member;
+    reaches = b.reaches;
+    at = at;
+    put = sent.put;
+    arrival = b.arrival;
+    committed = sent.committed;
+    admitted = sent.admitted;
+  };
+}
+
+-- an arrival stores nothing
+arrival_stores_nothing : (plan : Plan) (p key at : ℕ) (members : List ℕ) (collect : Bool) → kind_at plan p at ≡ Some (Arrive members collect) → IsSent plan p key (suc at) → IsSent plan p key at
+arrival_stores_nothing plan p key at members collect is sent = record {
+  put = sent.put;
+  committed = sym (ap (stored_with (own plan p key at) (stored plan p key at)) is) ∙ sent.committed;
+  admitted = sent.admitted;
+}
+
+module _ (plan : Plan) (p key node from c start : ℕ) (sent : (at : ℕ) → IsSent plan p key at ↔ c < at) (first : from ≤ start) (second : c ≤ start) where
+  -- so what is first stored at an event isn't stored by an arrival
+  later : (at : ℕ) → start ≤ at → BringsTo plan node (here p at) → IsDelivering plan p key node at
+  later at le b = delivers_there plan p key node at b ((sent at).1 (elim (cases_eq c at) [
+    | inl same ↦
+        let is = subst (λ n. kind_at plan p n ≡ Some (Arrive b.members b.arrival.collect)) (sym same) b.arrival.is in
+        let before = (sent c).0 (arrival_stores_nothing plan p key c b.members b.arrival.collect is ((sent (suc c)).1 (omega arith))) in
+        absurd (omega (arith, before))
+    | inr other ↦ omega (arith, le, second, other)
+  ]))
+
+  -- a delivery comes after the commit
+  not_lower : ((n : ℕ) → from ≤ n → c ≤ n → start ≤ n) → (at : ℕ) → from ≤ at → IsDelivering plan p key node at → IsArrivalFrom plan p node start (here p at)
+  not_lower least at le d =
+      let lt = (sent at).0 (sent_there plan p key node at d) in
+      record { proc = refl; from_there = least at le (omega (arith, lt)); brings = brings_there plan p key node at d }
+
+  -- the first arrival that brings data to the node from the commit on delivers, and none does before
+  pub next_found : ((n : ℕ) → from ≤ n → c ≤ n → start ≤ n) → (found : Option CodeEvent) → IsFirstFrom plan p node start found → IsNextDelivery plan p key node from (option_map (λ (e : CodeEvent). e.at) found)
+  next_found least None none = λ at le d. none (here p at) (not_lower least at le d)
+  next_found least (Some e) f =
+      let a = f.0 in
+      let above = a.from_there in (
+        omega (arith, first, above),
+        later e.at above (subst (λ q. BringsTo plan node (here q e.at)) a.proc a.brings),
+        λ other le lt d. let no = f.1 (here p other) (not_lower least other le d) in omega (arith, no, lt),
+      )
 
 -- p's event number `at` is its arrival at the fence of this number in the table
-module _ (s : Scripts) (table : FenceTable) (fences : AreFencesOf s table) (p at number key node : ℕ) (members : List ℕ) (collect : Bool) (is : kind_at (plan_of s) p at ≡ Some (Arrive members collect)) (m : IsMet s table (here p at) number) where
+module _ (s : Scripts) (table : FenceTable) (fences : AreFencesOf s table) (p at number node : ℕ) (members : List ℕ) (collect : Bool) (is : kind_at (plan_of s) p at ≡ Some (Arrive members collect)) (m : IsMet s table (here p at) number) where
   over : m.fence ≡ fence_over s m.fence.set m.fence.nth
   over = (fences.each number m.fence m.there).is
 
@@ -85,34 +137,27 @@ module _ (s : Scripts) (table : FenceTable) (fences : AreFencesOf s table) (p at
     nth = m.nth;
   }
 
-  pub where_brought : (full_in (fence_at table number) && (collects_in (fence_at table number) && reaches_in table node (fence_at table number))) ≡ true → IsSent (plan_of s) p key at → IsDelivering (plan_of s) p key node at
-  where_brought told sent =
-      let first = both_true (full_in (fence_at table number)) _ told in
-      let second = both_true (collects_in (fence_at table number)) _ first.1 in
+  -- whether it brings data to a node is what the table tells of its fence
+  pub where_brought : (full_in (fence_at table number) && collects_in (fence_at table number)) ≡ true → reaches_in table node (fence_at table number) ≡ true → BringsTo (plan_of s) node (here p at)
+  where_brought told reached =
+      let both = both_true (full_in (fence_at table number)) _ told in
       record {
         members = m.fence.members;
         j = m.fence.nth;
         arrival = arrives;
-        brings = record {
-          full = sym full_is ∙ first.0;
-          collecting = sym collects_is ∙ second.0;
-          member = m.member;
-          reaches = sym reaches_is ∙ second.1;
-          at = at;
-          put = sent.put;
-          arrival = arrives;
-          committed = sent.committed;
-          admitted = sent.admitted;
-        };
+        full = sym full_is ∙ both.0;
+        collecting = sym collects_is ∙ both.1;
+        reaches = sym reaches_is ∙ reached;
       }
 
   same_members : (others : List ℕ) (c : Bool) → kind_at (plan_of s) p at ≡ Some (Arrive others c) → others ≡ m.fence.members
   same_members others c other = ap fence_members (sym other ∙ is) ∙ sym its_members
 
-  pub brought_where : IsDelivering (plan_of s) p key node at → (full_in (fence_at table number) && (collects_in (fence_at table number) && reaches_in table node (fence_at table number))) ≡ true
+  pub brought_where : BringsTo (plan_of s) node (here p at) → ((full_in (fence_at table number) && collects_in (fence_at table number)) ≡ true) × (reaches_in table node (fence_at table number) ≡ true)
   brought_where d =
       let ms = same_members d.members d.arrival.collect d.arrival.is in
-      let j : d.j ≡ m.fence.nth = sym d.arrival.nth ∙ ap (λ x. arrivals (plan_of s) p x (suc at)) ms ∙ m.nth in
-      are_true _ _ (full_is ∙ ap (is_full (plan_of s) m.fence.members) (sym j) ∙ ap (λ x. is_full (plan_of s) x d.j) (sym ms) ∙ d.brings.full)
-      (are_true _ _ (collects_is ∙ ap (is_collecting (plan_of s) m.fence.members) (sym j) ∙ ap (λ x. is_collecting (plan_of s) x d.j) (sym ms) ∙ d.brings.collecting)
-      (reaches_is ∙ ap (λ x. has_node (plan_of s) x node) (sym ms) ∙ d.brings.reaches))
+      let j : d.j ≡ m.fence.nth = sym d.arrival.nth ∙ ap (λ x. arrivals (plan_of s) p x (suc at)) ms ∙ m.nth in (
+        are_true _ _ (full_is ∙ ap (is_full (plan_of s) m.fence.members) (sym j) ∙ ap (λ x. is_full (plan_of s) x d.j) (sym ms) ∙ d.full)
+            (collects_is ∙ ap (is_collecting (plan_of s) m.fence.members) (sym j) ∙ ap (λ x. is_collecting (plan_of s) x d.j) (sym ms) ∙ d.collecting),
+        reaches_is ∙ ap (λ x. has_node (plan_of s) x node) (sym ms) ∙ d.reaches,
+      )

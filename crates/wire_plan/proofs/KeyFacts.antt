@@ -1,7 +1,7 @@
 -- What follows from the row of a key.
 use Rattle.std.proofs.Common.{◌≡◌, ℕ, zero, suc, ◌<◌, ◌≤◌, Bool, true, false, Option, Some, None, is_some, inl, inr, refl, sym, ap, ◌∙◌, subst, arith, nat_lt}
 use Rattle.std.specs.Prelude.{◌==◌, MatchOption, ◌||◌}
-use Rattle.std.proofs.lemmas.Bool.{cond_both, cases_eq, cases_lt, true≢false, eqb-true, lt-ltb, le-ltb}
+use Rattle.std.proofs.lemmas.Bool.{cond_both, cases_eq, cases_lt, true≢false, eqb-true, lt-ltb, ltb-true, le-ltb}
 use Rattle.std.proofs.lemmas.Option.{slice_get_past, same_Some}
 use Rattle.wire_types.specs.declared.Scope.{Scope}
 use Rattle.wire_types.specs.declared.Proc.{Proc}
@@ -12,6 +12,7 @@ use Rattle.wire_runs.specs.Order.{Stores}
 use Rattle.wire_runs.specs.Races.{IsPutOnce}
 use Rattle.wire_plan.specs.Index.{IsFirstPut}
 use Rattle.wire_plan.specs.Keys.{IsStore, IsRowOf, IsSent}
+use Rattle.wire_plan.specs.Bringing.{IsSentAfter}
 use Rattle.wire_plan.specs.declared.keys.KeyRow.{KeyRow}
 use Rattle.wire_runs.proofs.Basics.{stored_own, stored_stays, event_within}
 use Rattle.wire_runs.proofs.Due.{place_path}
@@ -138,6 +139,14 @@ sent_admits plan p key at row once r sent =
 
 pub sent_stored : (plan : Plan) (p key at : ℕ) → IsSent plan p key at → is_some (stored plan p key at) ≡ true
 sent_stored plan p key at sent = ap is_some sent.committed
+
+-- so exactly after the commit that stores it
+pub sent_by_store : (plan : Plan) (p key : ℕ) (row : KeyRow) → IsPutOnce plan p key → IsRowOf plan p key row → admits row.scope false ≡ true → (o : Option ℕ) → IsStore plan p key o → IsSentAfter plan p key o
+sent_by_store plan p key row once r admitted None store = λ at sent. true≢false (sym (sent_stored plan p key at sent) ∙ stored_exactly plan p key at None store)
+sent_by_store plan p key row once r admitted (Some c) store = λ at. (
+  λ sent. ltb-true c at (sym (stored_exactly plan p key at (Some c) store) ∙ sent_stored plan p key at sent),
+  λ lt. sent_where plan p key at row once r admitted (stored_exactly plan p key at (Some c) store ∙ lt-ltb c at lt),
+)
 
 -- the commit that stores a key put once
 pub feeds_where : (plan : Plan) (owner : Proc) (key count : ℕ) (o : Option CodeEvent) → count ≡ put_count plan owner.number key (event_count plan owner.number) → count ≡ 1 → MatchOption o ((x : Event) → x.proc ≡ owner.number → Stores plan x key → ⊥) (λ x. (x.proc ≡ owner) × Stores plan (event_of x) key) → MatchOption o ((x : Event) → x.proc ≡ owner.number → IsPutOnce plan owner.number key → Stores plan x key → ⊥) (λ x. (x.proc ≡ owner) × IsPutOnce plan owner.number key × Stores plan (event_of x) key)

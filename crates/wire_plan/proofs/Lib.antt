@@ -9,4 +9,5 @@ pub mod Tables
 pub mod Wired
 pub mod Awaited
 pub mod Delivering
+pub mod Bringing
 pub mod Building

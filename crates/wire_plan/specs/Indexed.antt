@@ -5,6 +5,7 @@ use Rattle.wire_fence.specs.FenceTable.{FenceTable}
 use Rattle.wire_plan.specs.Meetings.{AreArrivalLists}
 use Rattle.wire_plan.specs.Keys.{AreKeysOf}
 use Rattle.wire_plan.specs.Tables.{AreNamesOf, AreGetsNowOf}
+use Rattle.wire_plan.specs.Bringing.{AreNodeArrivals}
 use Rattle.wire_plan.specs.declared.index.Index.{Index}
 
 -- the index is that of these scripts, whose fences these are
@@ -13,3 +14,4 @@ pub record IsIndexed (s : Scripts) (table : FenceTable) (index : Index) : Type 0
   pub keys : AreKeysOf (plan_of s) index.keys
   pub names : AreNamesOf (plan_of s) index.names
   pub gets_now : AreGetsNowOf (plan_of s) index.gets_now
+  pub node_arrivals : AreNodeArrivals (plan_of s) index.node_arrivals

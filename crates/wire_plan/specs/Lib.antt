@@ -22,4 +22,5 @@ pub mod Kinds
 pub mod Meetings
 pub mod Keys
 pub mod Tables
+pub mod Bringing
 pub mod Indexed

@@ -1,4 +1,4 @@
-//! Events listed by the number of a name or of a key.
+//! Events listed by a number: that of a name, of a key or of a node.
 
 ghost use Rattle.std.specs.Prelude.{◌≡◌, ◌≢◌, ◌<◌, ◌++◌, ◌∷◌, [], ℕ, suc, List, Some, length, map, OnOk, IfOk};
 ghost use Rattle.wire_runs.specs.Plan.{event_of, kind_at};
@@ -106,6 +106,15 @@ impl Model for ByNumber {
 }
 
 impl ByNumber {
+    /// A table that lists no event.
+    pub(crate) fn empty(alloc: Global) -> ByNumber
+        ensures { result ≡ [] }
+    {
+        ByNumber {
+            lists: Vec::new(alloc),
+        }
+    }
+
     // Gives each number up to this one a list, at first an empty one.
     fn reach(&mut self, alloc: Global, number: u32) -> Result<(), AllocError>
         ensures same { OnOk result ((n : ℕ) → events_listed self.new n ≡ events_listed self.old n) }
@@ -127,8 +136,8 @@ impl ByNumber {
         Ok(())
     }
 
-    // Adds an event to the list of a number.
-    fn add(&mut self, alloc: Global, number: u32, event: Event) -> Result<(), AllocError>
+    /// Adds an event to the list of a number. The only error is that memory ran out.
+    pub(crate) fn add(&mut self, alloc: Global, number: u32, event: Event) -> Result<(), AllocError>
         ensures here { OnOk result (events_listed self.new number ≡ events_listed self.old number ++ event_of event ∷ []) }
         ensures others { OnOk result ((n : ℕ) → n ≢ number → events_listed self.new n ≡ events_listed self.old n) }
     {
@@ -178,9 +187,7 @@ impl ByNumber {
     ) -> Result<ByNumber, AllocError>
         ensures { IfOk result (λ table. AreListed (plan_of events.now) listing table) }
     {
-        let mut table = ByNumber {
-            lists: Vec::new(alloc),
-        };
+        let mut table = ByNumber::empty(alloc);
         for number in 0..events.process_count() {
             table.read_all(alloc, listing, events, Proc::new(number))?;
         }

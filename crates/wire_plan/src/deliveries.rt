@@ -1,27 +1,15 @@
 //! The fences that bring a key to a node.
 
-ghost use Rattle.std.specs.Prelude.{◌≡◌, ◌↔◌, ◌<◌, ◌&&◌, ℕ, option_map, IfSome, IsTrue};
-ghost use Rattle.wire_runs.specs.Plan.{event_count};
-ghost use Rattle.wire_rehearsal.specs.Planned.{plan_of};
-ghost use Rattle.wire_fence.specs.FenceTable.{AreFencesOf, fence_at as the_fence_at, full_in, collects_in, reaches_in};
+ghost use Rattle.std.specs.Prelude.{◌≡◌, ◌≤◌, ℕ, option_map, IfSome};
+ghost use Rattle.wire_runs.specs.Plan as runs;
 ghost use Rattle.wire_runs.specs.Races.{IsPutOnce};
-ghost use Rattle.wire_plan.specs.Index.{IsDelivering, IsNextDelivery};
+ghost use Rattle.wire_plan.specs.Index.{IsNextDelivery};
 ghost use Rattle.wire_plan.specs.Keys.{AreKeysOf};
+ghost use Rattle.wire_plan.specs.Bringing.{AreNodeArrivals};
 
-use crate::events::Events;
 use crate::keys::KeyTable;
-use crate::kind::Kind;
-use crate::meetings::fence_at;
-use wire_fence::{FenceId, Fences};
+use crate::node_arrivals::NodeArrivals;
 use wire_types::{Event, Proc};
-
-/// Whether a fence is called by each member, says in each call that data is collected, and has a member
-/// on the node.
-fn reaches(fences: &Fences, fence: FenceId, node: u32) -> bool
-    ensures { result ≡ (full_in (the_fence_at fences.now fence.number) && (collects_in (the_fence_at fences.now fence.number) && reaches_in fences.now node (the_fence_at fences.now fence.number))) }
-{
-    fences.full(fence) && fences.collects(fence) && fences.reaches(fence, node)
-}
 
 /// What a fence may bring: a key of its owner, to a node.
 #[derive(Clone, Copy)]
@@ -31,49 +19,34 @@ pub(crate) struct Delivery {
     pub node: u32,
 }
 
-/// Whether the owner's event of this number is an arrival at a fence that makes the delivery, of a key that
-/// the owner puts once.
-fn is_delivering(
-    events: &Events,
-    fences: &Fences,
-    keys: &KeyTable,
-    delivery: Delivery,
-    at: u32,
-) -> bool
-    requires fences { AreFencesOf events.now fences.now }
-    requires keys { AreKeysOf (plan_of events.now) keys.now }
-    requires there { at < event_count (plan_of events.now) delivery.owner.number }
-    ensures { IsPutOnce (plan_of events.now) delivery.owner.number delivery.key → (IsTrue result ↔ IsDelivering (plan_of events.now) delivery.owner.number delivery.key delivery.node at) }
+// The higher of two numbers.
+fn higher(a: u32, b: u32) -> u32
+    ensures first { a ≤ result }
+    ensures second { b ≤ result }
+    ensures least { (n : ℕ) → a ≤ n → b ≤ n → result ≤ n }
 {
-    let Delivery { owner, key, node } = delivery;
-    let event = Event { proc: owner, at };
-    match events.kind(event) {
-        Kind::Arrive { .. } => {
-            reaches(fences, fence_at(events, fences, event), node) && keys.sends(owner, key, at)
-        }
-        _ => false,
-    }
+    if a < b { b } else { a }
 }
 
 /// The owner's first arrival, from its event of this number on, at a fence that makes the delivery, of a
-/// key that the owner puts once.
+/// key that the owner puts once. No arrival before the commit that stores the key makes it, so it is the
+/// first that brings data to the node from there on.
 pub(crate) fn next_delivery(
-    events: &Events,
-    fences: &Fences,
+    arrivals: &NodeArrivals,
     keys: &KeyTable,
     delivery: Delivery,
     from: u32,
 ) -> Option<Event>
-    requires fences { AreFencesOf events.now fences.now }
-    requires keys { AreKeysOf (plan_of events.now) keys.now }
     ensures owner { IfSome result (λ e. e.proc ≡ delivery.owner) }
-    ensures next { IsPutOnce (plan_of events.now) delivery.owner.number delivery.key → IsNextDelivery (plan_of events.now) delivery.owner.number delivery.key delivery.node from (option_map (λ e. e.at) result) }
+    ensures next { (plan : runs.Plan) → AreNodeArrivals plan arrivals.now → AreKeysOf plan keys.now → IsPutOnce plan delivery.owner.number delivery.key
+        → IsNextDelivery plan delivery.owner.number delivery.key delivery.node from (option_map (λ e. e.at) result) }
 {
-    let owner = delivery.owner;
-    for at in from..events.event_count(owner) {
-        if is_delivering(events, fences, keys, delivery, at) {
-            return Some(Event { proc: owner, at });
+    let Delivery { owner, key, node } = delivery;
+    match keys.sent_after(owner, key) {
+        Some(commit) => {
+            let at = higher(from, commit);
+            arrivals.first_from(node, Event { proc: owner, at })
         }
+        None => None,
     }
-    None
 }

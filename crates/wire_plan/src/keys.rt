@@ -11,7 +11,8 @@ ghost use Rattle.wire_plan.specs.Kinds.{kind_of};
 ghost use Rattle.wire_runs.specs.Order.{Stores};
 ghost use Rattle.wire_runs.specs.Races.{IsPutOnce};
 ghost use Rattle.wire_plan.specs.Index.{IsFirstPut};
-ghost use Rattle.wire_plan.specs.Keys.{puts_in, row_at, AreRowsFrom, IsKeyRow, IsStore, IsSent, AreKeysOf};
+ghost use Rattle.wire_plan.specs.Keys.{puts_in, row_at, AreRowsFrom, IsKeyRow, IsStore, AreKeysOf};
+ghost use Rattle.wire_plan.specs.Bringing.{IsSentAfter};
 
 use crate::events::Events;
 use crate::kind::Kind;
@@ -184,16 +185,6 @@ impl KeyTable {
         }
     }
 
-    /// Whether a process has stored a key by a commit before its event of this number.
-    pub(crate) fn is_stored_before(&self, owner: Proc, key: u32, at: u32) -> bool
-        ensures { (plan : Plan) → AreKeysOf plan self.now → result ≡ is_some (stored plan owner.number key at) }
-    {
-        match self.store(owner, key) {
-            Some(commit) => commit < at,
-            None => false,
-        }
-    }
-
     /// Whether a get of another process's key isn't ruled out by the owner's script: the owner stores
     /// the key, or puts it more than once.
     pub(crate) fn may_get(&self, owner: Proc, key: u32) -> bool
@@ -214,14 +205,20 @@ impl KeyTable {
         }
     }
 
-    /// Whether what a process has stored under a key before its event of this number is for processes
-    /// of other nodes, where the key is put once.
-    pub(crate) fn sends(&self, owner: Proc, key: u32, at: u32) -> bool
-        ensures { (plan : Plan) → AreKeysOf plan self.now → IsPutOnce plan owner.number key → (IsTrue result ↔ IsSent plan owner.number key at) }
+    /// The number of the commit after which what a process has stored under a key is for processes of
+    /// other nodes, where the key is put once; `None` where it never is.
+    pub(crate) fn sent_after(&self, owner: Proc, key: u32) -> Option<u32>
+        ensures { (plan : Plan) → AreKeysOf plan self.now → IsPutOnce plan owner.number key → IsSentAfter plan owner.number key result }
     {
         match self.row(owner, key) {
-            Some(row) => is_for_others(row.scope) && self.is_stored_before(owner, key, at),
-            None => false,
+            Some(row) => {
+                if is_for_others(row.scope) {
+                    row.store
+                } else {
+                    None
+                }
+            }
+            None => None,
         }
     }
 }

@@ -11,6 +11,7 @@ mod keys;
 mod kind;
 mod meetings;
 mod names;
+mod node_arrivals;
 mod plan;
 mod row;
 mod sources;

@@ -279,8 +279,7 @@ impl Plan {
         ensures next { IsPutOnce (plan_of self.now) owner.number key → IsNextDelivery (plan_of self.now) owner.number key node from (option_map (λ e. e.at) result) }
     {
         next_delivery(
-            &self.events,
-            &self.fences,
+            &self.index.node_arrivals,
             &self.index.keys,
             Delivery { owner, key, node },
             from,

@@ -8,7 +8,7 @@ use Rattle.wire_plan.proofs.by_number.ByNumber.of.Goals as goal
 pub loop-number-preserved : goal.loop-number-preserved
 loop-number-preserved c =
     let next : suc c.loop-number.number ≡ c.loop-number.number + 1 = omega arith in
-    let told = rw (c.new-in-loop-number.ensures) at c.in_ok-read_all.ensures in
+    let told = rw (c.new.ensures) at c.in_ok-read_all.ensures in
     subst (λ p. AreListedTo (plan_of c.args.events.now) c.args.listing p 0 c.read_all.new.self) next
     (told c.loop-number.invariant)
 

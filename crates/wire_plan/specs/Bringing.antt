@@ -1,0 +1,59 @@
+-- The arrivals at fences that bring data to a node: for the contracts of private functions.
+use Rattle.std.specs.Prelude.{◌≡◌, ◌↔◌, ℕ, ◌<◌, ◌≤◌, List, [], ◌∷◌, ◌++◌, Bool, true, false, ◌&&◌, ◌||◌, ◌==◌, nat_lt, Option, Some, MatchOption, slice_get}
+use Rattle.wire_runs.specs.Plan.{Plan, Event, node_of, event_of}
+use Rattle.wire_runs.specs.Fences.{is_full, is_collecting, has_node}
+use Rattle.wire_runs.specs.Order.{IsArrival}
+use Rattle.wire_runs.specs.EventLists.{IsLower, AreAll}
+use Rattle.wire_types.specs.declared.Event.{Event as CodeEvent}
+use Rattle.wire_plan.specs.Keys.{IsSent}
+use Rattle.wire_plan.specs.Tables.{events_listed}
+use Rattle.wire_plan.specs.declared.node_arrivals.NodeArrivals.{NodeArrivals}
+
+-- x is an arrival at a fence that each member calls, each with data collection, with a member on the node
+pub record BringsTo (plan : Plan) (node : ℕ) (x : Event) : Type 0 where
+  pub members : List ℕ
+  pub j : ℕ
+  pub arrival : IsArrival plan members j x
+  pub full : is_full plan members j ≡ true
+  pub collecting : is_collecting plan members j ≡ true
+  pub reaches : has_node plan members node ≡ true
+
+-- the table has, for each node, the arrivals at fences that bring data to it
+abbrev pub AreNodeArrivals : Plan → NodeArrivals → Type 0
+AreNodeArrivals plan table = (node : ℕ) → AreAll (BringsTo plan node) (events_listed table.by_node node)
+
+-- the same of those that stand before the i-th event of the p-th process, where no process runs on a node of a higher number
+-- than the table's highest
+pub record AreNodeArrivalsTo (plan : Plan) (p i : ℕ) (table : NodeArrivals) : Type 0 where
+  pub nodes : (q : ℕ) → node_of plan q ≤ table.highest
+  pub each : (node : ℕ) → AreAll (λ x. BringsTo plan node x × IsLower x (record { proc = p; at = i })) (events_listed table.by_node node)
+
+-- the list with an event more, where it is to be added
+abbrev pub with_added : Bool → List Event → Event → List Event
+with_added true xs x = xs ++ x ∷ []
+with_added false xs x = xs
+
+-- x is an arrival of p, from its event number `from` on, that brings data to the node
+pub record IsArrivalFrom (plan : Plan) (p node from : ℕ) (x : Event) : Type 0 where
+  pub proc : x.proc ≡ p
+  pub from_there : from ≤ x.at
+  pub brings : BringsTo plan node x
+
+-- what is found, if anything, is the first of them
+abbrev pub IsFirstFrom : Plan → ℕ → ℕ → ℕ → Option CodeEvent → Type 0
+IsFirstFrom plan p node from found =
+    MatchOption found
+    ((x : Event) → IsArrivalFrom plan p node from x → ⊥)
+    (λ e. IsArrivalFrom plan p node from (event_of e) × ((x : Event) → IsArrivalFrom plan p node from x → e.at ≤ x.at))
+
+-- what p has stored under the key is for processes of other nodes exactly after its event of this number, if ever
+abbrev pub IsSentAfter : Plan → ℕ → ℕ → Option ℕ → Type 0
+IsSentAfter plan p key commit = MatchOption commit ((at : ℕ) → IsSent plan p key at → ⊥) (λ c. (at : ℕ) → IsSent plan p key at ↔ c < at)
+
+-- the lower first
+abbrev pub IsRising : List Event → Type 0
+IsRising xs = (k l : ℕ) (y z : Event) → k < l → slice_get xs k ≡ Some y → slice_get xs l ≡ Some z → IsLower y z
+
+-- whether x is lower than y
+abbrev pub is_below : Event → Event → Bool
+is_below x y = nat_lt x.proc y.proc || ((x.proc == y.proc) && nat_lt x.at y.at)
