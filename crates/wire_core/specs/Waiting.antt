@@ -1,4 +1,4 @@
--- What processes that aren't ready wait for, and what an event brings.
+-- What processes that aren't ready wait for, and what an event brings: for the contracts of private functions.
 use Rattle.std.specs.Prelude.{◌≡◌, ◌<◌, ℕ, List, Bool, true, false, Option, Some, None, length, ◌==◌, slice_index_or, if◌then◌else◌}
 use Rattle.wire_types.specs.declared.Proc.{Proc}
 use Rattle.wire_runs.specs.Plan.{Event, Kind, kind, process_count}
@@ -29,7 +29,7 @@ is_same_thing _ _ = false
 abbrev pub after : Awaited → Awaited → Awaited
 after comes awaited = if is_same_thing comes awaited then Unknown else awaited
 
--- what the event at x waits for: while that doesn't come, the event can't begin to be possible
+-- what the event at x waits for: until that comes, no event of another process makes it possible
 abbrev pub Awaits : Scripts → FenceTable → Event → Awaited → Type 0
 Awaits s table x Unknown = ⊥
 Awaits s table x (Commit owner) = (key : ℕ) × (kind (plan_of s) x ≡ Some (plan.Get owner.number key))

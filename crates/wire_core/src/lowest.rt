@@ -1,4 +1,4 @@
-//! The lowest process that is ready, where each that isn't is looked at once.
+//! The lowest process that is ready. What the processes below it wait for is noted.
 
 ghost use Rattle.std.specs.Prelude.{◌≡◌, ◌<◌, false, option_map};
 ghost use Rattle.wire_runs.specs.Plan.{process_count};
@@ -12,7 +12,7 @@ use crate::waits::{Awaited, awaited_at};
 use wire_types::Proc;
 
 impl<'a> Core<'a> {
-    /// Notes what a process waits for that isn't ready.
+    /// Notes what a process that isn't ready waits for.
     fn note(&mut self, proc: Proc)
         requires within { proc.number < process_count (plan_of self.old.scripts) }
         requires waits { is_enabled (plan_of self.old.scripts) (state_of self.old) proc.number ≡ false }
@@ -28,7 +28,7 @@ impl<'a> Core<'a> {
         self.waits.note(proc, awaited);
     }
 
-    /// The lowest process that is ready. Of those below it, it is noted what they wait for.
+    /// The lowest process that is ready. Notes what the processes below it wait for.
     pub(crate) fn next_lowest(&mut self) -> Option<Proc>
         ensures lowest { option_map (λ p. p.number) result ≡ lowest (plan_of self.old.scripts) (state_of self.old) (process_count (plan_of self.old.scripts)) }
         ensures same { self.new ≡ self.old }

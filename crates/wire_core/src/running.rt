@@ -142,7 +142,7 @@ impl<'a> Core<'a> {
         self.looks_ready(proc)
     }
 
-    /// The same, told by its next event.
+    /// The same, whatever is noted of the process: by its next event alone.
     fn looks_ready(&self, proc: Proc) -> bool
         ensures { result ≡ is_enabled (plan_of self.now.scripts) (state_of self.now) proc.number }
     {

@@ -1,11 +1,11 @@
 //! What processes that aren't ready wait for.
 
-ghost use Rattle.std.specs.Prelude.{◌≡◌, ◌<◌, ◌^◌, ℕ, List, Some, true, length, map, option_map, replicate, slice_set, slice_index_or, IfOk, IfErr};
+ghost use Rattle.std.specs.Prelude.{◌≡◌, ◌<◌, ◌^◌, ℕ, List, Some, true, false, length, map, option_map, replicate, slice_set, slice_index_or, IfOk, IfErr};
 ghost use Rattle.wire_runs.specs.Plan.{event_of, kind as kind_in};
 ghost use Rattle.wire_rehearsal.specs.Planned.{plan_of};
 ghost use Rattle.wire_fence.specs.FenceTable.{AreFencesOf};
 ghost use Rattle.wire_plan.specs.Kinds.{kind_of};
-ghost use Rattle.wire_core.specs.Waiting.{is_known as is_known_wait, is_same_thing as is_same, after as after_it, coming, Awaits, IsFirst};
+ghost use Rattle.wire_core.specs.Waiting.{is_known as is_known_wait, is_same_thing as is_same, after as after_it, coming, Awaits, IsFirst, AreUnknown};
 
 use std::alloc::Global;
 use std::marker::Model;
@@ -137,6 +137,13 @@ fn forget(awaited: &mut Vec<Awaited>, comes: Awaited)
     }
 }
 
+/// Whether it is known of any process what it waits for.
+fn is_any_known(awaited: &[Awaited]) -> bool
+    ensures { result ≡ false → AreUnknown awaited.now }
+{
+    awaited.iter().any(|awaited| is_known(*awaited))
+}
+
 /// What each process is known to wait for.
 #[derive(Drop)]
 pub(crate) struct Waits {
@@ -201,7 +208,7 @@ impl Waits {
     {
         if self.any && is_known(comes) {
             forget(&mut self.awaited, comes);
-            self.any = self.awaited.iter().any(|awaited| is_known(*awaited));
+            self.any = is_any_known(&self.awaited);
             self.lowest = first_unknown(&self.awaited, 0);
         }
     }
