@@ -171,7 +171,6 @@ class Bench:
     def __init__(self, args, room):
         self.programs = [os.path.abspath(it) for it in (args.program, args.beside) if it]
         self.room, self.runs, self.is_small = room, args.runs, args.small
-        self.floor = run(["true"])[1]
 
     def file_of(self, kind, share):
         """The path and the text of a file, at this many quarters of the limit."""
@@ -191,10 +190,11 @@ class Bench:
     def tell_command(self, kind, words):
         """A row of the table of times."""
         small, large = (best_of(self.runs, self.programs, [*words, self.file_of(kind, it)[0]]) for it in (QUARTER, WHOLE))
+        floor = run(["true"])[1]
         cells = [kind.name, f"{1000 * small[0][0]:.1f}", f"{1000 * large[0][0]:.1f}", f"{large[0][0] / small[0][0]:.1f}"]
-        cells.append(mebibytes(large[0][1], self.floor))
+        cells.append(mebibytes(large[0][1], floor))
         for other in large[1:]:
-            cells += [f"{1000 * other[0]:.1f}", mebibytes(other[1], self.floor), f"{other[0] / large[0][0]:.1f}"]
+            cells += [f"{1000 * other[0]:.1f}", mebibytes(other[1], floor), f"{other[0] / large[0][0]:.1f}"]
         print(f"| {' | '.join(cells)} |", flush=True)
 
     def tell_all(self, kinds):
