@@ -18,6 +18,8 @@ mod refusals;
 #[cfg(test)]
 mod reports;
 #[cfg(test)]
+mod rounds;
+#[cfg(test)]
 mod tests;
 #[cfg(test)]
 mod texts;
