@@ -10,7 +10,7 @@ use Rattle.wire_types.specs.declared.Status.TheVariants.{Success, NotFound, Exis
 use Rattle.wire_types.specs.declared.CallEnd.{CallEnd}
 use Rattle.wire_types.specs.declared.CallEnd.TheVariants.{Replied, Waiting, Ready, Unreached}
 use Rattle.wire_words.specs.Words.{status_name, verb_text, end_word}
-use Rattle.wire_json.specs.Json.{printed, escaped}
+use Rattle.wire_json.specs.Json.{printed, escaped, PrintableKept}
 
 -- a letter for a byte from the space on
 letter : (b : ℕ) → 31 < b → escape_letter b ≡ cond (b == 34 || b == 92) b 0
@@ -22,6 +22,13 @@ one_byte b h = rw (letter b h) (grind (arith, nat_tests))
 
 above : (b : ℕ) → 31 < printed b
 above b = grind (arith, nat_tests)
+
+kept_byte : (b : ℕ) → 31 < b → b < 127 → printed b ≡ b
+kept_byte b l u = grind (arith, nat_tests)
+
+pub kept : PrintableKept
+kept [] h = refl
+kept (b ∷ bs) h = ap₂ (λ x y. x ∷ y) (kept_byte b h.0 h.1) (kept bs h.2)
 
 pub same_escapes : (bs : List ℕ) → escape (map printed bs) ≡ escaped (map printed bs)
 same_escapes [] = refl

@@ -1,6 +1,6 @@
 -- The JSON forms of a report, of findings and of an unsettled replay, as bytes: one compact object with its keys in byte
 -- order, and a line feed.
-use Rattle.std.specs.Prelude.{ℕ, ◌==◌, ◌&&◌, ◌||◌, nat_lt, List, [], ◌∷◌, ◌++◌, map, flat_map, codes, decimal, if◌then◌else◌}
+use Rattle.std.specs.Prelude.{◌≡◌, ℕ, ⊤, ◌<◌, ◌==◌, ◌&&◌, ◌||◌, nat_lt, List, [], ◌∷◌, ◌++◌, map, flat_map, codes, decimal, if◌then◌else◌}
 use Rattle.std.specs.List.{join_with_byte}
 use Rattle.wire_types.specs.declared.Call.{Call}
 use Rattle.wire_types.specs.declared.CallEnd.{CallEnd}
@@ -14,6 +14,15 @@ use Rattle.wire_words.specs.Words.{end_word, brought, value_text, verb_text, nam
 -- a byte in a string: one that isn't printable, which stands in no word of a file, is a question mark
 abbrev pub printed : ℕ → ℕ
 printed b = if nat_lt 31 b && nat_lt b 127 then b else 63
+
+-- each of these bytes is printable
+abbrev pub ArePrintable : List ℕ → Type 0
+ArePrintable [] = ⊤
+ArePrintable (b ∷ bs) = (31 < b) × (b < 127) × ArePrintable bs
+
+-- a text of printable bytes stands in a string as it is
+abbrev pub PrintableKept : Type 0
+PrintableKept = (text : List ℕ) → ArePrintable text → map printed text ≡ text
 
 -- a quote and a backslash have a backslash before them
 abbrev pub escaped : List ℕ → List ℕ

@@ -6,3 +6,4 @@ mod strings;
 mod trees;
 
 pub use forms::{findings_json, report_json, unsettled_json};
+pub use strings::printable_kept;

@@ -27,6 +27,12 @@ fn printed(byte: u8) -> u8
     if 31 < byte && byte < 127 { byte } else { b'?' }
 }
 
+/// A text of printable bytes stands in a string as it is.
+#[tactic(auto, using(crate::proofs::Escapes::kept))]
+pub fn printable_kept()
+    ensures { spec.PrintableKept }
+{}
+
 /// Strings of these texts.
 pub fn strings(alloc: Global, texts: &[Vec<u8>]) -> Result<Vec<Value>, AllocError>
     ensures { IfOk result (λ values. map view values.items ≡ strings_data (map (λ text. text.items) texts.now)) }
