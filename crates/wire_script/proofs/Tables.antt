@@ -1,11 +1,11 @@
 -- The tables after all calls.
-use Rattle.std.proofs.Common.{◌≡◌, ◌∙◌, ap, sym, refl, ℕ, List, [], ◌∷◌}
+use Rattle.std.proofs.Common.{◌≡◌, ◌∙◌, ap, sym, refl, ℕ, ◌+◌, ◌*◌, ◌≤◌, List, [], ◌∷◌, ◌++◌, true, false, length, length-append, if◌then◌else◌, arith}
 use Rattle.std.specs.List.{flat_map}
 use Rattle.std.proofs.lemmas.List.Concat.{flat_map-cons}
 use Rattle.wire_lines.specs.Said as said
-use Rattle.wire_script.specs.FirstPass.{Started, Declared}
+use Rattle.wire_script.specs.FirstPass.{is_among, Started, Declared}
 use Rattle.wire_script.specs.Reads.{Seen, seen_in, in_calls, keys_in, names_in, values_in, sets_in, set_members}
-use Rattle.wire_script.specs.Tabled.{nothing_seen, seen_with, seen_after, all_seen, GoOn}
+use Rattle.wire_script.specs.Tabled.{entry_count, with_text, nothing_seen, seen_with, seen_after, all_seen, GoOn}
 use Rattle.wire_script.proofs.Seen.{texts_after, after_both, seen_at_once, with_goes_on, goes_on_self, goes_on_more}
 
 -- one table, read out by g, into which f says what a call brings
@@ -106,3 +106,26 @@ pub with_calls_goes_on : (d : Declared) (s : Seen) (job : ℕ) (cs : List (ℕ �
 with_calls_goes_on d s job [] = go_on_self s
 with_calls_goes_on d s job (c ∷ cs) =
     go_on_more s (seen_with d s job c.1) (seen_after d (seen_with d s job c.1) job cs) (with_call_goes_on d s job c.1) (with_calls_goes_on d (seen_with d s job c.1) job cs)
+
+-- a table grows by at most one text
+with_grows : (t : List (List ℕ)) (x : List ℕ) → length (with_text t x) ≤ length t + 1
+with_grows t x = elim (is_among t x) as (λ b. length (if b then t else t ++ x ∷ []) ≤ length t + 1) [
+  | true ↦ omega arith
+  | false ↦ let more = length-append t (x ∷ []) in omega (arith, more)
+]
+
+-- and all tables by at most two with each call
+pub call_grows : (d : Declared) (s : Seen) (job : ℕ) (c : said.Call) → entry_count (seen_with d s job c) ≤ entry_count s + 2
+call_grows d s own (said.Put scope key value) = let m = with_grows s.keys key in let n = with_grows s.values value in omega (arith, m, n)
+call_grows d s own said.Commit = omega arith
+call_grows d s own (said.Fence set collect) = let m = with_grows s.sets (set_members d own set) in omega (arith, m)
+call_grows d s own (said.Get job rank key) = let m = with_grows s.keys key in omega (arith, m)
+call_grows d s own (said.GetNow job rank key) = let m = with_grows s.keys key in omega (arith, m)
+call_grows d s own (said.Publish name value) = let m = with_grows s.names name in let n = with_grows s.values value in omega (arith, m, n)
+call_grows d s own (said.Lookup name) = let m = with_grows s.names name in omega (arith, m)
+call_grows d s own (said.LookupWait name) = let m = with_grows s.names name in omega (arith, m)
+call_grows d s own (said.Unpublish name) = let m = with_grows s.names name in omega (arith, m)
+
+pub calls_grow : (d : Declared) (s : Seen) (job : ℕ) (cs : List (ℕ × said.Call)) → entry_count (seen_after d s job cs) ≤ entry_count s + 2 * length cs
+calls_grow d s job [] = omega arith
+calls_grow d s job (c ∷ cs) = let here = call_grows d s job c.1 in let rest = calls_grow d (seen_with d s job c.1) job cs in omega (arith, here, rest)

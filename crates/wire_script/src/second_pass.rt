@@ -13,11 +13,11 @@ ghost use Rattle.wire_script.specs.Targets.{named_in, AreNoted};
 use crate::draft::{Draft, Placed, Started};
 use crate::members::{Target, are_declared, is_named, listed, named_members, proc_of};
 use crate::noted::Noted;
-use crate::numbers::{number_pair, number_set, number_text};
+use crate::numbers::{number_set, number_text};
 use std::alloc::{AllocError, Global};
 use wire_lines::{CallLine, ProcName, Set};
 use wire_rehearsal::{Process, Scripts, Sets, Tables, Texts};
-use wire_types::{Call, Fault, Proc};
+use wire_types::{Call, Fault, Proc, Scope};
 
 /// The tables so far, and the sets that were named, with their numbers.
 #[derive(Drop)]
@@ -26,97 +26,74 @@ struct Numbering {
     noted: Noted,
 }
 
-/// The owner and the number of the key of a get, of either kind.
-fn number_get(
-    alloc: Global,
-    draft: &Draft,
-    keys: &mut Texts,
-    line: u64,
-    owner: ProcName,
-    key: &[u8],
-) -> Result<(Proc, u32), Fault>
+/// The process that a get of either kind names.
+fn owner_of(draft: &Draft, owner: ProcName, line: u64) -> Result<Proc, Fault>
     requires within { IsWithinLimits (declared_of draft.now) }
     requires declared { IsDeclared (declared_of draft.now) }
-    requires room { length keys.old + 1 < 2 ^ 32 }
     ensures declared { OnOk result
         (has_proc (declared_of draft.now) owner.entry.job.now owner.entry.rank ≡ true) }
     ensures owner { IfOk result
-        (λ g. g.0.number ≡ proc_number (declared_of draft.now) owner.entry.job.now owner.entry.rank) }
-    ensures key { IfOk result
-        (λ g. (later : List (List ℕ)) → GoesOn keys.new later → g.1 ≡ number_or_count later key.now) }
-    ensures keys { OnOk result (keys.new ≡ with_text keys.old key.now) }
-    ensures grown { OnOk result (length keys.new ≤ length keys.old + 1) }
-    ensures err { IfErr result (λ e. (e ≡ Fault.Memory)
-        ⊎ ((has_proc (declared_of draft.now) owner.entry.job.now owner.entry.rank ≡ false) × (e ≡ Fault.UnknownName line))) }
+        (λ p. p.number ≡ proc_number (declared_of draft.now) owner.entry.job.now owner.entry.rank) }
+    ensures err { IfErr result
+        (λ e. (has_proc (declared_of draft.now) owner.entry.job.now owner.entry.rank ≡ false) × (e ≡ Fault.UnknownName line)) }
 {
     let Some(owner) = proc_of(draft, owner) else {
         return Err(Fault::UnknownName(line));
     };
-    let key = number_text(alloc, keys, key)?;
-    Ok((owner, key))
+    Ok(owner)
 }
 
 /// The number of the set of what is named, which is added where it isn't there.
 fn number_targets(
     alloc: Global,
     draft: &Draft,
-    sets: &mut Sets,
-    noted: &mut Noted,
+    numbering: &mut Numbering,
     targets: &[Target],
 ) -> Result<u32, AllocError>
     requires within { IsWithinLimits (declared_of draft.now) }
-    requires room { length sets.old + 1 < 2 ^ 32 }
-    requires noted { AreNoted (declared_of draft.now) sets.old noted.old }
-    ensures number { IfOk result (λ n. (later : List (List ℕ)) → GoesOn sets.new later
+    requires room { length numbering.old.tables.sets + 1 < 2 ^ 32 }
+    requires noted { AreNoted (declared_of draft.now) numbering.old.tables.sets numbering.old.noted }
+    ensures number { IfOk result (λ n. (later : List (List ℕ)) → GoesOn numbering.new.tables.sets later
         → n ≡ number_or_count later (named_in (declared_of draft.now) targets.now)) }
-    ensures sets { OnOk result (sets.new ≡ with_text sets.old (named_in (declared_of draft.now) targets.now)) }
-    ensures grown { OnOk result (length sets.new ≤ length sets.old + 1) }
-    ensures noted { OnOk result (AreNoted (declared_of draft.now) sets.new noted.new) }
+    ensures tables { OnOk result (seen_of numbering.new.tables ≡ record (seen_of numbering.old.tables) {
+      sets = with_text numbering.old.tables.sets (named_in (declared_of draft.now) targets.now);
+    }) }
+    ensures noted { OnOk result (AreNoted (declared_of draft.now) numbering.new.tables.sets numbering.new.noted) }
 {
-    if let Some(number) = noted.number_of(targets) {
+    if let Some(number) = numbering.noted.number_of(targets) {
         return Ok(number);
     }
     let members = named_members(alloc, draft, targets)?;
-    let number = number_set(sets, members)?;
-    noted.note(alloc, targets, number)?;
+    let number = number_set(&mut numbering.tables.sets, members)?;
+    numbering.noted.note(alloc, targets, number)?;
     Ok(number)
 }
 
-/// The number of the set of a fence.
-fn number_fence(
+/// What the set of a fence names, or the fault of the fence.
+fn targets_of(
     alloc: Global,
     draft: &Draft,
-    numbering: &mut Numbering,
     caller: &Started,
     line: u64,
     set: &Set,
-) -> Result<u32, Fault>
+) -> Result<Vec<Target>, Fault>
     requires within { IsWithinLimits (declared_of draft.now) }
     requires declared { IsDeclared (declared_of draft.now) }
-    requires room { length numbering.old.tables.sets + 1 < 2 ^ 32 }
-    requires noted { AreNoted (declared_of draft.now) numbering.old.tables.sets numbering.old.noted }
     ensures declared { OnOk result (is_declared_set (declared_of draft.now) (set_by set.now) ≡ true) }
     ensures caller { OnOk result
         (is_in (declared_of draft.now) caller.now.job (set_by set.now) (started_of caller.now) ≡ true) }
-    ensures number { IfOk result (λ n. (later : List (List ℕ)) → GoesOn numbering.new.tables.sets later
-        → n ≡ number_or_count later (set_members (declared_of draft.now) caller.now.job (set_by set.now))) }
-    ensures tables { OnOk result (seen_of numbering.new.tables ≡ record (seen_of numbering.old.tables) {
-      sets = with_text numbering.old.tables.sets (set_members (declared_of draft.now) caller.now.job (set_by set.now));
-    }) }
-    ensures grown { OnOk result (length numbering.new.tables.sets ≤ length numbering.old.tables.sets + 1) }
-    ensures noted { OnOk result (AreNoted (declared_of draft.now) numbering.new.tables.sets numbering.new.noted) }
+    ensures members { IfOk result (λ v. named_in (declared_of draft.now) v.items
+        ≡ set_members (declared_of draft.now) caller.now.job (set_by set.now)) }
     ensures err { IfErr result (λ e. (e ≡ Fault.Memory)
         ⊎ ((is_declared_set (declared_of draft.now) (set_by set.now) ≡ false) × (e ≡ Fault.UnknownName line))
         ⊎ ((is_declared_set (declared_of draft.now) (set_by set.now) ≡ true)
         × (is_in (declared_of draft.now) caller.now.job (set_by set.now) (started_of caller.now) ≡ false)
         × (e ≡ Fault.NotMember line))) }
 {
-    let (sets, noted) = (&mut numbering.tables.sets, &mut numbering.noted);
     match set {
         Set::Own => {
-            let own = [Target::Every { job: caller.job }];
-            let number = number_targets(alloc, draft, sets, noted, &own)?;
-            Ok(number)
+            let own = Vec::from_slice(alloc, &[Target::Every { job: caller.job }])?;
+            Ok(own)
         }
         Set::Listed(items) => {
             let targets = listed(alloc, draft, items)?;
@@ -126,10 +103,56 @@ fn number_fence(
             if !is_named(&targets, caller) {
                 return Err(Fault::NotMember(line));
             }
-            let number = number_targets(alloc, draft, sets, noted, &targets)?;
-            Ok(number)
+            Ok(targets)
         }
     }
+}
+
+/// A put with numbers for its key and its value.
+fn number_put(
+    alloc: Global,
+    tables: &mut Tables,
+    scope: Scope,
+    key: &[u8],
+    value: &[u8],
+) -> Result<Call, Fault>
+    requires { entry_count (seen_of tables.old) + 2 < 2 ^ 32 }
+    ensures tables { OnOk result (seen_of tables.new ≡ record (seen_of tables.old) {
+      keys = with_text tables.old.keys key.now;
+      values = with_text tables.old.values value.now;
+    }) }
+    ensures call { IfOk result (λ c. (later : Seen) → GoOn (seen_of tables.new) later
+        → c ≡ Call.Put scope (number_or_count later.keys key.now) (number_or_count later.values value.now)) }
+    ensures err { IfErr result (λ e. e ≡ Fault.Memory) }
+{
+    let key = number_text(alloc, &mut tables.keys, key)?;
+    let value = number_text(alloc, &mut tables.values, value)?;
+    Ok(Call::Put {
+        scope,
+        key,
+        value,
+    })
+}
+
+/// A publish with numbers for its name and its value.
+fn number_publish(
+    alloc: Global,
+    tables: &mut Tables,
+    name: &[u8],
+    value: &[u8],
+) -> Result<Call, Fault>
+    requires { entry_count (seen_of tables.old) + 2 < 2 ^ 32 }
+    ensures tables { OnOk result (seen_of tables.new ≡ record (seen_of tables.old) {
+      names = with_text tables.old.names name.now;
+      values = with_text tables.old.values value.now;
+    }) }
+    ensures call { IfOk result (λ c. (later : Seen) → GoOn (seen_of tables.new) later
+        → c ≡ Call.Publish (number_or_count later.names name.now) (number_or_count later.values value.now)) }
+    ensures err { IfErr result (λ e. e ≡ Fault.Memory) }
+{
+    let name = number_text(alloc, &mut tables.names, name)?;
+    let value = number_text(alloc, &mut tables.values, value)?;
+    Ok(Call::Publish { name, value })
 }
 
 /// A call with numbers for what it names, or its fault.
@@ -148,65 +171,37 @@ fn number_call(
         ≡ seen_with (declared_of draft.now) (seen_of numbering.old.tables) caller.now.job (call_by placed.now.call)) }
     ensures call { IfOk result (λ c. (later : Seen) → GoOn (seen_of numbering.new.tables) later
         → c ≡ numbered (declared_of draft.now) later caller.now.job (call_by placed.now.call)) }
-    ensures grown { OnOk result (entry_count (seen_of numbering.new.tables) ≤ entry_count (seen_of numbering.old.tables) + 2) }
     ensures noted { OnOk result (AreNoted (declared_of draft.now) numbering.new.tables.sets numbering.new.noted) }
     ensures ok { OnOk result
         (call_fault (declared_of draft.now) (started_of caller.now) placed.now.line (call_by placed.now.call) ≡ None) }
     ensures err { IfErr result (λ e. (e ≡ Fault.Memory)
         ⊎ (call_fault (declared_of draft.now) (started_of caller.now) placed.now.line (call_by placed.now.call) ≡ Some e)) }
 {
-    let line = placed.line;
     match &placed.call {
         CallLine::Put { scope, key, value } => {
-            let (key, value) = number_pair(
-                alloc,
-                &mut numbering.tables.keys,
-                &mut numbering.tables.values,
-                key,
-                value,
-            )?;
-            Ok(Call::Put {
-                scope: *scope,
-                key,
-                value,
-            })
+            number_put(alloc, &mut numbering.tables, *scope, key, value)
         }
         CallLine::Commit => Ok(Call::Commit),
-        CallLine::Fence { set, collect } => Ok(Call::Fence {
-            set: number_fence(alloc, draft, numbering, caller, line, set)?,
-            collect: *collect,
-        }),
+        CallLine::Fence { set, collect } => {
+            let targets = targets_of(alloc, draft, caller, placed.line, set)?;
+            let set = number_targets(alloc, draft, numbering, &targets)?;
+            Ok(Call::Fence {
+                set,
+                collect: *collect,
+            })
+        }
         CallLine::Get { owner, key } => {
-            let (owner, key) = number_get(
-                alloc,
-                draft,
-                &mut numbering.tables.keys,
-                line,
-                *owner,
-                key,
-            )?;
+            let owner = owner_of(draft, *owner, placed.line)?;
+            let key = number_text(alloc, &mut numbering.tables.keys, key)?;
             Ok(Call::Get { owner, key })
         }
         CallLine::GetNow { owner, key } => {
-            let (owner, key) = number_get(
-                alloc,
-                draft,
-                &mut numbering.tables.keys,
-                line,
-                *owner,
-                key,
-            )?;
+            let owner = owner_of(draft, *owner, placed.line)?;
+            let key = number_text(alloc, &mut numbering.tables.keys, key)?;
             Ok(Call::GetNow { owner, key })
         }
         CallLine::Publish { name, value } => {
-            let (name, value) = number_pair(
-                alloc,
-                &mut numbering.tables.names,
-                &mut numbering.tables.values,
-                name,
-                value,
-            )?;
-            Ok(Call::Publish { name, value })
+            number_publish(alloc, &mut numbering.tables, name, value)
         }
         CallLine::Lookup { name } => Ok(Call::Lookup {
             name: number_text(alloc, &mut numbering.tables.names, name)?,
@@ -235,8 +230,6 @@ fn number_calls(
         ≡ seen_after (declared_of draft.now) (seen_of numbering.old.tables) caller.now.job (map placed_of caller.now.calls.items)) }
     ensures calls { IfOk result (λ v. (later : Seen) → GoOn (seen_of numbering.new.tables) later
         → v.items ≡ map (λ c. numbered (declared_of draft.now) later caller.now.job c.1) (map placed_of caller.now.calls.items)) }
-    ensures grown { OnOk result
-        (entry_count (seen_of numbering.new.tables) ≤ entry_count (seen_of numbering.old.tables) + 2 * length caller.now.calls.items) }
     ensures noted { OnOk result (AreNoted (declared_of draft.now) numbering.new.tables.sets numbering.new.noted) }
     ensures ok { OnOk result
         (fault_in (declared_of draft.now) (started_of caller.now) (map placed_of caller.now.calls.items) ≡ None) }
@@ -268,8 +261,6 @@ fn number_process(
         ≡ seen_after (declared_of draft.now) (seen_of numbering.old.tables) process.now.job (map placed_of process.now.calls.items)) }
     ensures process { IfOk result (λ p. (later : Seen) → GoOn (seen_of numbering.new.tables) later
         → p ≡ process_of (declared_of draft.now) later (started_of process.now)) }
-    ensures grown { OnOk result
-        (entry_count (seen_of numbering.new.tables) ≤ entry_count (seen_of numbering.old.tables) + 2 * length process.now.calls.items) }
     ensures noted { OnOk result (AreNoted (declared_of draft.now) numbering.new.tables.sets numbering.new.noted) }
     ensures ok { OnOk result
         (fault_in (declared_of draft.now) (started_of process.now) (map placed_of process.now.calls.items) ≡ None) }

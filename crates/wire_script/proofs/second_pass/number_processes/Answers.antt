@@ -1,10 +1,11 @@
-use Rattle.std.proofs.Common.{◌≡◌, ◌<◌, ◌≤◌, ◌++◌, ◌∷◌, [], ◌*◌, length, map, rules, get_or}
+use Rattle.std.proofs.Common.{◌≡◌, ◌<◌, ◌≤◌, ◌++◌, ◌∷◌, [], ◌*◌, ◌+◌, length, map, rules, arith, get_or, subst, sym}
+use Rattle.std.proofs.lemmas.List.{length-map}
 use Rattle.wire_script.specs.Limits.{limits}
 use Rattle.wire_script.specs.Reads.{process_of}
 use Rattle.wire_script.specs.Drafted.{declared_of, started_of, placed_of}
-use Rattle.wire_script.specs.Tabled.{seen_of, GoOn}
+use Rattle.wire_script.specs.Tabled.{seen_of, seen_after, entry_count, GoOn}
 use Rattle.wire_script.proofs.Steps.{made_on, made_all, processes_on, room_on, process_faults_on}
-use Rattle.wire_script.proofs.Tables.{with_calls_goes_on, go_on_more, go_on_self}
+use Rattle.wire_script.proofs.Tables.{with_calls_goes_on, go_on_more, go_on_self, calls_grow}
 use Rattle.wire_script.proofs.second_pass.number_processes.Goals as goal
 
 pub loop-process-preserved : goal.loop-process-preserved
@@ -19,9 +20,12 @@ loop-process-preserved c =
     let is : x ≡ get_or ps i x = rw c.deref-process-items.ensures.value at c.process-item.is in
     let pushed : c.push.new.self.items ≡ c.loop-process.processes.items ++ c.in_ok-numbered.numbered ∷ [] = search rules in
     let grows : GoOn old new = rw c.in_ok-numbered.ensures.tables (with_calls_goes_on d old x.job (map placed_of x.calls.items)) in
+    let grown : entry_count new ≤ entry_count old + 2 * length x.calls.items =
+    subst (λ s. entry_count s ≤ entry_count old + 2 * length x.calls.items) (sym c.in_ok-numbered.ensures.tables)
+    (let m = calls_grow d old x.job (map placed_of x.calls.items) in let n = length-map x.calls.items placed_of in omega (arith, m, n)) in
     record {
       so_far = processes_on d _ old new ps i x lt is c.loop-process.invariant.so_far c.in_ok-numbered.ensures.tables;
-      room = room_on old new (2 * limits.calls) ps i x lt is c.loop-process.invariant.room c.in_ok-numbered.ensures.grown;
+      room = room_on old new (2 * limits.calls) ps i x lt is c.loop-process.invariant.room grown;
       noted = c.in_ok-numbered.ensures.noted;
       numbers = λ later goes.
           made_on (process_of d later) started_of c.loop-process.processes.items c.push.new.self.items ps i x c.in_ok-numbered.numbered lt is pushed

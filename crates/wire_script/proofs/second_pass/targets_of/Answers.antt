@@ -2,13 +2,11 @@ use Rattle.std.proofs.Common.{◌≡◌, ◌∙◌, ap, sym, refl, map, true, in
 use Rattle.std.specs.List.{list_all}
 use Rattle.wire_lines.specs.Said as said
 use Rattle.wire_lines.specs.Shown.{set_by, item_by}
-use Rattle.wire_script.specs.FirstPass.{number_or_count}
 use Rattle.wire_script.specs.Reads.{is_declared_set}
 use Rattle.wire_script.specs.Drafted.{declared_of, started_of}
-use Rattle.wire_script.specs.Tabled.{seen_of, with_text}
 use Rattle.wire_script.specs.Targets.{named_in, target_by, is_declared_target, is_any_target}
 use Rattle.wire_script.proofs.Targets.{set_declared, set_named, listed_members, own_members}
-use Rattle.wire_script.proofs.second_pass.number_fence.Goals as goal
+use Rattle.wire_script.proofs.second_pass.targets_of.Goals as goal
 
 pub returns-then-not-are_declared-clause-err : goal.returns-then-not-are_declared-clause-err
 returns-then-not-are_declared-clause-err c =
@@ -28,50 +26,31 @@ returns-then-not-is_named-clause-err c =
     sym (set_declared d (set_by c.args.set.now) items c.in_ok-targets-in-Listed.targets.items set named) ∙ ap (list_all (is_declared_target d)) (sym c.deref-in-Listed.ensures.value) ∙ sym c.if-not-are_declared.ensures in
     inr (inr (declared, sym (set_named d (set_by c.args.set.now) items c.in_ok-targets-in-Listed.targets.items set named c.args.caller.now.job (started_of c.args.caller.now)) ∙ ap (λ l. is_any_target l (started_of c.args.caller.now)) (sym c.deref-in-Listed-2.ensures.value) ∙ sym c.if-not-is_named.ensures, refl))
 
-pub returns-in_ok-number-in-Listed-clause-declared : goal.returns-in_ok-number-in-Listed-clause-declared
-returns-in_ok-number-in-Listed-clause-declared c =
+pub returns-else-not-is_named-clause-declared : goal.returns-else-not-is_named-clause-declared
+returns-else-not-is_named-clause-declared c =
     let d = declared_of c.args.draft.now in
     let items = map item_by c.in-Listed.items.items in
     let set : set_by c.args.set.now ≡ said.Listed items = ap set_by c.in-Listed.is in
     let named : c.in_ok-targets-in-Listed.targets.items ≡ map (target_by d) items = c.in_ok-targets-in-Listed.ensures ∙ ap (λ l. map (target_by d) (map item_by l)) c.deref.ensures.value in
-    let declared : is_declared_set d (set_by c.args.set.now) ≡ true =
-    sym (set_declared d (set_by c.args.set.now) items c.in_ok-targets-in-Listed.targets.items set named) ∙ ap (list_all (is_declared_target d)) (sym c.deref-in-Listed.ensures.value) ∙ sym c.if-not-are_declared.ensures in
-    declared
+    sym (set_declared d (set_by c.args.set.now) items c.in_ok-targets-in-Listed.targets.items set named) ∙ ap (list_all (is_declared_target d)) (sym c.deref-in-Listed.ensures.value) ∙ sym c.if-not-are_declared.ensures
 
-pub returns-in_ok-number-in-Listed-clause-caller : goal.returns-in_ok-number-in-Listed-clause-caller
-returns-in_ok-number-in-Listed-clause-caller c =
+pub returns-else-not-is_named-clause-caller : goal.returns-else-not-is_named-clause-caller
+returns-else-not-is_named-clause-caller c =
     let d = declared_of c.args.draft.now in
     let items = map item_by c.in-Listed.items.items in
     let set : set_by c.args.set.now ≡ said.Listed items = ap set_by c.in-Listed.is in
     let named : c.in_ok-targets-in-Listed.targets.items ≡ map (target_by d) items = c.in_ok-targets-in-Listed.ensures ∙ ap (λ l. map (target_by d) (map item_by l)) c.deref.ensures.value in
     sym (set_named d (set_by c.args.set.now) items c.in_ok-targets-in-Listed.targets.items set named c.args.caller.now.job (started_of c.args.caller.now)) ∙ ap (λ l. is_any_target l (started_of c.args.caller.now)) (sym c.deref-in-Listed-2.ensures.value) ∙ sym c.if-not-is_named.ensures
 
-pub returns-in_ok-number-in-Listed-clause-number : goal.returns-in_ok-number-in-Listed-clause-number
-returns-in_ok-number-in-Listed-clause-number c = λ later goes.
+pub returns-else-not-is_named-clause-members : goal.returns-else-not-is_named-clause-members
+returns-else-not-is_named-clause-members c =
     let d = declared_of c.args.draft.now in
     let items = map item_by c.in-Listed.items.items in
     let set : set_by c.args.set.now ≡ said.Listed items = ap set_by c.in-Listed.is in
     let named : c.in_ok-targets-in-Listed.targets.items ≡ map (target_by d) items = c.in_ok-targets-in-Listed.ensures ∙ ap (λ l. map (target_by d) (map item_by l)) c.deref.ensures.value in
-    let members = ap (λ l. named_in d l) c.deref-in-Listed-3.ensures.value ∙ listed_members d (set_by c.args.set.now) items c.in_ok-targets-in-Listed.targets.items set named c.args.caller.now.job in
-    c.in_ok-number-in-Listed.ensures.number later goes ∙ ap (number_or_count later) members
+    listed_members d (set_by c.args.set.now) items c.in_ok-targets-in-Listed.targets.items set named c.args.caller.now.job
 
-pub returns-in_ok-number-in-Listed-clause-tables : goal.returns-in_ok-number-in-Listed-clause-tables
-returns-in_ok-number-in-Listed-clause-tables c =
+pub returns-in_ok-own-in-Own-clause-members : goal.returns-in_ok-own-in-Own-clause-members
+returns-in_ok-own-in-Own-clause-members c =
     let d = declared_of c.args.draft.now in
-    let items = map item_by c.in-Listed.items.items in
-    let set : set_by c.args.set.now ≡ said.Listed items = ap set_by c.in-Listed.is in
-    let named : c.in_ok-targets-in-Listed.targets.items ≡ map (target_by d) items = c.in_ok-targets-in-Listed.ensures ∙ ap (λ l. map (target_by d) (map item_by l)) c.deref.ensures.value in
-    let members = ap (λ l. named_in d l) c.deref-in-Listed-3.ensures.value ∙ listed_members d (set_by c.args.set.now) items c.in_ok-targets-in-Listed.targets.items set named c.args.caller.now.job in
-    ap (λ m. record (seen_of c.args.numbering.now.tables) { sets = m }) (c.in_ok-number-in-Listed.ensures.sets ∙ ap (with_text c.args.numbering.now.tables.sets) members)
-
-pub returns-in_ok-number-in-Own-clause-number : goal.returns-in_ok-number-in-Own-clause-number
-returns-in_ok-number-in-Own-clause-number c = λ later goes.
-    let d = declared_of c.args.draft.now in
-    let members = own_members d c.args.caller.now.job (set_by c.args.set.now) (ap set_by c.in-Own.is) in
-    c.in_ok-number-in-Own.ensures.number later goes ∙ ap (number_or_count later) members
-
-pub returns-in_ok-number-in-Own-clause-tables : goal.returns-in_ok-number-in-Own-clause-tables
-returns-in_ok-number-in-Own-clause-tables c =
-    let d = declared_of c.args.draft.now in
-    let members = own_members d c.args.caller.now.job (set_by c.args.set.now) (ap set_by c.in-Own.is) in
-    ap (λ m. record (seen_of c.args.numbering.now.tables) { sets = m }) (c.in_ok-number-in-Own.ensures.sets ∙ ap (with_text c.args.numbering.now.tables.sets) members)
+    ap (named_in d) c.in_ok-own-in-Own.ensures.items ∙ own_members d c.args.caller.now.job (set_by c.args.set.now) (ap set_by c.in-Own.is)
