@@ -126,6 +126,8 @@ KINDS = [
 ]
 WHY = ("fences", "ring-fences", "falling-chain")
 QUESTION = ["why", "app:0", "1", "app:255", "1"]
+# What is timed, but for the question.
+COMMANDS = (["check"], ["replay"], ["replay", "--workers", "2"], ["replay", "--workers", "4"])
 
 
 def calls_in(text):
@@ -165,6 +167,12 @@ def mebibytes(size, floor):
     return f"under {floor / 1024:.0f}" if size <= floor * 1.05 else f"{size / 1024:.1f}"
 
 
+def takes(program, words):
+    """Whether a program has the options among these words. (An earlier one has no `--workers`.)"""
+    told = subprocess.run([program, words[0], "--help"], stdin=subprocess.DEVNULL, capture_output=True, text=True, check=False).stdout
+    return all(it in told for it in words if it.startswith("--"))
+
+
 class Bench:
     """The rows of the tables, as they are measured."""
 
@@ -187,9 +195,9 @@ class Bench:
         found = findings_in(self.programs[0], path)
         print(f"| {kind.name} | {kind.what} | {len(text):,} | {calls_in(text):,} | {found:,} |", flush=True)
 
-    def tell_command(self, kind, words):
+    def tell_command(self, kind, programs, words):
         """A row of the table of times."""
-        small, large = (best_of(self.runs, self.programs, [*words, self.file_of(kind, it)[0]]) for it in (QUARTER, WHOLE))
+        small, large = (best_of(self.runs, programs, [*words, self.file_of(kind, it)[0]]) for it in (QUARTER, WHOLE))
         floor = run(["true"])[1]
         cells = [kind.name, f"{1000 * small[0][0]:.1f}", f"{1000 * large[0][0]:.1f}", f"{large[0][0] / small[0][0]:.1f}"]
         cells.append(mebibytes(large[0][1], floor))
@@ -201,20 +209,21 @@ class Bench:
         print("| file | what stands in it | bytes | calls | findings |\n|---|---|---|---|---|")
         for kind in kinds:
             self.tell_file(kind)
-        for command in ("check", "replay", "why"):
-            its = [it for it in kinds if command in it.commands or (command == "why" and it.name in WHY)]
-            words = [it if not self.is_small else it.replace("255", "3") for it in QUESTION] if command == "why" else [command]
-            heads = ["file", "a quarter, ms", "ms", "growth", "MiB"] + ["other, ms", "other, MiB", "times as fast"][: 3 * (len(self.programs) - 1)]
+        question = [it.replace("255", "3") for it in QUESTION] if self.is_small else QUESTION
+        for words in (*COMMANDS, question):
+            its = [it for it in kinds if words[0] in it.commands or (words is question and it.name in WHY)]
+            programs = [it for it in self.programs if takes(it, words)]
+            heads = ["file", "a quarter, ms", "ms", "growth", "MiB"] + ["other, ms", "other, MiB", "times as fast"][: 3 * (len(programs) - 1)]
             print(f"\n`{' '.join(words)}`:\n\n| {' | '.join(heads)} |\n|{'---|' * len(heads)}")
             for kind in its:
-                self.tell_command(kind, words)
+                self.tell_command(kind, programs, words)
 
 
 def works(program):
     """Times the program on files of a few calls. Answers how many such runs passed and failed, of one."""
     words = [sys.executable, os.path.abspath(__file__), program, "--small", "--beside", program]
     ran = subprocess.run(words, stdin=subprocess.DEVNULL, capture_output=True, text=True, check=False)
-    is_well = ran.returncode == 0 and ran.stdout.count("\n| ") == 3 * len(KINDS) + len(WHY) + 3
+    is_well = ran.returncode == 0 and ran.stdout.count("\n| ") == (1 + len(COMMANDS)) * (len(KINDS) + 1) + len(WHY)
     if not is_well:
         print(f"tests/bench.py: {ran.stdout}{ran.stderr}", end="")
     print(f"tests/bench.py: {int(is_well)} passed, {int(not is_well)} failed", flush=True)

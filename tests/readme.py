@@ -4,7 +4,8 @@ files that they name are there.
 Usage: python3 tests/readme.py [PROGRAM]
 With no PROGRAM it looks for the files alone.
 A shown command is a line `$ COMMAND` of an indented block, and the lines up to the next one, or to the end of the block, are what it
-writes. It runs in a shell at the top of the repository, where `./wire_up` stands for PROGRAM.
+writes. It runs in a shell as if at the top of the repository, where `./wire_up` stands for PROGRAM. Files that it writes are there for
+the commands after it, and gone at the end.
 A document names files by its links, and by words such as `wire_runs/specs/Plan.antt`.
 Prints a line for each command that wrote something else and for each file that isn't there, and last 'N passed, M failed'.
 """
@@ -14,6 +15,7 @@ import re
 import shlex
 import subprocess
 import sys
+import tempfile
 
 TOP = os.path.dirname(os.path.dirname(os.path.abspath(__file__)))
 SECONDS = 60
@@ -62,10 +64,17 @@ def tells_true(path):
     return not lacking
 
 
-def went_well(program, path, number, words, shown):
+def like_the_top(room):
+    """Makes an empty folder look like the top of the repository."""
+    for it in os.listdir(TOP):
+        os.symlink(os.path.join(TOP, it), os.path.join(room, it))
+    return room
+
+
+def went_well(program, room, path, number, words, shown):
     """Whether a command writes what the document shows; if not, tells."""
     really = words.replace("./wire_up", shlex.quote(program))
-    how = {"cwd": TOP, "stdin": subprocess.DEVNULL, "stdout": subprocess.PIPE, "stderr": subprocess.STDOUT, "timeout": SECONDS}
+    how = {"cwd": room, "stdin": subprocess.DEVNULL, "stdout": subprocess.PIPE, "stderr": subprocess.STDOUT, "timeout": SECONDS}
     try:
         wrote = subprocess.run(really, shell=True, check=False, **how).stdout.decode(errors="replace")
     except subprocess.TimeoutExpired:
@@ -83,7 +92,9 @@ def all_commands(program):
     well = [tells_true(path) for path in documents()]
     for path in documents() if program else ():
         found = commands(path)
-        well += [went_well(program, path, *it) for it in found]
+        with tempfile.TemporaryDirectory(prefix="wire-up-") as room:
+            like_the_top(room)
+            well += [went_well(program, room, path, *it) for it in found]
         if path in SHOWN_IN and not found:
             well.append(tell(path, 1, "$", "stands in no indented block, so nothing was run"))
     return well.count(True), well.count(False)

@@ -8,6 +8,8 @@ mod findings;
 #[cfg(test)]
 mod follows;
 #[cfg(test)]
+mod forms;
+#[cfg(test)]
 mod limits;
 #[cfg(test)]
 mod names;
@@ -17,6 +19,8 @@ mod questions;
 mod refusals;
 #[cfg(test)]
 mod reports;
+#[cfg(test)]
+mod rounds;
 #[cfg(test)]
 mod tests;
 #[cfg(test)]

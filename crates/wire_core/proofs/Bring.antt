@@ -1,5 +1,5 @@
 -- What fences have brought of a process's data to a node.
-use Rattle.std.proofs.Common.{◌≡◌, ◌∙◌, ap, sym, refl, subst, ℕ, zero, suc, ◌-◌, ◌≤◌, List, Bool, true, false, cond, ◌&&◌, Option, Some, None, inl, inr, arith}
+use Rattle.std.proofs.Common.{◌≡◌, ◌∙◌, ap, sym, refl, subst, ℕ, zero, suc, ◌+◌, ◌-◌, ◌≤◌, List, Bool, true, false, cond, ◌&&◌, Option, Some, None, inl, inr, arith}
 use Rattle.std.specs.Prelude.{slice_set}
 use Rattle.wire_types.specs.declared.Proc.{Proc}
 use Rattle.wire_runs.specs.State.{start}
@@ -17,7 +17,7 @@ use Rattle.wire_runs.specs.Sight.{has_brought, delivered, delivered_with, stored
 use Rattle.wire_runs.proofs.Basics.{arrivals_step, arrivals_rise, list_all_at_member}
 use Rattle.wire_plan.specs.Meetings.{fence_members, IsMet}
 use Rattle.wire_core.specs.Met.{brings_with, brings_at, stored_at}
-use Rattle.wire_core.specs.Looks.{BringNothing, IsLook, AreLooks, look_after, stored_or}
+use Rattle.wire_core.specs.Looks.{BringNothing, IsLook, AreLooks, stored_or}
 use Rattle.wire_core.specs.declared.looks.Look.{Look}
 
 -- the three looks at a fence tell whether it has brought its members' data
@@ -112,20 +112,23 @@ look_none plan look seen last before = record {
   between = λ n ge lt cut. absurd (omega (arith, last, lt));
 }
 
--- and with one more
-pub look_more : (plan : Plan) (look : Look) (may : Bool) → IsLook plan look → (may ≡ false → (cut : ℕ → ℕ) → brings_at plan cut look.owner.number look.node look.seen ≡ false) → IsLook plan (look_after look may)
-look_more plan look true is none = record {
+-- with one event more, which may bring something
+pub look_found : (plan : Plan) (look : Look) → IsLook plan look → IsLook plan (record { owner = look.owner; node = look.node; seen = look.seen + 1; last = look.seen + 1; before = look.last })
+look_found plan look is = record {
   last_seen = omega arith;
   before_last = let le = is.last_seen in omega (arith, le);
   after = λ n ge lt cut. absurd (omega (arith, ge, lt));
   between = λ n ge lt cut. is.after n ge (omega (arith, lt)) cut;
 }
-look_more plan look false is none = record {
+
+-- with one event more, which brings nothing
+pub look_passed : (plan : Plan) (look : Look) → IsLook plan look → ((cut : ℕ → ℕ) → brings_at plan cut look.owner.number look.node look.seen ≡ false) → IsLook plan (record { owner = look.owner; node = look.node; seen = look.seen + 1; last = look.last; before = look.before })
+look_passed plan look is none = record {
   last_seen = let le = is.last_seen in omega (arith, le);
   before_last = is.before_last;
   after = λ n ge lt cut. elim (cases_lt n look.seen) [
     | inl low ↦ is.after n ge low cut
-    | inr high ↦ let same : look.seen ≡ n = omega (arith, lt, high) in ap (brings_at plan cut look.owner.number look.node) (sym same) ∙ none refl cut
+    | inr high ↦ let same : look.seen ≡ n = omega (arith, lt, high) in ap (brings_at plan cut look.owner.number look.node) (sym same) ∙ none cut
   ];
   between = is.between;
 }

@@ -1,5 +1,5 @@
--- How far a process's events were looked through for those that may bring its data to a node.
-use Rattle.std.specs.Prelude.{◌≡◌, ℕ, ◌+◌, ◌-◌, ◌<◌, ◌≤◌, List, Bool, false, Option, Some, None, slice_get, if◌then◌else◌}
+-- How far a process's events were looked through for those that may bring its data to a node: for the contracts of private functions.
+use Rattle.std.specs.Prelude.{◌≡◌, ℕ, ◌-◌, ◌<◌, ◌≤◌, List, false, Option, Some, None, slice_get}
 use Rattle.wire_runs.specs.Plan.{Plan}
 use Rattle.wire_runs.specs.Puts.{stored}
 use Rattle.wire_core.specs.Met.{brings_at}
@@ -18,12 +18,6 @@ pub record IsLook (plan : Plan) (look : Look) : Type 0 where
 
 abbrev pub AreLooks : Plan → List Look → Type 0
 AreLooks plan looks = (i : ℕ) (look : Look) → slice_get looks i ≡ Some look → IsLook plan look
-
--- the look after one event more, which may bring something or not
-abbrev pub look_after : Look → Bool → Look
-look_after look may =
-    if may then record { owner = look.owner; node = look.node; seen = look.seen + 1; last = look.seen + 1; before = look.last }
-    else record { owner = look.owner; node = look.node; seen = look.seen + 1; last = look.last; before = look.before }
 
 -- what p had stored under the key at an event, or else this
 abbrev pub stored_or : Plan → ℕ → ℕ → Option ℕ → Option ℕ → Option ℕ

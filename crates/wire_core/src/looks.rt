@@ -6,8 +6,8 @@ ghost use Rattle.wire_runs.specs.Sight.{delivered};
 ghost use Rattle.wire_rehearsal.specs.Planned.{plan_of};
 ghost use Rattle.wire_fence.specs.FenceTable.{AreFencesOf};
 ghost use Rattle.wire_core.specs.Course.{plan_in, state_of};
-ghost use Rattle.wire_core.specs.Met.{stored_at};
-ghost use Rattle.wire_core.specs.Looks.{IsLook, AreLooks, BringNothing, look_after, stored_or};
+ghost use Rattle.wire_core.specs.Met.{brings_at, stored_at};
+ghost use Rattle.wire_core.specs.Looks.{IsLook, AreLooks, BringNothing, stored_or};
 
 use crate::met::{brings, may_bring};
 use crate::running::Core;
@@ -46,7 +46,10 @@ impl Look {
     /// One event more was looked at.
     fn with_next(self, may_bring: bool) -> Look
         requires { self.seen + 1 < 2 ^ 32 }
-        ensures { result ≡ look_after self may_bring }
+        ensures owner { result.owner ≡ self.owner }
+        ensures node { result.node ≡ self.node }
+        ensures seen { result.seen ≡ self.seen + 1 }
+        ensures look { (plan : ThePlan) → IsLook plan self → (may_bring ≡ false → (cut : ℕ → ℕ) → brings_at plan cut self.owner.number self.node self.seen ≡ false) → IsLook plan result }
     {
         let seen = self.seen + 1;
         if may_bring {

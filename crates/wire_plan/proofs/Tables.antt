@@ -1,14 +1,13 @@
 -- Lists by number: what is added to one of them, and what the lists of a plan's events say.
-use Rattle.std.proofs.Common.{◌≡◌, ◌≢◌, ◌∙◌, ℕ, zero, suc, ◌<◌, ◌≤◌, ◌==◌, List, [], ◌∷◌, ◌++◌, Vec, length, map, get_or, slice_set, slice_get, Option, Some, None, MatchOption, true, false, inl, inr, refl, sym, ap, subst, arith, eq-eqb, ne_eqb, eqb-true, not}
+use Rattle.std.proofs.Common.{◌≡◌, ◌≢◌, ◌∙◌, ℕ, zero, suc, ◌<◌, ◌≤◌, List, [], ◌∷◌, ◌++◌, Vec, length, map, get_or, slice_set, slice_get, Option, Some, None, MatchOption, true, false, inl, inr, refl, sym, ap, subst, arith, eq-eqb, eqb-true}
 use Rattle.std.specs.declared.alloc.Global.{Global}
-use Rattle.std.proofs.lemmas.Bool.{cases_eq, cases_Bool, true≢false, and_parts, and_from}
+use Rattle.std.proofs.lemmas.Bool.{cases_eq, cases_Bool, true≢false}
 use Rattle.std.proofs.lemmas.List.{map_push}
 use Rattle.std.proofs.lemmas.Option.{none-some, same_Some}
-use Rattle.wire_runs.specs.Plan.{Plan, Event, Kind as TheEvent, Publish, GetNow, kind, kind_at, event_count, process_count, event_of}
+use Rattle.wire_runs.specs.Plan.{Plan, Event, Kind as TheEvent, Publish, kind, kind_at, event_count, process_count, event_of}
 use Rattle.wire_types.specs.declared.place.Event.{Event as CodeEvent}
 use Rattle.wire_plan.specs.declared.by_number.Listing.{Listing}
-use Rattle.wire_plan.specs.declared.by_number.Listing.TheVariants.{NameCalls, Publishes, Takes, GetsNow}
-use Rattle.wire_plan.specs.Index.{IsGetNow}
+use Rattle.wire_plan.specs.declared.by_number.Listing.TheVariants.{NameCalls, Publishes, Takes}
 use Rattle.wire_runs.specs.Order.{PublishesOnce}
 use Rattle.wire_runs.specs.Names.{takes_name}
 use Rattle.wire_runs.specs.EventLists.{IsLower, AreAll}
@@ -69,7 +68,6 @@ module _ (plan : Plan) (listing : Listing) where
       nothing NameCalls = refl
       nothing Publishes = refl
       nothing Takes = refl
-      nothing GetsNow = refl
 
   -- all events of a process, and of all processes
   pub listed_process : (p n : ℕ) (lists : List (List Event)) → event_count plan p ≤ n → AreListedTo plan listing p n lists → AreListedTo plan listing (suc p) 0 lists
@@ -81,22 +79,6 @@ module _ (plan : Plan) (listing : Listing) where
   listed_plan n lists le are = λ number. whole_plan (IsListed number) n (events_listed lists number)
       (λ x h. let e = is_event number x (kind plan x) h in let lt = process_within plan x.proc x.at e.0 e.1 in omega (arith, lt, le))
       (are number)
-
-look_is : (plan : Plan) (key : ℕ) (x : Event) (o : Option TheEvent) → kind plan x ≡ o → is_listed plan GetsNow key x o ≡ true → IsGetNow plan key x
-look_is plan key x (Some (GetNow owner k)) is h =
-    let parts = and_parts (k == key) (not (x.proc == owner)) h in
-    record {
-      owner = owner;
-      is = is ∙ ap (λ n. Some (GetNow owner n)) (eqb-true k key parts.0);
-      other = λ e. true≢false (sym parts.1 ∙ ap not (eq-eqb x.proc owner e));
-    }
-look_is plan key x _ is h = absurd (true≢false (sym h))
-
-is_look : (plan : Plan) (key : ℕ) (x : Event) → IsGetNow plan key x → is_listed plan GetsNow key x (kind plan x) ≡ true
-is_look plan key x get_now = ap (is_listed plan GetsNow key x) get_now.is ∙ and_from (key == key) (not (x.proc == get_now.owner)) (eq-eqb key key refl) (ap not (ne_eqb x.proc get_now.owner get_now.other))
-
-pub looks_listed : (plan : Plan) (key : ℕ) (places : List Event) → AreAll (λ x. is_listed plan GetsNow key x (kind plan x) ≡ true) places → AreAll (IsGetNow plan key) places
-looks_listed plan key places are = all_same _ _ places (λ x h. look_is plan key x (kind plan x) refl h) (λ x h. is_look plan key x h) are
 
 publish_is : (plan : Plan) (name : ℕ) (x : Event) (o : Option TheEvent) → kind plan x ≡ o → is_listed plan Publishes name x o ≡ true → kind plan x ≡ Some (Publish name)
 publish_is plan name x (Some (Publish n)) is h = is ∙ ap (λ m. Some (Publish m)) (eqb-true n name h)

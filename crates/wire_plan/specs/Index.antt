@@ -1,6 +1,6 @@
 -- What is looked up in a plan: the sources of an event, the puts of a key, the calls on a name, and the fences that bring a key to a node.
 use Rattle.std.specs.Prelude.{◌≡◌, ◌≢◌, ℕ, zero, suc, ◌<◌, ◌≤◌, List, ◌++◌, true, Option, Some, None, map, option_map, option_to_list, slice_get, MatchOption}
-use Rattle.wire_runs.specs.Plan.{Plan, Event, Put, Get, GetNow, LookupWait, kind, event_of}
+use Rattle.wire_runs.specs.Plan.{Plan, Event, Put, Get, LookupWait, kind, event_of}
 use Rattle.wire_types.specs.declared.Event.{Event as CodeEvent}
 use Rattle.wire_types.specs.declared.Scope.{Scope}
 use Rattle.wire_runs.specs.Puts.{own}
@@ -50,15 +50,6 @@ AreArrivals plan members j places = AreAll (IsArrival plan members j) places
 -- the calls on a name
 abbrev pub AreNameCalls : Plan → ℕ → List Event → Type 0
 AreNameCalls plan name places = AreAll (λ x. calls_name plan name x (kind plan x) ≡ true) places
-
--- x asks another process for the key and is answered at once
-pub record IsGetNow (plan : Plan) (key : ℕ) (x : Event) : Type 0 where
-  pub owner : ℕ
-  pub is : kind plan x ≡ Some (GetNow owner key)
-  pub other : x.proc ≢ owner
-
-abbrev pub AreGetsNow : Plan → ℕ → List Event → Type 0
-AreGetsNow plan key places = AreAll (IsGetNow plan key) places
 
 -- p's event number `at` is its arrival at a fence that brings its key to the node
 pub record IsDelivering (plan : Plan) (p key node at : ℕ) : Type 0 where

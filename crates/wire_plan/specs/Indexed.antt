@@ -4,7 +4,7 @@ use Rattle.wire_rehearsal.specs.Planned.{plan_of}
 use Rattle.wire_fence.specs.FenceTable.{FenceTable}
 use Rattle.wire_plan.specs.Meetings.{AreArrivalLists}
 use Rattle.wire_plan.specs.Keys.{AreKeysOf}
-use Rattle.wire_plan.specs.Tables.{AreNamesOf, AreGetsNowOf}
+use Rattle.wire_plan.specs.Tables.{AreNamesOf}
 use Rattle.wire_plan.specs.Bringing.{AreNodeArrivals}
 use Rattle.wire_plan.specs.declared.index.Index.{Index}
 
@@ -13,5 +13,4 @@ pub record IsIndexed (s : Scripts) (table : FenceTable) (index : Index) : Type 0
   pub meetings : AreArrivalLists s table index.meetings
   pub keys : AreKeysOf (plan_of s) index.keys
   pub names : AreNamesOf (plan_of s) index.names
-  pub gets_now : AreGetsNowOf (plan_of s) index.gets_now
   pub node_arrivals : AreNodeArrivals (plan_of s) index.node_arrivals

@@ -1,23 +1,19 @@
--- The events of a plan, listed by the number of a name or of a key: for the contracts of private functions.
-use Rattle.std.specs.Prelude.{◌≡◌, ℕ, List, [], ◌∷◌, Bool, true, false, not, ◌&&◌, ◌==◌, Option, Some, None, slice_index_or}
-use Rattle.wire_runs.specs.Plan.{Plan, Event, Kind, Publish, GetNow, kind}
+-- The events of a plan, listed by the number of a name: for the contracts of private functions.
+use Rattle.std.specs.Prelude.{◌≡◌, ℕ, List, [], ◌∷◌, Bool, true, false, ◌==◌, Option, Some, None, slice_index_or}
+use Rattle.wire_runs.specs.Plan.{Plan, Event, Kind, Publish, kind}
 use Rattle.wire_plan.specs.declared.by_number.Listing.{Listing}
-use Rattle.wire_plan.specs.declared.by_number.Listing.TheVariants.{NameCalls, Publishes, Takes, GetsNow}
+use Rattle.wire_plan.specs.declared.by_number.Listing.TheVariants.{NameCalls, Publishes, Takes}
 use Rattle.wire_plan.specs.declared.names.NameTable.{NameTable}
-use Rattle.wire_plan.specs.declared.gets_now.GetNowTable.{GetNowTable}
 use Rattle.wire_runs.specs.Names.{calls_name, takes_name}
-use Rattle.wire_plan.specs.Index.{AreNameCalls, AreGetsNow}
+use Rattle.wire_plan.specs.Index.{AreNameCalls}
 use Rattle.wire_runs.specs.EventLists.{IsLower, AreAll}
 
--- whether an event is listed under a number: under a name the calls on it, its publishes, or what may take it away, and under
--- a key the gets of it that are answered at once and ask another process
+-- whether an event is listed under the number of a name: the calls on it, its publishes, or what may take it away
 abbrev pub is_listed : Plan → Listing → ℕ → Event → Option Kind → Bool
 is_listed plan NameCalls name x o = calls_name plan name x o
 is_listed plan Publishes name x (Some (Publish n)) = n == name
 is_listed plan Publishes name x _ = false
 is_listed plan Takes name x o = takes_name plan name x o
-is_listed plan GetsNow key x (Some (GetNow owner k)) = (k == key) && not (x.proc == owner)
-is_listed plan GetsNow key x _ = false
 
 -- whether it is this number
 abbrev pub is_number : Option ℕ → ℕ → Bool
@@ -47,7 +43,3 @@ pub record AreNamesOf (plan : Plan) (table : NameTable) : Type 0 where
   pub calls : (name : ℕ) → AreNameCalls plan name (events_listed table.calls name)
   pub publishes : (name : ℕ) → AreAll (λ x. kind plan x ≡ Some (Publish name)) (events_listed table.publishes name)
   pub takes : (name : ℕ) → AreAll (λ x. takes_name plan name x (kind plan x) ≡ true) (events_listed table.takes name)
-
--- the table has the gets of each key that are answered at once and ask another process
-abbrev pub AreGetsNowOf : Plan → GetNowTable → Type 0
-AreGetsNowOf plan table = (key : ℕ) → AreGetsNow plan key (events_listed table.gets_now key)

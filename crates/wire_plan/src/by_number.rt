@@ -1,4 +1,4 @@
-//! Events listed by a number: that of a name, of a key or of a node.
+//! Events listed by a number: that of a name or of a node.
 
 ghost use Rattle.std.specs.Prelude.{◌≡◌, ◌≢◌, ◌<◌, ◌++◌, ◌∷◌, [], ℕ, suc, List, Some, length, map, OnOk, IfOk};
 ghost use Rattle.wire_runs.specs.Plan.{event_of, kind_at};
@@ -22,20 +22,17 @@ pub(crate) enum Listing {
     Publishes,
     /// The calls that can take a name away, by the name.
     Takes,
-    /// The gets that are answered at once and ask another process, by the key.
-    GetsNow,
 }
 
 impl Listing {
-    // The number that an event of a process is listed under, if it is listed.
-    fn number_of(self, proc: Proc, kind: Kind) -> Option<u32>
-        ensures { (plan : runs.Plan) (sets : List (List ℕ)) (number : ℕ) (x : runs.Event) → x.proc ≡ proc.number → is_listed plan self number x (Some (kind_of sets kind)) ≡ is_number result number }
+    // The name that an event is listed under, if it is listed.
+    fn number_of(self, kind: Kind) -> Option<u32>
+        ensures { (plan : runs.Plan) (sets : List (List ℕ)) (number : ℕ) (x : runs.Event) → is_listed plan self number x (Some (kind_of sets kind)) ≡ is_number result number }
     {
         match self {
             Listing::NameCalls => name_called(kind),
             Listing::Publishes => name_published(kind),
             Listing::Takes => name_taken(kind),
-            Listing::GetsNow => key_looked_at(proc, kind),
         }
     }
 }
@@ -69,22 +66,6 @@ fn name_taken(kind: Kind) -> Option<u32>
 {
     match kind {
         Kind::Unpublish { name } => Some(name),
-        _ => None,
-    }
-}
-
-// The key of a get that is answered at once and asks another process.
-fn key_looked_at(proc: Proc, kind: Kind) -> Option<u32>
-    ensures { (plan : runs.Plan) (sets : List (List ℕ)) (number : ℕ) (x : runs.Event) → x.proc ≡ proc.number → is_listed plan Listing.GetsNow number x (Some (kind_of sets kind)) ≡ is_number result number }
-{
-    match kind {
-        Kind::GetNow { owner, key } => {
-            if owner.number == proc.number {
-                None
-            } else {
-                Some(key)
-            }
-        }
         _ => None,
     }
 }
@@ -156,7 +137,7 @@ impl ByNumber {
         ensures { OnOk result ((plan : runs.Plan) (sets : List (List ℕ)) → kind_at plan event.proc.number event.at ≡ Some (kind_of sets kind)
             → AreListedTo plan listing event.proc.number event.at self.old → AreListedTo plan listing event.proc.number (suc event.at) self.new) }
     {
-        if let Some(number) = listing.number_of(event.proc, kind) {
+        if let Some(number) = listing.number_of(kind) {
             self.add(alloc, number, event)?;
         }
         Ok(())

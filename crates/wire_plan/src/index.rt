@@ -5,7 +5,6 @@ ghost use Rattle.wire_fence.specs.FenceTable.{AreFencesOf};
 ghost use Rattle.wire_plan.specs.Indexed.{IsIndexed};
 
 use crate::events::Events;
-use crate::gets_now::GetNowTable;
 use crate::keys::KeyTable;
 use crate::meetings::Meetings;
 use crate::names::NameTable;
@@ -13,14 +12,13 @@ use crate::node_arrivals::NodeArrivals;
 use std::alloc::{AllocError, Global};
 use wire_fence::Fences;
 
-/// Who arrives at each fence, the keys that are put, the calls on each name, the gets that are answered at
-/// once, and the arrivals at fences that bring data to each node.
+/// Who arrives at each fence, the keys that are put, the calls on each name, and the arrivals at fences that
+/// bring data to each node.
 #[derive(Drop)]
 pub(crate) struct Index {
     pub meetings: Meetings,
     pub keys: KeyTable,
     pub names: NameTable,
-    pub gets_now: GetNowTable,
     pub node_arrivals: NodeArrivals,
 }
 
@@ -34,7 +32,6 @@ impl Index {
             meetings: Meetings::of(alloc, events, fences)?,
             keys: KeyTable::of(alloc, events)?,
             names: NameTable::of(alloc, events)?,
-            gets_now: GetNowTable::of(alloc, events)?,
             node_arrivals: NodeArrivals::of(alloc, events, fences)?,
         })
     }

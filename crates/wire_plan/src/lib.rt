@@ -5,7 +5,6 @@
 mod by_number;
 mod deliveries;
 mod events;
-mod gets_now;
 mod index;
 mod keys;
 mod kind;

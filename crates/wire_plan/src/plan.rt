@@ -14,7 +14,7 @@ ghost use Rattle.wire_runs.specs.Ends.{call_of, calls_of, first_event};
 ghost use Rattle.wire_runs.specs.Plan.{event_total};
 ghost use Rattle.wire_runs.specs.Order.{may_come, Stores, PublishesOnce};
 ghost use Rattle.wire_runs.specs.Races.{IsPutOnce};
-ghost use Rattle.wire_plan.specs.Index.{AreSources, AreArrivals, AreNameCalls, AreGetsNow, IsAwaited, IsFirstPut, IsNextDelivery, source_list, previous_of};
+ghost use Rattle.wire_plan.specs.Index.{AreSources, AreArrivals, AreNameCalls, IsAwaited, IsFirstPut, IsNextDelivery, source_list, previous_of};
 ghost use Rattle.wire_plan.specs.Indexed.{IsIndexed};
 ghost use Rattle.wire_plan.specs.Meetings.{is_of_fence, IsMet};
 
@@ -299,14 +299,6 @@ impl Plan {
         ensures { AreNameCalls (plan_of self.now) name (map event_of result.now) }
     {
         self.index.names.calls(name)
-    }
-
-    /// The gets that are answered at once and ask another process for a key, in process order. Each key
-    /// is a shard of its own (PMIx Standard 5.0, PMIx_Get with PMIX_IMMEDIATE).
-    pub fn gets_now(&self, key: u32) -> &[Event]
-        ensures { AreGetsNow (plan_of self.now) key (map event_of result.now) }
-    {
-        self.index.gets_now.gets_now(key)
     }
 }
 

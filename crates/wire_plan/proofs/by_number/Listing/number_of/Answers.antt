@@ -4,10 +4,7 @@ use Rattle.wire_plan.specs.Tables.{is_listed}
 use Rattle.wire_plan.proofs.by_number.Listing.number_of.Goals as goal
 
 pub returns-in-Publishes : goal.returns-in-Publishes
-returns-in-Publishes c = λ plan sets number x same. ap (λ l. is_listed plan l number x (Some (kind_of sets c.args.kind))) c.in-Publishes.is ∙ c.name_published.ensures plan sets number x
+returns-in-Publishes c = λ plan sets number x. ap (λ l. is_listed plan l number x (Some (kind_of sets c.args.kind))) c.in-Publishes.is ∙ c.name_published.ensures plan sets number x
 
 pub returns-in-Takes : goal.returns-in-Takes
-returns-in-Takes c = λ plan sets number x same. ap (λ l. is_listed plan l number x (Some (kind_of sets c.args.kind))) c.in-Takes.is ∙ c.name_taken.ensures plan sets number x
-
-pub returns-in-GetsNow : goal.returns-in-GetsNow
-returns-in-GetsNow c = λ plan sets number x same. ap (λ l. is_listed plan l number x (Some (kind_of sets c.args.kind))) c.in-GetsNow.is ∙ c.key_looked_at.ensures plan sets number x same
+returns-in-Takes c = λ plan sets number x. ap (λ l. is_listed plan l number x (Some (kind_of sets c.args.kind))) c.in-Takes.is ∙ c.name_taken.ensures plan sets number x
