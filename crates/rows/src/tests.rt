@@ -9,7 +9,7 @@ use crate::questions::{Asked, QUESTIONS};
 use crate::refusals::{REFUSALS, Refusal};
 use crate::reports::{REPORTS, Reported};
 use crate::texts::TEXTS;
-use std::alloc::Global;
+use std::alloc::{AllocError, Global};
 use std::fmt::Write;
 use std::process::Abort;
 use std::test::Fail;
