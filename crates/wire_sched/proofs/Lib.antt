@@ -9,3 +9,4 @@ pub mod Rising
 pub mod Joins
 pub mod Members
 pub mod EachOnce
+pub mod Turns

@@ -16,9 +16,11 @@ abbrev pub total : (Hand → ℕ) → List Hand → ℕ
 total f [] = 0
 total f (v ∷ vs) = f v + total f vs
 
--- A pass took nothing past the pieces that left. One with no part took nothing at all, and any other knows what was dealt.
+-- A pass took nothing past the first `left` pieces, which left the deque. One with no part took nothing at all, and any other
+-- knows what was dealt. The same holds of a pass at every port, so the port isn't used: it stands here because a fact about all
+-- passes is a family over their ports.
 abbrev pub Knows : List Piece → ℕ → ℕ → Hand → Type 0
-Knows dealt gone port v = (v.below ≤ gone) × (v.parts ≡ 0 → v.taken ≡ []) × (0 < v.parts → v.dealt ≡ dealt)
+Knows dealt left port v = (v.below ≤ left) × (v.parts ≡ 0 → v.taken ≡ []) × (0 < v.parts → v.dealt ≡ dealt)
 
 -- The rule. What was dealt is what left the deque and then what it holds. What left is what the passes took: the same
 -- pieces, since both weigh the same whatever the weights are.

@@ -26,20 +26,20 @@ fn filled(
     workers: usize,
     worker: usize,
 ) -> Result<Owner, Fault>
-    requires { 0 < workers }
+    requires { worker < workers }
     ensures filled { IfOk result (IsFilled (share_of worker workers round ranks)) }
     ensures memory { IsOkUnless result Fault.Memory }
 {
     let mut own = Owner::fifo_as(alloc, ranks as usize / workers + 1)?;
-    for rank in 0..ranks {
-        if rank as usize % workers == worker {
-            let Ok(()) = own.push_as::<Deals>(Piece {
-                rank: Proc::new(rank),
-                round,
-            }) else {
-                return Err(Fault::Memory);
-            };
-        }
+    let mut next = worker;
+    'turns: while next < ranks as usize {
+        let Ok(()) = own.push_as::<Deals>(Piece {
+            rank: Proc::new(next as u32),
+            round,
+        }) else {
+            return Err(Fault::Memory);
+        };
+        next = next.saturating_add(workers);
     }
     Ok(own)
 }
@@ -76,7 +76,7 @@ pub(crate) fn start(
     workers: usize,
     worker: usize,
 ) -> Result<(Pass, Thief), Fault>
-    requires { 0 < workers }
+    requires { worker < workers }
     ensures start { IfOk result (λ r. IsStart (share_of worker workers round ranks) worker r.0 r.1) }
     ensures memory { IsOkUnless result Fault.Memory }
 {

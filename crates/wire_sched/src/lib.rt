@@ -4,10 +4,14 @@
 #![tactic(auto)]
 
 mod deques;
+mod gate;
 mod law;
 mod round;
 mod rule;
+mod work;
 
+pub use gate::{Gate, OpenGate};
 pub use law::deal_rises;
 pub use round::{Pass, Round, Take};
 pub use rule::Piece;
+pub use work::work_locked;

@@ -1,6 +1,10 @@
-use Rattle.wire_sched.specs.Shares.{share_of}
+use Rattle.std.proofs.Common.{◌-◌}
 use Rattle.wire_sched.specs.Deques.{IsFilled}
+use Rattle.wire_sched.proofs.Turns.{IsTurn, share_below}
 use Rattle.wire_sched.proofs.deques.filled.Given as goal
 
-abbrev pub invariant-loop-rank : goal.invariant-loop-rank
-invariant-loop-rank l = IsFilled (share_of l.worker l.workers l.round l.rank) l.own
+abbrev pub invariant-turns : goal.invariant-turns
+invariant-turns l = IsFilled (share_below l.worker l.workers l.round l.ranks l.next) l.own × IsTurn l.worker l.workers l.ranks l.next
+
+abbrev pub decreases-turns : goal.decreases-turns
+decreases-turns l = l.ranks - l.next

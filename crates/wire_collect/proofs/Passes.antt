@@ -1,0 +1,36 @@
+-- The last of the first passes.
+use Rattle.std.proofs.Common.{◌≡◌, ℕ, zero, suc, ◌<◌, List, [], ◌∷◌, ◌++◌, length, subst, sym, refl, ap, Option, Some, None, option_to_list, IfSome, append-nil, ⊎_elim, ◌∙◌}
+use mathlib.Core.Option.{some, some-ne-none}
+use lib.ListN.{get_elem?}
+use Rattle.wire_sched.specs.declared.round.Round.{Round}
+use Rattle.wire_sched.specs.declared.round.Pass.{Pass}
+use Rattle.wire_sched.specs.Rounds.{IsPassOf, worker_of}
+use Rattle.wire_sched.proofs.Rows.{get_snoc}
+use Rattle.wire_collect.specs.Passes.{AreFirstPasses}
+
+at_longer : (ps qs : List Pass) (k : ℕ) (p : Pass) → get_elem? ps k ≡ some p → get_elem? (ps ++ qs) k ≡ some p
+at_longer [] qs k p e = absurd (some-ne-none p (sym e))
+at_longer (q ∷ ps) qs zero p e = e
+at_longer (q ∷ ps) qs (suc k) p e = at_longer ps qs k p e
+
+at_last : (ps : List Pass) (p : Pass) → get_elem? (ps ++ p ∷ []) (length ps) ≡ some p
+at_last [] p = refl
+at_last (q ∷ ps) p = at_last ps p
+
+first_passes : (r : Round) (ps : List Pass) (p : Pass) → AreFirstPasses r (ps ++ p ∷ []) → AreFirstPasses r ps
+first_passes r ps p all k q at = all k q (at_longer ps (p ∷ []) k q at)
+
+last_of : (r : Round) (ps : List Pass) (p : Pass) → AreFirstPasses r (ps ++ p ∷ []) → (worker_of p ≡ length ps) × IsPassOf r p
+last_of r ps p all = all (length ps) p (at_last ps p)
+
+pub passes_again : (r : Round) (ps : List Pass) (p : Pass) → AreFirstPasses r ps → worker_of p ≡ length ps → IsPassOf r p → AreFirstPasses r (ps ++ p ∷ [])
+passes_again r ps p all number is k q at =
+    ⊎_elim (λ here. all k q here) (λ (e : (k ≡ length ps) × (p ≡ q)). subst (λ z. (worker_of z ≡ k) × IsPassOf r z) e.1 (number ∙ sym e.0, is)) (get_snoc ps p q k at)
+
+pub popped : (r : Round) (ps qs : List Pass) (n : ℕ) (o : Option Pass) → ps ≡ qs ++ option_to_list o → n ≡ length qs → AreFirstPasses r ps → IfSome o (λ p. IsPassOf r p × (worker_of p ≡ n))
+popped r ps qs n None e len all = tt
+popped r ps qs n (Some p) e len all = let last = last_of r qs p (subst (AreFirstPasses r) e all) in (last.1, last.0 ∙ sym len)
+
+pub popped_rest : (r : Round) (ps qs : List Pass) (o : Option Pass) → ps ≡ qs ++ option_to_list o → AreFirstPasses r ps → AreFirstPasses r qs
+popped_rest r ps qs None e all = subst (AreFirstPasses r) (e ∙ append-nil qs) all
+popped_rest r ps qs (Some p) e all = first_passes r qs p (subst (AreFirstPasses r) e all)

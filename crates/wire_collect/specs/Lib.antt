@@ -1,0 +1,2 @@
+pub mod Collect
+pub mod Passes

@@ -1,0 +1,102 @@
+//! The run of a plan by workers.
+
+ghost use Rattle.std.specs.Prelude.{◌≡◌, Err, IfOk, IsOkUnless, map};
+ghost use Rattle.wire_types.specs.declared.Fault.TheVariants.{Memory, Workers};
+ghost use Rattle.wire_types.specs.Outcome.{ends_of};
+ghost use Rattle.wire_runs.specs.Step.{IsEnd};
+ghost use Rattle.wire_core.specs.Course.{plan_in, state_of};
+ghost use Rattle.wire_collect.specs.Collect.{MayWork, IsWholeRun, plain_ends};
+
+use crate::rounds::run_rounds;
+use std::alloc::Global;
+use std::sync::Wait;
+use std::thread::Threads;
+use wire_core::Core;
+use wire_plan::Plan;
+use wire_races::Settled;
+use wire_sched::Gate;
+use wire_types::{Fault, Outcome, Proc};
+
+/// The highest number of workers.
+const MOST_WORKERS: usize = 64;
+
+// The core, where it is of this plan and no process is ready; else a new one of the plan, run to its end.
+fn whole<'a, G: Gate>(
+    alloc: Global,
+    plan: &'a Plan,
+    core: Core<'a>,
+    workers: usize,
+    gate: &G,
+) -> Result<Core<'a>, Fault>
+    ensures plan { IfOk result (λ core. core.scripts ≡ plan.entry.now) }
+    ensures ended { IfOk result (λ core. IsEnd (plan_in core) (state_of core)) }
+    ensures memory { IsOkUnless result Memory }
+{
+    if *core.plan() == *plan && core.ended() {
+        return Ok(core);
+    }
+    drop(core);
+    gate.pass(workers, Proc::new(0));
+    let mut core = Core::new(alloc, plan)?;
+    core.run_lowest();
+    Ok(core)
+}
+
+// What became of every call of a core at its end, and its history.
+fn told(alloc: Global, core: &Core<'_>) -> Result<(Outcome, Vec<Proc>), Fault>
+    requires { IsEnd (plan_in core.now) (state_of core.now) }
+    ensures ok { IfOk result (λ r. IsWholeRun core.now.scripts (map (λ p. p.number) r.1.items) (ends_of r.0)) }
+    ensures memory { IsOkUnless result Memory }
+{
+    let history = Vec::from_slice(alloc, core.history())?;
+    let outcome = core.outcome(alloc)?;
+    Ok((outcome, history))
+}
+
+/// Runs a plan by so many workers, each a thread of its own, until no process is ready. Gives what became of every call,
+/// and the history of the steps. Which interleaving runs is open: for a plan with races, another run may give another.
+///
+/// The workers share one core under a lock. They work by rounds, and each round deals every process. What no worker of a
+/// round takes is served by the collector, and so is the lowest ready process after a round without a step. The collector
+/// calls the gate with the number `workers`.
+///
+/// The fault is `Workers` where there is no worker or more than 64, before all else, and `Memory` where memory ran out.
+pub fn run_any<R: Threads + Wait + Sync, G: Gate + Sync>(
+    rt: &R,
+    alloc: Global,
+    plan: &Plan,
+    workers: usize,
+    gate: &G,
+) -> Result<(Outcome, Vec<Proc>), Fault>
+    ensures ok { IfOk result (λ r. IsWholeRun plan.now (map (λ p. p.number) r.1.items) (ends_of r.0)) }
+    ensures memory { MayWork workers → IsOkUnless result Memory }
+    ensures workers { (MayWork workers → ⊥) → result ≡ Err Workers }
+{
+    if workers == 0 || workers > MOST_WORKERS {
+        return Err(Fault::Workers);
+    }
+    let core = Core::new(alloc, plan)?;
+    let core = run_rounds(rt, alloc, core, workers, gate)?;
+    let core = whole(alloc, plan, core, workers, gate)?;
+    let told = told(alloc, &core);
+    drop(core);
+    told
+}
+
+/// Runs a settled plan by so many workers, and gives what became of every call. Whatever the workers do, that is what the
+/// plain run gives, in which at each step the lowest ready process takes it. The faults are those of `run_any`.
+pub fn run_workers<R: Threads + Wait + Sync, G: Gate + Sync>(
+    rt: &R,
+    alloc: Global,
+    settled: &Settled,
+    workers: usize,
+    gate: &G,
+) -> Result<Outcome, Fault>
+    ensures ok { IfOk result (λ outcome. ends_of outcome ≡ plain_ends settled.now) }
+    ensures memory { MayWork workers → IsOkUnless result Memory }
+    ensures workers { (MayWork workers → ⊥) → result ≡ Err Workers }
+{
+    settled.one_end();
+    let (outcome, _) = run_any(rt, alloc, settled.plan(), workers, gate)?;
+    Ok(outcome)
+}

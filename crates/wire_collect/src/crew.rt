@@ -1,0 +1,44 @@
+//! What the workers of a round share.
+
+ghost use Rattle.std.specs.Prelude.{◌≡◌};
+ghost use Rattle.wire_sched.specs.declared.round.Round.{Round};
+ghost use Rattle.wire_sched.specs.Rounds.{IsPassOf, worker_of};
+
+use std::sync::Wait;
+use wire_locked::LockedCore;
+use wire_sched::{Gate, Pass, Round, work_locked};
+
+/// What a worker can do in a round.
+pub(crate) trait Works {
+    /// The round whose pieces it takes.
+    ghost dealt: { Self → Round };
+
+    /// That round.
+    fn round(&self) -> &Round
+        ensures { result.now ≡ dealt self.now };
+
+    /// Serves pieces of the round, and answers how many steps that were.
+    fn work<R: Wait>(&self, rt: &R, pass: &mut Pass) -> usize
+        requires { IsPassOf (dealt self.now) pass.old }
+        ensures { IsPassOf (dealt self.now) pass.new × (worker_of pass.new ≡ worker_of pass.old) };
+}
+
+/// A core under its lock, the round, and the gate.
+#[derive(Drop)]
+pub(crate) struct Crew<'r, 'a, G> {
+    pub(crate) locked: &'r LockedCore<'a>,
+    pub(crate) round: &'r Round,
+    pub(crate) gate: &'r G,
+}
+
+impl<'r, 'a, G: Gate> Works for Crew<'r, 'a, G> {
+    ghost dealt = { λ c. c.round.now };
+
+    fn round(&self) -> &Round {
+        self.round
+    }
+
+    fn work<R: Wait>(&self, rt: &R, pass: &mut Pass) -> usize {
+        work_locked(rt, self.locked, self.round, pass, self.gate)
+    }
+}

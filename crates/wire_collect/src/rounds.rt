@@ -1,0 +1,109 @@
+//! Rounds of workers over one locked core.
+
+ghost use Rattle.std.specs.Prelude.{◌<◌, IsOkUnless};
+ghost use Rattle.wire_sched.specs.Rounds.{ArePassesOf};
+
+use crate::crew::Crew;
+use crate::threads::run_round;
+use std::alloc::Global;
+use std::sync::Wait;
+use std::thread::Threads;
+use wire_core::Core;
+use wire_locked::{LockedCore, advance_far};
+use wire_sched::{Gate, Pass, Piece, Round};
+use wire_types::Fault;
+
+// Serves the pieces that no worker took. Answers how many steps that were.
+fn serve_left<R: Wait, G: Gate>(
+    rt: &R,
+    locked: &LockedCore<'_>,
+    left: &[Piece],
+    workers: usize,
+    gate: &G,
+) -> usize {
+    let mut steps = 0usize;
+    for piece in left {
+        gate.pass(workers, piece.rank);
+        steps = steps.saturating_add(locked.serve(rt, piece.rank));
+    }
+    steps
+}
+
+// One round: the workers serve the pieces, and the collector those that are left. Gives the core back, with the number
+// of steps taken.
+fn one_round<'a, R: Threads + Wait + Sync, G: Gate + Sync>(
+    rt: &R,
+    core: Core<'a>,
+    round: Round,
+    passes: Vec<Pass>,
+    gate: &G,
+) -> (Core<'a>, usize)
+    requires { ArePassesOf round passes.items }
+{
+    let workers = round.workers();
+    let locked = LockedCore::new(core);
+    let crew = Crew {
+        locked: &locked,
+        round: &round,
+        gate,
+    };
+    let (passes, taken) = run_round(rt, &crew, passes);
+    let left = round.finish(passes);
+    let steps = serve_left(rt, &locked, left.as_slice(), workers, gate);
+    (locked.into_core(), taken.saturating_add(steps))
+}
+
+// Serves the lowest process that is ready.
+fn serve_lowest<G: Gate>(core: &mut Core<'_>, workers: usize, gate: &G) {
+    if let Some(proc) = core.lowest_ready() {
+        gate.pass(workers, proc);
+        let _ = advance_far(core, proc);
+    }
+}
+
+// One round, and where it took no step, the lowest process that is ready.
+fn after_round<'a, R: Threads + Wait + Sync, G: Gate + Sync>(
+    rt: &R,
+    core: Core<'a>,
+    round: Round,
+    passes: Vec<Pass>,
+    gate: &G,
+) -> Core<'a>
+    requires { ArePassesOf round passes.items }
+{
+    let workers = round.workers();
+    let (mut core, steps) = one_round(rt, core, round, passes, gate);
+    if steps == 0 {
+        serve_lowest(&mut core, workers, gate);
+    }
+    core
+}
+
+/// Runs a core by rounds, each of which deals every process, until no process is ready. Each round takes a step, so there
+/// are no more rounds than events. The one fault is `Fault::Memory`.
+pub(crate) fn run_rounds<'a, R: Threads + Wait + Sync, G: Gate + Sync>(
+    rt: &R,
+    alloc: Global,
+    core: Core<'a>,
+    workers: usize,
+    gate: &G,
+) -> Result<Core<'a>, Fault>
+    requires { 0 < workers }
+    ensures memory { IsOkUnless result Fault.Memory }
+{
+    let mut core = core;
+    let plan = core.plan();
+    'rounds: for number in 0..plan.event_total() as u64 {
+        if core.ended() {
+            break;
+        }
+        match Round::deal(alloc, number, plan.process_count(), workers) {
+            Ok((round, passes)) => core = after_round(rt, core, round, passes, gate),
+            Err(fault) => {
+                drop(core);
+                return Err(fault);
+            }
+        }
+    }
+    Ok(core)
+}

@@ -1,0 +1,18 @@
+//! What a worker calls before it serves a process.
+
+use wire_types::Proc;
+
+/// Lets one process after another through. A test may hold a worker here, until another has come.
+pub trait Gate {
+    /// Called before this worker serves this process. Workers count from 0. One that collects what the workers of a
+    /// round left has their number, which is no worker's.
+    fn pass(&self, worker: usize, proc: Proc);
+}
+
+/// A gate that does nothing.
+#[derive(Clone, Copy, Debug, Drop)]
+pub struct OpenGate;
+
+impl Gate for OpenGate {
+    fn pass(&self, _worker: usize, _proc: Proc) {}
+}

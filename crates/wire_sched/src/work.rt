@@ -1,0 +1,81 @@
+//! What one worker does in a round.
+
+ghost use Rattle.std.specs.Prelude.{◌≡◌, IfSome};
+ghost use Rattle.wire_sched.specs.Rounds.{IsPassOf, IsPieceOf, worker_of};
+
+use crate::gate::Gate;
+use crate::round::{Pass, Round, Take};
+use crate::rule::Piece;
+use std::sync::Wait;
+use wire_locked::LockedCore;
+
+/// How often one deque may answer `Again`.
+const MOST_AGAIN: u32 = 1_000;
+
+/// The deque at which a worker steals next, and how often that one may still answer `Again`.
+#[derive(Drop)]
+struct Victim {
+    deque: usize,
+    tries: u32,
+}
+
+/// Serves the pieces of the worker's own deque, and then those that it steals from the other deques in turn. It leaves a
+/// deque that answered `Again` a thousand times. Before each piece it calls the gate, and then it waits for the lock.
+/// Answers how many steps it took; the sum stays at its type's greatest value. It takes no memory.
+pub fn work_locked<R: Wait, G: Gate>(
+    rt: &R,
+    locked: &LockedCore<'_>,
+    round: &Round,
+    pass: &mut Pass,
+    gate: &G,
+) -> usize
+    requires { IsPassOf round.now pass.old }
+    ensures kept { IsPassOf round.now pass.new × (worker_of pass.new ≡ worker_of pass.old) }
+{
+    let mut victim = Victim {
+        deque: 0,
+        tries: MOST_AGAIN,
+    };
+    let mut steps = 0usize;
+    'pieces: for _ in rt.forever() {
+        let Some(piece) = next_piece(round, pass, &mut victim) else {
+            break;
+        };
+        gate.pass(pass.worker(), piece.rank);
+        steps = steps.saturating_add(locked.serve(rt, piece.rank));
+    }
+    steps
+}
+
+// The front piece of the worker's own deque, or else one that it steals.
+fn next_piece(round: &Round, pass: &mut Pass, victim: &mut Victim) -> Option<Piece>
+    requires { IsPassOf round.now pass.old }
+    ensures kept { IsPassOf round.now pass.new × (worker_of pass.new ≡ worker_of pass.old) }
+    ensures piece { IfSome result (IsPieceOf round.now) }
+{
+    match round.own_take(pass) {
+        Some(piece) => Some(piece),
+        None => steal_next(round, pass, victim),
+    }
+}
+
+// The front piece of the first deque from here on that gives one.
+fn steal_next(round: &Round, pass: &mut Pass, victim: &mut Victim) -> Option<Piece>
+    requires { IsPassOf round.now pass.old }
+    ensures kept { IsPassOf round.now pass.new × (worker_of pass.new ≡ worker_of pass.old) }
+    ensures piece { IfSome result (IsPieceOf round.now) }
+{
+    'deques: while victim.deque < round.workers() {
+        if victim.deque == pass.worker() || victim.tries == 0 {
+            victim.deque += 1;
+            victim.tries = MOST_AGAIN;
+        } else {
+            match round.steal_take(pass, victim.deque) {
+                Take::Got(piece) => return Some(piece),
+                Take::Empty => victim.tries = 0,
+                Take::Again => victim.tries -= 1,
+            }
+        }
+    }
+    None
+}
