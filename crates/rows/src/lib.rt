@@ -8,6 +8,8 @@ mod findings;
 #[cfg(test)]
 mod follows;
 #[cfg(test)]
+mod forms;
+#[cfg(test)]
 mod limits;
 #[cfg(test)]
 mod names;

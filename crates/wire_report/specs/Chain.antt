@@ -9,22 +9,12 @@ use Rattle.wire_rehearsal.specs.Planned.{plan_of}
 use Rattle.wire_runs.specs.Order.{Live, Before}
 use Rattle.wire_runs.specs.Ends.{call_of, first_event}
 use Rattle.wire_marks.specs.Chain.{IsShown}
-use Rattle.wire_rehearsal.specs.Canonical.{process_text}
-use Rattle.wire_report.specs.Report.{verb_text}
-
--- the text of a process, empty where there is none
-abbrev pub text_of_process : Scripts → Option Process → List ℕ
-text_of_process scripts None = []
-text_of_process scripts (Some process) = process_text scripts process
+use Rattle.wire_words.specs.Words.{verb_text, call_text}
 
 -- what a call is called, empty where there is none
 abbrev pub verb_text_in : Option Call → List ℕ
 verb_text_in None = []
 verb_text_in (Some call) = verb_text call
-
--- a call: its process, and its number from 1
-abbrev pub call_text : Scripts → CallAt → List ℕ
-call_text scripts call = text_of_process scripts (slice_get scripts.processes call.proc.number) ++ codes " " ++ decimal (call.call + 1)
 
 -- which half of a fence an event is, nothing where it is no part of one
 abbrev pub half_text : Option Kind → List ℕ

@@ -1,6 +1,6 @@
 //! The text of what the checker finds.
 
-ghost use Rattle.std.specs.Prelude.{◌≡◌, ◌≢◌, ◌⊎◌, ◌++◌, Err, codes, OnOk, IfOk, IfErr};
+ghost use Rattle.std.specs.Prelude.{◌≡◌, ◌≢◌, ◌⊎◌, ◌++◌, Err, codes, map, OnOk, IfOk, IfErr};
 ghost use Rattle.std.specs.Io.KnownBytes.{Appends};
 ghost use Rattle.std.specs.List.{flat_map};
 ghost use Rattle.wire_types.specs.declared.Fault.TheVariants.{Memory};
@@ -9,24 +9,29 @@ ghost use Rattle.wire_types.specs.Front.{WritesFront};
 ghost use Rattle.wire_rehearsal.specs.Scripts.{call_at};
 ghost use Rattle.wire_report.specs.Findings as spec;
 
-use crate::steps::{push_call, push_proc};
-use crate::words::{find_call, push_number};
 use std::alloc::{AllocError, Global};
+use wire_json::findings_json;
 use wire_races::Finding;
 use wire_rehearsal::Scripts;
 use wire_types::{Call, CallAt, Fault, Sink, write_out};
+use wire_words::{find_call, push_call, push_number, push_proc};
 
-/// The text of findings: a line for each, and last how many they are. A rewrite names the first put of
-/// the key, the later put by its number and the key; a race its two calls, and the key with its owner,
-/// or the name. The one fault is `Fault::Memory`.
+/// The text of findings: a line for each, and last how many they are, or the lines as JSON. A rewrite
+/// names the first put of the key, the later put by its number and the key; a race its two calls, and the
+/// key with its owner, or the name. The one fault is `Fault::Memory`.
 pub fn findings_text(
     alloc: Global,
     scripts: &Scripts,
     findings: &[Finding],
+    json: bool,
 ) -> Result<Vec<u8>, Fault>
-    ensures ok { IfOk result (λ text. text.items ≡ spec.findings_report scripts.now findings.now) }
+    ensures ok { IfOk result (λ text. text.items ≡ spec.findings_form json scripts.now findings.now) }
     ensures err { IfErr result (λ e. e ≡ Memory) }
 {
+    if json {
+        let lines = finding_lines(alloc, scripts, findings)?;
+        return Ok(findings_json(alloc, lines.as_slice())?);
+    }
     let mut text = Vec::new(alloc);
     push_findings(&mut text, scripts, findings)?;
     text.extend_from_slice(b"findings ")?;
@@ -41,16 +46,35 @@ pub fn write_findings<S: Sink>(
     alloc: Global,
     scripts: &Scripts,
     findings: &[Finding],
+    json: bool,
     sink: &mut S,
 ) -> Result<(), Fault>
-    ensures ok { OnOk result (Appends (S.written sink.old) (S.written sink.new) (spec.findings_report scripts.now findings.now)) }
+    ensures ok { OnOk result (Appends (S.written sink.old) (S.written sink.new) (spec.findings_form json scripts.now findings.now)) }
     ensures quiet { OnOk result (S.failures sink.new ≡ S.failures sink.old) }
     ensures memory { result ≡ Err Memory → sink.new ≡ sink.old }
-    ensures err { IfErr result (λ e. (e ≡ Memory) ⊎ WritesFront (S.written sink.old) (S.written sink.new) (spec.findings_report scripts.now findings.now) e) }
+    ensures err { IfErr result (λ e. (e ≡ Memory) ⊎ WritesFront (S.written sink.old) (S.written sink.new) (spec.findings_form json scripts.now findings.now) e) }
     ensures failed { IfErr result (λ e. e ≢ Memory → S.failures sink.new ≡ one_more (S.failures sink.old)) }
 {
-    let text = findings_text(alloc, scripts, findings)?;
+    let text = findings_text(alloc, scripts, findings, json)?;
     write_out(sink, text.as_slice()).map_err(Fault::Write)
+}
+
+/// The words of each of these findings.
+fn finding_lines(
+    alloc: Global,
+    scripts: &Scripts,
+    findings: &[Finding],
+) -> Result<Vec<Vec<u8>>, AllocError>
+    ensures { IfOk result (λ lines. map (λ line. line.items) lines.items
+        ≡ map (spec.finding_words scripts.now) findings.now) }
+{
+    let mut lines = Vec::new(alloc);
+    for finding in findings {
+        let mut line = Vec::new(alloc);
+        push_finding(&mut line, scripts, *finding)?;
+        lines.push(line)?;
+    }
+    Ok(lines)
 }
 
 /// Appends the lines of these findings.
@@ -63,33 +87,33 @@ fn push_findings(
 {
     for finding in findings {
         push_finding(out, scripts, *finding)?;
+        out.extend_from_slice(b"\n")?;
     }
     Ok(())
 }
 
-/// Appends the line of a finding.
+/// Appends the words of a finding.
 fn push_finding(out: &mut Vec<u8>, scripts: &Scripts, finding: Finding) -> Result<(), AllocError>
-    ensures { OnOk result (out.new.items ≡ out.old.items ++ spec.finding_line scripts.now finding) }
+    ensures { OnOk result (out.new.items ≡ out.old.items ++ spec.finding_words scripts.now finding) }
 {
     match finding {
-        Finding::Rewrite(first, later) => push_rewrite(out, scripts, first, later)?,
+        Finding::Rewrite(first, later) => push_rewrite(out, scripts, first, later),
         Finding::KeyRace(lower, higher, owner, key) => {
             push_race(out, scripts, lower, higher)?;
             out.extend_from_slice(b" key ")?;
             push_proc(out, scripts, owner)?;
             out.extend_from_slice(b" ")?;
-            out.extend_from_slice(scripts.keys().text(key))?;
+            out.extend_from_slice(scripts.keys().text(key))
         }
         Finding::NameRace(lower, higher, name) => {
             push_race(out, scripts, lower, higher)?;
             out.extend_from_slice(b" name ")?;
-            out.extend_from_slice(scripts.names().text(name))?;
+            out.extend_from_slice(scripts.names().text(name))
         }
     }
-    out.extend_from_slice(b"\n")
 }
 
-/// Appends a rewrite, but for the end of its line.
+/// Appends the words of a rewrite.
 fn push_rewrite(
     out: &mut Vec<u8>,
     scripts: &Scripts,

@@ -1,4 +1,4 @@
-//! The texts of a replay, of a chain and of findings, as bytes.
+//! The texts of a replay, of a chain and of findings, as bytes: in lines, or as JSON.
 #![tactic(auto)]
 
 mod chain;
@@ -6,10 +6,11 @@ mod findings;
 mod lines;
 mod report;
 mod steps;
-mod words;
+mod unsettled;
 mod writing;
 
 pub use chain::{chain_text, one_chain_text, write_chain};
 pub use findings::{findings_text, write_findings};
 pub use report::{report_text, write_report};
+pub use unsettled::{unsettled_text, write_unsettled};
 pub use writing::write_text;

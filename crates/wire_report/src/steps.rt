@@ -1,6 +1,6 @@
 //! The parts of the text of a chain.
 
-ghost use Rattle.std.specs.Prelude.{◌≡◌, ◌<◌, ◌↔◌, ◌++◌, ℕ, List, Some, codes, length, map, slice_get, IsTrue, IfOk, OnOk, IfErr};
+ghost use Rattle.std.specs.Prelude.{◌≡◌, ◌<◌, ◌↔◌, ◌++◌, ℕ, List, Some, codes, length, map, IsTrue, IfOk, OnOk, IfErr};
 ghost use Rattle.wire_types.specs.declared.Fault.TheVariants.{Memory};
 ghost use Rattle.wire_runs.specs.Plan.{event_count, event_of};
 ghost use Rattle.wire_rehearsal.specs.Scripts.{call_at};
@@ -11,12 +11,12 @@ ghost use Rattle.wire_marks.specs.Clocks.{AreMarks};
 ghost use Rattle.wire_report.specs.Chain as spec;
 ghost use Rattle.wire_report.specs.There.{AreThere};
 
-use crate::words::{find_call, push_number, push_process, verb};
 use std::alloc::{AllocError, Global};
 use wire_marks::Marks;
 use wire_plan::{Kind, Plan};
 use wire_rehearsal::Scripts;
-use wire_types::{CallAt, Event, Fault, Proc};
+use wire_types::{CallAt, Event, Fault};
+use wire_words::{find_call, push_call, verb};
 
 /// A first line, and the lines of these events of the plan.
 pub fn ordered_text(
@@ -136,26 +136,6 @@ fn push_line(
     out.extend_from_slice(verb_at(scripts, call).as_bytes())?;
     out.extend_from_slice(half.as_bytes())?;
     out.extend_from_slice(b"\n")
-}
-
-/// Appends a call: its process, and its number from 1.
-pub fn push_call(out: &mut Vec<u8>, scripts: &Scripts, call: CallAt) -> Result<(), AllocError>
-    ensures { OnOk result (out.new.items ≡ out.old.items ++ spec.call_text scripts.now call) }
-{
-    push_proc(out, scripts, call.proc)?;
-    out.extend_from_slice(b" ")?;
-    push_number(out, u64::from(call.call) + 1)
-}
-
-/// Appends a process by its number; nothing where it isn't there.
-pub fn push_proc(out: &mut Vec<u8>, scripts: &Scripts, proc: Proc) -> Result<(), AllocError>
-    ensures { OnOk result (out.new.items ≡ out.old.items
-        ++ spec.text_of_process scripts.now (slice_get scripts.now.processes proc.number)) }
-{
-    match scripts.processes().get(proc.index()) {
-        Some(process) => push_process(out, scripts, process),
-        None => Ok(()),
-    }
 }
 
 /// What the call at a place is called.

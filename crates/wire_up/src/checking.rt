@@ -54,7 +54,7 @@ fn judged(rt: &(impl Threads + Sync), alloc: Global, plan: &Plan) -> Result<(End
 {
     let marks = Marks::of(alloc, plan)?;
     let found = findings(rt, alloc, plan, &marks)?;
-    let text = findings_text(alloc, plan.scripts(), found.as_slice())?;
+    let text = findings_text(alloc, plan.scripts(), found.as_slice(), false)?;
     settled_exactly();
     Ok((Ended::with(found.as_slice()), text))
 }

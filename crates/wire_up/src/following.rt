@@ -57,7 +57,7 @@ fn report_of(alloc: Global, plan: &Plan, order: &[Proc]) -> Result<Vec<u8>, Faul
     ensures err { IfErr result (λ e. (e ≡ Memory) ⊎ StopsAfter plan.now (numbers_of order.now) e) }
 {
     let outcome = outcome_after(alloc, plan, order)?;
-    report_text(alloc, plan.scripts(), &outcome)
+    report_text(alloc, plan.scripts(), &outcome, false)
 }
 
 /// The report of the state after these steps of scripts.

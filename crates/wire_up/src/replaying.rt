@@ -46,7 +46,7 @@ fn report_of(alloc: Global, plan: &Plan) -> Result<Vec<u8>, Fault>
     ensures err { IfErr result (λ e. e ≡ Memory) }
 {
     let outcome = plain_outcome(alloc, plan)?;
-    report_text(alloc, plan.scripts(), &outcome)
+    report_text(alloc, plan.scripts(), &outcome, false)
 }
 
 /// The report of the plain run of scripts.

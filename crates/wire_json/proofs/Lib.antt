@@ -1,0 +1,4 @@
+pub mod Escapes
+pub mod Texts
+pub mod Left
+pub mod Rows

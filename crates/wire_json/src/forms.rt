@@ -1,0 +1,107 @@
+//! The texts: one compact object each, and a line feed.
+
+ghost use Rattle.std.specs.Prelude.{◌≡◌, ◌++◌, codes, false, map, IfOk};
+ghost use Rattle.serde_json.specs.View.{view};
+ghost use Rattle.serde_json.specs.Written.{compact_text, has_float};
+ghost use Rattle.wire_types.specs.Outcome.{ends_of};
+ghost use Rattle.wire_rehearsal.specs.Scripts.{numbers_of};
+ghost use Rattle.wire_words.specs.Words.{name_of};
+ghost use Rattle.wire_json.specs.Json as spec;
+ghost use Rattle.wire_json.specs.Trees as trees;
+
+use crate::strings::strings;
+use crate::trees::rank_trees;
+use serde_json::{Value, json};
+use std::alloc::{AllocError, Global};
+use wire_rehearsal::Scripts;
+use wire_types::{Outcome, Proc};
+use wire_words::push_proc;
+
+/// The report of what became of every call, as JSON.
+pub fn report_json(
+    alloc: Global,
+    scripts: &Scripts,
+    outcome: &Outcome,
+) -> Result<Vec<u8>, AllocError>
+    ensures { IfOk result (λ text. text.items ≡ spec.json_report scripts.now (ends_of outcome.now)) }
+{
+    let ranks = rank_trees(alloc, scripts, outcome.rows.as_slice())?;
+    line(alloc, report_tree(alloc, ranks, outcome.waiting)?)
+}
+
+/// The lines of findings, as JSON.
+pub fn findings_json(alloc: Global, lines: &[Vec<u8>]) -> Result<Vec<u8>, AllocError>
+    ensures { IfOk result (λ text. text.items ≡ spec.json_findings (map (λ line. line.items) lines.now)) }
+{
+    let findings = strings(alloc, lines)?;
+    line(alloc, findings_tree(alloc, findings)?)
+}
+
+/// The report of an unsettled replay and the order of its steps, each by its process, as JSON.
+pub fn unsettled_json(
+    alloc: Global,
+    scripts: &Scripts,
+    outcome: &Outcome,
+    order: &[Proc],
+) -> Result<Vec<u8>, AllocError>
+    ensures { IfOk result (λ text. text.items
+        ≡ spec.json_unsettled scripts.now (ends_of outcome.now) (numbers_of order.now)) }
+{
+    let names = names_of(alloc, scripts, order)?;
+    let steps = strings(alloc, names.as_slice())?;
+    let ranks = rank_trees(alloc, scripts, outcome.rows.as_slice())?;
+    line(alloc, unsettled_tree(alloc, steps, ranks, outcome.waiting)?)
+}
+
+/// The names of these processes.
+fn names_of(alloc: Global, scripts: &Scripts, order: &[Proc]) -> Result<Vec<Vec<u8>>, AllocError>
+    ensures { IfOk result (λ names. map (λ name. name.items) names.items
+        ≡ map (name_of scripts.now) (numbers_of order.now)) }
+{
+    let mut names = Vec::new(alloc);
+    for proc in order {
+        let mut name = Vec::new(alloc);
+        push_proc(&mut name, scripts, *proc)?;
+        names.push(name)?;
+    }
+    Ok(names)
+}
+
+/// A report: its processes, and how many of them wait.
+fn report_tree(alloc: Global, ranks: Vec<Value>, waiting: u32) -> Result<Value, AllocError>
+    ensures { IfOk result (λ tree. view tree ≡ trees.report_data (map view ranks.items) waiting) }
+{
+    json!(in alloc; {"ranks": ranks, "waiting": waiting})
+}
+
+/// Findings, of each its line.
+fn findings_tree(alloc: Global, findings: Vec<Value>) -> Result<Value, AllocError>
+    ensures { IfOk result (λ tree. view tree ≡ trees.findings_data (map view findings.items)) }
+{
+    json!(in alloc; {"findings": findings})
+}
+
+/// An unsettled replay: the processes of its steps, and its report.
+fn unsettled_tree(
+    alloc: Global,
+    order: Vec<Value>,
+    ranks: Vec<Value>,
+    waiting: u32,
+) -> Result<Value, AllocError>
+    ensures { IfOk result (λ tree. view tree
+        ≡ trees.unsettled_data (map view order.items) (map view ranks.items) waiting) }
+{
+    json!(in alloc; {"order": order, "ranks": ranks, "unsettled": true, "waiting": waiting})
+}
+
+/// The compact text of a tree without floats, and a line feed.
+fn line(alloc: Global, tree: Value) -> Result<Vec<u8>, AllocError>
+    ensures { IfOk result (λ text. has_float (view tree) ≡ false
+        → text.items ≡ compact_text (view tree) ++ codes "\n") }
+{
+    let text = tree.to_string(alloc);
+    drop(tree);
+    let mut text = text?.into_bytes();
+    text.push(b'\n')?;
+    Ok(text)
+}

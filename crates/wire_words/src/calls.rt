@@ -1,0 +1,77 @@
+//! Calls and processes, and what they are called.
+
+ghost use Rattle.std.specs.Prelude.{◌≡◌, ◌++◌, decimal, OnOk, option_copied};
+ghost use Rattle.wire_rehearsal.specs.Scripts.{call_at};
+ghost use Rattle.wire_rehearsal.specs.Canonical.{process_text};
+ghost use Rattle.wire_words.specs.Words as spec;
+
+use itoa::Buffer;
+use std::alloc::AllocError;
+use wire_lines::write_proc;
+use wire_rehearsal::{Process, Scripts};
+use wire_types::{Call, CallAt, Proc};
+
+/// Appends a number in decimal.
+pub fn push_number(out: &mut Vec<u8>, number: u64) -> Result<(), AllocError>
+    ensures { OnOk result (out.new.items ≡ out.old.items ++ decimal number) }
+{
+    let mut buffer = Buffer::new();
+    out.extend_from_slice(buffer.format(number).as_bytes())
+}
+
+/// Appends a process: the name of its job, a colon, and its rank.
+pub fn push_process(
+    out: &mut Vec<u8>,
+    scripts: &Scripts,
+    process: &Process,
+) -> Result<(), AllocError>
+    ensures { OnOk result (out.new.items ≡ out.old.items ++ process_text scripts.now process.now) }
+{
+    write_proc(out, scripts.jobs().text(process.job()), process.rank())
+}
+
+/// Appends a process by its number; nothing where it isn't there.
+pub fn push_proc(out: &mut Vec<u8>, scripts: &Scripts, proc: Proc) -> Result<(), AllocError>
+    ensures { OnOk result (out.new.items ≡ out.old.items ++ spec.name_of scripts.now proc.number) }
+{
+    match scripts.processes().get(proc.index()) {
+        Some(process) => push_process(out, scripts, process),
+        None => Ok(()),
+    }
+}
+
+/// Appends a call: its process, and its number from 1.
+pub fn push_call(out: &mut Vec<u8>, scripts: &Scripts, call: CallAt) -> Result<(), AllocError>
+    ensures { OnOk result (out.new.items ≡ out.old.items ++ spec.call_text scripts.now call) }
+{
+    push_proc(out, scripts, call.proc)?;
+    out.extend_from_slice(b" ")?;
+    push_number(out, u64::from(call.call) + 1)
+}
+
+/// What a call is called.
+pub fn verb(call: &Call) -> &'static str
+    ensures { result.now ≡ spec.verb_text call.now }
+{
+    match call {
+        Call::Put { .. } => "put",
+        Call::Commit => "commit",
+        Call::Get { .. } => "get",
+        Call::GetNow { .. } => "get-now",
+        Call::Fence { .. } => "fence",
+        Call::Publish { .. } => "publish",
+        Call::Lookup { .. } => "lookup",
+        Call::LookupWait { .. } => "lookup-wait",
+        Call::Unpublish { .. } => "unpublish",
+    }
+}
+
+/// The call at a place, where there is one.
+pub fn find_call(scripts: &Scripts, place: CallAt) -> Option<&Call>
+    ensures { option_copied result ≡ call_at scripts.now.processes place.proc.number place.call }
+{
+    match scripts.processes().get(place.proc.index()) {
+        Some(process) => process.calls().get(place.call as usize),
+        None => None,
+    }
+}
