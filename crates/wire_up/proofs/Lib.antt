@@ -6,3 +6,4 @@ pub mod Followed
 pub mod Asked
 pub mod Texts
 pub mod Checked
+pub mod Worked

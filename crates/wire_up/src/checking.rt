@@ -37,7 +37,7 @@ impl Ended {
     }
 
     /// How a check ends that has these findings.
-    fn with(findings: &[Finding]) -> Ended
+    pub(crate) fn with(findings: &[Finding]) -> Ended
         ensures { result ≡ spec.ended_with findings.now }
     {
         match findings.len() {
