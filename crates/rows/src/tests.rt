@@ -1,15 +1,15 @@
 //! The rows, and readers and writers that give or take little, or fail.
 
 use crate::fences::FENCES;
-use crate::findings::FINDINGS;
-use crate::follows::FOLLOWS;
+use crate::findings::{Checked, FINDINGS};
+use crate::follows::{FOLLOWS, Followed};
 use crate::limits::LIMITS;
 use crate::names::NAMES;
-use crate::questions::QUESTIONS;
-use crate::refusals::REFUSALS;
+use crate::questions::{Asked, QUESTIONS};
+use crate::refusals::{REFUSALS, Refusal};
 use crate::reports::{REPORTS, Reported};
 use crate::texts::TEXTS;
-use std::alloc::Global;
+use std::alloc::{AllocError, Global};
 use std::fmt::Write;
 use std::process::Abort;
 use std::test::Fail;
@@ -47,7 +47,10 @@ fn brief_writer(alloc: Global, room: usize, takes_nothing: bool) -> MemorySink {
 
 /// The canonical text of a plan that is read.
 fn text_of(alloc: Global, plan: &[u8]) -> Result<Vec<u8>, Fault> {
-    read(alloc, plan)?.to_text(alloc)
+    let scripts = read(alloc, plan)?;
+    let text = scripts.to_text(alloc);
+    drop(scripts);
+    text
 }
 
 /// Follows an order over a plan, with so many bytes a call.
@@ -66,12 +69,65 @@ fn lead(
     )
 }
 
+/// Asserts that two texts are the same.
+fn assert_same(rt: &impl Abort, name: &str, text: &[u8], wanted: &[u8]) {
+    assert_eq!(rt; text, wanted, "{}", name);
+}
+
+/// Asserts that a call was done, and that this is what it wrote.
+fn assert_wrote(
+    rt: &impl Abort,
+    name: &str,
+    answer: Result<(), Fault>,
+    to: &MemorySink,
+    text: &str,
+) {
+    assert_eq!(rt; answer, Ok(()), "{}", name);
+    assert_same(rt, name, to.bytes.as_slice(), text.as_bytes());
+}
+
+/// Asserts that a call was done, and how what it wrote ends.
+fn assert_ended(
+    rt: &impl Abort,
+    name: &str,
+    answer: Result<(), Fault>,
+    to: &MemorySink,
+    end: &str,
+) {
+    assert_eq!(rt; answer, Ok(()), "{}", name);
+    assert!(rt; to.bytes.ends_with(end.as_bytes()), "{}", name);
+}
+
+/// Asserts that a call has this fault, and wrote nothing.
+fn assert_refused(
+    rt: &impl Abort,
+    name: &str,
+    answer: Result<(), Fault>,
+    to: &MemorySink,
+    fault: Fault,
+) {
+    assert_eq!(rt; answer, Err(fault), "{}", name);
+    assert!(rt; to.bytes.is_empty(), "{}", name);
+}
+
+/// Asserts that a call wrote so many bytes of a text, and that its fault counts them.
+fn assert_cut(
+    rt: &impl Abort,
+    room: usize,
+    answer: Result<(), Fault>,
+    to: &MemorySink,
+    text: &str,
+) {
+    assert_eq!(rt; answer, Err(Fault::Write(room as u64)));
+    assert_eq!(rt; to.bytes.len(), room);
+    assert!(rt; text.as_bytes().starts_with(to.bytes.as_slice()));
+}
+
 /// Asserts that a plan has the report of a row.
 fn check_report(rt: &impl Abort, alloc: Global, row: &Reported, plan: &[u8], per_call: usize) {
     let mut to = writer(alloc, per_call);
     let answer = plain(alloc, &mut reader(plan, per_call), &mut to);
-    assert_eq!(rt; answer, Ok(()), "{}", row.name);
-    assert_eq!(rt; to.bytes.as_slice(), row.report.as_bytes(), "{}", row.name);
+    assert_wrote(rt, row.name, answer, &to, row.report);
 }
 
 /// Asserts that each plan has its report, and its canonical text too, which is its own canonical text.
@@ -79,7 +135,7 @@ fn check_reports(rt: &impl Abort, alloc: Global, rows: &[Reported]) -> Result<()
     for row in rows {
         let text = text_of(alloc, row.plan)?;
         let again = text_of(alloc, text.as_slice())?;
-        assert_eq!(rt; again.as_slice(), text.as_slice(), "{}", row.name);
+        assert_same(rt, row.name, again.as_slice(), text.as_slice());
         check_report(rt, alloc, row, row.plan, 1);
         check_report(rt, alloc, row, row.plan, usize::MAX);
         check_report(rt, alloc, row, text.as_slice(), 5);
@@ -100,23 +156,26 @@ fn texts(rt: HostRuntime) -> Result<(), Fail> {
     let alloc = rt.alloc();
     for row in &TEXTS {
         let text = text_of(alloc, row.plan)?;
-        assert_eq!(rt; text.as_slice(), row.text.as_bytes(), "{}", row.name);
+        assert_same(&rt, row.name, text.as_slice(), row.text.as_bytes());
         let again = text_of(alloc, text.as_slice())?;
-        assert_eq!(rt; again.as_slice(), row.text.as_bytes(), "{}", row.name);
+        assert_same(&rt, row.name, again.as_slice(), row.text.as_bytes());
     }
     Ok(())
+}
+
+/// Asserts that a plan is refused, and that nothing is written then.
+fn check_refusal(rt: &impl Abort, alloc: Global, row: &Refusal, per_call: usize) {
+    let mut to = writer(alloc, per_call);
+    let answer = plain(alloc, &mut reader(row.plan, per_call), &mut to);
+    assert_refused(rt, row.name, answer, &to, row.fault);
 }
 
 #[test]
 fn refusals(rt: HostRuntime) -> Result<(), Fail> {
     let alloc = rt.alloc();
     for row in &REFUSALS {
-        for per_call in [1, usize::MAX] {
-            let mut to = writer(alloc, per_call);
-            let answer = plain(alloc, &mut reader(row.plan, per_call), &mut to);
-            assert_eq!(rt; answer, Err(row.fault), "{}", row.name);
-            assert!(rt; to.bytes.is_empty(), "{}", row.name);
-        }
+        check_refusal(&rt, alloc, row, 1);
+        check_refusal(&rt, alloc, row, usize::MAX);
     }
     Ok(())
 }
@@ -129,17 +188,18 @@ fn limits(rt: HostRuntime) -> Result<(), Fail> {
         let mut to = writer(alloc, usize::MAX);
         let answer = plain(alloc, &mut reader(plan.as_bytes(), usize::MAX), &mut to);
         match row.answer {
-            Ok(end) => {
-                assert_eq!(rt; answer, Ok(()), "{}", row.name);
-                assert!(rt; to.bytes.ends_with(end.as_bytes()), "{}", row.name);
-            }
-            Err(fault) => {
-                assert_eq!(rt; answer, Err(fault), "{}", row.name);
-                assert!(rt; to.bytes.is_empty(), "{}", row.name);
-            }
+            Ok(end) => assert_ended(&rt, row.name, answer, &to, end),
+            Err(fault) => assert_refused(&rt, row.name, answer, &to, fault),
         }
     }
     Ok(())
+}
+
+/// Asserts that a plan of the same byte without end is refused, with this line.
+fn check_endless(rt: &impl Abort, alloc: Global, byte: u8, line: u64) {
+    let mut to = writer(alloc, usize::MAX);
+    let answer = plain(alloc, &mut EndlessSource { byte }, &mut to);
+    assert_refused(rt, "a plan without end", answer, &to, Fault::TooLong(line));
 }
 
 /// A reader that fails, at whatever call, and a reader that never ends.
@@ -154,61 +214,79 @@ fn readers(rt: HostRuntime) -> Result<(), Fail> {
         };
         let mut to = writer(alloc, usize::MAX);
         let answer = plain(alloc, &mut from, &mut to);
-        assert_eq!(rt; answer, Err(Fault::Read), "at call {call}");
-        assert!(rt; to.bytes.is_empty(), "at call {call}");
+        assert_refused(&rt, "a reader that fails", answer, &to, Fault::Read);
     }
-    for (byte, line) in [(b'x', 1), (b'\n', 4_194_305)] {
-        let mut to = writer(alloc, usize::MAX);
-        let answer = plain(alloc, &mut EndlessSource { byte }, &mut to);
-        assert_eq!(rt; answer, Err(Fault::TooLong(line)));
-        assert!(rt; to.bytes.is_empty());
+    check_endless(&rt, alloc, b'x', 1);
+    check_endless(&rt, alloc, b'\n', 4_194_305);
+    Ok(())
+}
+
+/// Asserts that of a report that can't be written whole the front is written. The order leads to the end of
+/// the plain run, so its report is the same.
+fn cut_report(rt: &impl Abort, alloc: Global, room: usize, takes_nothing: bool) {
+    let row = &REPORTS[0];
+    let mut to = brief_writer(alloc, room, takes_nothing);
+    let answer = plain(alloc, &mut reader(row.plan, usize::MAX), &mut to);
+    assert_cut(rt, room, answer, &to, row.report);
+    let mut to = brief_writer(alloc, room, takes_nothing);
+    let answer = lead(alloc, row.plan, FOLLOWS[0].order, 7, &mut to);
+    assert_cut(rt, room, answer, &to, row.report);
+}
+
+/// A writer that fails, or takes nothing, after so many bytes of a report.
+#[test]
+fn writers(rt: HostRuntime) -> Result<(), Fail> {
+    let alloc = rt.alloc();
+    for room in 0..REPORTS[0].report.len() {
+        cut_report(&rt, alloc, room, false);
+        cut_report(&rt, alloc, room, true);
     }
     Ok(())
 }
 
-/// Of a report that can't be written whole the front is written, and the fault counts it. The order
-/// leads to the end of the plain run, so its report is the same.
-#[test]
-fn writers(rt: HostRuntime) -> Result<(), Fail> {
-    let alloc = rt.alloc();
-    let row = &REPORTS[0];
-    let order = FOLLOWS[0].order;
-    let report = row.report.as_bytes();
-    for room in 0..report.len() {
-        for takes_nothing in [false, true] {
-            let mut to = brief_writer(alloc, room, takes_nothing);
-            let answer = plain(alloc, &mut reader(row.plan, usize::MAX), &mut to);
-            assert_eq!(rt; answer, Err(Fault::Write(room as u64)));
-            assert_eq!(rt; to.bytes.as_slice(), &report[..room]);
-            let mut to = brief_writer(alloc, room, takes_nothing);
-            let answer = lead(alloc, row.plan, order, 7, &mut to);
-            assert_eq!(rt; answer, Err(Fault::Write(room as u64)));
-            assert_eq!(rt; to.bytes.as_slice(), &report[..room]);
-        }
+/// Asserts what comes of following an order.
+fn check_follow(rt: &impl Abort, alloc: Global, row: &Followed, per_call: usize) {
+    let mut to = writer(alloc, per_call);
+    let answer = lead(alloc, row.plan, row.order, per_call, &mut to);
+    match row.answer {
+        Ok(report) => assert_wrote(rt, row.name, answer, &to, report),
+        Err(fault) => assert_refused(rt, row.name, answer, &to, fault),
     }
-    Ok(())
 }
 
 #[test]
 fn follows(rt: HostRuntime) -> Result<(), Fail> {
     let alloc = rt.alloc();
     for row in &FOLLOWS {
-        for per_call in [1, usize::MAX] {
-            let mut to = writer(alloc, per_call);
-            let answer = lead(alloc, row.plan, row.order, per_call, &mut to);
-            match row.answer {
-                Ok(report) => {
-                    assert_eq!(rt; answer, Ok(()), "{}", row.name);
-                    assert_eq!(rt; to.bytes.as_slice(), report.as_bytes(), "{}", row.name);
-                }
-                Err(fault) => {
-                    assert_eq!(rt; answer, Err(fault), "{}", row.name);
-                    assert!(rt; to.bytes.is_empty(), "{}", row.name);
-                }
-            }
-        }
+        check_follow(&rt, alloc, row, 1);
+        check_follow(&rt, alloc, row, usize::MAX);
     }
     Ok(())
+}
+
+/// Asserts that an order of the same byte without end is refused, with this line.
+fn check_endless_order(rt: &impl Abort, alloc: Global, byte: u8, line: u64) {
+    let mut from = reader(FOLLOWS[0].plan, usize::MAX);
+    let mut to = writer(alloc, usize::MAX);
+    let answer = follow(alloc, &mut from, &mut EndlessSource { byte }, &mut to);
+    assert_refused(
+        rt,
+        "an order without end",
+        answer,
+        &to,
+        Fault::BadOrder(line),
+    );
+}
+
+/// Asserts the fault of a plan with an order that fails at a call.
+fn check_failing_order(rt: &impl Abort, alloc: Global, plan: &[u8], call: u64, fault: Fault) {
+    let mut order = MemorySource {
+        fails_at: call,
+        ..reader(FOLLOWS[0].order, 1)
+    };
+    let mut to = writer(alloc, usize::MAX);
+    let answer = follow(alloc, &mut reader(plan, 7), &mut order, &mut to);
+    assert_refused(rt, "an order that fails", answer, &to, fault);
 }
 
 /// An order that fails, at whatever call or behind a file that is refused, and one that never ends.
@@ -217,28 +295,11 @@ fn orders(rt: HostRuntime) -> Result<(), Fail> {
     let alloc = rt.alloc();
     let row = &FOLLOWS[0];
     for call in 1..=row.order.len() as u64 + 1 {
-        let mut order = MemorySource {
-            fails_at: call,
-            ..reader(row.order, 1)
-        };
-        let mut to = writer(alloc, usize::MAX);
-        let answer = follow(alloc, &mut reader(row.plan, 7), &mut order, &mut to);
-        assert_eq!(rt; answer, Err(Fault::Read), "at call {call}");
-        assert!(rt; to.bytes.is_empty(), "at call {call}");
+        check_failing_order(&rt, alloc, row.plan, call, Fault::Read);
     }
-    let mut order = MemorySource {
-        fails_at: 1,
-        ..reader(row.order, 1)
-    };
-    let mut to = writer(alloc, usize::MAX);
-    let answer = follow(alloc, &mut reader(b"".as_slice(), 1), &mut order, &mut to);
-    assert_eq!(rt; answer, Err(Fault::BadHeader(1)));
-    for (byte, line) in [(b'x', 1), (b'\n', 8_388_609)] {
-        let mut from = reader(row.plan, usize::MAX);
-        let answer = follow(alloc, &mut from, &mut EndlessSource { byte }, &mut to);
-        assert_eq!(rt; answer, Err(Fault::BadOrder(line)));
-    }
-    assert!(rt; to.bytes.is_empty());
+    check_failing_order(&rt, alloc, b"".as_slice(), 1, Fault::BadHeader(1));
+    check_endless_order(&rt, alloc, b'x', 1);
+    check_endless_order(&rt, alloc, b'\n', 8_388_609);
     Ok(())
 }
 
@@ -246,48 +307,56 @@ fn orders(rt: HostRuntime) -> Result<(), Fail> {
 #[test]
 fn order_limit(rt: HostRuntime) -> Result<(), Fail> {
     let alloc = rt.alloc();
-    let row = &FOLLOWS[0];
+    let plan = FOLLOWS[0].plan;
     let mut order = vec![in alloc; b'\n'; 8_388_609]?;
     let mut to = writer(alloc, usize::MAX);
-    let answer = lead(alloc, row.plan, order.as_slice(), usize::MAX, &mut to);
-    assert_eq!(rt; answer, Err(Fault::BadOrder(8_388_609)));
-    assert!(rt; to.bytes.is_empty());
+    let answer = lead(alloc, plan, order.as_slice(), usize::MAX, &mut to);
+    assert_refused(
+        &rt,
+        "an order past its limit",
+        answer,
+        &to,
+        Fault::BadOrder(8_388_609),
+    );
     order.pop();
-    let answer = lead(alloc, row.plan, order.as_slice(), usize::MAX, &mut to);
-    assert_eq!(rt; answer, Ok(()));
-    assert!(rt;
-        to.bytes
-            .ends_with(b"app:1 1 get waiting\nwaiting 1\n".as_slice())
+    let answer = lead(alloc, plan, order.as_slice(), usize::MAX, &mut to);
+    assert_ended(
+        &rt,
+        "an order at its limit",
+        answer,
+        &to,
+        "app:1 1 get waiting\nwaiting 1\n",
     );
     Ok(())
 }
 
-/// Each question has its answer, or its fault and then nothing is written.
+/// Asserts that a question has its answer, or its fault and then nothing is written.
+fn check_question(rt: &impl Abort, alloc: Global, row: &Asked, per_call: usize) {
+    let mut to = writer(alloc, per_call);
+    let answer = why(alloc, &mut reader(row.plan, per_call), &mut to, row.words);
+    match row.answer {
+        Ok(text) => assert_wrote(rt, row.name, answer, &to, text),
+        Err(fault) => assert_refused(rt, row.name, answer, &to, fault),
+    }
+}
+
 #[test]
 fn questions(rt: HostRuntime) -> Result<(), Fail> {
     let alloc = rt.alloc();
     for row in &QUESTIONS {
-        for per_call in [1, usize::MAX] {
-            let mut to = writer(alloc, per_call);
-            let answer = why(alloc, &mut reader(row.plan, per_call), &mut to, row.words);
-            match row.answer {
-                Ok(text) => {
-                    assert_eq!(rt; answer, Ok(()), "{}", row.name);
-                    assert_eq!(rt; to.bytes.as_slice(), text.as_bytes(), "{}", row.name);
-                }
-                Err(fault) => {
-                    assert_eq!(rt; answer, Err(fault), "{}", row.name);
-                    assert!(rt; to.bytes.is_empty(), "{}", row.name);
-                }
-            }
-        }
+        check_question(&rt, alloc, row, 1);
+        check_question(&rt, alloc, row, usize::MAX);
     }
     Ok(())
 }
 
 /// The marks of a plan.
 fn marks_of(alloc: Global, text: &[u8]) -> Result<Marks, Fault> {
-    Marks::of(alloc, &Plan::build(alloc, read(alloc, text)?)?)
+    let scripts = read(alloc, text)?;
+    let plan = Plan::build(alloc, scripts)?;
+    let marks = Marks::of(alloc, &plan);
+    drop(plan);
+    marks
 }
 
 /// A clock tells how many events of each process are an event or before it; of a call that is never reached
@@ -337,71 +406,87 @@ commit
     Ok(())
 }
 
+/// Asserts that of an answer that can't be written whole the front is written.
+fn cut_answer(rt: &impl Abort, alloc: Global, text: &str, room: usize, takes_nothing: bool) {
+    let row = &QUESTIONS[0];
+    let mut to = brief_writer(alloc, room, takes_nothing);
+    let answer = why(alloc, &mut reader(row.plan, 7), &mut to, row.words);
+    assert_cut(rt, room, answer, &to, text);
+}
+
 /// A writer that fails, or takes nothing, after so many bytes of an answer.
 #[test]
 fn answers_cut(rt: HostRuntime) -> Result<(), Fail> {
     let alloc = rt.alloc();
-    let row = &QUESTIONS[0];
-    let Ok(text) = row.answer else {
+    let Ok(text) = QUESTIONS[0].answer else {
         return Ok(());
     };
     for room in 0..text.len() {
-        for takes_nothing in [false, true] {
-            let mut to = brief_writer(alloc, room, takes_nothing);
-            let answer = why(alloc, &mut reader(row.plan, 7), &mut to, row.words);
-            assert_eq!(rt; answer, Err(Fault::Write(room as u64)));
-            assert_eq!(rt; to.bytes.as_slice(), &text.as_bytes()[..room]);
-        }
+        cut_answer(&rt, alloc, text, room, false);
+        cut_answer(&rt, alloc, text, room, true);
     }
     Ok(())
 }
 
+/// What a check answered, whatever it found.
+fn fault_of(answer: Result<Ended, Fault>) -> Result<(), Fault> {
+    match answer {
+        Ok(_) => Ok(()),
+        Err(fault) => Err(fault),
+    }
+}
+
 /// Asserts that a plan has these findings, and that the check ends with their number.
-fn check_findings(
-    rt: &(impl Abort + Threads + Sync),
-    alloc: Global,
-    name: &str,
-    plan: &[u8],
-    findings: &str,
-) {
-    let lines = findings.lines().count() as u64;
-    let ended = match lines {
+fn check_found(rt: &(impl Abort + Threads + Sync), alloc: Global, row: &Checked, per_call: usize) {
+    let ended = match row.findings.lines().count() as u64 {
         1 => Ended::Clean,
         lines => Ended::Found(lines.saturating_sub(1)),
     };
-    for per_call in [1, usize::MAX] {
-        let mut to = writer(alloc, per_call);
-        let answer = check(rt, alloc, &mut reader(plan, per_call), &mut to);
-        assert_eq!(rt; answer, Ok(ended), "{}", name);
-        assert_eq!(rt; to.bytes.as_slice(), findings.as_bytes(), "{}", name);
+    let mut to = writer(alloc, per_call);
+    let answer = check(rt, alloc, &mut reader(row.plan, per_call), &mut to);
+    assert_eq!(rt; answer, Ok(ended), "{}", row.name);
+    assert_same(rt, row.name, to.bytes.as_slice(), row.findings.as_bytes());
+}
+
+/// The same of plans that have reports too.
+fn check_reported(rt: &(impl Abort + Threads + Sync), alloc: Global, rows: &[Reported]) {
+    for row in rows {
+        let row = Checked {
+            name: row.name,
+            plan: row.plan,
+            findings: row.findings,
+        };
+        check_found(rt, alloc, &row, 1);
+        check_found(rt, alloc, &row, usize::MAX);
     }
+}
+
+/// Asserts that the check of a plan is refused, and that nothing is written then.
+fn check_unfound(rt: &(impl Abort + Threads + Sync), alloc: Global, row: &Refusal) {
+    let mut to = writer(alloc, usize::MAX);
+    let answer = check(rt, alloc, &mut reader(row.plan, 7), &mut to);
+    assert_refused(rt, row.name, fault_of(answer), &to, row.fault);
 }
 
 /// Each plan that is read has its findings, one that is refused its fault and then nothing is written.
 #[test]
 fn findings(rt: HostRuntime) -> Result<(), Fail> {
     let alloc = rt.alloc();
-    for rows in [REPORTS.as_slice(), FENCES.as_slice(), NAMES.as_slice()] {
-        for row in rows {
-            check_findings(&rt, alloc, row.name, row.plan, row.findings);
-        }
-    }
+    check_reported(&rt, alloc, &REPORTS);
+    check_reported(&rt, alloc, &FENCES);
+    check_reported(&rt, alloc, &NAMES);
     for row in &FINDINGS {
-        check_findings(&rt, alloc, row.name, row.plan, row.findings);
+        check_found(&rt, alloc, row, 1);
+        check_found(&rt, alloc, row, usize::MAX);
     }
     for row in &REFUSALS {
-        let mut to = writer(alloc, usize::MAX);
-        let answer = check(&rt, alloc, &mut reader(row.plan, 7), &mut to);
-        assert_eq!(rt; answer, Err(row.fault), "{}", row.name);
-        assert!(rt; to.bytes.is_empty(), "{}", row.name);
+        check_unfound(&rt, alloc, row);
     }
     Ok(())
 }
 
-/// Of 4,096 names that two ranks publish, each in the same order, each is a race of its own.
-#[test]
-fn names_published_twice(rt: HostRuntime) -> Result<(), Fail> {
-    let alloc = rt.alloc();
+/// A plan in which two ranks publish 4,096 names, each in the same order.
+fn names_twice(alloc: Global) -> Result<String, AllocError> {
     let mut plan = String::from_str(alloc, "rehearsal 1\nnode n0\njob app\n")?;
     for _ in 0..2 {
         plan.push_str("rank n0\n")?;
@@ -409,12 +494,26 @@ fn names_published_twice(rt: HostRuntime) -> Result<(), Fail> {
             writeln!(plan, "publish x{name} 1")?;
         }
     }
+    Ok(plan)
+}
+
+/// Its findings.
+fn races_of_names(alloc: Global) -> Result<String, AllocError> {
     let mut findings = String::new(alloc);
     for name in 0..4_096u32 {
         let call = name.wrapping_add(1);
         writeln!(findings, "race app:0 {call} app:1 {call} name x{name}")?;
     }
     findings.push_str("findings 4096\n")?;
+    Ok(findings)
+}
+
+/// Of 4,096 names that two ranks publish, each in the same order, each is a race of its own.
+#[test]
+fn names_published_twice(rt: HostRuntime) -> Result<(), Fail> {
+    let alloc = rt.alloc();
+    let plan = names_twice(alloc)?;
+    let findings = races_of_names(alloc)?;
     let mut to = writer(alloc, usize::MAX);
     let answer = check(
         &rt,
@@ -423,24 +522,31 @@ fn names_published_twice(rt: HostRuntime) -> Result<(), Fail> {
         &mut to,
     );
     assert_eq!(rt; answer, Ok(Ended::Found(4_096)));
-    assert_eq!(rt; to.bytes.as_slice(), findings.as_bytes());
+    assert_same(&rt, "names", to.bytes.as_slice(), findings.as_bytes());
     Ok(())
 }
 
-/// Of findings that can't be written whole the front is written, and the fault counts it; a failed read is
-/// told as such.
+/// Asserts that of findings that can't be written whole the front is written.
+fn cut_findings(
+    rt: &(impl Abort + Threads + Sync),
+    alloc: Global,
+    room: usize,
+    takes_nothing: bool,
+) {
+    let row = &FINDINGS[0];
+    let mut to = brief_writer(alloc, room, takes_nothing);
+    let answer = check(rt, alloc, &mut reader(row.plan, 7), &mut to);
+    assert_cut(rt, room, fault_of(answer), &to, row.findings);
+}
+
+/// A writer that fails, or takes nothing, after so many bytes of findings; a failed read is told as such.
 #[test]
 fn findings_cut(rt: HostRuntime) -> Result<(), Fail> {
     let alloc = rt.alloc();
     let row = &FINDINGS[0];
-    let text = row.findings.as_bytes();
-    for room in 0..text.len() {
-        for takes_nothing in [false, true] {
-            let mut to = brief_writer(alloc, room, takes_nothing);
-            let answer = check(&rt, alloc, &mut reader(row.plan, 7), &mut to);
-            assert_eq!(rt; answer, Err(Fault::Write(room as u64)));
-            assert_eq!(rt; to.bytes.as_slice(), &text[..room]);
-        }
+    for room in 0..row.findings.len() {
+        cut_findings(&rt, alloc, room, false);
+        cut_findings(&rt, alloc, room, true);
     }
     let mut from = MemorySource {
         fails_at: 3,
@@ -448,7 +554,12 @@ fn findings_cut(rt: HostRuntime) -> Result<(), Fail> {
     };
     let mut to = writer(alloc, usize::MAX);
     let answer = check(&rt, alloc, &mut from, &mut to);
-    assert_eq!(rt; answer, Err(Fault::Read));
-    assert!(rt; to.bytes.is_empty());
+    assert_refused(
+        &rt,
+        "a reader that fails",
+        fault_of(answer),
+        &to,
+        Fault::Read,
+    );
     Ok(())
 }
