@@ -1,4 +1,4 @@
-use Rattle.std.proofs.Common.{rules, ◌≡◌, ◌∙◌, ap, sym, subst, None, length}
+use Rattle.std.proofs.Common.{rules, ◌≡◌, ◌≤◌, ◌∙◌, ap, sym, subst, None, length, vec_capacity}
 use Rattle.std.specs.Prelude.{replicate}
 use Rattle.wire_runs.specs.State.{start}
 use Rattle.wire_core.specs.Waiting.{AreNoted}
@@ -13,7 +13,7 @@ invariant_of-result c =
     let none = c.in_ok-history.ensures.items in
     let count : c.len.result ≡ length scripts.names = c.len.ensures ∙ ap length (c.names.ensures ∙ ap (λ s. s.names) c.scripts.ensures.scripts) in (
       search rules,
-      search rules,
+      subst (λ n. n ≤ vec_capacity c.in_ok-history.history) c.event_total.ensures.total c.in_ok-history.ensures.capacity,
       rw none
           record {
             sound = c.fences-fences.ensures.sound;
