@@ -114,10 +114,7 @@ fn replay(
 }
 
 /// Shows a run in an order, or the order of two calls.
-fn show(
-    rt: &(impl Files + Input + Print + AllocGlobal),
-    asked: &Asked<'_>,
-) -> Result<(), Failure> {
+fn show(rt: &(impl Files + Input + Print + AllocGlobal), asked: &Asked<'_>) -> Result<(), Failure> {
     let Some(first) = word(asked, 0) else {
         return Err(Failure::Usage);
     };
