@@ -32,7 +32,8 @@ fn whole<'a, G: Gate>(
     ensures ended { IfOk result (λ core. IsEnd (plan_in core) (state_of core)) }
     ensures memory { IsOkUnless result Memory }
 {
-    if *core.plan() == *plan && core.ended() {
+    let ended = core.ended();
+    if *core.plan() == *plan && ended {
         return Ok(core);
     }
     drop(core);
