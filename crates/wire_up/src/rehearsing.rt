@@ -36,7 +36,7 @@ pub struct Mode {
 
 /// The workers of a run, and the gate that they call.
 #[derive_where(Clone, Copy)]
-struct Crew<'a, G> {
+struct Staff<'a, G> {
     workers: usize,
     gate: &'a G,
 }
@@ -81,15 +81,15 @@ fn settled_end<R: Threads + Wait + Sync, G: Gate + Sync>(
     rt: &R,
     alloc: Global,
     settled: &Settled,
-    crew: Crew<'_, G>,
+    staff: Staff<'_, G>,
     mode: Mode,
 ) -> Result<(Ended, Vec<u8>), Fault>
-    requires workers { MayWork crew.workers }
+    requires workers { MayWork staff.workers }
     requires none { AreFindings (plan_of settled.now) [] }
     ensures ok { IfOk result (λ r. IsRehearsal mode settled.now r.0 r.1.items) }
     ensures err { IfErr result (λ e. e ≡ Memory) }
 {
-    let outcome = run_workers(rt, alloc, settled, crew.workers, crew.gate)?;
+    let outcome = run_workers(rt, alloc, settled, staff.workers, staff.gate)?;
     let text = report_text(alloc, settled.plan().scripts(), &outcome, mode.json)?;
     settled_exactly();
     Ok((Ended::Clean, text))
@@ -100,14 +100,14 @@ fn run_text<R: Threads + Wait + Sync, G: Gate + Sync>(
     rt: &R,
     alloc: Global,
     plan: &Plan,
-    crew: Crew<'_, G>,
+    staff: Staff<'_, G>,
     json: bool,
 ) -> Result<Vec<u8>, Fault>
-    requires { MayWork crew.workers }
+    requires { MayWork staff.workers }
     ensures ok { IfOk result (λ text. TellsRun json plan.now text.items) }
     ensures err { IfErr result (λ e. e ≡ Memory) }
 {
-    let (outcome, order) = run_any(rt, alloc, plan, crew.workers, crew.gate)?;
+    let (outcome, order) = run_any(rt, alloc, plan, staff.workers, staff.gate)?;
     unsettled_text(alloc, plan.scripts(), &outcome, order.as_slice(), json)
 }
 
@@ -116,15 +116,15 @@ fn found_text<R: Threads + Wait + Sync, G: Gate + Sync>(
     rt: &R,
     alloc: Global,
     unsettled: &Unsettled,
-    crew: Crew<'_, G>,
+    staff: Staff<'_, G>,
     mode: Mode,
 ) -> Result<Vec<u8>, Fault>
-    requires { MayWork crew.workers }
+    requires { MayWork staff.workers }
     ensures ok { IfOk result (λ text. TellsFound mode.json mode.anyway unsettled.now.plan unsettled.now.findings.items text.items) }
     ensures err { IfErr result (λ e. e ≡ Memory) }
 {
     if mode.anyway {
-        return run_text(rt, alloc, &unsettled.plan, crew, mode.json);
+        return run_text(rt, alloc, &unsettled.plan, staff, mode.json);
     }
     let scripts = unsettled.plan.scripts();
     findings_text(alloc, scripts, unsettled.findings.as_slice(), mode.json)
@@ -135,16 +135,16 @@ fn found_end<R: Threads + Wait + Sync, G: Gate + Sync>(
     rt: &R,
     alloc: Global,
     unsettled: &Unsettled,
-    crew: Crew<'_, G>,
+    staff: Staff<'_, G>,
     mode: Mode,
 ) -> Result<(Ended, Vec<u8>), Fault>
-    requires workers { MayWork crew.workers }
+    requires workers { MayWork staff.workers }
     requires those { AreFindings (plan_of unsettled.now.plan) unsettled.now.findings.items }
     requires some { unsettled.now.findings.items ≢ [] }
     ensures ok { IfOk result (λ r. IsRehearsal mode unsettled.now.plan r.0 r.1.items) }
     ensures err { IfErr result (λ e. e ≡ Memory) }
 {
-    let text = found_text(rt, alloc, unsettled, crew, mode)?;
+    let text = found_text(rt, alloc, unsettled, staff, mode)?;
     settled_exactly();
     Ok((Ended::with(unsettled.findings.as_slice()), text))
 }
@@ -154,29 +154,29 @@ fn rehearsed<R: Threads + Wait + Sync, G: Gate + Sync>(
     rt: &R,
     alloc: Global,
     scripts: Scripts,
-    crew: Crew<'_, G>,
+    staff: Staff<'_, G>,
     mode: Mode,
 ) -> Result<(Ended, Vec<u8>), Fault>
-    requires { MayWork crew.workers }
+    requires { MayWork staff.workers }
     ensures ok { IfOk result (λ r. IsRehearsal mode scripts r.0 r.1.items) }
     ensures err { IfErr result (λ e. e ≡ Memory) }
 {
     match settled(rt, alloc, scripts)? {
         Ok(settled) => {
-            let end = settled_end(rt, alloc, &settled, crew, mode);
+            let end = settled_end(rt, alloc, &settled, staff, mode);
             drop(settled);
             end
         }
         Err(unsettled) => {
-            let end = found_end(rt, alloc, &unsettled, crew, mode);
+            let end = found_end(rt, alloc, &unsettled, staff, mode);
             drop(unsettled);
             end
         }
     }
 }
 
-/// Rehearses a file of scripts with so many workers, each a thread of its own: reads the file to its end, finds every
-/// race of its plan, and writes what came of it, as lines or as JSON.
+/// Rehearses a file of scripts with so many workers, each a thread of its own: reads the file to its end, judges its
+/// plan as `check` does, and writes what came of it, as lines or as JSON. A worker that can't be started is left out.
 ///
 /// Where there is nothing to find, it runs the plan and writes what became of every call: the same for any number of
 /// workers, the report of the plain run. It answers `Clean`. Else it writes the findings, or, with `anyway`, it runs
@@ -218,7 +218,7 @@ pub fn rehearse<R: Source, W: Sink, T: Threads + Wait + Sync, G: Gate + Sync>(
         return Err(Fault::Workers);
     }
     let scripts = read_scripts(alloc, reader)?;
-    let (ended, text) = rehearsed(rt, alloc, scripts, Crew { workers, gate }, mode)?;
+    let (ended, text) = rehearsed(rt, alloc, scripts, Staff { workers, gate }, mode)?;
     write_text(writer, text.as_slice())?;
     Ok(ended)
 }
