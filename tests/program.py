@@ -4,6 +4,7 @@ Usage: python3 tests/program.py PROGRAM
 Prints a line for each run that went otherwise than it should, and last 'N passed, M failed'.
 """
 import collections
+import json
 import os
 import resource
 import signal
@@ -16,6 +17,54 @@ EXAMPLE, ITS_REPORT = "examples/business-card.plan", "examples/business-card.rep
 NOTHING = b"findings 0\n"
 SECONDS = 60
 FAULTS = "Memory TooLong BadHeader BadLine UnknownName Twice NotMember TooMany Workers Read Write NotReady BadOrder".split()
+
+# Gets that are ordered by fences, by a publish and by one another.
+CARDS = b"""\
+rehearsal 1
+node n0
+node n1
+job app
+rank n0
+put global k v
+put global m w
+commit
+fence all collect
+publish x 7
+rank n0
+get app:0 m
+get-now app:0 k
+fence all collect
+rank n1
+fence all collect
+get-now app:0 k
+lookup-wait x
+"""
+CARDS_REPORT = b"""\
+app:0 1 put PMIX_SUCCESS
+app:0 2 put PMIX_SUCCESS
+app:0 3 commit PMIX_SUCCESS
+app:0 4 fence PMIX_SUCCESS
+app:0 5 publish PMIX_SUCCESS
+app:1 1 get PMIX_SUCCESS w
+app:1 2 get-now PMIX_SUCCESS v
+app:1 3 fence PMIX_SUCCESS
+app:2 1 fence PMIX_SUCCESS
+app:2 2 get-now PMIX_SUCCESS v
+app:2 3 lookup-wait PMIX_SUCCESS 7
+waiting 0
+"""
+
+# A get that races a commit.
+RACY = b"""\
+rehearsal 1
+node n0
+job app
+rank n0
+put global k v
+commit
+rank n0
+get-now app:0 k
+"""
 
 # What is run, and what must come of it: the status, and what standard output and standard error hold. Each is the whole
 # text or, in a tuple, parts of it.
@@ -65,7 +114,9 @@ def runs(room):
     large = written(room, "large.plan", b"rehearsal 1\n#".ljust(4 << 20, b"x"))
     usage = (b"Usage: wire_up",)
     for it in examples(".plan"):
-        yield Run(f"{it}.plan", ["replay", f"examples/{it}.plan"], wrote=text_of(f"examples/{it}.report"))
+        findings, report_of = text_of(f"examples/{it}.findings"), text_of(f"examples/{it}.report")
+        found = findings != NOTHING
+        yield Run(f"{it}.plan", ["replay", f"examples/{it}.plan"], status=int(found), wrote=findings if found else report_of)
     for it in examples(".plan"):
         findings = text_of(f"examples/{it}.findings")
         yield Run(f"{it}.findings", ["check", f"examples/{it}.plan"], status=int(findings != NOTHING), wrote=findings)
@@ -85,7 +136,6 @@ def runs(room):
     yield Run("the version", ["--version"], wrote=b"wire_up 0.1.0\n")
     yield Run("the version in short", ["-V"], wrote=b"wire_up 0.1.0\n")
     yield Run("help as a command", ["help"], wrote=usage)
-    yield Run("help on a command", ["replay", "--help"], wrote=usage)
     yield Run("a file that is refused", ["replay", odd], status=2, said=b"wire_up: fault 4 BadLine 10\n")
     yield Run("standard input that is refused", ["replay"], given=b"# only\n", status=2, said=b"wire_up: fault 3 BadHeader 2\n")
     yield Run("a file that never ends", ["replay", "/dev/zero"], status=2, said=b"wire_up: fault 2 TooLong 1\n")
@@ -201,6 +251,47 @@ def checks(room):
     yield Run("check with an unknown option", ["check", "--loud", example], status=5, said=usage)
 
 
+def as_json(report):
+    """A report as JSON."""
+    ranks = {}
+    *calls, waiting = report.decode().splitlines()
+    for line in calls:
+        proc, _, verb, reply, *value = line.split(" ")
+        ranks.setdefault(proc, []).append({"reply": reply, "verb": verb, **dict(zip(["value"], value))})
+    form = {"ranks": [{"calls": calls, "proc": proc} for proc, calls in ranks.items()], "waiting": int(waiting.split()[1])}
+    return json.dumps(form, sort_keys=True, separators=(",", ":")).encode() + b"\n"
+
+
+def rehearsals(room):
+    """The runs of `replay` by workers, with its options."""
+    cards, report, usage = written(room, "cards.plan", CARDS), CARDS_REPORT, (b"Usage: wire_up",)
+    racy, none, odd = written(room, "racy.plan", RACY), os.path.join(room, "none"), written(room, "odd.plan", b"# only\n")
+    late = written(room, "late.order", b"app:1\napp:0\napp:0\n")
+    of_late = b"app:0 1 put PMIX_SUCCESS\napp:0 2 commit PMIX_SUCCESS\napp:1 1 get-now PMIX_ERR_NOT_FOUND\nwaiting 0\n"
+    race = b"race app:0 2 app:1 1 key app:0 k"
+    workers, word = b"wire_up: fault 9 Workers\n", b"wire_up: usage --workers\n"
+    for n in ("1", "2", "7", "64", "007"):
+        yield Run(f"{n} workers", ["replay", "--workers", n, cards], wrote=report)
+        yield Run(f"{n} workers, as JSON", ["replay", f"--workers={n}", "--json", cards], wrote=as_json(report))
+    yield Run("no worker told", ["replay", "--json", cards], wrote=as_json(report))
+    yield Run("nothing found, anyway", ["replay", "--anyway", "--workers", "2", cards], wrote=report)
+    yield Run("workers, and standard input", ["replay", "--workers", "2"], given=CARDS, wrote=report)
+    yield Run("a race, by workers", ["replay", "--workers", "2", racy], status=1, wrote=race + b"\nfindings 1\n")
+    yield Run("a race, as JSON", ["replay", "--json", racy], status=1, wrote=b'{"findings":["%s"]}\n' % race)
+    yield Run("a get before the commit", ["follow", late, racy], wrote=of_late)
+    for n in ("0", "65", "99999999999999999999"):
+        yield Run(f"{n} workers at most", ["replay", "--workers", n, cards], status=2, said=workers)
+    yield Run("no worker, and a file that is refused", ["replay", "--workers", "0", odd], status=2, said=workers)
+    yield Run("no worker, and no such file", ["replay", "--workers", "0", none], status=4, said=b"wire_up: fault 10 Read\n")
+    for it in ("x", "", "+1", "1x"):
+        yield Run(f"'{it}' workers", ["replay", "--workers", it, none], status=5, said=word)
+    yield Run("less than no worker", ["replay", "--workers=-1", cards], status=5, said=word)
+    yield Run("workers told twice", ["replay", "--workers", "1", "--workers", "1", cards], status=5, said=usage)
+    yield Run("anyway told twice", ["replay", "--anyway", "--anyway", cards], status=5, said=usage)
+    yield Run("a check by workers", ["check", "--workers", "1", cards], status=5, said=usage)
+    yield Run("help on replay", ["replay", "--help"], wrote=(b"--workers <N>", b"--json", b"--anyway"))
+
+
 def start(program, run, **streams):
     how = {"cwd": TOP, "preexec_fn": run.set_up, "stderr": subprocess.PIPE, "timeout": SECONDS}
     return subprocess.run([program, *run.words], input=run.given, **how, **streams)
@@ -242,6 +333,25 @@ def breaks_off(program, room, size):
     return wrote == report[:size] or tell(name, f"wrote {wrote[:300]}")
 
 
+def runs_anyway(program, room, workers, as_form):
+    """Whether a plan with a race is run with `--anyway`, and gives the same report when it is followed in the order told."""
+    name, racy = f"a race anyway, {workers} workers{as_form and ', as JSON'}", written(room, "racy.plan", RACY)
+    ran = start(program, Run(name, ["replay", "--anyway", "--workers", str(workers), *as_form, racy]), stdout=subprocess.PIPE)
+    if as_form:
+        form = json.loads(ran.stdout)
+        head, steps, report = form.pop("unsettled"), form.pop("order"), None
+        order = "".join(step + "\n" for step in steps).encode()
+    else:
+        head, _, rest = ran.stdout.partition(b"\n")
+        report, _, order = rest.partition(b"order ")
+        count, _, order = order.partition(b"\n")
+        head = head == b"unsettled" and int(count) == order.count(b"\n")
+    told = start(program, Run(name, ["follow", written(room, "told.order", order), racy]), stdout=subprocess.PIPE)
+    same = form == json.loads(as_json(told.stdout)) if as_form else report == told.stdout
+    well = (ran.returncode, ran.stderr, told.returncode) == (1, b"", 0) and head is True and len(order) == 18 and same
+    return well or tell(name, f"ended with {ran.returncode}, and wrote {ran.stdout[:300]}")
+
+
 def tell(name, what):
     print(f"{name}: the program {what}")
     return False
@@ -250,7 +360,8 @@ def tell(name, what):
 def all_runs(program):
     """Runs all, and answers how many went well and how many didn't."""
     with tempfile.TemporaryDirectory(prefix="wire-up-") as room:
-        well = [went_well(program, run) for run in (*runs(room), *checks(room), *follows(room), *questions(room))]
+        well = [went_well(program, run) for run in (*runs(room), *rehearsals(room), *checks(room), *follows(room), *questions(room))]
+        well += [runs_anyway(program, room, n, form) for n in (1, 2, 7) for form in ([], ["--json"])]
         well += [breaks_off(program, room, size) for size in (1, 20, len(text_of(ITS_REPORT)) - 1)]
     for kept, shown in ((EXAMPLE, "crates/program/data/business-card.plan"), (ITS_REPORT, "crates/program/stdout")):
         well.append(text_of(kept) == text_of(shown) or tell(shown, f"is run on another text than {kept}"))

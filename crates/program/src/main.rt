@@ -2,22 +2,19 @@
 //! with a status: 0 done without findings, 1 findings, 2 refused, 3 memory, 4 reading or writing, 5 usage.
 #![tactic(auto)]
 
-mod help;
-
+use clap::Error;
 use clap::error::ErrorKind;
-use clap::{Arg, ArgMatches, Command, Error};
 use std::alloc::{AllocError, Global};
 use std::fs::File;
 use std::io::Read;
 use std::process::ExitCode;
 use std::rt::{Env, Files};
+use std::sync::Wait;
 use std::thread::Threads;
 use std::{env, io};
+use wire_sched::OpenGate;
 use wire_types::{Fault, FromRead, ToWrite, write_out};
-use wire_up::{Ended, check, follow, plain, why};
-
-/// What `--version` shows behind the program's name.
-const VERSION: &str = "0.1.0";
+use wire_up::{Asked, Ended, Mode, asked, check, follow, rehearse, why, workers_of};
 
 /// The exit status of a command line that can't be read.
 const USAGE: u8 = 5;
@@ -41,66 +38,6 @@ impl From<AllocError> for Failure {
     fn from(_error: AllocError) -> Failure {
         Failure::Fault(Fault::Memory)
     }
-}
-
-/// The file of scripts, which may be left out.
-fn file_argument<'a>(alloc: Global) -> Arg<'a> {
-    Arg::new(alloc, "FILE").help("The file of scripts, standard input if not given")
-}
-
-fn check_command<'a>(alloc: Global) -> Result<Command<'a>, AllocError> {
-    Command::new(alloc, "check")
-        .about("Finds every race between the scripts, and every key that is put twice")
-        .arg(file_argument(alloc))
-}
-
-fn replay_command<'a>(alloc: Global) -> Result<Command<'a>, AllocError> {
-    Command::new(alloc, "replay")
-        .about("Runs the scripts once, the lowest rank first, and shows what became of every call")
-        .arg(file_argument(alloc))
-}
-
-fn follow_command<'a>(alloc: Global) -> Result<Command<'a>, AllocError> {
-    let order = Arg::new(alloc, "ORDER")
-        .help("The file of the order: each line names the process that takes the next step")
-        .required(true);
-    Command::new(alloc, "follow")
-        .about("Runs the scripts in the order of a file, and shows what became of every call")
-        .arg(order)?
-        .arg(file_argument(alloc))
-}
-
-/// A word of a question, which has to be given.
-fn question_argument<'a>(alloc: Global, name: &'a str, help: &'a str) -> Arg<'a> {
-    Arg::new(alloc, name).help(help).required(true)
-}
-
-fn why_command<'a>(alloc: Global) -> Result<Command<'a>, AllocError> {
-    let about = "Tells whether a chain of events orders two calls, and shows the chain";
-    let first = "The process of the first call: its job, a colon and its rank, as app:0";
-    let number = "The number of that call among the calls of its process, from 1";
-    Command::new(alloc, "why")
-        .about(about)
-        .arg(question_argument(alloc, "P", first))?
-        .arg(question_argument(alloc, "N", number))?
-        .arg(question_argument(alloc, "Q", "The process of the second call"))?
-        .arg(question_argument(alloc, "M", "The number of that call"))?
-        .arg(file_argument(alloc))
-}
-
-/// The command line of the program.
-fn command_line<'a>(alloc: Global) -> Result<Command<'a>, AllocError> {
-    Command::new(alloc, "wire_up")
-        .about(
-            "Rehearses the wire-up of a PMIx job: finds every race between its ranks, and replays it",
-        )
-        .version(VERSION)
-        .after_help(help::FAULTS_AND_STATUSES)
-        .subcommand_required(true)
-        .subcommand(check_command(alloc)?)?
-        .subcommand(replay_command(alloc)?)?
-        .subcommand(follow_command(alloc)?)?
-        .subcommand(why_command(alloc)?)
 }
 
 /// The arguments of the program, its own name among them.
@@ -128,50 +65,69 @@ fn words<'a>(alloc: Global, arguments: &'a [String]) -> Result<Vec<&'a str>, All
 
 /// Does what the words ask for, and answers how that ended.
 fn obey<'a>(
-    rt: &(impl Files + Input + Print + Eprint + AllocGlobal + Threads + Sync),
+    rt: &(impl Files + Input + Print + Eprint + AllocGlobal + Threads + Wait + Sync),
     words: &'a [&'a str],
 ) -> Result<Ended, Failure> {
-    match command_line(rt.alloc())?.try_get_matches_from(words) {
-        Ok(matches) => {
-            if let Some(checking) = matches.subcommand_matches("check") {
-                return Ok(check_file(rt, checking.get_str("FILE"))?);
-            }
-            show(rt, &matches)?;
+    match asked(rt.alloc(), words) {
+        Ok(asked) => run_command(rt, &asked),
+        Err(error) => {
+            tell(rt, &error)?;
+            Ok(Ended::Clean)
         }
-        Err(error) => tell(rt, &error)?,
     }
+}
+
+/// Runs the command that was asked for.
+fn run_command(
+    rt: &(impl Files + Input + Print + Eprint + AllocGlobal + Threads + Wait + Sync),
+    asked: &Asked<'_>,
+) -> Result<Ended, Failure> {
+    if asked.command == "check" {
+        return Ok(check_file(rt, word(asked, 0))?);
+    }
+    if asked.command == "replay" {
+        return replay(rt, asked);
+    }
+    show(rt, asked)?;
     Ok(Ended::Clean)
 }
 
-/// Shows a run, or the order of two calls.
-fn show(
-    rt: &(impl Files + Input + Print + AllocGlobal),
-    matches: &ArgMatches<'_>,
-) -> Result<(), Failure> {
-    if let Some(replay) = matches.subcommand_matches("replay") {
-        return Ok(replay_file(rt, replay.get_str("FILE"))?);
-    }
-    if let Some(asking) = matches.subcommand_matches("why") {
-        let words = [
-            word_of(asking, "P"),
-            word_of(asking, "N"),
-            word_of(asking, "Q"),
-            word_of(asking, "M"),
-        ];
-        return Ok(why_file(rt, words, asking.get_str("FILE"))?);
-    }
-    let Some(following) = matches.subcommand_matches("follow") else {
-        return Err(Failure::Usage);
-    };
-    let Some(order) = following.get_str("ORDER") else {
-        return Err(Failure::Usage);
-    };
-    Ok(follow_file(rt, order, following.get_str("FILE"))?)
+/// A word of the command, if there are so many.
+fn word<'a>(asked: &Asked<'a>, index: usize) -> Option<&'a str> {
+    asked.words.get(index).copied()
 }
 
-/// A word of a question. `clap` lets no question pass without its four words.
-fn word_of<'a>(matches: &ArgMatches<'a>, name: &str) -> &'a str {
-    matches.get_str(name).unwrap_or("")
+/// Replays scripts by so many workers as are asked for.
+fn replay(
+    rt: &(impl Files + Input + Print + Eprint + AllocGlobal + Threads + Wait + Sync),
+    asked: &Asked<'_>,
+) -> Result<Ended, Failure> {
+    let Some(workers) = workers_of(asked.workers) else {
+        let _ = rt.eprintln("wire_up: usage --workers");
+        return Err(Failure::Usage);
+    };
+    let mode = Mode {
+        json: asked.json,
+        anyway: asked.anyway,
+    };
+    Ok(replay_file(rt, word(asked, 0), workers, mode)?)
+}
+
+/// Shows a run in an order, or the order of two calls.
+fn show(rt: &(impl Files + Input + Print + AllocGlobal), asked: &Asked<'_>) -> Result<(), Failure> {
+    let Some(first) = word(asked, 0) else {
+        return Err(Failure::Usage);
+    };
+    if asked.command == "follow" {
+        return Ok(follow_file(rt, first, word(asked, 1))?);
+    }
+    let words = [
+        first,
+        word(asked, 1).unwrap_or(""),
+        word(asked, 2).unwrap_or(""),
+        word(asked, 3).unwrap_or(""),
+    ];
+    Ok(why_file(rt, words, word(asked, 4))?)
 }
 
 /// Tells why there is nothing to do: the user asked for help or the version, or the words can't be read.
@@ -203,18 +159,36 @@ fn check_file(
     }
 }
 
-/// Replays a file, or standard input where none is named.
+/// Replays a file, or standard input where none is named. The file is opened before the number of workers is judged.
 fn replay_file(
-    rt: &(impl Files + Input + Print + AllocGlobal),
+    rt: &(impl Files + Input + Print + AllocGlobal + Threads + Wait + Sync),
     file: Option<&str>,
-) -> Result<(), Fault> {
+    workers: usize,
+    mode: Mode,
+) -> Result<Ended, Fault> {
     let mut writer = ToWrite::new(io::writer(rt));
     match file {
         Some(path) => {
             let file = File::open(rt, path).map_err(|_| Fault::Read)?;
-            plain(rt.alloc(), &mut FromRead::new(file), &mut writer)
+            rehearse(
+                rt,
+                rt.alloc(),
+                &mut FromRead::new(file),
+                &mut writer,
+                workers,
+                mode,
+                &OpenGate,
+            )
         }
-        None => plain(rt.alloc(), &mut FromRead::new(rt.reader()), &mut writer),
+        None => rehearse(
+            rt,
+            rt.alloc(),
+            &mut FromRead::new(rt.reader()),
+            &mut writer,
+            workers,
+            mode,
+            &OpenGate,
+        ),
     }
 }
 
@@ -275,7 +249,7 @@ fn why_file(
 }
 
 fn run(
-    rt: &(impl Env + Files + Input + Print + Eprint + AllocGlobal + Threads + Sync),
+    rt: &(impl Env + Files + Input + Print + Eprint + AllocGlobal + Threads + Wait + Sync),
 ) -> Result<Ended, Failure> {
     let arguments = arguments(rt)?;
     let words = words(rt.alloc(), arguments.as_slice())?;

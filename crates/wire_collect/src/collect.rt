@@ -32,7 +32,8 @@ fn whole<'a, G: Gate>(
     ensures ended { IfOk result (λ core. IsEnd (plan_in core) (state_of core)) }
     ensures memory { IsOkUnless result Memory }
 {
-    if *core.plan() == *plan && core.ended() {
+    let ended = core.ended();
+    if *core.plan() == *plan && ended {
         return Ok(core);
     }
     drop(core);
@@ -56,9 +57,10 @@ fn told(alloc: Global, core: &Core<'_>) -> Result<(Outcome, Vec<Proc>), Fault>
 /// Runs a plan by so many workers, each a thread of its own, until no process is ready. Gives what became of every call,
 /// and the history of the steps. Which interleaving runs is open: for a plan with races, another run may give another.
 ///
-/// The workers share one core under a lock. They work by rounds, and each round deals every process. What no worker of a
-/// round takes is served by the collector, and so is the lowest ready process after a round without a step. The collector
-/// calls the gate with the number `workers`.
+/// The workers share one core under a lock. They work by rounds, and each round deals every process. A worker whose
+/// thread can't be started is left out. The calling thread is the collector: it serves what no worker of a round takes, and
+/// after a round without a step the lowest ready process. It calls the gate with the number `workers`, which is no
+/// worker's.
 ///
 /// The fault is `Workers` where there is no worker or more than 64, before all else, and `Memory` where memory ran out.
 pub fn run_any<R: Threads + Wait + Sync, G: Gate + Sync>(

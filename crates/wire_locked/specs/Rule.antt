@@ -1,4 +1,4 @@
--- The rule of the lock: what holds of the core whenever the lock is free.
+-- What the type of a core keeps, and so what holds of the core whenever its lock is free.
 use Rattle.wire_runs.specs.State.{start}
 use Rattle.wire_runs.specs.Step.{IsInterleaving}
 use Rattle.wire_core.specs.Course.{Course, plan_in}

@@ -21,7 +21,7 @@ struct Victim {
 
 /// Serves the pieces of the worker's own deque, and then those that it steals from the other deques in turn. It leaves a
 /// deque that answered `Again` a thousand times. Before each piece it calls the gate, and then it waits for the lock.
-/// Answers how many steps it took; the sum stays at its type's greatest value. It takes no memory.
+/// Answers how many steps it took; once the sum is at its type's greatest value, it stays there. It takes no memory.
 pub fn work_locked<R: Wait, G: Gate>(
     rt: &R,
     locked: &LockedCore<'_>,

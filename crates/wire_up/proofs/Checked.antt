@@ -13,7 +13,7 @@ use Rattle.wire_report.specs.Findings.{findings_report}
 use Rattle.wire_up.specs.declared.checking.Ended.{Ended}
 use Rattle.wire_up.specs.declared.checking.Ended.TheVariants.{Clean, Found}
 use Rattle.wire_up.specs.Replay.{ReadAs}
-use Rattle.wire_up.specs.Check.{ended_with, IsVerdict, EndsInOneState, BreaksOffFindings}
+use Rattle.wire_up.specs.Check.{ended_with, IsJudged, IsVerdict, EndsInOneState, BreaksOffFindings}
 
 -- it is clean exactly where nothing is found
 clean_exactly : (found : List Finding) → (ended_with found ≡ Clean) ↔ (found ≡ [])
@@ -29,22 +29,25 @@ settled_too s found ended ends law = (
   (λ settled. ends ∙ (clean_exactly found).1 (law.1 settled)),
 )
 
--- what is told of the findings that there are
-pub judged_told : (s shown : Scripts) (found seen counted : List Finding) (ended : Ended) (text : List ℕ) → ((found ≡ []) ↔ IsSettled (plan_of s)) → AreFindings (plan_of s) found → shown ≡ s → seen ≡ found → counted ≡ found
-    → text ≡ findings_report shown seen → ended ≡ ended_with counted → IsVerdict s ended text
-judged_told s shown found seen counted ended text law those same is count told ends =
-    let all : findings_report shown seen ≡ findings_report s found = λ i. findings_report (same i) (is i) in
+-- what the findings that there are tell
+pub judged_so : (s : Scripts) (found counted : List Finding) (ended : Ended) → ((found ≡ []) ↔ IsSettled (plan_of s)) → AreFindings (plan_of s) found → counted ≡ found → ended ≡ ended_with counted → IsJudged s found ended
+judged_so s found counted ended law those count ends =
     let ended_so : ended ≡ ended_with found = ends ∙ ap ended_with count in
     let settled : (ended ≡ Clean) ↔ IsSettled (plan_of s) = settled_too s found ended ended_so law in
     record {
-      found = found;
       those = those;
       ends = ended_so;
       settled = settled;
       one_end = λ clean. (plain_runs (plan_of s)).is_the_end (settled.0 clean);
       unordered = λ f there. races_are_unordered (plan_of s) f (((those (λ a b. false)).those f).0 there);
-      tells = told ∙ all;
     }
+
+-- and what is told of them
+pub judged_told : (s shown : Scripts) (found seen counted : List Finding) (ended : Ended) (text : List ℕ) → ((found ≡ []) ↔ IsSettled (plan_of s)) → AreFindings (plan_of s) found → shown ≡ s → seen ≡ found → counted ≡ found
+    → text ≡ findings_report shown seen → ended ≡ ended_with counted → IsVerdict s ended text
+judged_told s shown found seen counted ended text law those same is count told ends =
+    let all : findings_report shown seen ≡ findings_report s found = λ i. findings_report (same i) (is i) in
+    record { found = found; judged = judged_so s found counted ended law those count ends; tells = told ∙ all }
 
 -- the verdict on the plan of scripts is that on the scripts
 pub verdict_too : (s plan : Scripts) (r : Result (Ended × Vec ℕ Global) Fault) → plan ≡ s → IfOk r (λ v. IsVerdict plan v.0 v.1.items) → IfOk r (λ v. IsVerdict s v.0 v.1.items)
@@ -56,13 +59,13 @@ pub broken_off : (coming : Option (List ℕ)) (old new : Option (List ℕ)) (s :
 broken_off coming old new s ended text shown e read verdict is front =
     record { scripts = s; read = read; ended = ended; text = text; verdict = verdict; wrote = subst (λ t. WritesFront old new t e) is front }
 
-abbrev done : Ended → Result Ended Fault
+abbrev pub done : Ended → Result Ended Fault
 done ended = Ok ended
 
-abbrev ended_of : Result Ended Fault → Ended
+abbrev pub ended_of : Result Ended Fault → Ended
 ended_of (Ok ended) = ended
 ended_of (Err fault) = Clean
 
 -- a check that is clean tells that every run that can't go on has one end
 pub clean_one_end : (coming : Option (List ℕ)) (s : Scripts) (ended : Ended) (text : List ℕ) → ReadAs coming s → IsVerdict s ended text → done ended ≡ done Clean → EndsInOneState coming
-clean_one_end coming s ended text read verdict clean = record { scripts = s; read = read; one_end = verdict.one_end (ap ended_of clean) }
+clean_one_end coming s ended text read verdict clean = record { scripts = s; read = read; one_end = verdict.judged.one_end (ap ended_of clean) }

@@ -3,6 +3,7 @@ pub mod FileFaults
 pub mod Limited
 pub mod Replayed
 pub mod Followed
-pub mod Asked
+pub mod Questioned
 pub mod Texts
 pub mod Checked
+pub mod Worked

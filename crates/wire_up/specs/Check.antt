@@ -17,12 +17,12 @@ use Rattle.wire_up.specs.declared.checking.Ended.{Ended}
 use Rattle.wire_up.specs.declared.checking.Ended.TheVariants.{Clean, Found}
 use Rattle.wire_up.specs.Replay.{ReadAs, Refuses}
 
--- how a check ends that has these findings
+-- how a check or a rehearsal ends that has these findings
 abbrev pub ended_with : List Finding → Ended
 ended_with [] = Clean
 ended_with (finding ∷ others) = Found (length (finding ∷ others))
 
--- the exit status of a check that ended so
+-- the exit status of what ended so
 abbrev pub status_of : Ended → ℕ
 status_of Clean = 0
 status_of (Found count) = 1
@@ -31,15 +31,19 @@ status_of (Found count) = 1
 abbrev pub NoneIsOrdered : Plan → List Finding → Type 0
 NoneIsOrdered plan found = (f : runs.Finding) → runs.Has (all_shown plan found) f → AreUnordered plan f
 
--- the text of all findings of the scripts, and how a check of them ends: clean exactly where there is nothing to find, and then every
--- interleaving that can't go on ends in one state
-pub record IsVerdict (scripts : Scripts) (ended : Ended) (text : List ℕ) : Type 0 where
-  pub found : List Finding
+-- these are the findings of the scripts, and it ends so: clean exactly where there is nothing to find, and then every interleaving that
+-- can't go on ends in one state. The calls of each race are live, and no chain orders them
+pub record IsJudged (scripts : Scripts) (found : List Finding) (ended : Ended) : Type 0 where
   pub those : AreFindings (plan_of scripts) found
   pub ends : ended ≡ ended_with found
   pub settled : (ended ≡ Clean) ↔ IsSettled (plan_of scripts)
   pub one_end : ended ≡ Clean → HasOneEnd (plan_of scripts)
   pub unordered : NoneIsOrdered (plan_of scripts) found
+
+-- the text of all findings of the scripts, and how a check of them ends
+pub record IsVerdict (scripts : Scripts) (ended : Ended) (text : List ℕ) : Type 0 where
+  pub found : List Finding
+  pub judged : IsJudged scripts found ended
   pub tells : text ≡ findings_report scripts found
 
 -- what was to come read as scripts, and every interleaving of their plan that can't go on ends in one state, the plain run's: the

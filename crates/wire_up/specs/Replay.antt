@@ -1,20 +1,13 @@
 -- What a replay of a file of scripts writes: the report of the plain run of what was to come from the reader.
 use Rattle.std.specs.Prelude.{◌≡◌, ℕ, ◌<◌, List, Option, Ok, Err, IfSome, length, take}
 use Rattle.std.specs.Io.KnownBytes.{Appends}
-use Rattle.wire_types.specs.Outcome.{Ends}
 use Rattle.wire_types.specs.declared.Fault.{Fault}
 use Rattle.wire_rehearsal.specs.Scripts.{Scripts}
-use Rattle.wire_rehearsal.specs.Planned.{plan_of}
 use Rattle.wire_script.specs.Reads.{Reads}
-use Rattle.wire_runs.specs.Step.{run}
-use Rattle.wire_runs.specs.PlainRun.{plain_run}
-use Rattle.wire_runs.specs.Ends.{outcome}
+use Rattle.wire_collect.specs.Collect.{plain_ends}
 use Rattle.wire_report.specs.Report.{report}
 
--- what became of every call where the plain run can't go on
-abbrev pub plain_ends : Scripts → Ends
-plain_ends scripts = outcome (plan_of scripts) (run (plan_of scripts) (plain_run (plan_of scripts)))
-
+-- the report of the plain run
 abbrev pub plain_report : Scripts → List ℕ
 plain_report scripts = report scripts (plain_ends scripts)
 

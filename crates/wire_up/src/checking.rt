@@ -18,7 +18,7 @@ use wire_rehearsal::Scripts;
 use wire_report::{findings_text, write_text};
 use wire_types::{Fault, Sink, Source};
 
-/// How a check ended: without findings, or with so many.
+/// How a check or a rehearsal ended: without findings, or with so many.
 #[derive(Clone, Copy, Debug, PartialEq, Eq)]
 pub enum Ended {
     Clean,
@@ -37,7 +37,7 @@ impl Ended {
     }
 
     /// How a check ends that has these findings.
-    fn with(findings: &[Finding]) -> Ended
+    pub(crate) fn with(findings: &[Finding]) -> Ended
         ensures { result ≡ spec.ended_with findings.now }
     {
         match findings.len() {

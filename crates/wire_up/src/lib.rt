@@ -5,9 +5,12 @@ mod asking;
 mod checking;
 mod following;
 mod reading;
+mod rehearsing;
 mod replaying;
 
 pub use asking::why;
 pub use checking::{Ended, check};
 pub use following::follow;
+pub use rehearsing::{Mode, rehearse};
 pub use replaying::plain;
+pub use wire_asked::{Asked, asked, workers_of};

@@ -4,7 +4,8 @@ ghost use Rattle.std.specs.Prelude.{◌≡◌, ◌≢◌, ◌⊎◌, ℕ, Err, O
 ghost use Rattle.wire_types.specs.declared.Fault.TheVariants.{Memory, Read, Write};
 ghost use Rattle.wire_types.specs.Counting.{one_more};
 ghost use Rattle.wire_types.specs.Outcome.{ends_of};
-ghost use Rattle.wire_up.specs.Replay.{plain_ends, plain_report, ReadAs, WritesReport, Refuses, BreaksOff};
+ghost use Rattle.wire_collect.specs.Collect.{plain_ends};
+ghost use Rattle.wire_up.specs.Replay.{plain_report, ReadAs, WritesReport, Refuses, BreaksOff};
 
 use crate::reading::read_up_to;
 use std::alloc::Global;

@@ -2,7 +2,7 @@ use Rattle.std.proofs.Common.{inl, map}
 use Rattle.wire_up.proofs.Replayed.{handed_on, not_ok}
 use Rattle.wire_up.proofs.Followed.{err_too}
 use Rattle.wire_up.proofs.Texts.{there_too}
-use Rattle.wire_up.proofs.Asked.{answered, asked_too, refused_too}
+use Rattle.wire_up.proofs.Questioned.{answered, asked_too, refused_too}
 use Rattle.wire_up.proofs.asking.answer_of.Goals as goal
 
 pub returns-in_err-x-clause-ok : goal.returns-in_err-x-clause-ok

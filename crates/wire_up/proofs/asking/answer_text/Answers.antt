@@ -1,6 +1,6 @@
 use Rattle.std.proofs.Common.{inl, map}
 use Rattle.wire_up.proofs.Replayed.{handed_on, not_ok}
-use Rattle.wire_up.proofs.Asked.{answers_too, refuses_too}
+use Rattle.wire_up.proofs.Questioned.{answers_too, refuses_too}
 use Rattle.wire_up.proofs.asking.answer_text.Goals as goal
 
 pub returns-in_err-plan-clause-ok : goal.returns-in_err-plan-clause-ok

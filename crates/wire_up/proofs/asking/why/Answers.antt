@@ -1,7 +1,7 @@
 use Rattle.std.proofs.Common.{inl, refl, map, ap, Err}
 use Rattle.wire_up.proofs.Replayed.{handed_on, not_on_ok, same_error, no_read_writing}
 use Rattle.wire_up.proofs.Followed.{on_ok_too, err_always}
-use Rattle.wire_up.proofs.Asked.{answer_ok, answer_err, file_stops, word_stops, no_read_of_words}
+use Rattle.wire_up.proofs.Questioned.{answer_ok, answer_err, file_stops, word_stops, no_read_of_words}
 use Rattle.wire_up.proofs.asking.why.Goals as goal
 
 pub returns-in_err-scripts-clause-ok : goal.returns-in_err-scripts-clause-ok

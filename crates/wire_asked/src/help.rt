@@ -11,16 +11,16 @@ Faults, as one line on standard error, such as 'wire_up: fault 4 BadLine 7':
    6 Twice LINE        a node or a job is declared twice
    7 NotMember LINE    a rank calls a fence over a set that it isn't in
    8 TooMany LINE      there are more nodes, jobs, ranks or calls than the limit
-   9 Workers           reserved: no command of this version ends with it
+   9 Workers           the number of workers isn't 1 to 64
   10 Read              a file or standard input can't be opened or read
   11 Write BYTES       the output can't be written, after so many bytes
   12 NotReady STEP     a step of the order can't be taken when it comes
   13 BadOrder N        line N of the order, or word N of the question, names nothing in the file
 
 Exit statuses:
-   0  done, and 'check' found nothing
-   1  'check' found something, and wrote it
-   2  the file, the order or the question is refused (faults 2 to 8, 12 and 13)
+   0  done, and nothing was found
+   1  'check' or 'replay' found something, and wrote it
+   2  the file, the order, the question or the number of workers is refused (faults 2 to 9, 12 and 13)
    3  out of memory (fault 1)
    4  reading or writing failed (faults 10 and 11)
    5  the command line can't be read";

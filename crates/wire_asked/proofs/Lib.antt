@@ -1,0 +1,4 @@
+pub mod Capped
+pub mod Given
+pub mod Lines
+pub mod Parsed

@@ -1,0 +1,24 @@
+-- How a command grows by an argument and by a command of its own.
+use Rattle.std.proofs.Common.{◌≡◌, ◌∙◌, ap, ap₂, refl, false, ◌||◌, Result, IfOk}
+use Rattle.std.proofs.lemmas.Result.{IfOk-weaker}
+use Rattle.clap.specs.Words.{App, Shape, Rule, AddsArg, AddsSubcommand, app_of, rule_of, shape_of, with_rule, with_subcommand}
+use Rattle.clap.specs.declared.builder.arg.Arg.{Arg}
+use Rattle.clap.specs.declared.builder.command.Command.{Command}
+use Rattle.clap.specs.declared.builder.command.Command.TheViews.{out-Command as fields_of}
+
+-- the command is this one, and no argument of it is global
+pub record IsLine (command : Command) (app : App) : Type 0 where
+  pub is : app_of command ≡ app
+  pub local : (fields_of command).has_globals ≡ false
+
+pub with_argument : (old new : Command) (a : Arg) (app : App) (rule : Rule) → AddsArg old a new → IsLine old app → rule_of a ≡ rule → a.global ≡ false → IsLine new (with_rule app rule)
+with_argument old new a app rule adds line is local = record {
+  is = adds.shape local ∙ ap₂ with_rule line.is is;
+  local = adds.globals ∙ rw (line.local, local) refl;
+}
+
+pub with_command : (old sub new : Command) (app of_sub : App) → AddsSubcommand old sub new → IsLine old app → IsLine sub of_sub → IsLine new (with_subcommand app of_sub.top)
+with_command old sub new app of_sub adds line its = record {
+  is = adds.shape its.local ∙ ap₂ with_subcommand line.is (ap (λ (a : App). a.top) its.is);
+  local = adds.globals ∙ rw (line.local, its.local) refl;
+}
