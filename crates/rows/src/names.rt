@@ -2,7 +2,12 @@
 
 use crate::reports::{NOTHING, Reported};
 
-pub static NAMES: [Reported; 9] = [
+/// All of them. Only this function names the table: what it holds costs time in each proof that reads it.
+pub fn all() -> &'static [Reported] {
+    &NAMES
+}
+
+static NAMES: [Reported; 9] = [
     Reported {
         name: "a lookup-wait of a name that is published once",
         plan: b"\

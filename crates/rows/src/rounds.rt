@@ -2,7 +2,6 @@
 ghost use Rattle.std.specs.Prelude.{◌≡◌, ◌≢◌, ◌<◌};
 ghost use Rattle.wire_sched.specs.Rounds.{ArePassesOf, workers_of};
 
-use crate::reports::REPORTS;
 use std::process::Abort;
 use std::test::Fail;
 use wire_core::Core;
@@ -93,7 +92,7 @@ fn some_are_taken(rt: HostRuntime) -> Result<(), Fail> {
 #[test]
 fn steps_under_the_lock(rt: HostRuntime) -> Result<(), Fail> {
     let alloc = rt.alloc();
-    let plan = Plan::build(alloc, read(alloc, REPORTS[0].plan)?)?;
+    let plan = Plan::build(alloc, read(alloc, crate::reports::all()[0].plan)?)?;
     let locked = LockedCore::new(Core::new(alloc, &plan)?);
     assert_eq!(rt; locked.serve(&rt, Proc::new(0)), 2);
     assert_eq!(rt; locked.serve(&rt, Proc::new(1)), 1);

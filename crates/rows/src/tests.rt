@@ -1,14 +1,10 @@
 //! The rows, and readers and writers that give or take little, or fail.
 
-use crate::fences::FENCES;
-use crate::findings::{Checked, FINDINGS};
-use crate::follows::{FOLLOWS, Followed};
-use crate::limits::LIMITS;
-use crate::names::NAMES;
-use crate::questions::{Asked, QUESTIONS};
-use crate::refusals::{REFUSALS, Refusal};
-use crate::reports::{REPORTS, Reported};
-use crate::texts::TEXTS;
+use crate::findings::Checked;
+use crate::follows::Followed;
+use crate::questions::Asked;
+use crate::refusals::Refusal;
+use crate::reports::Reported;
 use std::alloc::{AllocError, Global};
 use std::fmt::Write;
 use std::process::Abort;
@@ -146,15 +142,15 @@ fn check_reports(rt: &impl Abort, alloc: Global, rows: &[Reported]) -> Result<()
 #[test]
 fn reports(rt: HostRuntime) -> Result<(), Fail> {
     let alloc = rt.alloc();
-    check_reports(&rt, alloc, &REPORTS)?;
-    check_reports(&rt, alloc, &FENCES)?;
-    check_reports(&rt, alloc, &NAMES)
+    check_reports(&rt, alloc, crate::reports::all())?;
+    check_reports(&rt, alloc, crate::fences::all())?;
+    check_reports(&rt, alloc, crate::names::all())
 }
 
 #[test]
 fn texts(rt: HostRuntime) -> Result<(), Fail> {
     let alloc = rt.alloc();
-    for row in &TEXTS {
+    for row in crate::texts::all() {
         let text = text_of(alloc, row.plan)?;
         assert_same(&rt, row.name, text.as_slice(), row.text.as_bytes());
         let again = text_of(alloc, text.as_slice())?;
@@ -173,7 +169,7 @@ fn check_refusal(rt: &impl Abort, alloc: Global, row: &Refusal, per_call: usize)
 #[test]
 fn refusals(rt: HostRuntime) -> Result<(), Fail> {
     let alloc = rt.alloc();
-    for row in &REFUSALS {
+    for row in crate::refusals::all() {
         check_refusal(&rt, alloc, row, 1);
         check_refusal(&rt, alloc, row, usize::MAX);
     }
@@ -183,7 +179,7 @@ fn refusals(rt: HostRuntime) -> Result<(), Fail> {
 #[test]
 fn limits(rt: HostRuntime) -> Result<(), Fail> {
     let alloc = rt.alloc();
-    for row in &LIMITS {
+    for row in crate::limits::all() {
         let plan = row.plan(alloc)?;
         let mut to = writer(alloc, usize::MAX);
         let answer = plain(alloc, &mut reader(plan.as_bytes(), usize::MAX), &mut to);
@@ -206,7 +202,7 @@ fn check_endless(rt: &impl Abort, alloc: Global, byte: u8, line: u64) {
 #[test]
 fn readers(rt: HostRuntime) -> Result<(), Fail> {
     let alloc = rt.alloc();
-    let row = &REPORTS[0];
+    let row = &crate::reports::all()[0];
     for call in 1..=row.plan.len() as u64 + 1 {
         let mut from = MemorySource {
             fails_at: call,
@@ -224,12 +220,12 @@ fn readers(rt: HostRuntime) -> Result<(), Fail> {
 /// Asserts that of a report that can't be written whole the front is written. The order leads to the end of
 /// the plain run, so its report is the same.
 fn cut_report(rt: &impl Abort, alloc: Global, room: usize, takes_nothing: bool) {
-    let row = &REPORTS[0];
+    let row = &crate::reports::all()[0];
     let mut to = brief_writer(alloc, room, takes_nothing);
     let answer = plain(alloc, &mut reader(row.plan, usize::MAX), &mut to);
     assert_cut(rt, room, answer, &to, row.report);
     let mut to = brief_writer(alloc, room, takes_nothing);
-    let answer = lead(alloc, row.plan, FOLLOWS[0].order, 7, &mut to);
+    let answer = lead(alloc, row.plan, crate::follows::all()[0].order, 7, &mut to);
     assert_cut(rt, room, answer, &to, row.report);
 }
 
@@ -237,7 +233,7 @@ fn cut_report(rt: &impl Abort, alloc: Global, room: usize, takes_nothing: bool) 
 #[test]
 fn writers(rt: HostRuntime) -> Result<(), Fail> {
     let alloc = rt.alloc();
-    for room in 0..REPORTS[0].report.len() {
+    for room in 0..crate::reports::all()[0].report.len() {
         cut_report(&rt, alloc, room, false);
         cut_report(&rt, alloc, room, true);
     }
@@ -257,7 +253,7 @@ fn check_follow(rt: &impl Abort, alloc: Global, row: &Followed, per_call: usize)
 #[test]
 fn follows(rt: HostRuntime) -> Result<(), Fail> {
     let alloc = rt.alloc();
-    for row in &FOLLOWS {
+    for row in crate::follows::all() {
         check_follow(&rt, alloc, row, 1);
         check_follow(&rt, alloc, row, usize::MAX);
     }
@@ -266,7 +262,7 @@ fn follows(rt: HostRuntime) -> Result<(), Fail> {
 
 /// Asserts that an order of the same byte without end is refused, with this line.
 fn check_endless_order(rt: &impl Abort, alloc: Global, byte: u8, line: u64) {
-    let mut from = reader(FOLLOWS[0].plan, usize::MAX);
+    let mut from = reader(crate::follows::all()[0].plan, usize::MAX);
     let mut to = writer(alloc, usize::MAX);
     let answer = follow(alloc, &mut from, &mut EndlessSource { byte }, &mut to);
     assert_refused(
@@ -282,7 +278,7 @@ fn check_endless_order(rt: &impl Abort, alloc: Global, byte: u8, line: u64) {
 fn check_failing_order(rt: &impl Abort, alloc: Global, plan: &[u8], call: u64, fault: Fault) {
     let mut order = MemorySource {
         fails_at: call,
-        ..reader(FOLLOWS[0].order, 1)
+        ..reader(crate::follows::all()[0].order, 1)
     };
     let mut to = writer(alloc, usize::MAX);
     let answer = follow(alloc, &mut reader(plan, 7), &mut order, &mut to);
@@ -293,7 +289,7 @@ fn check_failing_order(rt: &impl Abort, alloc: Global, plan: &[u8], call: u64, f
 #[test]
 fn orders(rt: HostRuntime) -> Result<(), Fail> {
     let alloc = rt.alloc();
-    let row = &FOLLOWS[0];
+    let row = &crate::follows::all()[0];
     for call in 1..=row.order.len() as u64 + 1 {
         check_failing_order(&rt, alloc, row.plan, call, Fault::Read);
     }
@@ -307,7 +303,7 @@ fn orders(rt: HostRuntime) -> Result<(), Fail> {
 #[test]
 fn order_limit(rt: HostRuntime) -> Result<(), Fail> {
     let alloc = rt.alloc();
-    let plan = FOLLOWS[0].plan;
+    let plan = crate::follows::all()[0].plan;
     let mut order = vec![in alloc; b'\n'; 8_388_609]?;
     let mut to = writer(alloc, usize::MAX);
     let answer = lead(alloc, plan, order.as_slice(), usize::MAX, &mut to);
@@ -343,7 +339,7 @@ fn check_question(rt: &impl Abort, alloc: Global, row: &Asked, per_call: usize) 
 #[test]
 fn questions(rt: HostRuntime) -> Result<(), Fail> {
     let alloc = rt.alloc();
-    for row in &QUESTIONS {
+    for row in crate::questions::all() {
         check_question(&rt, alloc, row, 1);
         check_question(&rt, alloc, row, usize::MAX);
     }
@@ -408,7 +404,7 @@ commit
 
 /// Asserts that of an answer that can't be written whole the front is written.
 fn cut_answer(rt: &impl Abort, alloc: Global, text: &str, room: usize, takes_nothing: bool) {
-    let row = &QUESTIONS[0];
+    let row = &crate::questions::all()[0];
     let mut to = brief_writer(alloc, room, takes_nothing);
     let answer = why(alloc, &mut reader(row.plan, 7), &mut to, row.words);
     assert_cut(rt, room, answer, &to, text);
@@ -418,7 +414,7 @@ fn cut_answer(rt: &impl Abort, alloc: Global, text: &str, room: usize, takes_not
 #[test]
 fn answers_cut(rt: HostRuntime) -> Result<(), Fail> {
     let alloc = rt.alloc();
-    let Ok(text) = QUESTIONS[0].answer else {
+    let Ok(text) = crate::questions::all()[0].answer else {
         return Ok(());
     };
     for room in 0..text.len() {
@@ -472,14 +468,14 @@ fn check_unfound(rt: &(impl Abort + Threads + Sync), alloc: Global, row: &Refusa
 #[test]
 fn findings(rt: HostRuntime) -> Result<(), Fail> {
     let alloc = rt.alloc();
-    check_reported(&rt, alloc, &REPORTS);
-    check_reported(&rt, alloc, &FENCES);
-    check_reported(&rt, alloc, &NAMES);
-    for row in &FINDINGS {
+    check_reported(&rt, alloc, crate::reports::all());
+    check_reported(&rt, alloc, crate::fences::all());
+    check_reported(&rt, alloc, crate::names::all());
+    for row in crate::findings::all() {
         check_found(&rt, alloc, row, 1);
         check_found(&rt, alloc, row, usize::MAX);
     }
-    for row in &REFUSALS {
+    for row in crate::refusals::all() {
         check_unfound(&rt, alloc, row);
     }
     Ok(())
@@ -533,7 +529,7 @@ fn cut_findings(
     room: usize,
     takes_nothing: bool,
 ) {
-    let row = &FINDINGS[0];
+    let row = &crate::findings::all()[0];
     let mut to = brief_writer(alloc, room, takes_nothing);
     let answer = check(rt, alloc, &mut reader(row.plan, 7), &mut to);
     assert_cut(rt, room, fault_of(answer), &to, row.findings);
@@ -543,7 +539,7 @@ fn cut_findings(
 #[test]
 fn findings_cut(rt: HostRuntime) -> Result<(), Fail> {
     let alloc = rt.alloc();
-    let row = &FINDINGS[0];
+    let row = &crate::findings::all()[0];
     for room in 0..row.findings.len() {
         cut_findings(&rt, alloc, room, false);
         cut_findings(&rt, alloc, room, true);
