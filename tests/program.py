@@ -268,6 +268,7 @@ def rehearsals(room):
     racy, none, odd = written(room, "racy.plan", RACY), os.path.join(room, "none"), written(room, "odd.plan", b"# only\n")
     late = written(room, "late.order", b"app:1\napp:0\napp:0\n")
     of_late = b"app:0 1 put PMIX_SUCCESS\napp:0 2 commit PMIX_SUCCESS\napp:1 1 get-now PMIX_ERR_NOT_FOUND\nwaiting 0\n"
+    first = b"app:0 1 put ready\napp:0 2 commit unreached\napp:1 1 get-now ready\nwaiting 0\n"
     race = b"race app:0 2 app:1 1 key app:0 k"
     workers, word = b"wire_up: fault 9 Workers\n", b"wire_up: usage --workers\n"
     for n in ("1", "2", "7", "64", "007"):
@@ -279,6 +280,7 @@ def rehearsals(room):
     yield Run("a race, by workers", ["replay", "--workers", "2", racy], status=1, wrote=race + b"\nfindings 1\n")
     yield Run("a race, as JSON", ["replay", "--json", racy], status=1, wrote=b'{"findings":["%s"]}\n' % race)
     yield Run("a get before the commit", ["follow", late, racy], wrote=of_late)
+    yield Run("an empty order on a race", ["follow", written(room, "empty.order", b""), racy], wrote=first)
     for n in ("0", "65", "99999999999999999999"):
         yield Run(f"{n} workers at most", ["replay", "--workers", n, cards], status=2, said=workers)
     yield Run("no worker, and a file that is refused", ["replay", "--workers", "0", odd], status=2, said=workers)
