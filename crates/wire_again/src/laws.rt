@@ -1,0 +1,8 @@
+//! What was written reads as what it was written of. Each law is the contract of a function that does nothing.
+
+ghost use Rattle.wire_again.specs.Again.{OrderReadsBack};
+
+/// The lines of a run's steps, as a replay writes them, read as an order of just these steps.
+pub fn order_reads_back()
+    ensures { OrderReadsBack }
+{}
