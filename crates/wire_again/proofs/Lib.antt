@@ -3,3 +3,5 @@ pub mod Source
 pub mod Named
 pub mod Length
 pub mod Steps
+pub mod Printable
+pub mod Strings

@@ -1,7 +1,7 @@
 -- The text of a process names this process and no other.
 use Rattle.std.proofs.Common.{◌≡◌, ◌∙◌, ap, sym, subst, refl, ℕ, zero, suc, ◌+◌, ◌<◌, ◌≤◌, ◌^◌, List, [], ◌∷◌, ◌++◌, Bool, true, false, cond, Option, Some, None, option_map, length, map, decimal, IsTrue, arith, position, length-append}
-use Rattle.std.specs.Prelude.{not, nat_lt, slice_get}
-use Rattle.std.specs.List.{position_or_len}
+use Rattle.std.specs.Prelude.{◌==◌, not, nat_lt, slice_get}
+use Rattle.std.specs.List.{list_all, position_or_len}
 use Rattle.std.specs.Str.{bytes_eq}
 use Rattle.std.proofs.lemmas.Fmt.{decimal_injective, length-decimal-le}
 use Rattle.std.proofs.lemmas.Option.{slice_get-map, slice_get_within}
@@ -9,7 +9,7 @@ use Rattle.std.proofs.lemmas.List.{length-map}
 use Rattle.std.proofs.lemmas.Slice.Eq.{bytes_eq-Decides}
 use borrow.Author.Tests.{lt-ltb, leb-true}
 use Rattle.wire_lines.specs.Said.{is_word, is_name, is_name_byte, spelled_proc}
-use Rattle.wire_lines.proofs.Colon.{and_right, names_plain, cut_once}
+use Rattle.wire_lines.proofs.Colon.{plain, and_right, names_plain, cut_once}
 use Rattle.wire_rehearsal.specs.Scripts.{Process, Scripts, text_at}
 use Rattle.wire_rehearsal.specs.Canonical.{process_text}
 use Rattle.wire_script.specs.Limits.{limits}
@@ -58,6 +58,10 @@ pub record IsStepWord (s : Scripts) (p : ℕ) : Type 0 where
   pub named : proc_named s (name_of s p) ≡ Some p
   pub short : length (name_of s p) ≤ 73
 
+-- a name has no colon
+plain_name : (job : List ℕ) → IsTrue (is_name job) → list_all plain job ≡ true
+plain_name job h = names_plain job (and_right (not (length job == 0)) (list_all is_name_byte job) h)
+
 module _ (d : Declared) (g : IsGood d) where
   -- the job of a process is a name of 63 bytes at most, and its rank is small
   pub record IsProcAt (k : ℕ) (p : Started) : Type 0 where
@@ -83,8 +87,10 @@ module _ (d : Declared) (g : IsGood d) where
   text_once k m p q a b e =
       let x = proc_at k p a in
       let y = proc_at m q b in
-      let cut = cut_once (text_at d.jobs p.job) (decimal p.rank) (text_at d.jobs q.job) (decimal q.rank) (names_plain (text_at d.jobs p.job) (and_right _ _ x.job)) (names_plain (text_at d.jobs q.job) (and_right _ _ y.job)) e in
-      let rank = decimal_injective p.rank q.rank (let h = x.rank in omega (arith, h)) (let h = y.rank in omega (arith, h)) cut.1 in
+      let cut = cut_once (text_at d.jobs p.job) (decimal p.rank) (text_at d.jobs q.job) (decimal q.rank) (plain_name (text_at d.jobs p.job) x.job) (plain_name (text_at d.jobs q.job) y.job) e in
+      let low : p.rank < 10 ^ 9 = x.rank in
+      let high : q.rank < 10 ^ 9 = y.rank in
+      let rank = decimal_injective p.rank q.rank (omega (arith, low)) (omega (arith, high)) cut.1 in
       let job = sym (number_at d.jobs p.job g.apart x.there) ∙ ap (number_or_count d.jobs) cut.0 ∙ number_at d.jobs q.job g.apart y.there in
       one_process (λ j. 0) d.processes k m p q g.ranked a b job rank
 
