@@ -1,20 +1,18 @@
 -- The text of a process names this process and no other.
-use Rattle.std.proofs.Common.{◌≡◌, ◌∙◌, ap, sym, subst, refl, ℕ, zero, suc, ◌+◌, ◌<◌, ◌≤◌, ◌^◌, List, [], ◌∷◌, ◌++◌, Bool, true, false, cond, Option, Some, None, option_map, length, map, decimal, IsTrue, arith, position, length-append}
-use Rattle.std.specs.Prelude.{◌==◌, not, nat_lt, slice_get}
+use Rattle.std.proofs.Common.{◌≡◌, ◌∙◌, ap, sym, subst, refl, ℕ, zero, suc, ◌+◌, ◌<◌, ◌≤◌, ◌^◌, List, [], ◌∷◌, Bool, true, false, cond, Some, option_map, length, map, decimal, IsTrue, arith, position, length-append}
+use Rattle.std.specs.Prelude.{◌==◌, not, slice_get}
 use Rattle.std.specs.List.{list_all, position_or_len}
 use Rattle.std.specs.Str.{bytes_eq}
 use Rattle.std.proofs.lemmas.Fmt.{decimal_injective, length-decimal-le}
 use Rattle.std.proofs.lemmas.Option.{slice_get-map, slice_get_within}
-use Rattle.std.proofs.lemmas.List.{length-map}
 use Rattle.std.proofs.lemmas.Slice.Eq.{bytes_eq-Decides}
 use borrow.Author.Tests.{lt-ltb, leb-true}
 use Rattle.wire_lines.specs.Said.{is_word, is_name, is_name_byte, spelled_proc}
 use Rattle.wire_lines.proofs.Colon.{plain, and_right, names_plain, cut_once}
-use Rattle.wire_rehearsal.specs.Scripts.{Process, Scripts, text_at}
+use Rattle.wire_rehearsal.specs.Scripts.{Scripts, text_at}
 use Rattle.wire_rehearsal.specs.Canonical.{process_text}
-use Rattle.wire_script.specs.Limits.{limits}
 use Rattle.wire_script.specs.Statements.{is_skipped}
-use Rattle.wire_script.specs.FirstPass.{Started, Declared, number_or_count, is_short_name}
+use Rattle.wire_script.specs.FirstPass.{Started, Declared, number_or_count}
 use Rattle.wire_script.specs.Reads.{seen_in, process_of, scripts_of}
 use Rattle.wire_script.proofs.Ranked.{IsGood, below_at, rank_most, name_at, number_at, one_process}
 use Rattle.wire_order.specs.Order.{proc_named}

@@ -1,5 +1,5 @@
 -- What a file that was read declares is printable.
-use Rattle.std.proofs.Common.{◌≡◌, ◌∙◌, ap, ap₂, sym, subst, refl, ℕ, zero, suc, ◌+◌, ◌-◌, ◌/◌, ◌%◌, ◌<◌, List, [], ◌∷◌, ◌++◌, Bool, true, false, cond, length, map, decimal, IsTrue, arith}
+use Rattle.std.proofs.Common.{◌≡◌, ◌∙◌, ap₂, subst, refl, ℕ, zero, suc, ◌+◌, ◌-◌, ◌/◌, ◌%◌, ◌<◌, List, [], ◌∷◌, ◌++◌, true, false, cond, length, decimal, IsTrue, arith}
 use Rattle.std.specs.Prelude.{◌==◌, not, nat_le}
 use Rattle.std.specs.Fmt.{digits, digits_onto, digit_glyph}
 use Rattle.std.specs.List.{list_all, flat_map}

@@ -1,5 +1,5 @@
 -- What a file that was read declares.
-use Rattle.std.proofs.Common.{◌≡◌, ap, refl, ℕ, List, Option, Some, None, Result, Ok, Err, MatchResult, length, inl, inr}
+use Rattle.std.proofs.Common.{◌≡◌, ℕ, List, Option, Some, None, Result, Ok, Err, MatchResult, length, inl, inr}
 use Rattle.wire_types.specs.declared.Fault.{Fault}
 use Rattle.wire_lines.specs.Text.{lines_of}
 use Rattle.wire_lines.specs.Said.{Said}

@@ -1,7 +1,6 @@
 -- The lines of the steps of a run read as an order of these steps.
-use Rattle.std.proofs.Common.{◌≡◌, ◌∙◌, ap, sym, subst, refl, ℕ, ◌+◌, ◌*◌, ◌<◌, ◌≤◌, List, [], ◌∷◌, ◌++◌, Bool, true, false, Some, Ok, length, map, append_assoc, length-append, arith}
-use Rattle.std.specs.Prelude.{⊤, nat_lt}
-use Rattle.std.specs.List.{flat_map}
+use Rattle.std.proofs.Common.{◌≡◌, ◌∙◌, ap, sym, subst, refl, ℕ, ◌+◌, ◌*◌, ◌<◌, ◌≤◌, List, [], ◌∷◌, false, Some, Ok, length, append_assoc, length-append, arith}
+use Rattle.std.specs.Prelude.{⊤}
 use Rattle.std.proofs.lemmas.List.{length-map}
 use borrow.Author.Tests.{le-ltb}
 use Rattle.wire_runs.specs.Plan.{Plan, event_total}
@@ -20,9 +19,9 @@ use Rattle.wire_script.proofs.Ranked.{IsGood}
 use Rattle.wire_order.specs.Order.{proc_named, order_of, order_bytes, order_within, order_read}
 use Rattle.wire_words.specs.Words.{name_of}
 use Rattle.wire_report.specs.Unsettled.{step_line}
-use Rattle.wire_again.specs.Again.{steps_text, ReadsAsOrder, OrderReadsBack}
+use Rattle.wire_again.specs.Again.{steps_text, OrderReadsBack}
 use Rattle.wire_again.proofs.Lines.{line_again, words_again}
-use Rattle.wire_again.proofs.Source.{IsDeclaredBy, declared_by}
+use Rattle.wire_again.proofs.Source.{declared_by}
 use Rattle.wire_again.proofs.Named.{IsStepWord, step_word}
 use Rattle.wire_again.proofs.Length.{few_events}
 

@@ -1,14 +1,13 @@
 -- No byte of the texts in strings is replaced.
-use Rattle.std.proofs.Common.{◌≡◌, ap, sym, subst, refl, ℕ, ◌+◌, List, [], ◌∷◌, ◌++◌, Option, Some, None, Ok, codes, decimal}
+use Rattle.std.proofs.Common.{sym, subst, refl, ℕ, ◌+◌, List, [], ◌∷◌, ◌++◌, Option, Some, None, codes, decimal}
 use Rattle.std.specs.Prelude.{slice_get}
 use Rattle.wire_types.specs.declared.Call.{Call}
-use Rattle.wire_types.specs.declared.Call.TheVariants.{Put, Commit, Fence, Get, GetNow, Publish, Lookup, LookupWait, Unpublish}
+use Rattle.wire_types.specs.declared.Call.TheVariants.{Put, Publish}
 use Rattle.wire_types.specs.declared.CallAt.{CallAt}
 use Rattle.wire_types.specs.declared.Value.{Value}
 use Rattle.wire_types.specs.declared.Value.TheVariants as value
 use Rattle.wire_rehearsal.specs.Scripts.{Scripts, Process, text_at, call_at}
 use Rattle.wire_rehearsal.specs.Canonical.{process_text}
-use Rattle.wire_script.specs.Reads.{scripts_of}
 use Rattle.wire_races.specs.declared.finding.Finding.{Finding}
 use Rattle.wire_races.specs.declared.finding.Finding.TheVariants.{Rewrite, KeyRace, NameRace}
 use Rattle.wire_words.specs.Words.{name_of, text_of_process, given_text, value_text, call_text}
