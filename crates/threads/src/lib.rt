@@ -1,0 +1,7 @@
+//! Tests of runs by threads: what no contract says.
+#![tactic(auto)]
+
+#[cfg(test)]
+mod gates;
+#[cfg(test)]
+mod tests;
