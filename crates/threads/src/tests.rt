@@ -19,7 +19,8 @@ use wire_plan::Plan;
 use wire_races::{Finding, Settled, findings};
 use wire_sched::{Gate, OpenGate, Round, work_locked};
 use wire_script::read;
-use wire_types::{CallEnd, Fault, Outcome, Proc, Status};
+use wire_types::{CallEnd, Fault, MemorySink, MemorySource, Outcome, Proc, Status};
+use wire_up::{Ended, Mode, rehearse};
 
 /// A get waits for a commit on another node.
 const WAITING: &[u8] = b"\
@@ -223,6 +224,22 @@ fn two_workers_meet(rt: HostRuntime) -> Result<(), Fail> {
     let settled = ran_settled(&rt, alloc, APART, 2, &gate)?;
     assert!(rt; !gate.missed.load(Ordering::SeqCst));
     assert!(rt; settled.rows == outcome.rows && settled.waiting == outcome.waiting);
+    Ok(())
+}
+
+/// The workers of a rehearsal come to the gate too.
+#[test]
+fn workers_of_a_rehearsal_meet(rt: HostRuntime) -> Result<(), Fail> {
+    let gate = Meeting::new();
+    let mode = Mode {
+        json: false,
+        anyway: false,
+    };
+    let mut reader = MemorySource::new(APART);
+    let mut writer = MemorySink::new(Vec::new(rt.alloc()));
+    let ended = rehearse(&rt, rt.alloc(), &mut reader, &mut writer, 2, mode, &gate);
+    assert_eq!(rt; ended, Ok(Ended::Clean));
+    assert!(rt; !gate.missed.load(Ordering::SeqCst));
     Ok(())
 }
 
