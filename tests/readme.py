@@ -43,7 +43,7 @@ def commands(path):
             is_open = False
         elif is_open:
             found[-1][2].append(line[4:])
-    return [(number, words, "\n".join(wrote).rstrip("\n") + "\n") for number, words, wrote in found]
+    return [(number, words, "".join(f"{it}\n" for it in wrote).rstrip("\n") + "\n" * any(wrote)) for number, words, wrote in found]
 
 
 def named_files(path):
