@@ -2,14 +2,16 @@
 ghost use Rattle.std.specs.Prelude.{◌≡◌, ◌≢◌, ◌<◌};
 ghost use Rattle.wire_sched.specs.Rounds.{ArePassesOf, workers_of};
 
+use std::alloc::Global;
 use std::process::Abort;
+use std::sync::Wait;
 use std::test::Fail;
 use wire_core::Core;
 use wire_locked::LockedCore;
 use wire_plan::Plan;
 use wire_sched::{Pass, Piece, Round, Take};
 use wire_script::read;
-use wire_types::Proc;
+use wire_types::{Fault, Proc};
 
 /// The piece of a process in the fifth round.
 fn piece(rank: u32) -> Piece {
@@ -88,23 +90,29 @@ fn some_are_taken(rt: HostRuntime) -> Result<(), Fail> {
     Ok(())
 }
 
-/// `serve` steps the core that is under the lock, as far as a process can go.
-#[test]
-fn steps_under_the_lock(rt: HostRuntime) -> Result<(), Fail> {
-    let alloc = rt.alloc();
-    let plan = Plan::build(alloc, read(alloc, crate::reports::all()[0].plan)?)?;
-    let locked = LockedCore::new(Core::new(alloc, &plan)?);
-    assert_eq!(rt; locked.serve(&rt, Proc::new(0)), 2);
-    assert_eq!(rt; locked.serve(&rt, Proc::new(1)), 1);
-    assert_eq!(rt; locked.serve(&rt, Proc::new(9)), 0);
+/// What `serve` does to the core that is under the lock: it steps it as far as a process can go.
+fn serve_in_turn(rt: &(impl Abort + Wait), alloc: Global, plan: &Plan) -> Result<(), Fault> {
+    let locked = LockedCore::new(Core::new(alloc, plan)?);
+    assert_eq!(rt; locked.serve(rt, Proc::new(0)), 2);
+    assert_eq!(rt; locked.serve(rt, Proc::new(1)), 1);
+    assert_eq!(rt; locked.serve(rt, Proc::new(9)), 0);
     let core = locked.into_core();
     assert_eq!(rt;
         core.history(),
         [Proc::new(0), Proc::new(0), Proc::new(1)].as_slice()
     );
     assert!(rt; core.ended());
-    assert!(rt; *core.plan() == plan);
+    assert!(rt; *core.plan() == *plan);
     drop(core);
+    Ok(())
+}
+
+#[test]
+fn steps_under_the_lock(rt: HostRuntime) -> Result<(), Fail> {
+    let alloc = rt.alloc();
+    let plan = Plan::build(alloc, read(alloc, crate::reports::all()[0].plan)?)?;
+    let served = serve_in_turn(&rt, alloc, &plan);
     drop(plan);
+    served?;
     Ok(())
 }

@@ -127,11 +127,7 @@ fn number_put(
 {
     let key = number_text(alloc, &mut tables.keys, key)?;
     let value = number_text(alloc, &mut tables.values, value)?;
-    Ok(Call::Put {
-        scope,
-        key,
-        value,
-    })
+    Ok(Call::Put { scope, key, value })
 }
 
 /// A publish with numbers for its name and its value.

@@ -3,7 +3,7 @@ use Rattle.std.proofs.lemmas.List.{length-map}
 use Rattle.wire_script.specs.Limits.{limits}
 use Rattle.wire_script.specs.Reads.{process_of}
 use Rattle.wire_script.specs.Drafted.{declared_of, started_of, placed_of}
-use Rattle.wire_script.specs.Tabled.{seen_of, seen_after, entry_count, GoOn}
+use Rattle.wire_script.specs.Tabled.{seen_of, entry_count, GoOn}
 use Rattle.wire_script.proofs.Steps.{made_on, made_all, processes_on, room_on, process_faults_on}
 use Rattle.wire_script.proofs.Tables.{with_calls_goes_on, go_on_more, go_on_self, calls_grow}
 use Rattle.wire_script.proofs.second_pass.number_processes.Goals as goal
