@@ -5,3 +5,4 @@ pub mod Length
 pub mod Steps
 pub mod Printable
 pub mod Strings
+pub mod Followed
