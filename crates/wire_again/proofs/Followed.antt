@@ -1,5 +1,5 @@
 -- Following the lines of a run's steps writes the report of this run.
-use Rattle.std.proofs.Common.{◌≡◌, ◌∙◌, ap, ap₂, sym, subst, ℕ, zero, suc, List, [], ◌∷◌, true, false, true≢false, take, Option, Some, Result, Ok, Err, ◌⊎◌, refl, inl, inr}
+use Rattle.std.proofs.Common.{◌≡◌, ◌∙◌, ap, ap₂, sym, subst, ℕ, zero, suc, List, [], ◌∷◌, true, true≢false, take, Option, Some, Result, Ok, Err, ◌⊎◌, refl, inl, inr}
 use Rattle.std.specs.Prelude.{slice_get}
 use Rattle.std.specs.Io.KnownBytes.{Appends}
 use Rattle.wire_types.specs.declared.Fault.{Fault}
