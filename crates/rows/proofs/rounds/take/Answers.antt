@@ -13,4 +13,4 @@ pub returns : goal.returns
 returns c =
     let k : c.args.worker < length c.args.passes.now.items = omega (arith, c.requires.passes.0, c.requires.worker) in
     let at = at_index _ _ _ k c.index_mut.ensures.value in
-    passes_set c.args.round.now c.args.passes.now.items c.args.worker c.index_mut.result.now c.own_take.new.pass c.requires.passes at c.own_take.ensures.same.0 c.own_take.ensures.same.1
+    passes_set c.args.round.now c.args.passes.now.items c.args.worker c.index_mut.result.now c.own_take.new.pass c.requires.passes at c.own_take.ensures.kept.0 c.own_take.ensures.kept.1
