@@ -275,6 +275,9 @@ def rehearsals(room):
         yield Run(f"{n} workers", ["replay", "--workers", n, cards], wrote=report)
         yield Run(f"{n} workers, as JSON", ["replay", f"--workers={n}", "--json", cards], wrote=as_json(report))
     yield Run("no worker told", ["replay", "--json", cards], wrote=as_json(report))
+    for which, ranks in (("the lowest", "00001112001222"), ("the highest", "20001110221002"), ("both by turns", "02000111020212")):
+        order = written(room, f"{which}.order", "".join(f"app:{rank}\n" for rank in ranks).encode())
+        yield Run(f"the cards, where {which} that can run goes first", ["follow", order, cards], wrote=report)
     yield Run("nothing found, anyway", ["replay", "--anyway", "--workers", "2", cards], wrote=report)
     yield Run("workers, and standard input", ["replay", "--workers", "2"], given=CARDS, wrote=report)
     yield Run("a race, by workers", ["replay", "--workers", "2", racy], status=1, wrote=race + b"\nfindings 1\n")
