@@ -12,7 +12,7 @@ use Rattle.wire_rehearsal.specs.Scripts.{Scripts}
 use Rattle.wire_json.specs.Json.{json_report, json_findings, json_unsettled}
 
 -- the job app: a put and a commit, and a get of that key; the value has a quote and a backslash
-row : Scripts
+unfoldable pub row : Scripts
 row = record {
   nodes = codes "n0" ∷ (codes "n1" ∷ []);
   jobs = codes "app" ∷ [];
@@ -26,11 +26,11 @@ row = record {
       ∷ (record { job = 0; rank = 2; node = 1; calls = [] } ∷ []));
 }
 
-done : CallEnd
+unfoldable pub done : CallEnd
 done = Replied (record { status = Success; value = value.Nothing })
 
 -- the get brought what call number 0 of process 0 put
-ends : Ends
+unfoldable pub ends : Ends
 ends = record { rows = (done ∷ (done ∷ [])) ∷ ((Replied (record { status = Success; value = value.Put (record { proc = record { number = 0 }; call = 0 }) }) ∷ []) ∷ ([] ∷ [])); waiting = 0 }
 
 all_done : json_report row ends

@@ -14,7 +14,7 @@ use Rattle.wire_types.specs.declared.Value.TheVariants as value
 use Rattle.wire_types.specs.Outcome.{Ends}
 use Rattle.wire_rehearsal.specs.Scripts.{Scripts, Process}
 use Rattle.wire_rehearsal.specs.Canonical.{process_text}
-use Rattle.wire_words.specs.Words.{end_word, brought, value_text, verb_text, name_of}
+use Rattle.wire_words.specs.Words.{end_word, replied_value, value_text, verb_text, name_of}
 use Rattle.wire_json.specs.Json as json
 use Rattle.wire_json.specs.Json.{quoted, bracketed, printed}
 use Rattle.wire_json.specs.Trees.{text_data, strings_data, list_data, bare_data, valued_data, reply_data, call_data, calls_data, rank_data, ranks_data, report_data, findings_data, unsettled_data}
@@ -75,7 +75,7 @@ valued_is reply text verb r v =
     ∙ of_valued (codes "{\"reply\":\"") reply (codes "\"") (codes ",\"value\":") (quoted text) (codes ",\"verb\":\"") verb (codes "\"") (codes "}")
 
 call_is : (s : Scripts) (call : Call) (end : CallEnd) → compact_text (call_data s call end) ≡ json.json_call s call end
-call_is s call end = go (brought end)
+call_is s call end = go (replied_value end)
   where
     r : escape (end_word end) ≡ end_word end
     r = plain_end end
@@ -143,7 +143,7 @@ reply_plain s (value.Number n) reply verb = refl
 reply_plain s (value.NodeName n) reply verb = refl
 
 calls_plain : (s : Scripts) (calls : List Call) (ends : List CallEnd) → items_have_float (items_of (calls_data s calls ends)) ≡ false
-calls_plain s (call ∷ calls) (end ∷ ends) = ap₂ (λ x y. x || y) (reply_plain s (brought end) (end_word end) (verb_text call)) (calls_plain s calls ends)
+calls_plain s (call ∷ calls) (end ∷ ends) = ap₂ (λ x y. x || y) (reply_plain s (replied_value end) (end_word end) (verb_text call)) (calls_plain s calls ends)
 calls_plain s [] ends = refl
 calls_plain s (call ∷ calls) [] = refl
 

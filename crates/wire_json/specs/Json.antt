@@ -9,7 +9,7 @@ use Rattle.wire_types.specs.declared.Value.TheVariants as value
 use Rattle.wire_types.specs.Outcome.{Ends}
 use Rattle.wire_rehearsal.specs.Scripts.{Scripts, Process}
 use Rattle.wire_rehearsal.specs.Canonical.{process_text}
-use Rattle.wire_words.specs.Words.{end_word, brought, value_text, verb_text, name_of}
+use Rattle.wire_words.specs.Words.{end_word, replied_value, value_text, verb_text, name_of}
 
 -- a byte in a string: one that isn't printable, which stands in no word of a file, is a question mark
 abbrev pub printed : ℕ → ℕ
@@ -44,7 +44,7 @@ value_member scripts value = codes ",\"value\":" ++ quoted (value_text scripts v
 -- a call: what became of it, and what it is called
 abbrev pub json_call : Scripts → Call → CallEnd → List ℕ
 json_call scripts call end =
-    codes "{\"reply\":\"" ++ end_word end ++ codes "\"" ++ value_member scripts (brought end) ++ codes ",\"verb\":\"" ++ verb_text call ++ codes "\"}"
+    codes "{\"reply\":\"" ++ end_word end ++ codes "\"" ++ value_member scripts (replied_value end) ++ codes ",\"verb\":\"" ++ verb_text call ++ codes "\"}"
 
 -- calls with their ends, as far as both lists go
 abbrev pub json_calls : Scripts → List Call → List CallEnd → List (List ℕ)

@@ -8,7 +8,7 @@ use Rattle.wire_types.specs.declared.Value.{Value}
 use Rattle.wire_types.specs.declared.Value.TheVariants as value
 use Rattle.wire_rehearsal.specs.Scripts.{Scripts, Process}
 use Rattle.wire_rehearsal.specs.Canonical.{process_text}
-use Rattle.wire_words.specs.Words.{end_word, brought, value_text, verb_text}
+use Rattle.wire_words.specs.Words.{end_word, replied_value, value_text, verb_text}
 use Rattle.wire_json.specs.Json.{printed}
 
 -- a text as a string
@@ -35,7 +35,7 @@ reply_data scripts value.Nothing reply verb = bare_data reply verb
 reply_data scripts value reply verb = valued_data reply (map printed (value_text scripts value)) verb
 
 abbrev pub call_data : Scripts → Call → CallEnd → Data
-call_data scripts call end = reply_data scripts (brought end) (end_word end) (verb_text call)
+call_data scripts call end = reply_data scripts (replied_value end) (end_word end) (verb_text call)
 
 abbrev pub calls_data : Scripts → List Call → List CallEnd → List Data
 calls_data scripts (call ∷ calls) (end ∷ ends) = call_data scripts call end ∷ calls_data scripts calls ends

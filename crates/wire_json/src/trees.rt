@@ -9,7 +9,7 @@ use serde_json::{Value, json};
 use std::alloc::{AllocError, Global};
 use wire_rehearsal::{Process, Scripts};
 use wire_types::{Call, CallEnd, Value as Brought};
-use wire_words::{brought, end_word, push_process, push_value, verb};
+use wire_words::{end_word, push_process, push_value, replied_value, verb};
 
 /// The processes, each with its row.
 pub fn rank_trees(
@@ -69,7 +69,7 @@ fn call_tree(
 ) -> Result<Value, AllocError>
     ensures { IfOk result (λ value. view value ≡ spec.call_data scripts.now call.now end.now) }
 {
-    let value = brought(end);
+    let value = replied_value(end);
     if value == Brought::Nothing {
         return bare_call(alloc, end_word(end), verb(call));
     }

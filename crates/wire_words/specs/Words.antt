@@ -66,13 +66,13 @@ end_word Ready = codes "ready"
 end_word Unreached = codes "unreached"
 
 -- what the reply of a call brings, nothing where it has none
-abbrev pub brought : CallEnd → Value
-brought (Replied reply) = reply.value
-brought _ = value.Nothing
+abbrev pub replied_value : CallEnd → Value
+replied_value (Replied reply) = reply.value
+replied_value _ = value.Nothing
 
 -- what became of a call
 abbrev pub end_text : Scripts → CallEnd → List ℕ
-end_text scripts end = end_word end ++ value_part scripts (brought end)
+end_text scripts end = end_word end ++ value_part scripts (replied_value end)
 
 -- the text of a process, empty where there is none
 abbrev pub text_of_process : Scripts → Option Process → List ℕ

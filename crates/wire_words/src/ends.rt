@@ -15,7 +15,7 @@ pub fn push_end(out: &mut Vec<u8>, scripts: &Scripts, end: &CallEnd) -> Result<(
     ensures { OnOk result (out.new.items ≡ out.old.items ++ spec.end_text scripts.now end.now) }
 {
     out.extend_from_slice(end_word(end).as_bytes())?;
-    let value = brought(end);
+    let value = replied_value(end);
     if value == Value::Nothing {
         return Ok(());
     }
@@ -49,8 +49,8 @@ fn status_name(status: Status) -> &'static str
 }
 
 /// What the reply of a call brings, nothing where the call has none.
-pub fn brought(end: &CallEnd) -> Value
-    ensures { result ≡ spec.brought end.now }
+pub fn replied_value(end: &CallEnd) -> Value
+    ensures { result ≡ spec.replied_value end.now }
 {
     match end {
         CallEnd::Replied(reply) => reply.value,

@@ -5,4 +5,4 @@ mod calls;
 mod ends;
 
 pub use calls::{find_call, push_call, push_number, push_proc, push_process, verb};
-pub use ends::{brought, end_word, push_end, push_value};
+pub use ends::{end_word, push_end, push_value, replied_value};
