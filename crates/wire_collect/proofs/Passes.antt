@@ -1,5 +1,5 @@
 -- The last of the first passes.
-use Rattle.std.proofs.Common.{◌≡◌, ℕ, zero, suc, ◌<◌, List, [], ◌∷◌, ◌++◌, length, subst, sym, refl, ap, Option, Some, None, option_to_list, IfSome, append-nil, ⊎_elim, ◌∙◌}
+use Rattle.std.proofs.Common.{◌≡◌, ℕ, zero, suc, List, [], ◌∷◌, ◌++◌, length, subst, sym, refl, Option, Some, None, option_to_list, IfSome, append-nil, ⊎_elim, ◌∙◌}
 use mathlib.Core.Option.{some, some-ne-none}
 use lib.ListN.{get_elem?}
 use Rattle.wire_sched.specs.declared.round.Round.{Round}

@@ -1,5 +1,5 @@
 -- What a run by workers gives, whichever interleaving they took.
-use Rattle.std.specs.Prelude.{◌≡◌, ℕ, ◌<◌, ◌≤◌, List}
+use Rattle.std.specs.Prelude.{◌≡◌, ℕ, ◌≤◌, List}
 use Rattle.wire_types.specs.Outcome.{Ends}
 use Rattle.wire_rehearsal.specs.Scripts.{Scripts}
 use Rattle.wire_rehearsal.specs.Planned.{plan_of}
@@ -17,7 +17,7 @@ abbrev pub ends_after : Scripts → List ℕ → Ends
 ends_after scripts history = outcome (plan_of scripts) (run (plan_of scripts) history)
 
 -- the history is an interleaving of the plan that can't go on, and the ends are exactly those of this history
-pub record IsWholeRun (scripts : Scripts) (history : List ℕ) (ends : Ends) : Type 0 where
+pub record IsCompleteRun (scripts : Scripts) (history : List ℕ) (ends : Ends) : Type 0 where
   pub legal : IsInterleaving (plan_of scripts) start history
   pub ended : IsEnd (plan_of scripts) (run (plan_of scripts) history)
   pub told : ends ≡ ends_after scripts history

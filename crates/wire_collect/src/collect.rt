@@ -5,7 +5,7 @@ ghost use Rattle.wire_types.specs.declared.Fault.TheVariants.{Memory, Workers};
 ghost use Rattle.wire_types.specs.Outcome.{ends_of};
 ghost use Rattle.wire_runs.specs.Step.{IsEnd};
 ghost use Rattle.wire_core.specs.Course.{plan_in, state_of};
-ghost use Rattle.wire_collect.specs.Collect.{MayWork, IsWholeRun, plain_ends};
+ghost use Rattle.wire_collect.specs.Collect.{MayWork, IsCompleteRun, plain_ends};
 
 use crate::rounds::run_rounds;
 use std::alloc::Global;
@@ -17,11 +17,11 @@ use wire_races::Settled;
 use wire_sched::Gate;
 use wire_types::{Fault, Outcome, Proc};
 
-/// The highest number of workers.
-const MOST_WORKERS: usize = 64;
+/// The highest number of workers of a run. The lowest is 1.
+pub const MOST_WORKERS: usize = 64;
 
 // The core, where it is of this plan and no process is ready; else a new one of the plan, run to its end.
-fn whole<'a, G: Gate>(
+fn completed<'a, G: Gate>(
     alloc: Global,
     plan: &'a Plan,
     core: Core<'a>,
@@ -46,7 +46,7 @@ fn whole<'a, G: Gate>(
 // What became of every call of a core at its end, and its history.
 fn told(alloc: Global, core: &Core<'_>) -> Result<(Outcome, Vec<Proc>), Fault>
     requires { IsEnd (plan_in core.now) (state_of core.now) }
-    ensures ok { IfOk result (λ r. IsWholeRun core.now.scripts (map (λ p. p.number) r.1.items) (ends_of r.0)) }
+    ensures ok { IfOk result (λ r. IsCompleteRun core.now.scripts (map (λ p. p.number) r.1.items) (ends_of r.0)) }
     ensures memory { IsOkUnless result Memory }
 {
     let history = Vec::from_slice(alloc, core.history())?;
@@ -70,7 +70,7 @@ pub fn run_any<R: Threads + Wait + Sync, G: Gate + Sync>(
     workers: usize,
     gate: &G,
 ) -> Result<(Outcome, Vec<Proc>), Fault>
-    ensures ok { IfOk result (λ r. IsWholeRun plan.now (map (λ p. p.number) r.1.items) (ends_of r.0)) }
+    ensures ok { IfOk result (λ r. IsCompleteRun plan.now (map (λ p. p.number) r.1.items) (ends_of r.0)) }
     ensures memory { MayWork workers → IsOkUnless result Memory }
     ensures workers { (MayWork workers → ⊥) → result ≡ Err Workers }
 {
@@ -79,7 +79,7 @@ pub fn run_any<R: Threads + Wait + Sync, G: Gate + Sync>(
     }
     let core = Core::new(alloc, plan)?;
     let core = run_rounds(rt, alloc, core, workers, gate)?;
-    let core = whole(alloc, plan, core, workers, gate)?;
+    let core = completed(alloc, plan, core, workers, gate)?;
     let told = told(alloc, &core);
     drop(core);
     told

@@ -7,4 +7,4 @@ mod crew;
 mod rounds;
 mod threads;
 
-pub use collect::{run_any, run_workers};
+pub use collect::{MOST_WORKERS, run_any, run_workers};

@@ -29,17 +29,29 @@ fn serve_left<R: Wait, G: Gate>(
     steps
 }
 
+// A round that is dealt, and how many of its workers are to start.
+#[derive(Drop)]
+struct Dealt {
+    round: Round,
+    passes: Vec<Pass>,
+    wanted: usize,
+}
+
 // One round: the workers serve the pieces, and the collector those that are left. Gives the core back, with the number
 // of steps taken.
 fn one_round<'a, R: Threads + Wait + Sync, G: Gate + Sync>(
     rt: &R,
     core: Core<'a>,
-    round: Round,
-    passes: Vec<Pass>,
+    dealt: Dealt,
     gate: &G,
 ) -> (Core<'a>, usize)
-    requires { ArePassesOf round passes.items }
+    requires { ArePassesOf dealt.round dealt.passes.items }
 {
+    let Dealt {
+        round,
+        passes,
+        wanted,
+    } = dealt;
     let workers = round.workers();
     let locked = LockedCore::new(core);
     let crew = Crew {
@@ -47,7 +59,7 @@ fn one_round<'a, R: Threads + Wait + Sync, G: Gate + Sync>(
         round: &round,
         gate,
     };
-    let (passes, taken) = run_round(rt, &crew, passes);
+    let (passes, taken) = run_round(rt, &crew, passes, wanted);
     let left = round.finish(passes);
     let steps = serve_left(rt, &locked, left.as_slice(), workers, gate);
     (locked.into_core(), taken.saturating_add(steps))
@@ -61,26 +73,30 @@ fn serve_lowest<G: Gate>(core: &mut Core<'_>, workers: usize, gate: &G) {
     }
 }
 
-// One round, and where it took no step, the lowest process that is ready.
+// One round, and where it took no step, the lowest process that is ready. Gives the core back, with the number of steps
+// that the round took.
 fn after_round<'a, R: Threads + Wait + Sync, G: Gate + Sync>(
     rt: &R,
     core: Core<'a>,
-    round: Round,
-    passes: Vec<Pass>,
+    dealt: Dealt,
     gate: &G,
-) -> Core<'a>
-    requires { ArePassesOf round passes.items }
+) -> (Core<'a>, usize)
+    requires { ArePassesOf dealt.round dealt.passes.items }
 {
-    let workers = round.workers();
-    let (mut core, steps) = one_round(rt, core, round, passes, gate);
+    let workers = dealt.round.workers();
+    let (mut core, steps) = one_round(rt, core, dealt, gate);
     if steps == 0 {
         serve_lowest(&mut core, workers, gate);
     }
-    core
+    (core, steps)
 }
 
+/// How many steps of one round are work for one more thread in the next. To start a thread takes longer than fewer steps.
+const STEPS_A_THREAD: usize = 1_000;
+
 /// Runs a core by rounds, each of which deals every process, until no process is ready. Each round takes a step, so there
-/// are no more rounds than events. The one fault is `Fault::Memory`.
+/// are no more rounds than events. In the first round all workers start, and in a later one as many as the steps of the
+/// round before it are work for. The one fault is `Fault::Memory`.
 pub(crate) fn run_rounds<'a, R: Threads + Wait + Sync, G: Gate + Sync>(
     rt: &R,
     alloc: Global,
@@ -92,13 +108,23 @@ pub(crate) fn run_rounds<'a, R: Threads + Wait + Sync, G: Gate + Sync>(
     ensures memory { IsOkUnless result Fault.Memory }
 {
     let mut core = core;
+    let mut wanted = workers;
     let plan = core.plan();
     'rounds: for number in 0..plan.event_total() as u64 {
         if core.ended() {
             break;
         }
         match Round::deal(alloc, number, plan.process_count(), workers) {
-            Ok((round, passes)) => core = after_round(rt, core, round, passes, gate),
+            Ok((round, passes)) => {
+                let dealt = Dealt {
+                    round,
+                    passes,
+                    wanted,
+                };
+                let (next, steps) = after_round(rt, core, dealt, gate);
+                core = next;
+                wanted = steps / STEPS_A_THREAD + 1;
+            }
             Err(fault) => {
                 drop(core);
                 return Err(fault);

@@ -24,6 +24,16 @@ impl Promise<(Pass, usize)> for Returned {
     ghost kept_by = { λ p r. IsPassOf p.round.value r.0 × (worker_of r.0 ≡ p.worker) };
 }
 
+// What a worker does. Gives its pass back, with the number of steps taken.
+fn worked<R: Wait, W: Works>(rt: &R, works: &W, pass: Pass) -> (Pass, usize)
+    requires { IsPassOf (W.dealt works.now) pass }
+    ensures { IsPassOf (W.dealt works.now) result.0 × (worker_of result.0 ≡ worker_of pass) }
+{
+    let mut pass = pass;
+    let steps = works.work(rt, &mut pass);
+    (pass, steps)
+}
+
 // What a worker's thread does. Where it was refused, the caller of this is another thread, and it only gives the pass back.
 fn thread_work<R: Wait, W: Works>(
     rt: &R,
@@ -34,12 +44,10 @@ fn thread_work<R: Wait, W: Works>(
     requires { IsPassOf (W.dealt works.now) pass }
     ensures { IsPassOf (W.dealt works.now) result.0 × (worker_of result.0 ≡ worker_of pass) }
 {
-    let mut pass = pass;
     if refused.load(Ordering::SeqCst) {
         return (pass, 0);
     }
-    let steps = works.work(rt, &mut pass);
-    (pass, steps)
+    worked(rt, works, pass)
 }
 
 // Starts one worker. Where no thread can be started, its pass comes back.
@@ -94,11 +102,15 @@ fn with_last<W: Works>(works: &W, passes: Vec<Pass>, pass: Pass) -> Vec<Pass>
     passes
 }
 
-/// Starts a worker for each pass, joins them, and gives the passes back, with the number of steps taken.
+/// Lets the first `wanted` workers of the passes serve pieces, and gives the passes back, with the number of steps taken.
+/// The first worker runs on the calling thread, which has nothing else to do until the others end. Each other one has a
+/// thread of its own, and is joined.
+#[cycle(workers)]
 pub(crate) fn run_round<R: Threads + Wait + Sync, W: Works + Sync>(
     rt: &R,
     works: &W,
     passes: Vec<Pass>,
+    wanted: usize,
 ) -> (Vec<Pass>, usize)
     requires { AreFirstPasses (W.dealt works.now) passes.items }
     ensures passes { AreFirstPasses (W.dealt works.now) result.0.items }
@@ -109,9 +121,36 @@ pub(crate) fn run_round<R: Threads + Wait + Sync, W: Works + Sync>(
     let Some(pass) = last_pass(works, &mut passes) else {
         return (passes, 0);
     };
+    if passes.is_empty() {
+        let (pass, steps) = worked(rt, works, pass);
+        return (with_last(works, passes, pass), steps);
+    }
+    if wanted <= passes.len() {
+        let (passes, steps) = run_round(rt, works, passes, wanted);
+        return (with_last(works, passes, pass), steps);
+    }
+    let (passes, pass, steps) = run_beside(rt, works, passes, pass, wanted);
+    (with_last(works, passes, pass), steps)
+}
+
+// Starts the worker of the last pass, lets those before it serve pieces meanwhile, and joins it.
+#[cycle(workers)]
+fn run_beside<R: Threads + Wait + Sync, W: Works + Sync>(
+    rt: &R,
+    works: &W,
+    passes: Vec<Pass>,
+    pass: Pass,
+    wanted: usize,
+) -> (Vec<Pass>, Pass, usize)
+    requires passes { AreFirstPasses (W.dealt works.now) passes.items }
+    requires pass { IsPassOf (W.dealt works.now) pass }
+    ensures passes { AreFirstPasses (W.dealt works.now) result.0.items }
+    ensures sizes { (vec_len result.0 ≡ vec_len passes) × (vec_capacity result.0 ≡ vec_capacity passes) }
+    ensures pass { IsPassOf (W.dealt works.now) result.1 × (worker_of result.1 ≡ worker_of pass) }
+{
     let refused = AtomicBool::new(false);
     let flag = &refused;
-    let (passes, pass, steps) = thread::scope(
+    thread::scope(
         thread::scope_env(),
         rt,
         |scope| -> (Vec<Pass>, Pass, usize)
@@ -119,7 +158,7 @@ pub(crate) fn run_round<R: Threads + Wait + Sync, W: Works + Sync>(
             ensures { AreFirstPasses (W.dealt works.entry.now) result.0.items × (vec_len result.0 ≡ vec_len passes) × (vec_capacity result.0 ≡ vec_capacity passes) × IsPassOf (W.dealt works.entry.now) result.1 × (worker_of result.1 ≡ worker_of pass) }
         {
             let started = start_worker(scope, rt, works, flag, pass);
-            let (passes, others) = run_round(rt, works, passes);
+            let (passes, others) = run_round(rt, works, passes, wanted);
             match started {
                 Ok(handle) => {
                     let (pass, steps) = handle.join(rt);
@@ -128,6 +167,5 @@ pub(crate) fn run_round<R: Threads + Wait + Sync, W: Works + Sync>(
                 Err(pass) => (passes, pass, others),
             }
         },
-    );
-    (with_last(works, passes, pass), steps)
+    )
 }

@@ -10,7 +10,7 @@ use Rattle.wire_rehearsal.specs.Scripts.{Scripts}
 use Rattle.wire_rehearsal.specs.Planned.{plan_of}
 use Rattle.wire_runs.specs.Laws.{HasOneEnd}
 use Rattle.wire_races.specs.declared.finding.Finding.{Finding}
-use Rattle.wire_collect.specs.Collect.{MayWork, IsWholeRun, plain_ends}
+use Rattle.wire_collect.specs.Collect.{MayWork, IsCompleteRun, plain_ends}
 use Rattle.wire_report.specs.Report.{report_form}
 use Rattle.wire_report.specs.Findings.{findings_form}
 use Rattle.wire_report.specs.Unsettled.{unsettled_form}
@@ -24,7 +24,7 @@ use Rattle.wire_up.specs.Replay.{ReadAs}
 pub record TellsRun (json : Bool) (scripts : Scripts) (text : List ℕ) : Type 0 where
   pub order : List ℕ
   pub ends : Ends
-  pub whole : IsWholeRun scripts order ends
+  pub complete : IsCompleteRun scripts order ends
   pub tells : text ≡ unsettled_form json scripts ends order
 
 -- what is written where these are found: they alone, or an interleaving in spite of them

@@ -15,7 +15,7 @@ use crate::replaying::read_scripts;
 use std::alloc::Global;
 use std::sync::Wait;
 use std::thread::Threads;
-use wire_collect::{run_any, run_workers};
+use wire_collect::{MOST_WORKERS, run_any, run_workers};
 use wire_marks::Marks;
 use wire_plan::Plan;
 use wire_races::laws::settled_exactly;
@@ -214,7 +214,7 @@ pub fn rehearse<R: Source, W: Sink, T: Threads + Wait + Sync, G: Gate + Sync>(
     ensures read_failed { result ≡ Err Read → R.failures reader.new ≡ one_more (R.failures reader.old) }
     ensures unfailed { IfErr result (λ e. e ≢ Memory → e ≢ Read → R.failures reader.new ≡ R.failures reader.old) }
 {
-    if workers < 1 || 64 < workers {
+    if workers < 1 || MOST_WORKERS < workers {
         return Err(Fault::Workers);
     }
     let scripts = read_scripts(alloc, reader)?;

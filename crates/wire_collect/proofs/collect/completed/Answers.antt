@@ -1,5 +1,5 @@
 use Rattle.std.proofs.Common.{sym, ◌∙◌}
-use Rattle.wire_collect.proofs.collect.whole.Goals as goal
+use Rattle.wire_collect.proofs.collect.completed.Goals as goal
 
 pub returns-then-ended-clause-plan : goal.returns-then-ended-clause-plan
 returns-then-ended-clause-plan g c = sym c.plan.ensures ∙ c.eq.ensures.same.0 c.if-eq.true
