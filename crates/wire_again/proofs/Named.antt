@@ -17,7 +17,8 @@ use Rattle.wire_script.specs.Reads.{seen_in, process_of, scripts_of}
 use Rattle.wire_script.proofs.Ranked.{IsGood, below_at, rank_most, name_at, number_at, one_process}
 use Rattle.wire_order.specs.Order.{proc_named}
 use Rattle.wire_words.specs.Words.{name_of, text_of_process}
-use Rattle.wire_again.proofs.Lines.{proc_word, proc_counts}
+use Rattle.wire_script.proofs.Recut.{proc_word}
+use Rattle.wire_again.proofs.Lines.{proc_counts}
 
 -- the first place that passes is the only one that does
 place_is : {X : Type 0} (t : X → Bool) (xs : List X) (p : ℕ) (x : X) → slice_get xs p ≡ Some x → t x ≡ true

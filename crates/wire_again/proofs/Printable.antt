@@ -13,9 +13,9 @@ use Rattle.wire_script.specs.Reads.{keys_in, names_in, values_in, in_calls, firs
 use Rattle.wire_script.proofs.Seen.{Each, each_seen, each_both}
 use Rattle.wire_script.proofs.Changed.{Runs, CallsAre, AllCalls}
 use Rattle.wire_script.proofs.Ranked.{AreNames, IsGood}
+use Rattle.wire_script.proofs.Recut.{name_word}
 use Rattle.wire_json.specs.Json.{printed}
 use Rattle.wire_again.specs.Kept.{IsKept}
-use Rattle.wire_again.proofs.Lines.{all_weaker}
 
 kept_byte : (b : ℕ) → 31 < b → b < 127 → printed b ≡ b
 kept_byte b low high = rw (lt-ltb 31 b low, lt-ltb b 127 high) refl
@@ -34,7 +34,7 @@ word_kept : (w : List ℕ) → IsTrue (is_word w) → IsKept w
 word_kept w h = bytes_kept w (and_right (not (length w == 0)) (list_all is_word_byte w) h)
 
 name_kept : (w : List ℕ) → IsTrue (is_name w) → IsKept w
-name_kept w h = bytes_kept w (all_weaker is_name_byte is_word_byte (λ b k. and_left _ _ k) w (and_right (not (length w == 0)) (list_all is_name_byte w) h))
+name_kept w h = word_kept w (name_word w h)
 
 key_kept : (w : List ℕ) → IsTrue (is_key w) → IsKept w
 key_kept w h = word_kept w (and_left _ _ h)

@@ -14,14 +14,14 @@ use Rattle.wire_lines.proofs.Colon.{and_left, and_right}
 use Rattle.wire_script.specs.Statements.{Statement, is_skipped, statements_from, statements}
 use Rattle.wire_rehearsal.specs.Canonical.{line_text}
 
-both : (a b : Bool) → a ≡ true → b ≡ true → (a && b) ≡ true
+pub both : (a b : Bool) → a ≡ true → b ≡ true → (a && b) ≡ true
 both a b p q = rw (p, q) refl
 
-all_weaker : (p q : ℕ → Bool) → ((b : ℕ) → p b ≡ true → q b ≡ true) → (xs : List ℕ) → list_all p xs ≡ true → list_all q xs ≡ true
+pub all_weaker : (p q : ℕ → Bool) → ((b : ℕ) → p b ≡ true → q b ≡ true) → (xs : List ℕ) → list_all p xs ≡ true → list_all q xs ≡ true
 all_weaker p q f [] h = refl
 all_weaker p q f (x ∷ xs) h = both (q x) (list_all q xs) (f x (and_left _ _ h)) (all_weaker p q f xs (and_right _ _ h))
 
-all_append : (p : ℕ → Bool) (xs ys : List ℕ) → list_all p xs ≡ true → list_all p ys ≡ true → list_all p (xs ++ ys) ≡ true
+pub all_append : (p : ℕ → Bool) (xs ys : List ℕ) → list_all p xs ≡ true → list_all p ys ≡ true → list_all p (xs ++ ys) ≡ true
 all_append p [] ys h k = k
 all_append p (x ∷ xs) ys h k = both (p x) (list_all p (xs ++ ys)) (and_left _ _ h) (all_append p xs ys (and_right _ _ h) k)
 
@@ -38,10 +38,10 @@ no_return b = not (b == 13)
 abbrev pub no_blank : ℕ → Bool
 no_blank b = not (is_blank b)
 
-feed_byte : (b : ℕ) → is_word_byte b ≡ true → no_feed b ≡ true
+pub feed_byte : (b : ℕ) → is_word_byte b ≡ true → no_feed b ≡ true
 feed_byte b h = rw (differs 10 b (omega arith) h) refl
 
-return_byte : (b : ℕ) → is_word_byte b ≡ true → no_return b ≡ true
+pub return_byte : (b : ℕ) → is_word_byte b ≡ true → no_return b ≡ true
 return_byte b h = rw (differs 13 b (omega arith) h) refl
 
 blank_byte : (b : ℕ) → is_word_byte b ≡ true → no_blank b ≡ true
@@ -59,7 +59,7 @@ line_all p f s w (v ∷ vs) h =
     (both (p 32) (list_all p (join_with_byte 32 (v ∷ vs))) s (line_all p f s v vs h.1))
 
 -- a line that ends in a line feed is the first piece
-pieces_line : (xs ys : List ℕ) → list_all no_feed xs ≡ true → pieces_of (xs ++ 10 ∷ ys) ≡ xs ∷ pieces_of ys
+pub pieces_line : (xs ys : List ℕ) → list_all no_feed xs ≡ true → pieces_of (xs ++ 10 ∷ ys) ≡ xs ∷ pieces_of ys
 pieces_line [] ys h = refl
 pieces_line (x ∷ xs) ys h =
     elim (x == 10) as (λ t. (not t && list_all no_feed xs) ≡ true → cond t ([] ∷ pieces_of (xs ++ 10 ∷ ys)) (onto_first x (pieces_of (xs ++ 10 ∷ ys))) ≡ (x ∷ xs) ∷ pieces_of ys) [
@@ -73,7 +73,7 @@ byte_at p z (x ∷ xs) zero h = and_left _ _ h
 byte_at p z (x ∷ xs) (suc i) h = byte_at p z xs i (and_right _ _ h)
 
 -- a line without carriage returns keeps its end
-kept_end : (xs : List ℕ) → list_all no_return xs ≡ true → strip_carriage_return xs ≡ xs
+pub kept_end : (xs : List ℕ) → list_all no_return xs ≡ true → strip_carriage_return xs ≡ xs
 kept_end xs h = let e : (slice_index xs (length xs - 1) == 13) ≡ false = not-true _ (byte_at no_return refl xs (length xs - 1) h) in rw e refl
 
 blank_none : (xs : List ℕ) → list_all no_blank xs ≡ true → slice_split is_blank xs ≡ xs ∷ []
@@ -104,10 +104,10 @@ keep_words [] h = refl
 keep_words (w ∷ ws) h = rw (and_left (not (length w == 0)) (list_all is_word_byte w) h.0, keep_words ws h.1) refl
 
 -- words with a space between each two are the words of that line
-words_line : (w : List ℕ) (ws : List (List ℕ)) → AreWords (w ∷ ws) → words_of (join_with_byte 32 (w ∷ ws)) ≡ w ∷ ws
+pub words_line : (w : List ℕ) (ws : List (List ℕ)) → AreWords (w ∷ ws) → words_of (join_with_byte 32 (w ∷ ws)) ≡ w ∷ ws
 words_line w ws h = ap (filter (λ x. not (length x == 0))) (split_words w ws h) ∙ keep_words (w ∷ ws) h
 
-name_word : (xs : List ℕ) → IsTrue (is_name xs) → IsTrue (is_word xs)
+pub name_word : (xs : List ℕ) → IsTrue (is_name xs) → IsTrue (is_word xs)
 name_word xs h = both (not (length xs == 0)) (list_all is_word_byte xs) (and_left _ _ h) (all_weaker is_name_byte is_word_byte (λ b k. and_left _ _ k) xs (and_right _ _ h))
 
 digit_byte : (d : ℕ) → d < 10 → is_word_byte (48 + d) ≡ true
@@ -126,7 +126,7 @@ some_bytes xs ys b =
     let some : (length (xs ++ b ∷ ys) == 0) ≡ false = ne_eqb (length (xs ++ b ∷ ys)) 0 (λ e. omega (arith, length-append xs (b ∷ ys))) in
     ap not some
 
-proc_word : (job : List ℕ) (rank : ℕ) → IsTrue (is_name job) → rank < 10 ^ 9 → IsTrue (is_word (spelled_proc job rank))
+pub proc_word : (job : List ℕ) (rank : ℕ) → IsTrue (is_name job) → rank < 10 ^ 9 → IsTrue (is_word (spelled_proc job rank))
 proc_word job rank h small =
     both (not (length (spelled_proc job rank) == 0)) (list_all is_word_byte (spelled_proc job rank)) (some_bytes job (decimal rank) 58)
     (all_append is_word_byte job (58 ∷ decimal rank) (and_right _ _ (name_word job h)) (digits_word rank small))
