@@ -11,7 +11,9 @@ use Rattle.wire_runs.proofs.Due.{live_source, live_may, place_path}
 use Rattle.wire_runs.proofs.Histories.{no_cycle, before_live}
 use Rattle.wire_marks.specs.Clocks.{items_at}
 use Rattle.wire_marks.specs.Clocks.{Clocks, marked_count, number_at, base_at, own_of, clock_over, clock_of, IsClock, AreMarks}
-use Rattle.wire_marks.specs.Marking.{IsReady, IsStuck, AreBased, AreClocks, next_of, IsStuckAt, IsNextBase, sum_to, unmarked, IsGrown, Adds}
+use Rattle.wire_marks.specs.Marking.{IsReady, IsStuck, AreBased, AreClocks, next_of, IsStuckAt, IsNextBase, sum_to, unmarked, IsGrown, Adds, Notes}
+use Rattle.wire_marks.specs.Updates.{updates_at, AreUpdates}
+use Rattle.wire_marks.proofs.Noting.{chain_within, updates_same, updates_more}
 use Rattle.wire_marks.proofs.Marking.{ready_live, live_marked, clock_step, leads_on}
 use Rattle.wire_marks.proofs.Tables.{slice_get-append_left, slice_get-append_last}
 
@@ -75,6 +77,9 @@ module _ (old new : Clocks) (based : AreBased old) (grown : IsGrown old new) whe
     processes = ap length grown.numbers ∙ sound.processes;
     based = still;
     live = λ y lt. sound.live y (let e = count_grown y.proc in omega (arith, lt, e));
+    closed = λ x y e lt. (let a = count_grown x.proc in let b = count_grown y.proc in let h = sound.closed x y e (omega (arith, lt, b)) in omega (arith, h, a));
+    updates = λ name. subst (λ lists. AreUpdates plan (λ z. z.at < marked_count new z.proc) name (updates_at lists name)) (sym grown.updates)
+        (updates_same plan (λ z. z.at < marked_count old z.proc) (λ z. z.at < marked_count new z.proc) name (updates_at old.updates name) (λ z lt. let e = count_grown z.proc in omega (arith, lt, e)) (λ z lt. let e = count_grown z.proc in omega (arith, lt, e)) (sound.updates name));
     told = λ y lt. same_clock plan y (clock_of old y) (clock_of new y) (λ q. clock_grown y q) (sound.told y (let e = count_grown y.proc in omega (arith, lt, e)));
   }
 
@@ -149,10 +154,25 @@ module _ (plan : Plan) (old new : Clocks) (p n : ℕ) (there : p < process_count
     ];
   }
 
-  pub sound_added : AreClocks plan new
-  sound_added = record {
+  next_marked : marked_count old p < marked_count new p
+  next_marked = let here = count_here in omega (arith, here)
+
+  closed_added : (x y : Event) → Edge plan x y → y.at < marked_count new y.proc → x.at < marked_count new x.proc
+  closed_added x y e lt = elim (was_or_next y lt) [
+    | inl was ↦ marked_up x (sound.closed x y e was)
+    | inr is ↦ marked_up x (next.ready.sources x (subst (λ z. Edge plan x z) is e))
+  ]
+
+  -- nothing that is marked stands behind the next event
+  next_last : (y : Event) → y.at < marked_count old y.proc → Before plan (next_of old p) y → ⊥
+  next_last y lt b = let h = chain_within (marked_count old) sound.closed b lt in omega (arith, h)
+
+  pub sound_added : Notes plan (next_of old p) old new → AreClocks plan new
+  sound_added notes = record {
     processes = adds.same ∙ sound.processes;
     based = based_added;
+    closed = closed_added;
+    updates = λ name. updates_more plan name (λ z. z.at < marked_count old z.proc) (λ z. z.at < marked_count new z.proc) (next_of old p) marked_up next_marked was_or_next (λ lt. omega (arith, lt)) next_last (updates_at old.updates name) (updates_at new.updates name) (notes name) (sound.updates name);
     live = λ y lt. elim (was_or_next y lt) [
       | inl was ↦ sound.live y was
       | inr is ↦ subst (λ z. Live plan z) (sym is) next_live
@@ -200,7 +220,11 @@ stuck_same plan old new p same stuck = subst (λ ns. IsReady plan (λ q. length 
 
 -- where no process of the plan has a ready event, the marks are whole
 pub marks_whole : (plan : Plan) (clocks : Clocks) → AreClocks plan clocks → ((p : ℕ) → p < process_count plan → IsStuckAt plan clocks p) → AreMarks plan clocks
-marks_whole plan clocks sound stuck = record { live = λ y. (sound.live y, all_marked y); told = λ y l. sound.told y (all_marked y l) }
+marks_whole plan clocks sound stuck = record {
+  live = λ y. (sound.live y, all_marked y);
+  told = λ y l. sound.told y (all_marked y l);
+  updates = λ name. updates_same plan (λ z. z.at < marked_count clocks z.proc) (Live plan) name (updates_at clocks.updates name) sound.live all_marked (sound.updates name);
+}
   where
     none_ready : IsStuck plan (marked_count clocks)
     none_ready y e ready =

@@ -13,7 +13,7 @@ use Rattle.wire_plan.specs.Index.{AreSources, AreArrivals, AwaitsCommit, AwaitsP
 use Rattle.wire_plan.specs.Meetings.{fence_members}
 use Rattle.wire_marks.specs.declared.joins.Meeting.{Meeting}
 use Rattle.wire_marks.specs.Clocks.{Clocks, items_at, marked_count, number_at, base_at, own_of, clock_of, LeadsTo}
-use Rattle.wire_marks.specs.Marking.{AreBased, AreClocks, IsReady, IsBase, next_of, IsNextBase, IsGrown, Adds, number_or_first, number_before, Counts, IsRaised}
+use Rattle.wire_marks.specs.Marking.{AreBased, AreClocks, IsReady, IsBase, next_of, IsNextBase, IsGrown, Adds, number_or_first, number_before, Counts, IsRaised, Notes}
 use Rattle.wire_marks.specs.Meeting.{AreMarked, IsJoin, IsJoined, IsMeeting, IsMeetingAt, IsEmpty, AreMeetings, AreGrowing, AreAdded, AreOthersKept, IsLeaveOf}
 use Rattle.wire_marks.proofs.Tables.{slice_get-set_same, slice_get-set_other}
 use Rattle.wire_marks.proofs.Same.{at_head, same_places}
@@ -123,9 +123,9 @@ pub meetings_kept : (plan : Plan) (table : FenceTable) (old new : Clocks) (meeti
 meetings_kept plan table old new meetings keeps h = λ n info list f a meeting g. meeting_kept old new list meeting keeps (h n info list f a meeting g)
 
 -- what is kept stays right when an event is marked
-pub growing_added : (plan : Plan) (table : FenceTable) (old new : Clocks) (meetings : List Meeting) (p n : ℕ) → p < process_count plan → AreGrowing plan table old meetings → IsNextBase plan old p n → Adds old new p n → AreGrowing plan table new meetings
-growing_added plan table old new meetings p n there growing next adds = record {
-  marked = sound_added plan old new p n there growing.marked next adds;
+pub growing_added : (plan : Plan) (table : FenceTable) (old new : Clocks) (meetings : List Meeting) (p n : ℕ) → p < process_count plan → AreGrowing plan table old meetings → IsNextBase plan old p n → Adds old new p n → Notes plan (next_of old p) old new → AreGrowing plan table new meetings
+growing_added plan table old new meetings p n there growing next adds notes = record {
+  marked = sound_added plan old new p n there growing.marked next adds notes;
   kept = meetings_kept plan table old new meetings (added_keeps plan old new p n there growing.marked next adds) growing.kept;
 }
 

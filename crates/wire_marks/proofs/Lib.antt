@@ -1,5 +1,6 @@
 pub mod Marking
 pub mod Tables
+pub mod Noting
 pub mod Growing
 pub mod OneChain
 pub mod Same

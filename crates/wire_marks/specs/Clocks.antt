@@ -1,8 +1,10 @@
--- What the marks of a plan are: how many events of each process are live, and a clock for each of them.
+-- What the marks of a plan are: how many events of each process are live, a clock for each of them, and the live publishes and
+-- unpublishes of each name.
 use Rattle.std.specs.Prelude.{◌≡◌, ◌⊎◌, ◌↔◌, ◌<◌, ◌==◌, ℕ, suc, List, [], Option, Some, None, Vec, max, length, slice_get, slice_index, if◌then◌else◌}
 use Rattle.std.specs.declared.alloc.Global.{Global}
 use Rattle.wire_runs.specs.Plan.{Plan, Event}
 use Rattle.wire_runs.specs.Order.{Live, Before}
+use Rattle.wire_marks.specs.Updates.{updates_at, AreUpdates}
 use Rattle.wire_marks.specs.declared.clocks.Clocks.{Clocks as Kept}
 
 -- the list in a vector of a table, and none past its end
@@ -13,7 +15,7 @@ items_in (Some v) = v.items
 abbrev pub items_at : {A : Type 0} → List (Vec A Global) → ℕ → List A
 items_at xs i = items_in (slice_get xs i)
 
--- the number of a base for each live event of each process, and the bases: each has for each process a number
+-- the number of a base for each live event of each process, the bases: each has for each process a number; and the updates of each name
 abbrev pub Clocks : Type 0
 Clocks = Kept
 
@@ -56,7 +58,8 @@ pub record IsClockOf (plan : Plan) (y : Event) (q number : ℕ) : Type 0 where
   pub counts : Live plan y → (x : Event) → x.proc ≡ q → (x.at < number) ↔ LeadsTo plan x y
   pub dead : (Live plan y → ⊥) → number ≡ 0
 
--- the marks are this plan's
+-- the marks are this plan's: its live events, their clocks, and of each name the live events that can change it
 pub record AreMarks (plan : Plan) (clocks : Clocks) : Type 0 where
   pub live : (y : Event) → (y.at < marked_count clocks y.proc) ↔ Live plan y
   pub told : (y : Event) → Live plan y → IsClock plan y (clock_of clocks y)
+  pub updates : (name : ℕ) → AreUpdates plan (Live plan) name (updates_at clocks.updates name)

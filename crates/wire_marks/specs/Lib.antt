@@ -1,3 +1,4 @@
+pub mod Updates
 pub mod Clocks
 pub mod Chain
 pub mod Marking

@@ -2,6 +2,7 @@
 use Rattle.std.specs.Prelude.{Some, None, Option, ◌≡◌, ◌≢◌, ◌⊎◌, ◌<◌, ◌≤◌, ◌+◌, ◌-◌, ◌^◌, zero, ◌++◌, ◌∷◌, [], ℕ, suc, true, max, length}
 use Rattle.wire_runs.specs.Plan.{Plan, Event, kind, event_count, process_count}
 use Rattle.wire_runs.specs.Order.{Edge, may_come, Live}
+use Rattle.wire_marks.specs.Updates.{updates_at, AreUpdates, IsNoted}
 use Rattle.wire_marks.specs.Clocks.{items_at, Clocks, marked_count, number_at, base_at, own_of, clock_of, IsClock}
 
 -- the event may come, and all its sources are marked
@@ -35,6 +36,8 @@ pub record AreClocks (plan : Plan) (clocks : Clocks) : Type 0 where
   pub processes : length clocks.numbers.items ≡ process_count plan
   pub based : AreBased clocks
   pub live : AllLive plan (marked_count clocks)
+  pub closed : (x y : Event) → Edge plan x y → y.at < marked_count clocks y.proc → x.at < marked_count clocks x.proc
+  pub updates : (name : ℕ) → AreUpdates plan (λ z. z.at < marked_count clocks z.proc) name (updates_at clocks.updates name)
   pub told : (y : Event) → y.at < marked_count clocks y.proc → IsClock plan y (clock_of clocks y)
 
 -- the process's next event
@@ -63,6 +66,7 @@ unmarked plan clocks = sum_to (process_count plan) (λ p. event_count plan p - m
 -- no event more is marked, and no base is another
 pub record IsGrown (old new : Clocks) : Type 0 where
   pub numbers : new.numbers.items ≡ old.numbers.items
+  pub updates : new.updates ≡ old.updates
   pub more : length old.bases.items ≤ length new.bases.items
   pub bases : (n : ℕ) → n < length old.bases.items → items_at new.bases.items n ≡ items_at old.bases.items n
 
@@ -72,6 +76,10 @@ pub record Adds (old new : Clocks) (p n : ℕ) : Type 0 where
   pub same : length new.numbers.items ≡ length old.numbers.items
   pub here : items_at new.numbers.items p ≡ items_at old.numbers.items p ++ n ∷ []
   pub others : (q : ℕ) → q ≢ p → items_at new.numbers.items q ≡ items_at old.numbers.items q
+
+-- z is noted, if it is a publish or an unpublish
+abbrev pub Notes : Plan → Event → Clocks → Clocks → Type 0
+Notes plan z old new = (name : ℕ) → IsNoted plan z name (updates_at old.updates name) (updates_at new.updates name)
 
 abbrev pub number_or_first : Option ℕ → ℕ
 number_or_first None = 0

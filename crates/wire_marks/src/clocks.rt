@@ -2,22 +2,27 @@
 //! count the same share a base.
 
 ghost use Rattle.std.specs.Prelude.{◌≡◌, ◌<◌, ◌≤◌, ◌+◌, ◌^◌, ◌↔◌, ◌++◌, ◌∷◌, [], ℕ, Some, IsTrue, IfOk, OnOk, option_map, map, length, slice_index, max};
-ghost use Rattle.wire_runs.specs.Plan.{event_of};
+ghost use Rattle.wire_runs.specs.Plan.{event_of, event_count};
 ghost use Rattle.wire_runs.specs.Plan as runs;
+ghost use Rattle.wire_rehearsal.specs.Planned.{plan_of};
 ghost use Rattle.wire_marks.specs.Clocks.{items_at, marked_count, number_at, base_at, clock_of};
-ghost use Rattle.wire_marks.specs.Marking.{AreBased, IsGrown, Adds, number_before, Counts, IsRaised};
+ghost use Rattle.wire_marks.specs.Marking.{AreBased, IsGrown, Adds, Notes, number_before, Counts, IsRaised};
 ghost use Rattle.wire_marks.specs.Meeting.{AreMarked, IsJoin};
 
 use crate::table::{entry, no_clock, own, raise, raise_own};
+use crate::updates::Updates;
 use std::alloc::{AllocError, Global};
+use wire_plan::Plan;
 use wire_types::{Event, Proc};
 
 /// For each marked event of each process the number of its base, and the bases by their numbers. The clock
-/// of an event counts the events up to it in its process, and what its base counts.
+/// of an event counts the events up to it in its process, and what its base counts. And the marked
+/// publishes and unpublishes of each name.
 #[derive(Drop)]
 pub(crate) struct Clocks {
     pub numbers: Vec<Vec<usize>>,
     pub bases: Vec<Vec<u32>>,
+    pub updates: Updates,
 }
 
 impl Clocks {
@@ -189,11 +194,20 @@ impl Clocks {
     }
 
     /// Marks the next event of a process, with the base of this number.
-    pub(crate) fn mark(&mut self, proc: Proc, number: usize) -> Result<(), AllocError>
-        requires { proc.number < length self.old.numbers.items }
-        ensures { OnOk result (Adds self.old self.new proc.number number) }
+    pub(crate) fn mark(
+        &mut self,
+        alloc: Global,
+        plan: &Plan,
+        event: Event,
+        number: usize,
+    ) -> Result<(), AllocError>
+        requires process { event.proc.number < length self.old.numbers.items }
+        requires there { event.at < event_count (plan_of plan.now) event.proc.number }
+        ensures adds { OnOk result (Adds self.old self.new event.proc.number number) }
+        ensures notes { OnOk result (Notes (plan_of plan.now) (event_of event) self.old self.new) }
     {
-        self.numbers[proc.number as usize].push(number)?;
+        self.updates.note(alloc, plan, event)?;
+        self.numbers[event.proc.index()].push(number)?;
         Ok(())
     }
 }

@@ -11,6 +11,7 @@ ghost use Rattle.wire_marks.specs.Meeting.{AreGrowing};
 
 use crate::clocks::Clocks;
 use crate::joins::{Growth, fence_ended, meet};
+use crate::updates::Updates;
 use crate::way::{Way, waits_for};
 use std::alloc::{AllocError, Global};
 use wire_fence::Fences;
@@ -46,7 +47,11 @@ fn no_clocks(alloc: Global, plan: &Plan) -> Result<Clocks, AllocError>
 {
     let numbers = no_numbers(alloc, plan)?;
     let bases = first_base(alloc)?;
-    Ok(Clocks { numbers, bases })
+    Ok(Clocks {
+        numbers,
+        bases,
+        updates: Updates::empty(alloc),
+    })
 }
 
 // The number of a base for the process's next event, if it is ready.
@@ -111,7 +116,9 @@ fn mark_next(
     let Some(number) = next_base(alloc, plan, fences, growth, proc)? else {
         return Ok(false);
     };
-    growth.clocks.mark(proc, number)?;
+    let at = growth.clocks.marked(proc) as u32;
+    let event = Event { proc, at };
+    growth.clocks.mark(alloc, plan, event, number)?;
     Ok(true)
 }
 

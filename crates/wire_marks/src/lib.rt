@@ -8,7 +8,9 @@ mod law;
 mod marks;
 mod steps;
 mod table;
+mod updates;
 mod way;
 
 pub use law::one_shown;
 pub use marks::Marks;
+pub use updates::Update;

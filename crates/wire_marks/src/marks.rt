@@ -6,17 +6,20 @@ ghost use Rattle.wire_runs.specs.Plan as runs;
 ghost use Rattle.wire_rehearsal.specs.Planned.{plan_of};
 ghost use Rattle.wire_runs.specs.Order.{Live, Before};
 ghost use Rattle.wire_marks.specs.Clocks.{AreMarks, IsClockOf};
+ghost use Rattle.wire_marks.specs.Updates.{AreUpdates};
 ghost use Rattle.wire_marks.specs.Chain.{IsShown};
 
 use crate::clocks::Clocks;
 use crate::grow::all_clocks;
 use crate::steps::{chain_between, is_same};
+use crate::updates::Update;
 use std::alloc::Global;
 use std::marker::Model;
 use wire_plan::Plan;
 use wire_types::{Event, Fault, Proc};
 
-/// Which events of a plan are live, and which are before which, by clocks.
+/// Which events of a plan are live, and which are before which, by clocks; and the live publishes and
+/// unpublishes of each name.
 #[derive(Drop)]
 pub struct Marks {
     clocks: Clocks,
@@ -63,6 +66,15 @@ impl Marks {
         ensures { (plan : runs.Plan) → AreMarks plan self.now → IsClockOf plan (event_of event) proc.number result }
     {
         self.clocks.count(event, proc)
+    }
+
+    /// The live publishes and unpublishes of a name, each once. None is before one that stands in front of
+    /// it; so where each two of them are ordered by chains, they stand in this order. Each has the publish
+    /// that stands under the name after those up to it (PMIx Standard 5.0, PMIx_Publish, PMIx_Unpublish).
+    pub fn updates(&self, name: u32) -> &[Update]
+        ensures { (plan : runs.Plan) → AreMarks plan self.now → AreUpdates plan (Live plan) name result.now }
+    {
+        self.clocks.updates.list(name)
     }
 
     /// The chain from x to y that is shown, both ends in it, and none where x isn't before y. Each
