@@ -18,3 +18,6 @@ pub mod OneList
 pub mod Marked
 pub mod Gathered
 pub mod Together
+pub mod KeyFates
+pub mod Fates
+pub mod NameFates

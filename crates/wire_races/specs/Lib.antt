@@ -7,3 +7,4 @@ pub mod Rewriting
 pub mod KeyRaces
 pub mod NameRaces
 pub mod Pieces
+pub mod Fates

@@ -29,10 +29,10 @@ use wire_types::{Event, Proc};
 
 /// A get that is answered at once, and the key for which it asks.
 #[derive(Clone, Copy)]
-struct Asked {
-    get_now: Event,
-    owner: Proc,
-    key: u32,
+pub(crate) struct Asked {
+    pub get_now: Event,
+    pub owner: Proc,
+    pub key: u32,
 }
 
 /// Whether an event stands before another in process order, or earlier in the same process.
@@ -222,7 +222,7 @@ fn next_arrival(plan: &Plan, owner: Proc, key: u32, node: u32, from: u32) -> Opt
 
 /// Whether a delivery of a key to a node comes before a get in every run. If any does, the first one
 /// does: all arrivals at its fence are before each later arrival of the owner.
-fn comes_surely(plan: &Plan, marks: &Marks, asked: Asked, node: u32) -> bool
+pub(crate) fn comes_surely(plan: &Plan, marks: &Marks, asked: Asked, node: u32) -> bool
     requires marks { AreMarks (plan_of plan.now) marks.now }
     requires live { Live (plan_of plan.now) (event_of asked.get_now) }
     requires once { IsPutOnce (plan_of plan.now) asked.owner.number asked.key }

@@ -1,16 +1,20 @@
 //! What the checker finds in a plan, and plans in which it finds nothing.
 #![tactic(auto)]
 
+mod fate;
 mod finding;
 mod found;
+mod key_fates;
 mod key_races;
 pub mod laws;
 mod list;
+mod name_fates;
 mod name_races;
 mod pieces;
 mod rewrites;
 mod settled;
 
+pub use fate::Fate;
 pub use finding::Finding;
 pub use list::findings;
 pub use settled::{Settled, Unsettled};

@@ -1,20 +1,25 @@
 //! Plans in which nothing is found.
 
-ghost use Rattle.std.specs.Prelude.{◌≡◌, ◌≢◌, ◌↔◌, ℕ, List, [], true, IfOk, IfErr, IsOk};
+ghost use Rattle.std.specs.Prelude.{◌≡◌, ◌≢◌, ◌↔◌, ◌<◌, ℕ, List, [], true, IfOk, IfErr, IsOk};
 ghost use Rattle.wire_runs.specs.Plan as runs;
 ghost use Rattle.wire_rehearsal.specs.Planned.{plan_of};
 ghost use Rattle.wire_runs.specs.State.{State, start};
 ghost use Rattle.wire_runs.specs.Step.{is_enabled, IsInterleaving, run, IsEnd, IsReachable};
-ghost use Rattle.wire_runs.specs.Fate.{Fate, HasFate};
+ghost use Rattle.wire_runs.specs.Fate as runs_fate;
+ghost use Rattle.wire_runs.specs.Fate.{HasFate, IsSoundCut};
+ghost use Rattle.wire_runs.specs.Plan.{event_of, event_count};
 ghost use Rattle.wire_runs.specs.Laws.{Commute, FatesHold, HasOneEnd};
 ghost use Rattle.wire_runs.specs.Races.{IsSettled};
 ghost use Rattle.wire_marks.specs.Clocks.{AreMarks};
 ghost use Rattle.wire_races.specs.Findings.{AreFindings};
+ghost use Rattle.wire_races.specs.Fates.{IsFateOf, TellsReply, TellsEnabled};
 
+use crate::fate::{Fate, fate_of};
 use crate::finding::Finding;
 use std::marker::Model;
 use wire_marks::Marks;
 use wire_plan::Plan;
+use wire_types::Event;
 
 /// A plan in which nothing is found, with its marks.
 #[derive(Drop)]
@@ -72,6 +77,22 @@ impl Settled {
         &self.plan
     }
 
+    /// The fate of an event: what it does in every run, once its sources are done. It is `Waits` for an
+    /// event that isn't live, or isn't of the plan, and for a `lookup-wait` whose name is absent after
+    /// the calls before it; `Silent` for the arrival at a fence; else the reply that its call gets. In a
+    /// state that a run can reach, each reply is the fate of its event, and a process is enabled exactly
+    /// where the sources of its next event are done and the fate of that event isn't `Waits`. Takes no
+    /// memory, and can't fail.
+    pub fn fate(&self, event: Event) -> Fate
+        ensures fate { IsFateOf (plan_of self.now) (event_of event) result }
+        ensures waits { (result ≡ Fate.Waits) ↔ HasFate (plan_of self.now) (event_of event) runs_fate.Waits }
+        ensures there { result ≢ Fate.Waits → event.at < event_count (plan_of self.now) event.proc.number }
+        ensures reply { TellsReply (plan_of self.now) (event_of event) result }
+        ensures enabled { TellsEnabled (plan_of self.now) (event_of event) result }
+    {
+        fate_of(&self.plan, &self.marks, event)
+    }
+
     /// The marks of its plan.
     pub(crate) fn marks(&self) -> &Marks
         ensures { AreMarks (plan_of self.now) result.now }
@@ -102,8 +123,8 @@ impl Settled {
 
     /// Each event has exactly one fate: its reply, or that it waits.
     pub fn has_fates(&self)
-        ensures some { (y : runs.Event) → (fate : Fate) × HasFate (plan_of self.now) y fate }
-        ensures one { let plan = plan_of self.now in (y : runs.Event) (a b : Fate) → HasFate plan y a → HasFate plan y b → a ≡ b }
+        ensures some { (y : runs.Event) → (fate : runs_fate.Fate) × HasFate (plan_of self.now) y fate }
+        ensures one { let plan = plan_of self.now in (y : runs.Event) (a b : runs_fate.Fate) → HasFate plan y a → HasFate plan y b → a ≡ b }
     {
         let _ = &self.plan;
     }
@@ -112,6 +133,15 @@ impl Settled {
     /// enabled.
     pub fn fates_tell(&self)
         ensures { let plan = plan_of self.now in (s : State) → IsReachable plan s → FatesHold plan s }
+    {
+        let _ = &self.plan;
+    }
+
+    /// The cut of a state that a run can reach is sound: it has the sources of each of its events, and none
+    /// of them waits. And a run can reach each sound cut.
+    pub fn sound_is_reached(&self)
+        ensures sound { let plan = plan_of self.now in (s : State) → IsReachable plan s → IsSoundCut plan s.done }
+        ensures reached { let plan = plan_of self.now in (cut : ℕ → ℕ) → IsSoundCut plan cut → (s : State) × IsReachable plan s × ((p : ℕ) → s.done p ≡ cut p) }
     {
         let _ = &self.plan;
     }

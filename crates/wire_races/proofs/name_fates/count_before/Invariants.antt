@@ -1,0 +1,19 @@
+use Rattle.std.proofs.Common.{◌-◌, ◌≤◌, ℕ, length}
+use Rattle.wire_runs.specs.Plan.{Plan, event_of}
+use Rattle.wire_runs.specs.Order.{Live, Before}
+use Rattle.wire_runs.specs.Races.{IsSettled}
+use Rattle.wire_marks.specs.Clocks.{AreMarks}
+use Rattle.wire_marks.specs.Updates.{AreUpdates}
+use Rattle.wire_races.specs.Fates.{events_in}
+use Rattle.wire_races.proofs.NameRaces.{IsNarrowed}
+use Rattle.wire_races.proofs.name_fates.count_before.Given as goal
+
+abbrev pub invariant-bisection : goal.invariant-bisection
+invariant-bisection l = record {
+  order : l.low ≤ l.high;
+  within : l.high ≤ length l.updates;
+  narrowed : (plan : Plan) (name : ℕ) → IsSettled plan → AreMarks plan l.marks → AreUpdates plan (Live plan) name l.updates → IsNarrowed (λ z. Before plan z (event_of l.event)) (events_in l.updates) l.low l.high;
+}
+
+abbrev pub decreases-bisection : goal.decreases-bisection
+decreases-bisection l = l.high - l.low
