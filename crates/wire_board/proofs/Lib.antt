@@ -1,0 +1,5 @@
+pub mod Cuts
+pub mod Keeps
+pub mod Dealing
+pub mod Closing
+pub mod Showing

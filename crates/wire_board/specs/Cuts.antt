@@ -1,0 +1,32 @@
+-- Words as the cut of a run: for each process the number of its events that are done.
+use Rattle.std.specs.Prelude.{◌≡◌, ℕ, ◌<◌, Bool, List, nat_lt, slice_index}
+use Rattle.wire_runs.specs.Plan.{Plan, Event, process_count}
+use Rattle.wire_runs.specs.State.{State}
+use Rattle.wire_runs.specs.Step.{IsReachable}
+use Rattle.wire_runs.specs.Order.{Edge}
+use Rattle.wire_runs.specs.Fate.{IsSoundCut}
+use Rattle.wire_runs.specs.Races.{IsSettled}
+use Rattle.wire_rehearsal.specs.Scripts.{Scripts}
+use Rattle.wire_rehearsal.specs.Planned.{plan_of}
+
+-- how many processes the scripts have
+abbrev pub procs_of : Scripts → ℕ
+procs_of scripts = process_count (plan_of scripts)
+
+-- the words are the cut of a state that a run can come to
+pub record IsCut (plan : Plan) (words : List ℕ) : Type 0 where
+  pub state : State
+  pub reached : IsReachable plan state
+  pub done : (p : ℕ) → state.done p ≡ slice_index words p
+
+-- whether these positions show that the event is done
+abbrev pub shows_event : List ℕ → Event → Bool
+shows_event known x = nat_lt x.at (slice_index known x.proc)
+
+-- they show that all sources of the event are done
+abbrev pub ShowsSources : Plan → List ℕ → Event → Type 0
+ShowsSources plan known y = (x : Event) → Edge plan x y → x.at < slice_index known x.proc
+
+-- such words, of a settled plan, are a sound cut
+abbrev pub CutsAreSound : Type 0
+CutsAreSound = (plan : Plan) (words : List ℕ) → IsSettled plan → IsCut plan words → IsSoundCut plan (λ p. slice_index words p)
