@@ -1,8 +1,7 @@
 -- One seat for each rank is cut off the first seat.
-use Rattle.std.proofs.Common.{◌≡◌, ℕ, zero, suc, ◌+◌, ◌-◌, ◌<◌, List, [], ◌∷◌, ◌++◌, All, get_or, take, drop, replicate, refl, sym, ap, ◌∙◌, append_assoc, arith}
+use Rattle.std.proofs.Common.{◌≡◌, ℕ, suc, ◌+◌, ◌-◌, ◌<◌, List, [], ◌∷◌, ◌++◌, take, drop, replicate, sym, ap, ◌∙◌, append_assoc, arith}
 use Rattle.wire_rehearsal.specs.Scripts.{Scripts}
 use Rattle.wire_board.specs.declared.hold.Hold.{Hold}
-use Rattle.std.proofs.lemmas.List.Elements.{All-nil, All-cons}
 use Rattle.wire_board.specs.Cuts.{procs_of}
 use Rattle.wire_board.specs.Positions.{hold, holds_from}
 use Rattle.wire_board.specs.Seats.{BoardIs, SeatIs, opening_seat, seats_from}

@@ -1,8 +1,8 @@
 -- What the positions that a seat knows show of an event's sources.
-use Rattle.std.proofs.Common.{◌≡◌, ℕ, zero, suc, ◌<◌, List, [], ◌∷◌, ◌++◌, ◌&&◌, Bool, true, false, Option, Some, None, ◌↔◌, map, refl, sym, ap, ◌∙◌, subst, arith, lt-ltb, ltb-true}
+use Rattle.std.proofs.Common.{◌≡◌, ℕ, zero, suc, ◌<◌, List, [], ◌∷◌, ◌++◌, ◌&&◌, Bool, true, Option, Some, None, ◌↔◌, map, refl, sym, ap, ◌∙◌, subst, lt-ltb, ltb-true}
 use Rattle.std.specs.Prelude.{slice_get, slice_index, option_map, option_to_list}
 use Rattle.std.specs.List.{list_all}
-use Rattle.std.proofs.lemmas.Bool.{true≢false, and_parts, and_from}
+use Rattle.std.proofs.lemmas.Bool.{and_parts, and_from}
 use Rattle.std.proofs.lemmas.Option.{same_Some}
 use Rattle.std.proofs.lemmas.List.Folds.{list_all-append, list_all-map}
 use Rattle.wire_types.specs.declared.Event.{Event as CodeEvent}

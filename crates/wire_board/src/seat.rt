@@ -46,7 +46,7 @@ impl Seat {
     }
 
     /// How many events of its rank are done.
-    pub fn place(&self) -> u64
+    pub(crate) fn place(&self) -> u64
         ensures { result ≡ place_of self.now }
     {
         self.known[self.rank.index()]

@@ -8,10 +8,11 @@ mod gate;
 mod law;
 mod round;
 mod rule;
-mod work;
+mod serve;
 
 pub use gate::{Gate, OpenGate};
 pub use law::deal_rises;
 pub use round::{Pass, Round, Take};
 pub use rule::Piece;
-pub use work::work_locked;
+pub use serve::{work, work_locked};
+pub use wire_lanes::{Lane, Lanes};

@@ -7,7 +7,9 @@ use crate::gate::Gate;
 use crate::round::{Pass, Round, Take};
 use crate::rule::Piece;
 use std::sync::Wait;
+use wire_lanes::Lanes;
 use wire_locked::LockedCore;
+use wire_types::Proc;
 
 /// How often one deque may answer `Again`.
 const MOST_AGAIN: u32 = 1_000;
@@ -20,11 +22,58 @@ struct Victim {
 }
 
 /// Serves the pieces of the worker's own deque, and then those that it steals from the other deques in turn. It leaves a
-/// deque that answered `Again` a thousand times. Before each piece it calls the gate, and then it waits for the lock.
-/// Answers how many steps it took; once the sum is at its type's greatest value, it stays there. It takes no memory.
+/// deque that answered `Again` a thousand times. Before each piece it calls the gate, and then it waits for the lock of
+/// that rank's lane. Answers how many events that were; once the sum is at its type's greatest value, it stays there. It
+/// takes no memory.
+pub fn work<R: Wait, G: Gate>(
+    rt: &R,
+    lanes: &Lanes<'_>,
+    round: &Round,
+    pass: &mut Pass,
+    gate: &G,
+) -> usize
+    requires { IsPassOf round.now pass.old }
+    ensures kept { IsPassOf round.now pass.new × (worker_of pass.new ≡ worker_of pass.old) }
+{
+    serve_pieces(rt, lanes, round, pass, gate)
+}
+
+/// The same over a core under one lock. Answers how many steps it took.
 pub fn work_locked<R: Wait, G: Gate>(
     rt: &R,
     locked: &LockedCore<'_>,
+    round: &Round,
+    pass: &mut Pass,
+    gate: &G,
+) -> usize
+    requires { IsPassOf round.now pass.old }
+    ensures kept { IsPassOf round.now pass.new × (worker_of pass.new ≡ worker_of pass.old) }
+{
+    serve_pieces(rt, locked, round, pass, gate)
+}
+
+/// What waits for a lock and then serves a process as far as it goes.
+trait Serves {
+    /// Answers how many events that were.
+    fn serve_far<R: Wait>(&self, rt: &R, proc: Proc) -> usize;
+}
+
+impl<'a> Serves for Lanes<'a> {
+    fn serve_far<R: Wait>(&self, rt: &R, proc: Proc) -> usize {
+        self.serve(rt, proc)
+    }
+}
+
+impl<'a> Serves for LockedCore<'a> {
+    fn serve_far<R: Wait>(&self, rt: &R, proc: Proc) -> usize {
+        self.serve(rt, proc)
+    }
+}
+
+// Serves pieces until the worker finds no more.
+fn serve_pieces<R: Wait, S: Serves, G: Gate>(
+    rt: &R,
+    serves: &S,
     round: &Round,
     pass: &mut Pass,
     gate: &G,
@@ -42,7 +91,7 @@ pub fn work_locked<R: Wait, G: Gate>(
             break;
         };
         gate.pass(pass.worker(), piece.rank);
-        steps = steps.saturating_add(locked.serve(rt, piece.rank));
+        steps = steps.saturating_add(serves.serve_far(rt, piece.rank));
     }
     steps
 }

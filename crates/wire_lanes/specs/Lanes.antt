@@ -1,0 +1,43 @@
+-- What clauses see of a lane, and what its type keeps.
+use Rattle.std.specs.Prelude.{◌≡◌, ℕ, ◌++◌, ◌≤◌, List, Some, Vec, length, slice_get}
+use Rattle.std.specs.declared.alloc.Global.{Global}
+use Rattle.wire_runs.specs.Plan.{Plan, event_count, process_count}
+use Rattle.wire_rehearsal.specs.Scripts.{Scripts}
+use Rattle.wire_rehearsal.specs.Planned.{plan_of}
+use Rattle.wire_races.specs.declared.Fate.{Fate}
+use Rattle.wire_races.specs.Fates.{IsFateOf}
+use Rattle.wire_board.specs.Seats.{BoardIs, SeatIs, place_of}
+
+-- the seat of its rank, and what the rank's events did
+pub record LaneIs : Type 0 where
+  pub seat : SeatIs
+  pub trail : List Fate
+
+-- the fates of the rank's first events, in their order
+abbrev pub AreFates : Plan → ℕ → List Fate → Type 0
+AreFates plan rank trail = (i : ℕ) (fate : Fate) → slice_get trail i ≡ Some fate → IsFateOf plan (record { proc = rank; at = i }) fate
+
+-- the seat is of this board, and the board was made of this settled plan; the trail has the fates of the rank's first events, as
+-- many as are done, and room for all
+pub record IsLane (board : BoardIs) (settled : Scripts) (seat : SeatIs) (trail : List Fate) (capacity : ℕ) : Type 0 where
+  pub board_is : seat.board ≡ board
+  pub plan_is : board.plan ≡ settled
+  pub as_long : length trail ≡ place_of seat
+  pub fates : AreFates (plan_of settled) seat.rank trail
+  pub room : event_count (plan_of settled) seat.rank ≤ capacity
+
+-- n entries more
+pub record Grows (old new : List Fate) (n : ℕ) : Type 0 where
+  pub added : List Fate
+  pub is : new ≡ old ++ added
+  pub count : length added ≡ n
+
+-- a lane of the same rank on the same board
+pub record SameLane (old new : LaneIs) : Type 0 where
+  pub board : new.seat.board ≡ old.seat.board
+  pub rank : new.seat.rank ≡ old.seat.rank
+
+-- a trail for each rank of the plan, in process order
+pub record AreTrails (plan : Plan) (trails : List (Vec Fate Global)) : Type 0 where
+  pub count : length trails ≡ process_count plan
+  pub each : (r : ℕ) (trail : Vec Fate Global) → slice_get trails r ≡ Some trail → AreFates plan r trail.items

@@ -1,0 +1,172 @@
+//! One rank's seat, and the trail of what its events did.
+
+ghost use Rattle.std.specs.Prelude.{◌≡◌, ◌+◌, ◌<◌, [], length, IfOk, IfSome, IsOkUnless, IsTrue, ◌↔◌, false};
+ghost use Rattle.wire_types.specs.declared.Fault.TheVariants.{Memory};
+ghost use Rattle.wire_runs.specs.Plan.{event_count};
+ghost use Rattle.wire_rehearsal.specs.Planned.{plan_of};
+ghost use Rattle.wire_board.specs.Seats.{place_of, IsReady};
+ghost use Rattle.wire_lanes.specs.Lanes.{AreFates, Grows, SameLane};
+
+use std::alloc::Global;
+use std::marker::Model;
+use wire_board::{Board, Seat};
+use wire_races::{Fate, Settled};
+use wire_types::{Event, Fault, Proc};
+
+/// A rank with its seat, and the trail of what its events did: the fates of its first events, as many as
+/// are done. It borrows the board of its seat, and the settled plan of which that board was made.
+#[derive(Drop)]
+pub struct Lane<'a> {
+    board: &'a Board,
+    settled: &'a Settled,
+    seat: Seat,
+    trail: Vec<Fate>,
+}
+
+impl<'a> Model for Lane<'a> {
+    ghost use Rattle.std.specs.Prelude.{vec_capacity};
+    ghost use Rattle.wire_lanes.specs.Lanes.{LaneIs, IsLane};
+
+    ghost Value = { LaneIs };
+
+    ghost view = { λ l. record { seat = l.seat; trail = l.trail.items } };
+
+    ghost invariant = { λ l. IsLane l.board.now l.settled.now l.seat l.trail.items (vec_capacity l.trail) };
+}
+
+impl<'a> Lane<'a> {
+    /// A lane of a seat no event of whose rank is done. It reserves its whole trail. The caller ensures
+    /// that the board was made of this settled plan, and the seat is of the board. The one fault is
+    /// `Fault::Memory`.
+    pub fn new(
+        alloc: Global,
+        board: &'a Board,
+        settled: &'a Settled,
+        seat: Seat,
+    ) -> Result<Lane<'a>, Fault>
+        requires plan { board.now.plan ≡ settled.now }
+        requires seat { (seat.board ≡ board.now) × (place_of seat ≡ 0) }
+        ensures lane { IfOk result (λ lane. (lane.seat ≡ seat) × (lane.trail ≡ [])) }
+        ensures memory { IsOkUnless result Memory }
+    {
+        let count = settled.plan().event_count(seat.rank());
+        let trail = Vec::with_capacity(alloc, count as usize)?;
+        Ok(Lane {
+            board,
+            settled,
+            seat,
+            trail,
+        })
+    }
+
+    /// The process that it serves.
+    pub fn rank(&self) -> Proc
+        ensures { result.number ≡ self.now.seat.rank }
+    {
+        self.seat.rank()
+    }
+
+    // Reads the word of a process afresh, if it is one of the plan.
+    fn look(&mut self, proc: Proc)
+        ensures same { SameLane self.old self.new }
+        ensures trail { self.new.trail ≡ self.old.trail }
+    {
+        let board = self.board;
+        let settled = self.settled;
+        if proc.number < settled.plan().process_count() {
+            board.read(&mut self.seat, proc);
+        }
+    }
+
+    // Reads the words of the processes of these events afresh.
+    fn look_at_each(&mut self, events: &[Event])
+        ensures same { SameLane self.old self.new }
+        ensures trail { self.new.trail ≡ self.old.trail }
+    {
+        for event in events {
+            self.look(event.proc);
+        }
+    }
+
+    // Reads the words of all sources of the next event afresh, each once. The event before it in its own
+    // process is done: the seat's place shows it.
+    fn refresh(&mut self)
+        ensures same { SameLane self.old self.new }
+        ensures trail { self.new.trail ≡ self.old.trail }
+    {
+        let plan = self.settled.plan();
+        let proc = self.seat.rank();
+        let done = self.trail.len();
+        if done >= plan.event_count(proc) as usize {
+            return;
+        }
+        let sources = plan.sources(Event {
+            proc,
+            at: done as u32,
+        });
+        if let Some(awaited) = sources.awaited {
+            self.look(awaited.proc);
+        }
+        self.look_at_each(sources.arrivals);
+    }
+
+    // One event, if the seat shows that it can happen. Whether it did.
+    fn step(&mut self) -> bool
+        ensures same { SameLane self.old self.new }
+        ensures more { IsTrue result → Grows self.old.trail self.new.trail 1 × (length self.old.trail < event_count (plan_of self.old.seat.board.plan) self.old.seat.rank) }
+        ensures stays { result ≡ false → (self.new ≡ self.old) × ¬ (IsReady self.new.seat) }
+    {
+        let board = self.board;
+        let settled = self.settled;
+        let Some(fate) = self.seat.next_fate(settled) else {
+            return false;
+        };
+        board.advance(&mut self.seat, settled);
+        self.trail.push_reserved(fate);
+        true
+    }
+
+    /// Serves the rank as far as it goes: reads all sources of the next event afresh, and does the event
+    /// where its seat shows that it can happen, until it doesn't after fresh reads. Answers how many events
+    /// that were: so many entries the trail has more. It waits for nobody, takes no memory and can't fail.
+    pub fn advance_far(&mut self) -> usize
+        ensures same { SameLane self.old self.new }
+        ensures trail { Grows self.old.trail self.new.trail result }
+        ensures rests { ¬ (IsReady self.new.seat) }
+    {
+        let before = self.trail.len();
+        self.refresh();
+        'events: while self.step() {
+            self.refresh();
+        }
+        self.trail.len() - before
+    }
+
+    /// Whether the next event of the rank can happen, after fresh reads of all its sources. It waits for
+    /// nobody, takes no memory and can't fail.
+    pub fn is_ready(&mut self) -> bool
+        ensures same { SameLane self.old self.new }
+        ensures trail { self.new.trail ≡ self.old.trail }
+        ensures ready { IsTrue result ↔ IsReady self.new.seat }
+    {
+        self.refresh();
+        self.seat.shows(self.settled)
+    }
+
+    /// Its trail, where it is the lane of this rank and of this plan; else `None`.
+    pub fn into_trail(self, settled: &Settled, rank: Proc) -> Option<Vec<Fate>>
+        ensures { IfSome result (λ trail. AreFates (plan_of settled.now) rank.number trail.items × (trail.items ≡ self.entry.trail)) }
+    {
+        let Lane {
+            board: _,
+            settled: own,
+            seat,
+            trail,
+        } = self;
+        if seat.rank() == rank && *own.plan() == *settled.plan() {
+            Some(trail)
+        } else {
+            None
+        }
+    }
+}

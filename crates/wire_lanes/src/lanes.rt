@@ -1,0 +1,87 @@
+//! The lanes of all ranks, each under a lock.
+
+ghost use Rattle.std.specs.Prelude.{◌≡◌, IfOk, IfSome, IsOkUnless};
+ghost use Rattle.wire_types.specs.declared.Fault.TheVariants.{Memory};
+ghost use Rattle.wire_rehearsal.specs.Planned.{plan_of};
+ghost use Rattle.wire_board.specs.Seats.{opening_seats};
+ghost use Rattle.wire_lanes.specs.Lanes.{AreTrails};
+
+use crate::lane::Lane;
+use std::alloc::Global;
+use std::sync::{Mutex, Wait};
+use wire_board::{Board, Seat};
+use wire_races::{Fate, Settled};
+use wire_types::{Fault, Proc};
+
+/// A lane for each rank, in process order, each under a lock of its own. Whenever the lock is free, the
+/// lane's trail has the fates of its rank's first events, as many as are done.
+#[derive(Drop)]
+pub struct Lanes<'a> {
+    lanes: Vec<Mutex<Lane<'a>>>,
+}
+
+impl<'a> Lanes<'a> {
+    /// A lane for each of these seats. Each reserves its whole trail. The caller ensures that the board was
+    /// made of this settled plan, and that the seats are those that `Board::new` gave, in their order. The
+    /// one fault is `Fault::Memory`.
+    pub fn new(
+        alloc: Global,
+        board: &'a Board,
+        settled: &'a Settled,
+        mut seats: Vec<Seat>,
+    ) -> Result<Lanes<'a>, Fault>
+        requires plan { board.now.plan ≡ settled.now }
+        requires seats { seats.items ≡ opening_seats board.now }
+        ensures memory { IsOkUnless result Memory }
+    {
+        let mut lanes = Vec::with_capacity(alloc, seats.len())?;
+        'seats: while let Some(seat) = seats.pop() {
+            lanes.push_reserved(Mutex::new(Lane::new(alloc, board, settled, seat)?));
+        }
+        lanes.reverse();
+        Ok(Lanes { lanes })
+    }
+
+    /// Waits for the lock of a rank's lane, then serves the rank as far as it goes, and answers how many
+    /// events that were (`Lane::advance_far`); 0 for a process that has no lane. It takes no memory. No
+    /// clause says what it did: other threads serve the lane before and after.
+    pub fn serve<R: Wait>(&self, rt: &R, proc: Proc) -> usize {
+        match self.lanes.get(proc.index()) {
+            Some(lane) => lane.lock(rt).advance_far(),
+            None => 0,
+        }
+    }
+
+    /// Waits for the lock of a rank's lane, then answers whether the rank's next event can happen, after
+    /// fresh reads of all its sources (`Lane::is_ready`); false for a process that has no lane. It takes no
+    /// memory.
+    pub fn ready<R: Wait>(&self, rt: &R, proc: Proc) -> bool {
+        match self.lanes.get(proc.index()) {
+            Some(lane) => lane.lock(rt).is_ready(),
+            None => false,
+        }
+    }
+
+    /// The trails of all ranks of this plan, in process order; `None` where a lane's rank or plan isn't the
+    /// one expected. The one fault is `Fault::Memory`.
+    pub fn trails(self, alloc: Global, settled: &Settled) -> Result<Option<Vec<Vec<Fate>>>, Fault>
+        ensures trails { IfOk result (λ o. IfSome o (λ trails. AreTrails (plan_of settled.now) trails.items)) }
+        ensures memory { IsOkUnless result Memory }
+    {
+        let mut lanes = self.lanes;
+        let count = settled.plan().process_count();
+        if lanes.len() != count as usize {
+            return Ok(None);
+        }
+        let mut trails = Vec::with_capacity(alloc, lanes.len())?;
+        lanes.reverse();
+        'lanes: while let Some(lane) = lanes.pop() {
+            let rank = Proc::new(trails.len() as u32);
+            let Some(trail) = lane.into_inner().into_trail(settled, rank) else {
+                return Ok(None);
+            };
+            trails.push_reserved(trail);
+        }
+        Ok(Some(trails))
+    }
+}

@@ -1,0 +1,9 @@
+//! Lanes: for each rank its seat, with the trail of what its events did, under a lock of its own. Threads
+//! that serve different ranks don't wait for each other.
+#![tactic(auto)]
+
+mod lane;
+mod lanes;
+
+pub use lane::Lane;
+pub use lanes::Lanes;
