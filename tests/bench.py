@@ -3,8 +3,9 @@
 Usage: python3 tests/bench.py [PROGRAM] [--beside OTHER] [--only WORD] [--runs N] [--small]
 Prints the tables of docs/performance.md: for each file its bytes, calls and findings; for each command the least time of N runs,
 with the start of the process in it and the output thrown away, how that grows from a quarter of the calls, and the greatest
-resident size. With OTHER, its time and size in the same runs, and the ratio. --small takes files of a few calls, each once: it only
-shows that all of it still works.
+resident size. With OTHER, its time and size in the same runs, and the ratio. The last table has the run by one thread that judges no
+findings (crates/plain, which is built where it isn't there), and `replay` by one worker beside it. --small takes files of a few
+calls, each once: it only shows that all of it still works.
 """
 import argparse
 import collections
@@ -15,6 +16,7 @@ import tempfile
 import time
 
 TOP = os.path.dirname(os.path.dirname(os.path.abspath(__file__)))
+PLAIN = os.path.join(TOP, "crates", "plain", "out", "plain")
 ONE_NODE = "rehearsal 1\nnode n0\njob app\n"
 TWO_NODES = "rehearsal 1\nnode n0\nnode n1\njob app\n"
 QUARTER, WHOLE = 1, 4
@@ -135,12 +137,13 @@ def calls_in(text):
     return sum(not line.startswith(PLACED) for line in text.splitlines())
 
 
-def run(words):
-    """The seconds of one run and its greatest resident size in KiB."""
-    began = time.perf_counter()
-    it = subprocess.Popen(words, stdin=subprocess.DEVNULL, stdout=subprocess.DEVNULL, stderr=subprocess.DEVNULL)
-    _, status, used = os.wait4(it.pid, 0)
-    seconds = time.perf_counter() - began
+def run(words, given=os.devnull):
+    """The seconds of one run and its greatest resident size in KiB. Its standard input is the file `given`."""
+    with open(given, "rb") as reader:
+        began = time.perf_counter()
+        it = subprocess.Popen(words, stdin=reader, stdout=subprocess.DEVNULL, stderr=subprocess.DEVNULL)
+        _, status, used = os.wait4(it.pid, 0)
+        seconds = time.perf_counter() - began
     it.returncode = os.waitstatus_to_exitcode(status)
     if it.returncode not in (0, 1):
         sys.exit(f"{' '.join(words)}: exit status {it.returncode}")
@@ -205,6 +208,15 @@ class Bench:
             cells += [f"{1000 * other[0]:.1f}", mebibytes(other[1], floor), f"{other[0] / large[0][0]:.1f}"]
         print(f"| {' | '.join(cells)} |", flush=True)
 
+    def tell_plain(self, kind):
+        """A row of the table of plain runs. With findings, `replay` runs nothing, and there is no row."""
+        path, _ = self.file_of(kind, WHOLE)
+        if findings_in(self.programs[0], path):
+            return
+        took = [(run([PLAIN], path)[0], run([self.programs[0], "replay", path])[0]) for _ in range(self.runs)]
+        plain, replay = (1000 * min(it) for it in zip(*took))
+        print(f"| {kind.name} | {plain:.1f} | {replay:.1f} | {replay / plain:.1f} |", flush=True)
+
     def tell_all(self, kinds):
         print("| file | what stands in it | bytes | calls | findings |\n|---|---|---|---|---|")
         for kind in kinds:
@@ -217,13 +229,25 @@ class Bench:
             print(f"\n`{' '.join(words)}`:\n\n| {' | '.join(heads)} |\n|{'---|' * len(heads)}")
             for kind in its:
                 self.tell_command(kind, programs, words)
+        print("\nA plain run, and `replay`:\n\n| file | plain, ms | replay, ms | times as long |\n|---|---|---|---|")
+        for kind in kinds:
+            self.tell_plain(kind)
+
+
+def build_plain():
+    """Builds the program of plain runs, where it isn't there."""
+    if not os.path.exists(PLAIN):
+        print("building crates/plain", file=sys.stderr, flush=True)
+        subprocess.run(["rt", "run"], cwd=os.path.join(TOP, "crates", "plain"), capture_output=True, check=False)
+    if not os.path.exists(PLAIN):
+        sys.exit("crates/plain can't be built: `rt run` in that folder shows why")
 
 
 def works(program):
     """Times the program on files of a few calls. Answers how many such runs passed and failed, of one."""
     words = [sys.executable, os.path.abspath(__file__), program, "--small", "--beside", program]
     ran = subprocess.run(words, stdin=subprocess.DEVNULL, capture_output=True, text=True, check=False)
-    is_well = ran.returncode == 0 and ran.stdout.count("\n| ") == (1 + len(COMMANDS)) * (len(KINDS) + 1) + len(WHY)
+    is_well = ran.returncode == 0 and ran.stdout.count("\n| ") >= (1 + len(COMMANDS)) * (len(KINDS) + 1) + len(WHY) + 1
     if not is_well:
         print(f"tests/bench.py: {ran.stdout}{ran.stderr}", end="")
     print(f"tests/bench.py: {int(is_well)} passed, {int(not is_well)} failed", flush=True)
@@ -241,6 +265,7 @@ def main():
     for program in filter(None, (args.program, args.beside)):
         if not os.path.exists(program):
             sys.exit(f"there is no {program}: make run builds ./wire_up")
+    build_plain()
     if args.small:
         args.runs = 1
     with tempfile.TemporaryDirectory(prefix="wire-up-") as room:

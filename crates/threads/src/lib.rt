@@ -2,6 +2,10 @@
 #![tactic(auto)]
 
 #[cfg(test)]
+mod boards;
+#[cfg(test)]
+mod fates;
+#[cfg(test)]
 mod gates;
 #[cfg(test)]
 mod tests;

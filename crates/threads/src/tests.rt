@@ -23,7 +23,7 @@ use wire_types::{CallEnd, Fault, MemorySink, MemorySource, Outcome, Proc, Status
 use wire_up::{Ended, Mode, rehearse};
 
 /// A get waits for a commit on another node.
-const WAITING: &[u8] = b"\
+pub(crate) const WAITING: &[u8] = b"\
 rehearsal 1
 node n0
 node n1
@@ -49,7 +49,7 @@ rank n0
 ";
 
 /// Two processes that wait for nothing.
-const APART: &[u8] = b"\
+pub(crate) const APART: &[u8] = b"\
 rehearsal 1
 node n0
 job app
@@ -89,7 +89,7 @@ fn plan_of_file(alloc: Global, file: &[u8]) -> Result<Plan, Fault> {
 }
 
 /// A file of 256 processes, each with one commit.
-fn commits(alloc: Global) -> Result<String, Fault> {
+pub(crate) fn commits(alloc: Global) -> Result<String, Fault> {
     let mut file = String::from_str(alloc, "rehearsal 1\nnode n0\njob app\n")?;
     for _ in 0..256 {
         file.push_str("rank n0\ncommit\n")?;
@@ -126,7 +126,7 @@ fn judged<R: Threads + Sync>(
 }
 
 /// A file as a settled plan. Where something is found, the fault is `NotReady`.
-fn settled<R: Threads + Sync>(rt: &R, alloc: Global, file: &[u8]) -> Result<Settled, Fault> {
+pub(crate) fn settled<R: Threads + Sync>(rt: &R, alloc: Global, file: &[u8]) -> Result<Settled, Fault> {
     let plan = plan_of_file(alloc, file)?;
     match judged(rt, alloc, &plan) {
         Ok((marks, found)) => match Settled::try_new(plan, marks, found) {
@@ -277,6 +277,11 @@ fn the_collector_serves_nothing(rt: HostRuntime) -> Result<(), Fail> {
         let gate = Counter::new();
         let (outcome, _) = ran(&rt, alloc, file, 1, &gate)?;
         assert_eq!(rt; outcome.waiting, 0);
+        assert_eq!(rt; gate.first.load(Ordering::SeqCst), rounds);
+        assert_eq!(rt; gate.collector.load(Ordering::SeqCst), 0);
+        let gate = Counter::new();
+        let settled = ran_settled(&rt, alloc, file, 1, &gate)?;
+        assert_eq!(rt; settled.waiting, 0);
         assert_eq!(rt; gate.first.load(Ordering::SeqCst), rounds);
         assert_eq!(rt; gate.collector.load(Ordering::SeqCst), 0);
     }
