@@ -1,0 +1,810 @@
+/* Notes the PMIx calls of a process, one file for each process, and changes nothing that the process sees.
+ *
+ *   LD_PRELOAD=.../record.so WIRE_UP_RECORD=DIRECTORY program
+ *
+ * `wire_up-record` sets both and turns the files into a plan. docs/recording.md has the form of the files.
+ *
+ * A call is noted just before the library's own function runs, and its end just after, each as one line by one `write`. So
+ * nothing is lost when the process dies. What the library calls itself, inside a call or on a thread of its own, isn't noted.
+ */
+#define _GNU_SOURCE
+#include "record.h"
+
+#include <dlfcn.h>
+#include <errno.h>
+#include <fcntl.h>
+#include <limits.h>
+#include <pmix.h>
+#include <pthread.h>
+#include <stdarg.h>
+#include <stdint.h>
+#include <stdio.h>
+#include <stdlib.h>
+#include <string.h>
+#include <sys/stat.h>
+#include <time.h>
+#include <unistd.h>
+
+/* The longest text that is noted whole. A plan has values of up to 255 bytes. */
+#define LONGEST_TEXT 1024
+
+static pthread_mutex_t opening = PTHREAD_MUTEX_INITIALIZER;
+static int file = -1; /* where the records go; -1 before PMIx_Init and after a failed write */
+static pid_t owner;   /* the process that opened it: a fork of it isn't the same process of the job */
+static dev_t its_device;
+static ino_t its_number;
+static char path[PATH_MAX];
+static struct timespec began;
+static unsigned long calls, threads;
+static int inits;
+static __thread unsigned long my_thread;
+static __thread int inside; /* how many calls of the library this thread is in */
+
+/* --- texts --- */
+
+void wire_up_text_open(struct text *to)
+{
+    to->at = to->first;
+    to->length = 0;
+    to->room = sizeof to->first;
+    to->is_lost = false;
+}
+
+void wire_up_text_close(struct text *to)
+{
+    if (to->at != to->first)
+        free(to->at);
+}
+
+/* Makes room for `more` bytes and a final zero. */
+static bool widen(struct text *to, size_t more)
+{
+    if (to->is_lost)
+        return false;
+    if (to->length + more < to->room)
+        return true;
+    size_t room = 2 * (to->length + more) + 1;
+    char *at = to->at == to->first ? malloc(room) : realloc(to->at, room);
+    if (!at) {
+        to->is_lost = true;
+        return false;
+    }
+    if (to->at == to->first)
+        memcpy(at, to->first, to->length);
+    to->at = at;
+    to->room = room;
+    return true;
+}
+
+void wire_up_text_add(struct text *to, const char *format, ...)
+{
+    va_list words;
+    va_start(words, format);
+    int length = vsnprintf(NULL, 0, format, words);
+    va_end(words);
+    if (length < 0 || !widen(to, (size_t)length))
+        return;
+    va_start(words, format);
+    vsnprintf(to->at + to->length, (size_t)length + 1, format, words);
+    va_end(words);
+    to->length += (size_t)length;
+}
+
+/* Adds bytes as one word: printable ASCII as it is, but for the signs that part words, and each other byte as %XX. No byte at all is %. */
+static void add_word(struct text *to, const char *bytes, size_t length)
+{
+    static const char digits[] = "0123456789ABCDEF";
+    if (!length)
+        wire_up_text_add(to, "%%");
+    if (!widen(to, 3 * length))
+        return;
+    for (size_t n = 0; n < length; n++) {
+        unsigned char byte = (unsigned char)bytes[n];
+        if (byte > 32 && byte < 127 && !strchr("%,:=", byte)) {
+            to->at[to->length++] = (char)byte;
+        } else {
+            to->at[to->length++] = '%';
+            to->at[to->length++] = digits[byte >> 4];
+            to->at[to->length++] = digits[byte & 15];
+        }
+    }
+    to->at[to->length] = 0;
+}
+
+static void add_key(struct text *to, const char *key) { add_word(to, key, strnlen(key, PMIX_MAX_KEYLEN)); }
+
+/* --- the file --- */
+
+static void give_up(const char *why)
+{
+    file = -1;
+    fprintf(stderr, "wire_up-record: %s: %s; what follows isn't recorded\n", path, why);
+}
+
+/* Whether the file is still the one that was opened: a program may close descriptors that it doesn't know. */
+static bool is_still_open(void)
+{
+    struct stat it;
+    return fstat(file, &it) == 0 && it.st_dev == its_device && it.st_ino == its_number;
+}
+
+static void write_whole(const char *bytes, size_t length)
+{
+    if (!is_still_open()) {
+        give_up("the program closed it");
+        return;
+    }
+    ssize_t wrote;
+    do
+        wrote = write(file, bytes, length);
+    while (wrote < 0 && errno == EINTR);
+    if (wrote < 0)
+        give_up(strerror(errno));
+    else if ((size_t)wrote < length)
+        give_up("no room");
+}
+
+bool wire_up_is_recording(void)
+{
+    int was = errno;
+    bool is = file >= 0 && getpid() == owner;
+    errno = was;
+    return is;
+}
+
+unsigned long wire_up_number(void) { return __atomic_add_fetch(&calls, 1, __ATOMIC_RELAXED); }
+
+void wire_up_write(char sign, unsigned long number, const struct text *what)
+{
+    int was = errno;
+    if (file >= 0 && getpid() == owner) {
+        struct timespec now;
+        struct text line;
+        clock_gettime(CLOCK_MONOTONIC, &now);
+        long seconds = now.tv_sec - began.tv_sec, nanoseconds = now.tv_nsec - began.tv_nsec;
+        if (nanoseconds < 0) {
+            seconds--;
+            nanoseconds += 1000000000;
+        }
+        if (!my_thread)
+            my_thread = __atomic_add_fetch(&threads, 1, __ATOMIC_RELAXED);
+        wire_up_text_open(&line);
+        wire_up_text_add(&line, "%c %lu %lu %ld.%06ld %s\n", sign, number, my_thread, seconds, nanoseconds / 1000, what->at);
+        if (line.is_lost || what->is_lost)
+            write_whole("lost\n", 5);
+        else
+            write_whole(line.at, line.length);
+        wire_up_text_close(&line);
+    }
+    errno = was;
+}
+
+/* Opens the file of this process, once. Its first lines say which process it is. */
+static void open_file(const pmix_proc_t *me, const char *version)
+{
+    const char *directory = getenv("WIRE_UP_RECORD");
+    if (!directory || !*directory)
+        return;
+    char host[256] = "";
+    struct stat it;
+    struct timespec today;
+    struct text name, head;
+    gethostname(host, sizeof host - 1);
+    wire_up_text_open(&name);
+    add_word(&name, me->nspace, strnlen(me->nspace, PMIX_MAX_NSLEN));
+    for (char *at = name.at; !name.is_lost && *at; at++)
+        if (*at == '/')
+            *at = '_';
+    int length = snprintf(path, sizeof path, "%s/%s.%u.%s.%ld.recording", directory, name.at, me->rank, host, (long)getpid());
+    wire_up_text_close(&name);
+    if (length < 0 || (size_t)length >= sizeof path) {
+        fprintf(stderr, "wire_up-record: the path of the recordings is too long; nothing is recorded\n");
+        return;
+    }
+    int opened = open(path, O_WRONLY | O_CREAT | O_EXCL | O_APPEND | O_CLOEXEC, 0666);
+    if (opened < 0) {
+        fprintf(stderr, "wire_up-record: %s: %s; nothing is recorded\n", path, strerror(errno));
+        return;
+    }
+    /* A high number: the program gets the same descriptors as without a recorder. */
+    int high = fcntl(opened, F_DUPFD_CLOEXEC, 900);
+    if (high >= 0) {
+        close(opened);
+        opened = high;
+    }
+    if (fstat(opened, &it) < 0) {
+        close(opened);
+        return;
+    }
+    its_device = it.st_dev;
+    its_number = it.st_ino;
+    owner = getpid();
+    clock_gettime(CLOCK_MONOTONIC, &began);
+    clock_gettime(CLOCK_REALTIME, &today);
+    wire_up_text_open(&head);
+    wire_up_text_add(&head, "wire_up-recording 1\nprocess ");
+    add_word(&head, me->nspace, strnlen(me->nspace, PMIX_MAX_NSLEN));
+    wire_up_text_add(&head, " %u ", me->rank);
+    add_word(&head, host, strlen(host));
+    wire_up_text_add(&head, " %ld\nbegan %lld.%06ld\nlibrary ", (long)owner, (long long)today.tv_sec, today.tv_nsec / 1000);
+    add_word(&head, version, strlen(version));
+    wire_up_text_add(&head, "\n");
+    __atomic_store_n(&file, opened, __ATOMIC_RELEASE);
+    if (head.is_lost)
+        write_whole("lost\n", 5);
+    else
+        write_whole(head.at, head.length);
+    wire_up_text_close(&head);
+}
+
+/* --- the library's own functions --- */
+
+static const void *base_of(const void *address)
+{
+    Dl_info it;
+    return address && dladdr(address, &it) ? it.dli_fbase : NULL;
+}
+
+/* The function of this name in the objects that the code at `caller` is linked to, or in the PMIx that is loaded. */
+void *wire_up_find(const char *name, void *caller, const void *not_this)
+{
+    int was = errno;
+    const void *mine = base_of(not_this);
+    void *found = dlsym(RTLD_NEXT, name);
+    Dl_info it;
+    if (!found && dladdr(caller, &it) && it.dli_fname) {
+        void *object = dlopen(it.dli_fname, RTLD_LAZY | RTLD_NOLOAD);
+        found = object ? dlsym(object, name) : NULL;
+        if (object)
+            dlclose(object);
+        if (found && base_of(found) == mine)
+            found = NULL;
+    }
+    const char *others[] = {"libpmix.so.2", "libpmix.so"};
+    for (size_t n = 0; !found && n < sizeof others / sizeof *others; n++) {
+        void *object = dlopen(others[n], RTLD_LAZY);
+        found = object ? dlsym(object, name) : NULL;
+    }
+    errno = was;
+    return found;
+}
+
+/* Whether a call comes from the library itself: from inside another call, or from its own code on any thread. */
+static bool is_inner(const void *caller, const void *real) { return inside > 0 || base_of(caller) == base_of(real); }
+
+/* What each function below begins with: `real` is the library's own function, and `is_noted` says whether to note the call. */
+#define BEGIN(name, otherwise)                                                                                                   \
+    static __typeof__(&name) its;                                                                                                \
+    void *caller = __builtin_return_address(0);                                                                                  \
+    __typeof__(&name) real = __atomic_load_n(&its, __ATOMIC_RELAXED);                                                            \
+    if (!real) {                                                                                                                 \
+        real = (__typeof__(&name))wire_up_find(#name, caller, (const void *)&name);                                              \
+        __atomic_store_n(&its, real, __ATOMIC_RELAXED);                                                                          \
+    }                                                                                                                            \
+    if (!real)                                                                                                                   \
+        return otherwise;                                                                                                        \
+    bool is_noted = wire_up_is_recording() && !is_inner(caller, (const void *)real)
+
+/* --- the words of a record --- */
+
+static void add_proc(struct text *to, const pmix_proc_t *proc)
+{
+    if (!proc) {
+        wire_up_text_add(to, "none");
+        return;
+    }
+    add_word(to, proc->nspace, strnlen(proc->nspace, PMIX_MAX_NSLEN));
+    if (proc->rank == PMIX_RANK_WILDCARD)
+        wire_up_text_add(to, ":*");
+    else if (proc->rank <= PMIX_RANK_VALID)
+        wire_up_text_add(to, ":%u", proc->rank);
+    else
+        wire_up_text_add(to, ":undefined");
+}
+
+static void add_set(struct text *to, const pmix_proc_t procs[], size_t count)
+{
+    if (!procs || !count)
+        wire_up_text_add(to, "all");
+    for (size_t n = 0; procs && n < count; n++) {
+        wire_up_text_add(to, n ? "," : "");
+        add_proc(to, &procs[n]);
+    }
+}
+
+static void add_value(struct text *to, const pmix_value_t *value)
+{
+    if (!value) {
+        wire_up_text_add(to, "none");
+        return;
+    }
+    switch (value->type) {
+    case PMIX_STRING: {
+        size_t length = value->data.string ? strlen(value->data.string) : 0;
+        if (!value->data.string) {
+            wire_up_text_add(to, "none");
+        } else if (length > LONGEST_TEXT) {
+            wire_up_text_add(to, "long:%zu", length);
+        } else {
+            wire_up_text_add(to, "text:");
+            add_word(to, value->data.string, length);
+        }
+        break;
+    }
+    case PMIX_BYTE_OBJECT:
+    case PMIX_COMPRESSED_STRING:
+    case PMIX_COMPRESSED_BYTE_OBJECT:
+    case PMIX_REGEX: wire_up_text_add(to, "bytes:%zu", value->data.bo.size); break;
+    case PMIX_BOOL: wire_up_text_add(to, "number:1:%d", (int)value->data.flag); break;
+    case PMIX_BYTE:
+    case PMIX_UINT8: wire_up_text_add(to, "number:1:%u", (unsigned)value->data.uint8); break;
+    case PMIX_INT8: wire_up_text_add(to, "number:1:%d", (int)value->data.int8); break;
+    case PMIX_UINT16: wire_up_text_add(to, "number:2:%u", (unsigned)value->data.uint16); break;
+    case PMIX_INT16: wire_up_text_add(to, "number:2:%d", (int)value->data.int16); break;
+    case PMIX_UINT:
+    case PMIX_UINT32:
+    case PMIX_PROC_RANK: wire_up_text_add(to, "number:4:%u", (unsigned)value->data.uint32); break;
+    case PMIX_INT:
+    case PMIX_INT32:
+    case PMIX_STATUS: wire_up_text_add(to, "number:4:%d", (int)value->data.int32); break;
+    case PMIX_SIZE:
+    case PMIX_UINT64: wire_up_text_add(to, "number:8:%llu", (unsigned long long)value->data.uint64); break;
+    case PMIX_INT64: wire_up_text_add(to, "number:8:%lld", (long long)value->data.int64); break;
+    case PMIX_FLOAT: wire_up_text_add(to, "other:%zu", sizeof value->data.fval); break;
+    case PMIX_DOUBLE: wire_up_text_add(to, "other:%zu", sizeof value->data.dval); break;
+    case PMIX_UNDEF: wire_up_text_add(to, "none"); break;
+    default: wire_up_text_add(to, "type:%u", (unsigned)value->type);
+    }
+}
+
+/* Directives: KEY or KEY=NUMBER each, and a dash where there is none. A boolean stands as 0 or 1. */
+static void add_directives(struct text *to, const pmix_info_t info[], size_t count, bool reserved_alone)
+{
+    bool is_first = true;
+    wire_up_text_add(to, " ");
+    for (size_t n = 0; info && n < count; n++) {
+        if (reserved_alone && strncmp(info[n].key, "pmix", 4))
+            continue;
+        wire_up_text_add(to, is_first ? "" : ",");
+        is_first = false;
+        add_key(to, info[n].key);
+        wire_up_text_add(to, "=");
+        if (info[n].value.type == PMIX_UNDEF)
+            wire_up_text_add(to, "number:1:1");
+        else
+            add_value(to, &info[n].value);
+    }
+    if (is_first)
+        wire_up_text_add(to, "-");
+}
+
+static void add_keys(struct text *to, char **keys)
+{
+    if (!keys)
+        wire_up_text_add(to, "every");
+    else if (!*keys)
+        wire_up_text_add(to, "-");
+    for (size_t n = 0; keys && keys[n]; n++) {
+        wire_up_text_add(to, n ? ",:" : ":");
+        add_word(to, keys[n], strlen(keys[n]));
+    }
+}
+
+/* --- when a call ends --- */
+
+static void note_end(unsigned long number, pmix_status_t status)
+{
+    int was = errno;
+    struct text what;
+    wire_up_text_open(&what);
+    wire_up_text_add(&what, "%d", (int)status);
+    wire_up_write('-', number, &what);
+    wire_up_text_close(&what);
+    errno = was;
+}
+
+static void note_value(unsigned long number, pmix_status_t status, const pmix_value_t *value)
+{
+    int was = errno;
+    struct text what;
+    wire_up_text_open(&what);
+    wire_up_text_add(&what, "%d", (int)status);
+    if (status == PMIX_SUCCESS && value) {
+        wire_up_text_add(&what, " ");
+        add_value(&what, value);
+    }
+    wire_up_write('-', number, &what);
+    wire_up_text_close(&what);
+    errno = was;
+}
+
+static void note_data(unsigned long number, pmix_status_t status, const pmix_pdata_t data[], size_t count)
+{
+    int was = errno;
+    struct text what;
+    wire_up_text_open(&what);
+    wire_up_text_add(&what, "%d ", (int)status);
+    for (size_t n = 0; data && n < count; n++) {
+        wire_up_text_add(&what, n ? "," : "");
+        add_key(&what, data[n].key);
+        wire_up_text_add(&what, "=");
+        add_value(&what, &data[n].value);
+    }
+    if (!data || !count)
+        wire_up_text_add(&what, "-");
+    wire_up_write('-', number, &what);
+    wire_up_text_close(&what);
+    errno = was;
+}
+
+/* A call whose end comes by a callback: the program's own callback, and what it is handed. */
+struct pending {
+    unsigned long number;
+    void *data;
+    union {
+        pmix_op_cbfunc_t of_op;
+        pmix_value_cbfunc_t of_value;
+        pmix_lookup_cbfunc_t of_lookup;
+    } then;
+};
+
+static struct pending *pend(unsigned long number, void *data)
+{
+    int was = errno;
+    struct pending *it = malloc(sizeof *it);
+    if (it) {
+        it->number = number;
+        it->data = data;
+    }
+    errno = was;
+    return it;
+}
+
+static void unpend(struct pending *it)
+{
+    int was = errno;
+    free(it);
+    errno = was;
+}
+
+/* The calls that a callback makes are the program's own, on whatever thread it runs. */
+#define CALL_BACK(call)                                                                                                          \
+    do {                                                                                                                         \
+        int depth = inside;                                                                                                      \
+        inside = 0;                                                                                                              \
+        call;                                                                                                                    \
+        inside = depth;                                                                                                          \
+    } while (0)
+
+static void op_ended(pmix_status_t status, void *data)
+{
+    struct pending it = *(struct pending *)data;
+    unpend(data);
+    note_end(it.number, status);
+    CALL_BACK(it.then.of_op(status, it.data));
+}
+
+static void value_came(pmix_status_t status, pmix_value_t *value, void *data)
+{
+    struct pending it = *(struct pending *)data;
+    unpend(data);
+    note_value(it.number, status, value);
+    CALL_BACK(it.then.of_value(status, value, it.data));
+}
+
+static void data_came(pmix_status_t status, pmix_pdata_t found[], size_t count, void *data)
+{
+    struct pending it = *(struct pending *)data;
+    unpend(data);
+    note_data(it.number, status, found, count);
+    CALL_BACK(it.then.of_lookup(status, found, count, it.data));
+}
+
+/* Where a call that doesn't block ended at once, no callback comes. */
+static void note_refused(unsigned long number, pmix_status_t status, struct pending *it)
+{
+    if (status == PMIX_SUCCESS)
+        return;
+    unpend(it);
+    note_end(number, status == PMIX_OPERATION_SUCCEEDED ? PMIX_SUCCESS : status);
+}
+
+/* --- the calls --- */
+
+#define NOTE(number, fill)                                                                                                       \
+    do {                                                                                                                         \
+        int was = errno;                                                                                                         \
+        struct text what;                                                                                                        \
+        wire_up_text_open(&what);                                                                                                \
+        fill;                                                                                                                    \
+        wire_up_write('+', number, &what);                                                                                       \
+        wire_up_text_close(&what);                                                                                               \
+        errno = was;                                                                                                             \
+    } while (0)
+
+/* A call that blocks: it is noted before and after. */
+#define BLOCKING(fill, call)                                                                                                     \
+    do {                                                                                                                         \
+        unsigned long number = is_noted ? wire_up_number() : 0;                                                                  \
+        if (is_noted)                                                                                                            \
+            NOTE(number, fill);                                                                                                  \
+        inside++;                                                                                                                \
+        pmix_status_t status = call;                                                                                             \
+        inside--;                                                                                                                \
+        if (is_noted)                                                                                                            \
+            note_end(number, status);                                                                                            \
+        return status;                                                                                                           \
+    } while (0)
+
+/* A call that doesn't: its callback is replaced by one that notes the end and calls it. */
+#define CALLING_BACK(fill, field, ours, with, plainly)                                                                           \
+    do {                                                                                                                         \
+        unsigned long number = is_noted ? wire_up_number() : 0;                                                                  \
+        struct pending *it = is_noted && then ? pend(number, data) : NULL;                                                       \
+        if (it)                                                                                                                  \
+            it->then.field = then;                                                                                               \
+        if (is_noted)                                                                                                            \
+            NOTE(number, fill);                                                                                                  \
+        inside++;                                                                                                                \
+        pmix_status_t status = it ? with : plainly;                                                                              \
+        inside--;                                                                                                                \
+        if (is_noted)                                                                                                            \
+            note_refused(number, status, it);                                                                                    \
+        return status;                                                                                                           \
+    } while (0)
+
+static const char *version_by(void *caller)
+{
+    const char *(*version)(void) = (const char *(*)(void))wire_up_find("PMIx_Get_version", caller, (const void *)&open_file);
+    return version ? version() : "unknown";
+}
+
+pmix_status_t PMIx_Init(pmix_proc_t *proc, pmix_info_t info[], size_t ninfo)
+{
+    BEGIN(PMIx_Init, PMIX_ERR_NOT_SUPPORTED);
+    (void)is_noted;
+    bool is_outer = !is_inner(caller, (const void *)real);
+    pmix_proc_t me;
+    memset(&me, 0, sizeof me);
+    inside++;
+    pmix_status_t status = real(proc ? proc : &me, info, ninfo);
+    inside--;
+    if (status == PMIX_SUCCESS && is_outer) {
+        int was = errno;
+        pthread_mutex_lock(&opening);
+        inits++;
+        if (file < 0 && !owner)
+            open_file(proc ? proc : &me, version_by(caller));
+        pthread_mutex_unlock(&opening);
+        errno = was;
+    }
+    return status;
+}
+
+pmix_status_t PMIx_Finalize(const pmix_info_t info[], size_t ninfo)
+{
+    BEGIN(PMIx_Finalize, PMIX_ERR_NOT_SUPPORTED);
+    bool is_last = false;
+    if (is_noted) {
+        pthread_mutex_lock(&opening);
+        is_last = inits > 0 && --inits == 0;
+        pthread_mutex_unlock(&opening);
+    }
+    if (is_last) {
+        struct text what;
+        wire_up_text_open(&what);
+        wire_up_text_add(&what, "finalize");
+        wire_up_write('=', 0, &what);
+        wire_up_text_close(&what);
+    }
+    inside++;
+    pmix_status_t status = real(info, ninfo);
+    inside--;
+    return status;
+}
+
+pmix_status_t PMIx_Put(pmix_scope_t scope, const char key[], pmix_value_t *value)
+{
+    BEGIN(PMIx_Put, PMIX_ERR_NOT_SUPPORTED);
+    BLOCKING(
+        {
+            const char *name = scope == PMIX_LOCAL ? "local" : scope == PMIX_REMOTE ? "remote" : scope == PMIX_GLOBAL ? "global" : "other";
+            wire_up_text_add(&what, "put %s ", name);
+            if (key)
+                add_word(&what, key, strlen(key));
+            wire_up_text_add(&what, key ? " " : "none ");
+            add_value(&what, value);
+        },
+        real(scope, key, value));
+}
+
+pmix_status_t PMIx_Commit(void)
+{
+    BEGIN(PMIx_Commit, PMIX_ERR_NOT_SUPPORTED);
+    BLOCKING(wire_up_text_add(&what, "commit"), real());
+}
+
+#define FILL_SET(verb, form)                                                                                                     \
+    {                                                                                                                            \
+        wire_up_text_add(&what, verb " " form " ");                                                                              \
+        add_set(&what, procs, nprocs);                                                                                           \
+        add_directives(&what, info, ninfo, false);                                                                               \
+    }
+
+pmix_status_t PMIx_Fence(const pmix_proc_t procs[], size_t nprocs, const pmix_info_t info[], size_t ninfo)
+{
+    BEGIN(PMIx_Fence, PMIX_ERR_NOT_SUPPORTED);
+    BLOCKING(FILL_SET("fence", "blocks"), real(procs, nprocs, info, ninfo));
+}
+
+pmix_status_t PMIx_Fence_nb(const pmix_proc_t procs[], size_t nprocs, const pmix_info_t info[], size_t ninfo, pmix_op_cbfunc_t then, void *data)
+{
+    BEGIN(PMIx_Fence_nb, PMIX_ERR_NOT_SUPPORTED);
+    CALLING_BACK(FILL_SET("fence", "nb"), of_op, op_ended, real(procs, nprocs, info, ninfo, op_ended, it),
+                 real(procs, nprocs, info, ninfo, then, data));
+}
+
+#define FILL_GET(form)                                                                                                           \
+    {                                                                                                                            \
+        wire_up_text_add(&what, "get " form " ");                                                                                \
+        add_proc(&what, proc);                                                                                                   \
+        wire_up_text_add(&what, key ? " :" : " every");                                                                          \
+        if (key)                                                                                                                 \
+            add_word(&what, key, strlen(key));                                                                                   \
+        add_directives(&what, info, ninfo, false);                                                                               \
+    }
+
+pmix_status_t PMIx_Get(const pmix_proc_t *proc, const char key[], const pmix_info_t info[], size_t ninfo, pmix_value_t **value)
+{
+    BEGIN(PMIx_Get, PMIX_ERR_NOT_SUPPORTED);
+    unsigned long number = is_noted ? wire_up_number() : 0;
+    if (is_noted)
+        NOTE(number, FILL_GET("blocks"));
+    inside++;
+    pmix_status_t status = real(proc, key, info, ninfo, value);
+    inside--;
+    if (is_noted)
+        note_value(number, status, status == PMIX_SUCCESS && value ? *value : NULL);
+    return status;
+}
+
+pmix_status_t PMIx_Get_nb(const pmix_proc_t *proc, const char key[], const pmix_info_t info[], size_t ninfo, pmix_value_cbfunc_t then, void *data)
+{
+    BEGIN(PMIx_Get_nb, PMIX_ERR_NOT_SUPPORTED);
+    CALLING_BACK(FILL_GET("nb"), of_value, value_came, real(proc, key, info, ninfo, value_came, it), real(proc, key, info, ninfo, then, data));
+}
+
+/* What is published stands as KEY=VALUE, then the reserved keys, which are directives. */
+#define FILL_PUBLISH(form)                                                                                                       \
+    {                                                                                                                            \
+        bool is_first = true;                                                                                                    \
+        wire_up_text_add(&what, "publish " form " ");                                                                            \
+        for (size_t n = 0; info && n < ninfo; n++)                                                                               \
+            if (strncmp(info[n].key, "pmix", 4)) {                                                                               \
+                wire_up_text_add(&what, is_first ? "" : ",");                                                                    \
+                is_first = false;                                                                                                \
+                add_key(&what, info[n].key);                                                                                     \
+                wire_up_text_add(&what, "=");                                                                                    \
+                add_value(&what, &info[n].value);                                                                                \
+            }                                                                                                                    \
+        wire_up_text_add(&what, is_first ? "-" : "");                                                                            \
+        add_directives(&what, info, ninfo, true);                                                                                \
+    }
+
+pmix_status_t PMIx_Publish(const pmix_info_t info[], size_t ninfo)
+{
+    BEGIN(PMIx_Publish, PMIX_ERR_NOT_SUPPORTED);
+    BLOCKING(FILL_PUBLISH("blocks"), real(info, ninfo));
+}
+
+pmix_status_t PMIx_Publish_nb(const pmix_info_t info[], size_t ninfo, pmix_op_cbfunc_t then, void *data)
+{
+    BEGIN(PMIx_Publish_nb, PMIX_ERR_NOT_SUPPORTED);
+    CALLING_BACK(FILL_PUBLISH("nb"), of_op, op_ended, real(info, ninfo, op_ended, it), real(info, ninfo, then, data));
+}
+
+pmix_status_t PMIx_Lookup(pmix_pdata_t found[], size_t count, const pmix_info_t info[], size_t ninfo)
+{
+    BEGIN(PMIx_Lookup, PMIX_ERR_NOT_SUPPORTED);
+    unsigned long number = is_noted ? wire_up_number() : 0;
+    if (is_noted)
+        NOTE(number, {
+            wire_up_text_add(&what, "lookup blocks ");
+            for (size_t n = 0; found && n < count; n++) {
+                wire_up_text_add(&what, n ? ",:" : ":");
+                add_key(&what, found[n].key);
+            }
+            wire_up_text_add(&what, found && count ? "" : "-");
+            add_directives(&what, info, ninfo, false);
+        });
+    inside++;
+    pmix_status_t status = real(found, count, info, ninfo);
+    inside--;
+    if (is_noted)
+        note_data(number, status, found, status == PMIX_SUCCESS || status == PMIX_ERR_PARTIAL_SUCCESS ? count : 0);
+    return status;
+}
+
+#define FILL_KEYS(verb, form)                                                                                                    \
+    {                                                                                                                            \
+        wire_up_text_add(&what, verb " " form " ");                                                                              \
+        add_keys(&what, keys);                                                                                                   \
+        add_directives(&what, info, ninfo, false);                                                                               \
+    }
+
+pmix_status_t PMIx_Lookup_nb(char **keys, const pmix_info_t info[], size_t ninfo, pmix_lookup_cbfunc_t then, void *data)
+{
+    BEGIN(PMIx_Lookup_nb, PMIX_ERR_NOT_SUPPORTED);
+    CALLING_BACK(FILL_KEYS("lookup", "nb"), of_lookup, data_came, real(keys, info, ninfo, data_came, it), real(keys, info, ninfo, then, data));
+}
+
+pmix_status_t PMIx_Unpublish(char **keys, const pmix_info_t info[], size_t ninfo)
+{
+    BEGIN(PMIx_Unpublish, PMIX_ERR_NOT_SUPPORTED);
+    BLOCKING(FILL_KEYS("unpublish", "blocks"), real(keys, info, ninfo));
+}
+
+pmix_status_t PMIx_Unpublish_nb(char **keys, const pmix_info_t info[], size_t ninfo, pmix_op_cbfunc_t then, void *data)
+{
+    BEGIN(PMIx_Unpublish_nb, PMIX_ERR_NOT_SUPPORTED);
+    CALLING_BACK(FILL_KEYS("unpublish", "nb"), of_op, op_ended, real(keys, info, ninfo, op_ended, it), real(keys, info, ninfo, then, data));
+}
+
+/* --- calls that a plan can't say: they are counted alone --- */
+
+#define COUNTED(name)                                                                                                            \
+    do {                                                                                                                         \
+        if (is_noted) {                                                                                                          \
+            struct text what;                                                                                                    \
+            wire_up_text_open(&what);                                                                                            \
+            wire_up_text_add(&what, "other " name);                                                                              \
+            wire_up_write('=', 0, &what);                                                                                        \
+            wire_up_text_close(&what);                                                                                           \
+        }                                                                                                                        \
+    } while (0)
+
+/* Their inner calls aren't noted either. */
+#define PASS_ON(name, call)                                                                                                      \
+    do {                                                                                                                         \
+        COUNTED(name);                                                                                                           \
+        inside++;                                                                                                                \
+        pmix_status_t status = call;                                                                                             \
+        inside--;                                                                                                                \
+        return status;                                                                                                           \
+    } while (0)
+
+pmix_status_t PMIx_Connect(const pmix_proc_t procs[], size_t nprocs, const pmix_info_t info[], size_t ninfo)
+{
+    BEGIN(PMIx_Connect, PMIX_ERR_NOT_SUPPORTED);
+    PASS_ON("PMIx_Connect", real(procs, nprocs, info, ninfo));
+}
+
+pmix_status_t PMIx_Connect_nb(const pmix_proc_t procs[], size_t nprocs, const pmix_info_t info[], size_t ninfo, pmix_op_cbfunc_t then, void *data)
+{
+    BEGIN(PMIx_Connect_nb, PMIX_ERR_NOT_SUPPORTED);
+    PASS_ON("PMIx_Connect_nb", real(procs, nprocs, info, ninfo, then, data));
+}
+
+pmix_status_t PMIx_Disconnect(const pmix_proc_t procs[], size_t nprocs, const pmix_info_t info[], size_t ninfo)
+{
+    BEGIN(PMIx_Disconnect, PMIX_ERR_NOT_SUPPORTED);
+    PASS_ON("PMIx_Disconnect", real(procs, nprocs, info, ninfo));
+}
+
+pmix_status_t PMIx_Disconnect_nb(const pmix_proc_t procs[], size_t nprocs, const pmix_info_t info[], size_t ninfo, pmix_op_cbfunc_t then, void *data)
+{
+    BEGIN(PMIx_Disconnect_nb, PMIX_ERR_NOT_SUPPORTED);
+    PASS_ON("PMIx_Disconnect_nb", real(procs, nprocs, info, ninfo, then, data));
+}
+
+pmix_status_t PMIx_Spawn(const pmix_info_t job[], size_t njob, const pmix_app_t apps[], size_t napps, pmix_nspace_t nspace)
+{
+    BEGIN(PMIx_Spawn, PMIX_ERR_NOT_SUPPORTED);
+    PASS_ON("PMIx_Spawn", real(job, njob, apps, napps, nspace));
+}
+
+pmix_status_t PMIx_Spawn_nb(const pmix_info_t job[], size_t njob, const pmix_app_t apps[], size_t napps, pmix_spawn_cbfunc_t then, void *data)
+{
+    BEGIN(PMIx_Spawn_nb, PMIX_ERR_NOT_SUPPORTED);
+    PASS_ON("PMIx_Spawn_nb", real(job, njob, apps, napps, then, data));
+}

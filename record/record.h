@@ -1,0 +1,32 @@
+/* What the two recorders share: the texts of records, and the one file that a process writes them to. */
+#ifndef WIRE_UP_RECORD_H
+#define WIRE_UP_RECORD_H
+
+#include <stdbool.h>
+#include <stddef.h>
+
+/* A text that grows. `is_lost` says that memory for it was refused. */
+struct text {
+    char *at;
+    size_t length, room;
+    bool is_lost;
+    char first[1024];
+};
+
+void wire_up_text_open(struct text *to);
+void wire_up_text_close(struct text *to);
+void wire_up_text_add(struct text *to, const char *format, ...) __attribute__((format(printf, 2, 3)));
+
+/* Whether a record would be written now: this process is a client of PMIx, and its file is open. */
+bool wire_up_is_recording(void);
+
+/* A new number for a call. */
+unsigned long wire_up_number(void);
+
+/* Writes one record: a sign (+ a call begins, - it ended, = anything else), the number, the thread, the time, and the text. */
+void wire_up_write(char sign, unsigned long number, const struct text *what);
+
+/* The function of this name after this library, as the code at `caller` would find it; null where there is none. */
+void *wire_up_find(const char *name, void *caller, const void *not_this);
+
+#endif
