@@ -1,8 +1,14 @@
-# What a user and a developer of wire_up call. `run`, `try` and `test` need the kit's `rt` on the path, and python3.
+# What a user and a developer of wire_up call. `run`, `try` and `test` need the kit's `rt` on the path, and python3. `record` needs a C
+# compiler and the headers of PMIx, `record-mpi` also `mpicc`.
 
 PREFIX ?= /usr/local
 
-.PHONY: run try test bench install
+.PHONY: run try test bench record record-mpi install
+
+CC = cc
+MPICC ?= mpicc
+CFLAGS ?= -O2 -Wall -Wextra
+SHARED = -std=gnu11 $(CFLAGS) -shared -fPIC -pthread
 
 # An example without proofs, then the proof, and the same example by the proved ./wire_up.
 run:
@@ -21,7 +27,26 @@ test:
 bench:
 	@python3 tests/bench.py $(if $(BESIDE),--beside "$(BESIDE)")
 
-# Puts the program that `make run` built in place.
+# The recorder of PMIx calls, which ./wire_up-record preloads. `PMIX_CFLAGS=-I..` says where the headers are, if pkg-config doesn't know.
+record: record/record.so
+
+record/record.so: record/record.c record/record.h
+	@test -n "$(PMIX_CFLAGS)" || pkg-config --exists pmix || { echo "pkg-config doesn't find PMIx: on Debian the package is libpmix-dev"; exit 1; }
+	$(CC) $(SHARED) $(or $(PMIX_CFLAGS),$$(pkg-config --cflags pmix)) -o $@.new $< -ldl
+	@mv $@.new $@
+
+# The recorder of MPI's order beside it. It isn't linked with MPI, so that processes without MPI can load it.
+record-mpi: record/record-mpi.so
+
+record/record-mpi.so: record/record-mpi.c record/record.h
+	@command -v $(MPICC) > /dev/null || { echo "there is no $(MPICC): on Debian the packages are openmpi-bin and libopenmpi-dev"; exit 1; }
+	$(MPICC) $(SHARED) -Wl,--as-needed -o $@.new $< -ldl
+	@mv $@.new $@
+
+# Puts the program that `make run` built in place, and the recorders that are built.
 install:
 	@test -x wire_up || { echo "there is no ./wire_up: make run builds it"; exit 1; }
 	install -D -m 755 wire_up "$(DESTDIR)$(PREFIX)/bin/wire_up"
+	@if test -e record/record.so; then set -x; install -D -m 755 wire_up-record "$(DESTDIR)$(PREFIX)/bin/wire_up-record"; \
+	for it in record/record.so record/record-mpi.so; do \
+	if test -e $$it; then install -D -m 644 $$it "$(DESTDIR)$(PREFIX)/lib/wire_up/$${it#record/}"; fi; done; fi
