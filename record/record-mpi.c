@@ -176,6 +176,7 @@ static void note_communicator(MPI_Comm comm, unsigned parent, const char *which,
 {
     int is_inter = 0, size = 0, rank = 0;
     struct text what;
+    forget_communicator(comm);
     struct communicator *it = malloc(sizeof *it);
     if (!it)
         return;
@@ -191,7 +192,6 @@ static void note_communicator(MPI_Comm comm, unsigned parent, const char *which,
         return;
     }
     *it = (struct communicator){.handle = (uintptr_t)comm, .number = number, .size = size, .rank = rank};
-    forget_communicator(comm);
     pthread_mutex_lock(&tables);
     it->next = communicators[bucket_of(it->handle)];
     communicators[bucket_of(it->handle)] = it;
@@ -283,9 +283,10 @@ static long long bytes_in(const MPI_Status *status)
 #endif
 }
 
-static void note_send(const char *name, MPI_Comm comm, int to, int tag, long long bytes)
+static unsigned long note_send(const char *name, MPI_Comm comm, int to, int tag, long long bytes)
 {
     int was = errno;
+    unsigned long number = 0;
     struct communicator it = known(comm);
     if (to == MPI_PROC_NULL) {
     } else if (!it.number) {
@@ -294,10 +295,12 @@ static void note_send(const char *name, MPI_Comm comm, int to, int tag, long lon
         struct text what;
         wire_up_text_open(&what);
         wire_up_text_add(&what, "send %u %d %d %lld", it.number, to, tag, bytes);
-        wire_up_write('+', wire_up_number(), &what);
+        number = wire_up_number();
+        wire_up_write('+', number, &what);
         wire_up_text_close(&what);
     }
     errno = was;
+    return number;
 }
 
 /* Notes that a receive is posted, and answers its number; 0 where it can't be matched. */
@@ -355,8 +358,27 @@ static void note_received(unsigned long number, int result, MPI_Status *status)
 
 SENDS(MPI_Send)
 SENDS(MPI_Bsend)
-SENDS(MPI_Ssend)
 SENDS(MPI_Rsend)
+
+/* It ends only when the receive has begun, so its end is noted too. */
+int MPI_Ssend(const void *buffer, int count, MPI_Datatype type, int to, int tag, MPI_Comm comm)
+{
+    REAL(MPI_Ssend);
+    unsigned long number = is_noted() ? note_send("MPI_Ssend", comm, to, tag, bytes_of(count, type)) : 0;
+    inside++;
+    int result = real(buffer, count, type, to, tag, comm);
+    inside--;
+    if (number && result == MPI_SUCCESS) {
+        int was = errno;
+        struct text what;
+        wire_up_text_open(&what);
+        wire_up_text_add(&what, "0");
+        wire_up_write('-', number, &what);
+        wire_up_text_close(&what);
+        errno = was;
+    }
+    return result;
+}
 
 /* --- requests --- */
 
@@ -1005,6 +1027,8 @@ static void note_made(const struct communicator *parent, int result, const MPI_C
         inside++;
         note_communicator(*made, parent->number, "c", (long)parent->made);
         inside--;
+    } else if (result == MPI_SUCCESS) {
+        forget_communicator(*made);
     }
     errno = was;
 }
@@ -1051,6 +1075,8 @@ int MPI_Comm_create_group(MPI_Comm comm, MPI_Group group, int tag, MPI_Comm *mad
         parent = known(comm);
     inside++;
     int result = real(comm, group, tag, made);
+    if (result == MPI_SUCCESS)
+        forget_communicator(*made);
     if (parent.number && result == MPI_SUCCESS && *made != its.none)
         note_communicator(*made, parent.number, "g", tag);
     inside--;
@@ -1060,8 +1086,7 @@ int MPI_Comm_create_group(MPI_Comm comm, MPI_Group group, int tag, MPI_Comm *mad
 int MPI_Comm_free(MPI_Comm *comm)
 {
     REAL(MPI_Comm_free);
-    if (is_noted())
-        forget_communicator(*comm);
+    forget_communicator(*comm);
     inside++;
     int result = real(comm);
     inside--;
@@ -1071,8 +1096,7 @@ int MPI_Comm_free(MPI_Comm *comm)
 int MPI_Comm_disconnect(MPI_Comm *comm)
 {
     REAL(MPI_Comm_disconnect);
-    if (is_noted())
-        forget_communicator(*comm);
+    forget_communicator(*comm);
     inside++;
     int result = real(comm);
     inside--;
@@ -1090,6 +1114,21 @@ int MPI_Comm_disconnect(MPI_Comm *comm)
         inside++;                                                                                                                \
         int result = real call;                                                                                                  \
         inside--;                                                                                                                \
+        return result;                                                                                                           \
+    }
+
+/* What it makes may have the handle of a communicator that is gone. */
+#define COUNTS_MAKING(name, parameters, call)                                                                                    \
+    int name parameters                                                                                                          \
+    {                                                                                                                            \
+        REAL(name);                                                                                                              \
+        if (is_noted())                                                                                                          \
+            note_other(#name);                                                                                                   \
+        inside++;                                                                                                                \
+        int result = real call;                                                                                                  \
+        inside--;                                                                                                                \
+        if (result == MPI_SUCCESS)                                                                                               \
+            forget_communicator(*made);                                                                                          \
         return result;                                                                                                           \
     }
 
@@ -1155,16 +1194,16 @@ COUNTS(MPI_Win_lock_all, (int how, MPI_Win win), (how, win))
 COUNTS(MPI_Win_unlock_all, (MPI_Win win), (win))
 COUNTS(MPI_Win_flush, (int rank, MPI_Win win), (rank, win))
 COUNTS(MPI_Win_flush_all, (MPI_Win win), (win))
-COUNTS(MPI_Comm_spawn,
+COUNTS_MAKING(MPI_Comm_spawn,
        (const char *command, char *words[], int most, MPI_Info info, int root, MPI_Comm comm, MPI_Comm *made, int codes[]),
        (command, words, most, info, root, comm, made, codes))
-COUNTS(MPI_Comm_spawn_multiple,
+COUNTS_MAKING(MPI_Comm_spawn_multiple,
        (int count, char *commands[], char **words[], const int most[], const MPI_Info infos[], int root, MPI_Comm comm, MPI_Comm *made, int codes[]),
        (count, commands, words, most, infos, root, comm, made, codes))
-COUNTS(MPI_Comm_connect, (const char *port, MPI_Info info, int root, MPI_Comm comm, MPI_Comm *made), (port, info, root, comm, made))
-COUNTS(MPI_Comm_accept, (const char *port, MPI_Info info, int root, MPI_Comm comm, MPI_Comm *made), (port, info, root, comm, made))
-COUNTS(MPI_Intercomm_create, (MPI_Comm comm, int leader, MPI_Comm peer, int remote, int tag, MPI_Comm *made), (comm, leader, peer, remote, tag, made))
-COUNTS(MPI_Intercomm_merge, (MPI_Comm comm, int is_high, MPI_Comm *made), (comm, is_high, made))
+COUNTS_MAKING(MPI_Comm_connect, (const char *port, MPI_Info info, int root, MPI_Comm comm, MPI_Comm *made), (port, info, root, comm, made))
+COUNTS_MAKING(MPI_Comm_accept, (const char *port, MPI_Info info, int root, MPI_Comm comm, MPI_Comm *made), (port, info, root, comm, made))
+COUNTS_MAKING(MPI_Intercomm_create, (MPI_Comm comm, int leader, MPI_Comm peer, int remote, int tag, MPI_Comm *made), (comm, leader, peer, remote, tag, made))
+COUNTS_MAKING(MPI_Intercomm_merge, (MPI_Comm comm, int is_high, MPI_Comm *made), (comm, is_high, made))
 
 /* --- the beginning --- */
 

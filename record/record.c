@@ -262,7 +262,7 @@ void *wire_up_find(const char *name, void *caller, const void *not_this)
     }
     const char *others[] = {"libpmix.so.2", "libpmix.so"};
     for (size_t n = 0; !found && n < sizeof others / sizeof *others; n++) {
-        void *object = dlopen(others[n], RTLD_LAZY);
+        void *object = dlopen(others[n], RTLD_LAZY | RTLD_NOLOAD);
         found = object ? dlsym(object, name) : NULL;
     }
     errno = was;
