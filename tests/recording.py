@@ -1,0 +1,713 @@
+"""Tests the recorder: what `wire_up-record` makes of recordings, of those that the repository has and of others, and, where MPI and PMIx
+are there, what it records of programs that run.
+
+Usage: python3 tests/recording.py [PROGRAM]
+PROGRAM is the built `wire_up`. With none, the plans are made, and not checked.
+Prints a line for each test that went otherwise than it should, one for what was left out, and last 'N passed, M failed'.
+"""
+import importlib.machinery
+import importlib.util
+import os
+import random
+import re
+import shutil
+import subprocess
+import sys
+import tempfile
+
+sys.dont_write_bytecode = True
+TOP = os.path.dirname(os.path.dirname(os.path.abspath(__file__)))
+COMMAND = os.path.join(TOP, "wire_up-record")
+SHIPPED = os.path.join(TOP, "record", "recordings")
+PROGRAMS = os.path.join(TOP, "record", "programs")
+SECONDS = 60
+RANDOM_PROGRAMS = 150
+
+
+def loaded():
+    """The command as a module."""
+    loader = importlib.machinery.SourceFileLoader("wire_up_record", COMMAND)
+    module = importlib.util.module_from_spec(importlib.util.spec_from_loader("wire_up_record", loader))
+    loader.exec_module(module)
+    return module
+
+
+RECORD = loaded()
+
+
+def tell(name, what):
+    print(f"recording: {name}: {what}")
+    return False
+
+
+def command(*words, **how):
+    """Runs wire_up-record."""
+    return subprocess.run([sys.executable, COMMAND, *words], capture_output=True, text=True, timeout=2 * SECONDS, check=False, **how)
+
+
+def answer(program, *words):
+    """The status of the program and what it wrote."""
+    ran = subprocess.run([program, *words], capture_output=True, text=True, timeout=SECONDS, check=False)
+    return ran.returncode, ran.stdout
+
+
+# --- texts of recordings ---
+
+
+class Tape:
+    """Writes a recording."""
+
+    def __init__(self, rank=0, namespace="job", host="n0", began=1700000000):
+        self.lines = ["wire_up-recording 1", f"process {namespace} {rank} {host} {100 + rank}", f"began {began}.000000", "library Test%201"]
+        self.number, self.thread = 0, 1
+
+    def line(self, sign, number, what):
+        self.lines.append(f"{sign} {number} {self.thread} 0.{len(self.lines):06d} {what}")
+
+    def begin(self, what):
+        self.number += 1
+        self.line("+", self.number, what)
+        return self.number
+
+    def end(self, number, what="0"):
+        self.line("-", number, what)
+
+    def call(self, what, end="0"):
+        self.end(self.begin(what), end)
+        return self
+
+    def say(self, what):
+        self.line("=", 0, what)
+        return self
+
+    def text(self, is_over=True):
+        if is_over:
+            self.say("finalize")
+        return "".join(f"{it}\n" for it in self.lines).encode()
+
+
+def in_world(rank, size, **how):
+    """A tape of a process of an MPI world in which the ranks are those of the job."""
+    return Tape(rank, **how).say(f"world {rank} {size}").say(f"comm 1 0 w0 0-{size - 1}")
+
+
+def made(room, tapes, **how):
+    """The maker of a plan of recordings."""
+    found = []
+    for n, tape in enumerate(tapes):
+        path = os.path.join(room, f"{n}.recording")
+        found.append(RECORD.Recording(path, tape if isinstance(tape, bytes) else tape.text()))
+    return RECORD.Maker(found, **how)
+
+
+def scripts_of(plan):
+    """The lines of each process of a plan."""
+    found = []
+    for line in plan.splitlines():
+        if line.startswith("rank "):
+            found.append([])
+        elif found and not line.startswith("job "):
+            found[-1].append(line)
+    return found
+
+
+# --- what calls become ---
+
+
+def calls_become():
+    """Tests of one call or a few: a name, the recorded calls of ranks 0 and 1 with how each ended, the lines that they become, and a
+    comment that the plan must have."""
+    yield "a put", [("put global k text:v", "0")], [], ["put global k v"], [], None
+    yield "a put of bytes", [("put local k bytes:24", "0")], [], ["put local k bytes:24"], [], "1 values that aren't text"
+    yield "a put of a number", [("put remote k number:4:7", "0")], [], ["put remote k number:4"], [], "1 values that aren't text"
+    yield "a text with spaces", [("put global k text:a%20b", "0")], [], ["put global k text:3"], [], "1 texts that no word"
+    yield "an empty text", [("put global k text:", "0")], [], ["put global k text:0"], [], "1 texts that no word"
+    yield "a long text", [("put global k long:5000", "0")], [], ["put global k text:5000"], [], "1 texts that no word"
+    yield "a text past the limit", [(f"put global k text:{'x' * 256}", "0")], [], ["put global k text:256"], [], "1 texts that no word"
+    yield "a text at the limit", [(f"put global k text:{'x' * 255}", "0")], [], [f"put global k {'x' * 255}"], [], None
+    yield "a text that isn't ASCII", [("put global k text:%C3%A4", "0")], [], ["put global k text:2"], [], "1 texts that no word"
+    yield "a key with a space", [("put global a%20b text:v", "0")], [], ["put global a%20b v"], [], "The key a%20b is a b."
+    yield "two keys that would be one", [("put global a%20b text:v", "0"), ("put global a%2520b text:v", "0")], [], [
+        "put global a%20b~2 v", "put global a%20b v"], [], "The key a%20b~2 is a b."
+    yield "a star", [("put global * text:v", "0")], [], ["put global %2A v"], [], "The key %2A is *."
+    yield "an empty key", [("put global % text:v", "0")], [], ["put global % v"], [], "The key % is (empty)."
+    yield "a long key", [(f"put global {'k' * 64} text:v", "0")], [], [f"put global {'k' * 63} v"], [], f"is {'k' * 64}."
+    yield "a key that a plan would take for reserved", [("put global PMIX_x text:v", "0")], [], ["put global %50MIX_x v"], [], "The key %50MIX_x is"
+    yield "a put of a reserved key", [("put global pmix.hname text:n0", "0")], [], [], [], "1 puts of reserved keys"
+    yield "a put of another scope", [("put other k text:v", "0")], [], [], [], "1 puts of a scope"
+    yield "a put that failed", [("put global k text:v", "-27")], [], [], [], "1 puts that failed"
+    yield "a commit", [("commit", "0")], [], ["commit"], [], None
+    yield "a commit that failed", [("commit", "-25")], [], [], [], "1 commits that failed"
+    put = ("put global k text:v", "0")
+    yield "a get", [put], [("get blocks job:0 :k -", "0 text:v")], ["put global k v"], ["get app:0 k"], None
+    yield "a get of its own job", [put], [("get nb %:0 :k -", "0 text:v")], ["put global k v"], ["get app:0 k"], None
+    yield "a get at once", [put], [("get blocks job:0 :k pmix.immediate=number:1:1", "-46")], ["put global k v"], ["get-now app:0 k"], None
+    yield "an optional get", [put], [("get blocks job:0 :k pmix.optional=number:1:1", "-46")], ["put global k v"], ["get-now app:0 k"], None
+    yield "no directive at all", [put], [("get blocks job:0 :k pmix.optional=number:1:0", "0 text:v")], ["put global k v"], ["get app:0 k"], None
+    yield "a get that failed", [put], [("get blocks job:0 :k -", "-46")], ["put global k v"], ["get-now app:0 k"], "1 gets that were answered"
+    yield "a get out of scope", [("put remote k text:v", "0")], [("get blocks job:0 :k -", "-46")], ["put remote k v"], ["get app:0 k"], None
+    yield "a get with a timeout", [put], [("get blocks job:0 :k pmix.timeout=number:4:2", "-24")], ["put global k v"], ["get-now app:0 k"], (
+        "1 directives pmix.timeout")
+    yield "a get of a wildcard rank", [], [("get blocks job:* :k -", "0 number:4:2")], [], [], "1 gets of a wildcard rank"
+    yield "a get of an undefined rank", [], [("get blocks job:undefined :k -", "-46")], [], [], "1 gets of an undefined rank"
+    yield "a get of a reserved key", [], [("get blocks job:0 :pmix.lrank -", "0 number:2:0")], [], [], "1 gets of reserved keys"
+    yield "a get of every key", [], [("get blocks job:0 every -", "-27")], [], [], "1 gets of every key"
+    yield "a get of no process", [], [("get blocks none :k -", "-27")], [], [], "1 gets that name no process"
+    yield "a get of another job", [], [("get blocks other:0 :k -", "-46")], [], [], "1 gets of processes that aren't recorded"
+    both = [("fence blocks all -", "0")]
+    yield "a fence", both, both, ["fence all"], ["fence all"], None
+    collects = [("fence nb job:* pmix.collect=number:1:1", "0")]
+    yield "a fence that collects", collects, collects, ["fence all collect"], ["fence all collect"], None
+    listed = [("fence blocks job:1,job:0 pmix.collect=number:1:0", "0")]
+    yield "a fence of a list", listed, listed, ["fence all"], ["fence all"], None
+    yield "a fence of one", [("fence blocks job:0 -", "0")], [], ["fence app:0"], [], None
+    failed = [("fence blocks all -", "-24"), ("fence blocks all pmix.collect=number:1:1", "0")]
+    fine = [("fence blocks all -", "0"), ("fence blocks all pmix.collect=number:1:1", "0")]
+    yield "a fence that failed at one", failed, fine, ["fence all collect"], ["fence all collect"], "2 fences that failed at one"
+    refused = [("fence blocks all -", "-27"), *both]
+    yield "a fence that never began", refused, both, ["fence all"], ["fence all"], "1 fences that failed"
+    yield "a fence of another job", [("fence blocks other:* -", "0")], [], [], [], "1 fences with processes that aren't recorded"
+    yield "a fence without the caller", [("fence blocks job:1 -", "-27")], [], [], [], "1 fences with processes that aren't recorded"
+    yield "a publish", [("publish blocks n=text:v -", "0")], [], ["publish n v"], [], None
+    yield "a publish of two", [("publish nb n=text:v,m=bytes:3 pmix.range=type:33", "0")], [], ["publish n v", "publish m bytes:3"], [], (
+        "1 calls of publish with several keys")
+    yield "a publish twice", [("publish blocks n=text:v -", "-53")], [], ["publish n v"], [], None
+    yield "a publish that failed", [("publish blocks n=text:v -", "-47")], [], [], [], "1 publishes that failed"
+    yield "a publish of nothing", [("publish blocks - -", "-27")], [], [], [], "1 publishes of no key"
+    yield "a lookup", [("lookup blocks :n -", "0 n=text:v")], [], ["lookup n"], [], None
+    waits = "pmix.wait=number:4:0"
+    yield "a lookup that waits", [(f"lookup nb :n {waits}", "0 n=text:v")], [], ["lookup-wait n"], [], None
+    yield "a lookup of two that waits for both", [(f"lookup blocks :n,:m {waits}", "0 n=text:v,m=text:w")], [], ["lookup-wait n", "lookup-wait m"], (
+        []), "1 calls of lookup with several keys"
+    yield "a lookup of two that waits for one", [("lookup blocks :n,:m pmix.wait=number:4:1", "0 n=text:v")], [], ["lookup n", "lookup m"], [], (
+        "1 lookups that wait for some of their keys")
+    yield "a lookup that was to wait and failed", [(f"lookup blocks :n {waits}", "-24 -")], [], ["lookup n"], [], "1 lookups that were to wait"
+    yield "a lookup of a reserved key", [("lookup blocks :pmix.n -", "-46 -")], [], [], [], "1 lookups of reserved keys"
+    yield "a lookup of no key", [("lookup nb every -", "-27 -")], [], [], [], "1 lookups that name no key"
+    yield "an unpublish", [("unpublish blocks :n -", "0")], [], ["unpublish n"], [], None
+    yield "an unpublish of two", [("unpublish nb :n,:m -", "0")], [], ["unpublish n", "unpublish m"], [], "1 calls of unpublish with several"
+    yield "an unpublish of everything", [("publish blocks n=text:v -", "0"), ("unpublish blocks every -", "0")], [], ["publish n v", "unpublish n"], (
+        []), "1 unpublishes of every name"
+    yield "an unpublish that failed", [("unpublish blocks :n -", "-47")], [], [], [], "1 unpublishes that failed"
+
+
+def becomes(room, name, first, second, lines, more, comment):
+    tapes = Tape(0), Tape(1)
+    for tape, calls in zip(tapes, (first, second)):
+        for what, end in calls:
+            tape.call(what, end)
+    plan = made(room, tapes).plan()
+    if scripts_of(plan) != [lines, more]:
+        return tell(name, f"becomes {scripts_of(plan)}")
+    return not comment or comment in plan or tell(name, f"has no comment '{comment}' in\n{plan}")
+
+
+# --- what is refused ---
+
+
+def damages():
+    """Recordings that are refused, and what is said of each: files by their names."""
+    fine = Tape(0).call("put global k text:v").text()
+    two = Tape(0).text(), Tape(1).text()
+    yield "none", {}, "there is no recording"
+    yield "an empty file", {"a": b""}, "is empty"
+    yield "a cut line", {"a": fine[:-4]}, "line 7 is cut"
+    yield "a cut head", {"a": b"".join(fine.splitlines(True)[:2])}, "line 3 doesn't say when it began"
+    yield "a cut in the first line", {"a": fine[:9]}, "line 1 is cut"
+    yield "foreign bytes", {"a": fine.replace(b"text:v", b"text:\x80")}, "line 5 has a byte"
+    yield "a zero byte", {"a": fine + b"\0\n"}, "line 8 has a byte"
+    yield "another file", {"a": b"rehearsal 1\nnode n0\n"}, "line 1 isn't the first line of a recording"
+    yield "another version", {"a": fine.replace(b"recording 1", b"recording 2")}, "line 1 isn't the first line of a recording"
+    yield "a line that is no record", {"a": fine.replace(b"put global k", b"put globe k")}, "line 5 isn't a record"
+    yield "a foreign call", {"a": fine.replace(b"put global k", b"leap global k")}, "line 5 isn't a record"
+    yield "a wrong escape", {"a": fine.replace(b"text:v", b"text:%zz")}, "line 5 isn't a record"
+    yield "an end with no beginning", {"a": fine.replace(b"- 1 1", b"- 7 1")}, "line 6 ends a call that isn't open"
+    yield "a beginning twice", {"a": b"".join(line + (line if line.startswith(b"+") else b"") for line in fine.splitlines(True))}, "begins a call that is open"
+    yield "a record that was lost", {"a": fine + b"lost\n"}, "line 8 says that a record was lost"
+    yield "two ranks alike", {"a": two[0], "b": two[0]}, "is rank 0 of job once more"
+    yield "a rank that is missing", {"b": two[1]}, "job has 2 ranks, and there is no recording of 1 of them: 0"
+    yield "a rank that a world tells of", {"a": in_world(0, 4).text()}, "no recording of 3 of them: 1, 2, 3"
+    yield "a rank that a fence tells of", {"a": Tape(0).call("fence blocks job:0,job:2 -").text()}, "no recording of 2 of them: 1, 2"
+    yield "a rank that the job's size tells of", {"a": Tape(0).call("get blocks job:* :pmix.job.size -", "0 number:4:2").text()}, "of 1 of them: 1"
+    yield "a rank past all limits", {"a": Tape(4294967290).text()}, "job has 4294967291 ranks"
+    yield "too many processes", {f"{n:03}": Tape(n).text() for n in range(257)}, "at most 256 processes, and this one would have 257"
+    yield "too many nodes", {f"{n:03}": Tape(n, host=f"n{n}").text() for n in range(65)}, "at most 64 nodes, and this one would have 65"
+    yield "too many jobs", {f"{n:03}": Tape(0, namespace=f"j{n}").text() for n in range(17)}, "at most 16 jobs, and this one would have 17"
+    many = Tape(0)
+    for _ in range(16385):
+        many.call("commit")
+    yield "too many calls", {"a": many.text()}, "at most 16,384 calls, and this one would have 16,385"
+    long = Tape(0)
+    for n in range(16000):
+        long.call(f"put global k{n} text:{'x' * 250}")
+    yield "too many bytes", {"a": long.text()}, "at most 4,194,304 bytes"
+
+
+def is_refused(name, files, what):
+    """Whether recordings end with one line and status 2, and no plan."""
+    with tempfile.TemporaryDirectory(prefix="wire-up-") as room:
+        for it, data in files.items():
+            with open(os.path.join(room, f"{it}.recording"), "wb") as to:
+                to.write(data)
+        plan = os.path.join(room, "plan")
+        ran = command("-o", plan, "--from", room)
+        is_one_line = ran.stderr.count("\n") == 1 and ran.stderr.startswith("wire_up-record: ")
+        if ran.returncode != 2 or ran.stdout or not is_one_line or what not in ran.stderr:
+            return tell(name, f"ended with {ran.returncode} and said {ran.stderr[:300]}")
+        return not os.path.exists(plan) or tell(name, "wrote a plan")
+
+
+def usages(room):
+    """Command lines: the words, the status, and a part of what is said."""
+    good, plan = os.path.join(room, "good.recording"), os.path.join(room, "plan")
+    with open(good, "wb") as to:
+        to.write(Tape(0).text())
+    yield "help", ["--help"], 0, ""
+    yield "nothing", [], 5, "-o PLAN says where the plan goes"
+    yield "no command", ["-o", plan], 5, "which command?"
+    yield "no plan", ["true"], 5, "-o PLAN"
+    yield "an unknown option", ["-o", plan, "--loud", "true"], 5, "--loud is no option"
+    yield "an option twice", ["-o", plan, "-o", plan, "true"], 5, "-o stands twice"
+    yield "an option without its word", ["-o"], 5, "-o needs a file"
+    yield "no files", ["-o", plan, "--from"], 5, "which recordings?"
+    yield "a file that isn't there", ["-o", plan, "--from", os.path.join(room, "none")], 4, "none: No such file"
+    yield "a place that isn't there", ["-o", os.path.join(room, "no", "plan"), "--from", good], 4, "No such file"
+    yield "a full device", ["-o", "/dev/full", "--from", good], 4, "No space left"
+    yield "a file", ["-o", plan, "--from", good], 0, ""
+    yield "standard output", ["-o", "-", "--from", good], 0, ""
+
+
+def is_used(name, words, status, said):
+    ran = command(*words)
+    well = ran.returncode == status and said in ran.stderr and "Traceback" not in ran.stderr and (status or not ran.stderr)
+    return well or tell(name, f"ended with {ran.returncode} and said {ran.stderr[:300]}")
+
+
+# --- the recordings that the repository has ---
+
+# What `check` says of each; and what it says where MPI's order is left out.
+RACE = re.compile(r"race app:0 \d+ app:1 \d+ name solver\n")
+FINDINGS = {"collectives": (0, 0), "early": (1, 1), "names": (0, 2), "ring": (0, 0), "spawn": (0, 0), "told": (0, 1)}
+
+
+def found(program, plan, count):
+    """What is wrong with the findings of a plan, if anything is."""
+    status, wrote = answer(program, "check", plan)
+    races = RACE.sub("", wrote)
+    if status != int(count > 0) or races != f"findings {count}\n" or wrote.count("\n") != count + 1:
+        return f"check ended with {status} and wrote {wrote}"
+    return None
+
+
+def differs(program, plan, answers):
+    """Where the replay of a plan and the real ends of its calls differ, if they do: success or not, and values."""
+    status, wrote = answer(program, "replay", plan)
+    with open(answers, encoding="ascii") as it:
+        real = it.read().splitlines()
+    replayed = wrote.splitlines()
+    if status or len(real) != len(replayed):
+        return f"replay ended with {status} and wrote {len(replayed)} lines, not {len(real)}"
+    for one, other in zip(real, replayed):
+        (*call, how), (*same, reply) = (it.split(" ", 3) for it in (one, other))
+        if call != same or how != reply and (how.startswith(("PMIX_SUCCESS", "wait", "un")) or not reply.startswith("PMIX_ERR")):
+            return f"the real call ended '{one}', and replay writes '{other}'"
+    return None
+
+
+def ships(program, name, counts):
+    """Whether recordings of the repository become plans with the findings that they must have, and replays that are as it was."""
+    with tempfile.TemporaryDirectory(prefix="wire-up-") as room:
+        plan, answers = os.path.join(room, "plan"), os.path.join(room, "answers")
+        for option, count in zip(([], ["--no-mpi"]), counts):
+            ran = command("-o", plan, "--answers", answers, *option, "--from", os.path.join(SHIPPED, name))
+            if ran.returncode or ran.stderr:
+                return tell(name, f"ended with {ran.returncode} and said {ran.stderr[:300]}")
+            wrong = program and (found(program, plan, count) or (not count and differs(program, plan, answers)))
+            if wrong:
+                return tell(f"{name}{' without MPI' if option else ''}", wrong)
+    return True
+
+
+# --- the order that MPI gives ---
+
+
+def before_of(scripts):
+    """For each line of the scripts of one job the lines that come before it by the rules of a plan: (process, number) each. It knows the
+    calls `publish`, `lookup-wait` and `fence`. A fence counts as two: the second, its leaving, has a half more."""
+    published, met, sources = {}, {}, {}
+    for process, lines in enumerate(scripts):
+        nth = {}
+        for n, line in enumerate(lines):
+            verb, word, *_ = line.split(" ")
+            if verb == "publish":
+                assert word not in published, word
+                published[word] = (process, n)
+            if verb == "fence":
+                members = frozenset(range(len(scripts)) if word == "all" else (int(it.split(":")[1]) for it in word.split(",")))
+                nth[members] = nth.get(members, 0) + 1
+                met.setdefault((members, nth[members]), []).append((process, n))
+    for process, lines in enumerate(scripts):
+        last = None
+        nth = {}
+        for n, line in enumerate(lines):
+            verb, word, *_ = line.split(" ")
+            sources[process, n] = [last] if last else []
+            last = process, n
+            if verb == "lookup-wait":
+                sources[last].append(published[word])
+            if verb == "fence":
+                members = next(it for it in met if (process, n) in met[it])
+                sources[process, n + 0.5] = [last, *met[members]]
+                last = process, n + 0.5
+    before = {}
+    while len(before) < len(sources):
+        ready = [it for it, them in sources.items() if it not in before and all(one in before for one in them)]
+        assert ready, "the lines wait for each other in a circle"
+        for it in ready:
+            before[it] = set(sources[it]).union(*(before[one] for one in sources[it]))
+    return before
+
+
+class World:
+    """A random run of an MPI program: what each process calls, and by that which of its marks (names that are published) come before
+    which. The run takes one step at a time, and keeps for each process the marks that must have come before."""
+
+    def __init__(self, seed):
+        self.random = random.Random(seed)
+        self.size = self.random.randint(2, 4)
+        self.tapes = [in_world(rank, self.size) for rank in range(self.size)]
+        self.known = [set() for _ in range(self.size)]
+        self.marks = {}
+        # Communicators: their members in order. The second has the members of the first, the third has them backwards.
+        self.comms = {1: list(range(self.size)), 2: list(range(self.size)), 3: list(range(self.size))[::-1]}
+        for tape in self.tapes:
+            tape.say(f"comm 2 1 c1 0-{self.size - 1}")
+            tape.say(f"comm 3 1 c2 {','.join(str(it) for it in self.comms[3])}")
+        if self.size > 2:
+            self.comms[4] = [0, self.size - 1]
+            for rank in self.comms[4]:
+                self.tapes[rank].say(f"comm 4 1 c3 0,{self.size - 1}")
+        self.sent, self.posted = {}, []
+        for _ in range(self.random.randint(5, 40)):
+            self.random.choice((self.mark, self.mark, self.send, self.send, self.post, self.receive, self.receive, self.meet))()
+
+    def mark(self, rank=None):
+        rank = self.random.randrange(self.size) if rank is None else rank
+        name = f"m{len(self.marks)}"
+        self.tapes[rank].call(f"publish blocks {name}=text:x -")
+        self.marks[name] = set(self.known[rank])
+        self.known[rank].add(name)
+
+    def stream(self):
+        comm = self.random.choice(list(self.comms))
+        source, target = self.random.sample(self.comms[comm], 2)
+        return comm, source, target, self.random.randrange(2)
+
+    def send(self):
+        comm, source, target, tag = stream = self.stream()
+        self.tapes[source].begin(f"send {comm} {self.comms[comm].index(target)} {tag} 4")
+        self.sent.setdefault(stream, []).append(set(self.known[source]))
+
+    def ready(self):
+        """The streams with a message that no receive has been posted for."""
+        return [it for it, them in self.sent.items() if them]
+
+    def post(self):
+        """Posts a receive that ends later."""
+        if self.ready():
+            comm, source, target, tag = stream = self.random.choice(self.ready())
+            number = self.tapes[target].begin(f"receive {comm}")
+            self.posted.append((number, stream, self.sent[stream].pop(0)))
+
+    def receive(self):
+        """Ends a receive that was posted, any of them."""
+        if not self.posted:
+            self.post()
+        if self.posted:
+            number, (comm, source, target, tag), message = self.posted.pop(self.random.randrange(len(self.posted)))
+            self.tapes[target].end(number, f"0 {self.comms[comm].index(source)} {tag} 4")
+            self.known[target] |= message
+
+    def meet(self):
+        """A collective, in which a process may put a mark too."""
+        comm = self.random.choice(list(self.comms))
+        members = self.comms[comm]
+        kind = self.random.choice(("barrier", "barrier", "bcast", "gather", "scan", "alltoallv"))
+        root = self.random.choice(members)
+        numbers = {rank: self.tapes[rank].begin(f"collective {kind} {comm}") for rank in members}
+        before = {rank: set(self.known[rank]) for rank in members}
+        if self.random.random() < 0.3:
+            self.mark(self.random.choice(members))
+        for rank in self.random.sample(members, len(members)):
+            place = members.index(rank)
+            sources = {
+                "barrier": "all", "bcast": "none" if rank == root else str(members.index(root)), "gather": "all" if rank == root else "none",
+                "scan": "below", "alltoallv": ",".join(str(it) for it in range(len(members)) if self.random.random() < 0.5) or "none",
+            }[kind]
+            self.tapes[rank].end(numbers[rank], f"0 {sources}")
+            them = {"all": range(len(members)), "none": (), "below": range(place)}.get(sources)
+            for it in them if them is not None else map(int, sources.split(",")):
+                self.known[rank] |= before[members[it]]
+
+
+def is_ordered(room, seed, is_short):
+    """Whether the plan of a random run orders its marks just as the messages did; also when lines that order nothing are left out."""
+    world = World(seed)
+    maker = made(room, world.tapes)
+    if is_short:
+        maker.reduce()
+    scripts = scripts_of(maker.plan())
+    places = {line.split(" ")[1]: (process, n) for process, lines in enumerate(scripts) for n, line in enumerate(lines) if line.endswith(" x")}
+    before = before_of(scripts)
+    for name, them in world.marks.items():
+        got = {it for it, place in places.items() if place in before[places[name]]}
+        if got != them:
+            return tell(f"random run {seed}{', short' if is_short else ''}", f"before {name} come {sorted(got)}, and not {sorted(them)}")
+    return True
+
+
+def twisted(room):
+    """Runs whose order is easy to get wrong: a name, the tapes, and the lines that they must become."""
+    mark = "publish blocks m=text:x -"
+    # A message overtakes nothing, but messages of two tags do.
+    tapes = in_world(0, 2), in_world(1, 2)
+    tapes[0].begin("send 1 1 5 4")
+    tapes[0].call(mark)
+    tapes[0].begin("send 1 1 6 4")
+    tapes[1].call("receive 1", "0 0 6 4").call("receive 1", "0 0 5 4")
+    yield "two tags", tapes, [["publish mpi.0.1.2 sent", "publish m x", "publish mpi.0.1.1 sent"], ["lookup-wait mpi.0.1.1", "lookup-wait mpi.0.1.2"]], None
+    # A barrier beside a fence over the same processes, in the same order.
+    tapes = in_world(0, 2), in_world(1, 2)
+    for tape in tapes:
+        tape.call("fence blocks all pmix.collect=number:1:1").call("collective barrier 1", "0 all").call("fence blocks all -")
+    yield "a barrier among fences", tapes, [["fence all collect", "fence all", "fence all"]] * 2, "0 messages and 1 collectives"
+    # The same in two orders, by a fence that doesn't block: no fence stands for the barrier.
+    tapes = in_world(0, 2), in_world(1, 2)
+    fence = tapes[0].begin("fence nb all pmix.collect=number:1:1")
+    tapes[0].call("collective barrier 1", "0 all").end(fence)
+    tapes[1].call("collective barrier 1", "0 all").call("fence blocks all pmix.collect=number:1:1")
+    yield "a barrier and a fence in two orders", tapes, [
+        ["fence all collect", "publish mpi.0.all.1 sent", "lookup-wait mpi.1.all.1"],
+        ["publish mpi.1.all.1 sent", "lookup-wait mpi.0.all.1", "fence all collect"]], None
+    # Calls in a barrier aren't before it, nor after.
+    tapes = in_world(0, 2), in_world(1, 2)
+    barrier = tapes[0].begin("collective barrier 1")
+    tapes[0].call(mark).end(barrier, "0 all")
+    tapes[1].call("collective barrier 1", "0 all")
+    yield "a call in a barrier", tapes, [
+        ["publish mpi.0.all.1 sent", "publish m x", "lookup-wait mpi.1.all.1"], ["publish mpi.1.all.1 sent", "lookup-wait mpi.0.all.1"]], None
+    # A get that waits is no such call: the barrier is a fence before it.
+    tapes = in_world(0, 2), in_world(1, 2)
+    barrier = tapes[0].begin("collective barrier 1")
+    tapes[0].call("get blocks job:1 :k -", "0 text:v").end(barrier, "0 all")
+    tapes[1].call("put global k text:v").call("commit").call("collective barrier 1", "0 all")
+    yield "a get in a barrier", tapes, [["fence all", "get app:1 k"], ["put global k v", "commit", "fence all"]], None
+    # An allreduce of nothing orders nothing, and a broadcast only the root.
+    tapes = in_world(0, 2), in_world(1, 2)
+    for rank, tape in enumerate(tapes):
+        tape.call("collective allreduce 1", "0 none").call("collective bcast 1", f"0 {'none' if rank == 0 else 0}")
+    yield "a broadcast", tapes, [["publish mpi.0.all.2 sent"], ["lookup-wait mpi.0.all.2"]], None
+    # A synchronous send ends after its receive has begun.
+    tapes = in_world(0, 2), in_world(1, 2)
+    tapes[0].call("send 1 1 0 4")
+    tapes[1].call("receive 1", "0 0 0 4")
+    yield "a synchronous send", tapes, [
+        ["publish mpi.0.1.1 sent", "lookup-wait mpi.0.1.1.begun"], ["publish mpi.0.1.1.begun sent", "lookup-wait mpi.0.1.1"]], None
+    # Messages that can't be matched order nothing.
+    tapes = in_world(0, 2), in_world(1, 2)
+    tapes[0].begin("send 1 1 0 4")
+    tapes[1].call("receive 1", "0 0 0 8")
+    yield "a message of another size", tapes, [[], []], "1 messages that can't be matched"
+    tapes = in_world(0, 2), in_world(1, 2)
+    tapes[0].begin("send 1 1 0 4")
+    tapes[1].call("receive 1", "0 0 0 4").call("receive 1", "0 0 0 4")
+    yield "more receives than sends", tapes, [[], []], "2 messages that can't be matched"
+    tapes = in_world(0, 2), in_world(1, 2)
+    for tapes[0].thread in (1, 2):
+        tapes[0].begin("send 1 1 0 4")
+    tapes[1].call("receive 1", "0 0 0 4")
+    yield "sends of two threads", tapes, [[], []], "1 messages that can't be matched"
+    tapes = in_world(0, 2), in_world(1, 2)
+    tapes[0].call("collective barrier 1", "0 all").call("collective barrier 1", "0 all")
+    tapes[1].call("collective barrier 1", "0 all").call("collective bcast 1", "0 none")
+    yield "collectives of two kinds", tapes, [["fence all"], ["fence all"]], "2 collectives that can't be matched"
+    # Names that the program has itself.
+    tapes = in_world(0, 2), in_world(1, 2)
+    tapes[0].call("publish blocks mpi.0.1.1=text:x -").begin("send 1 1 0 4")
+    tapes[1].call("receive 1", "0 0 0 4")
+    yield "a name that looks like ours", tapes, [["publish mpi.0.1.1 x", "publish mpi_.0.1.1 sent"], ["lookup-wait mpi_.0.1.1"]], "begins with `mpi_.`"
+    # A barrier of a communicator of some, and one in which not all came.
+    tapes = [in_world(rank, 3) for rank in range(3)]
+    for rank in (0, 2):
+        tapes[rank].say("comm 2 1 c1 2,0").call("collective barrier 2", "0 all")
+    tapes[0].begin("collective barrier 1")
+    yield "a barrier of some", tapes, [["fence app:0,app:2"], [], ["fence app:0,app:2"]], None
+    # Ended badly.
+    tapes = Tape(0).text(False), Tape(1).text()
+    yield "a process that ended badly", tapes, [[], []], "1 processes whose recordings end before PMIx_Finalize"
+
+
+def is_twisted(room, name, tapes, scripts, comment):
+    plan = made(room, tapes).plan()
+    if scripts_of(plan) != scripts:
+        return tell(name, f"becomes {scripts_of(plan)}")
+    return not comment or comment in plan or tell(name, f"has no comment '{comment}' in\n{plan}")
+
+
+def is_shortened(room):
+    """Whether a program with many messages has a plan within the limits, without what orders nothing, and the rest in order."""
+    tapes = in_world(0, 2), in_world(1, 2)
+    tapes[0].call("publish blocks m0=text:x -")
+    for _ in range(10000):
+        tapes[0].begin("send 1 1 0 4")
+        tapes[1].call("receive 1", "0 0 0 4")
+    tapes[1].call("lookup blocks :m0 -", "0 m0=text:x")
+    for tape in tapes:
+        tape.call("collective barrier 1", "0 all")
+    maker = made(room, tapes)
+    plan = maker.plan()
+    wanted = [["publish m0 x", "publish mpi.0.1.1 sent"], ["lookup-wait mpi.0.1.1", "lookup m0"]]
+    return scripts_of(plan) == wanted and "lines of MPI's order" in plan or tell("many messages", f"becomes {plan[:600]}")
+
+
+# --- live ---
+
+# The programs, on how many processes, and how many findings each has.
+LIVE = {"names": (4, 0), "ring": (4, 0), "collectives": (4, 0), "told": (2, 0), "spawn": (2, 0)}
+
+
+def live_lacks():
+    """What is missing for live tests, if anything is."""
+    lacking = [it for it in ("mpicc", "mpirun", "make", "cc") if not shutil.which(it)]
+    if shutil.which("pkg-config") and subprocess.run(["pkg-config", "--exists", "pmix"], check=False).returncode:
+        lacking.append("the headers of PMIx")
+    return lacking if shutil.which("pkg-config") else [*lacking, "pkg-config"]
+
+
+def environment():
+    """Open MPI as root must be told that this is meant."""
+    return {**os.environ, "OMPI_ALLOW_RUN_AS_ROOT": "1", "OMPI_ALLOW_RUN_AS_ROOT_CONFIRM": "1"}
+
+
+def compiled(room, name):
+    """A program, compiled; its path."""
+    path, source = os.path.join(room, name), os.path.join(PROGRAMS, f"{name}.c")
+    if name == "calls":
+        flags = subprocess.run(["pkg-config", "--cflags", "--libs", "pmix"], capture_output=True, text=True, check=True).stdout.split()
+        words = ["cc", "-o", path, source, *flags, "-pthread"]
+    else:
+        words = ["mpicc", "-o", path, source]
+    subprocess.run(words, check=True, capture_output=True)
+    return path
+
+
+def lives(program, room, name, processes, count):
+    """Whether a program that runs is recorded, and its plan is checked and replayed as it was."""
+    path = compiled(room, name)
+    plan, answers = os.path.join(room, f"{name}.plan"), os.path.join(room, f"{name}.answers")
+    run = ["mpirun", "--oversubscribe", "-n", str(processes), path]
+    plainly = subprocess.run(run, capture_output=True, text=True, timeout=SECONDS, env=environment(), check=False)
+    ran = command("-o", plan, "--answers", answers, *run, env=environment())
+    if (ran.returncode, sorted(ran.stdout.split("\n"))) != (plainly.returncode, sorted(plainly.stdout.split("\n"))):
+        return tell(f"{name}, live", f"ended with {ran.returncode}, wrote {ran.stdout[:300]} and said {ran.stderr[:300]}")
+    wrong = program and (found(program, plan, count) or differs(program, plan, answers))
+    return not wrong or tell(f"{name}, live", wrong)
+
+
+def sees_the_same(room, option):
+    """Whether a program that calls PMIx in many ways is told the same with the recorder as without."""
+    path, plan = os.path.join(room, "calls"), os.path.join(room, "calls.plan")
+    if not os.path.exists(path):
+        compiled(room, "calls")
+    run = ["mpirun", "--oversubscribe", "-n", "2", path, *option]
+    plainly = subprocess.run(run, capture_output=True, text=True, timeout=SECONDS, env=environment(), check=False)
+    ran = command("-o", plan, *run, env=environment())
+    same = sorted(ran.stdout.split("\n")) == sorted(plainly.stdout.split("\n")) and ran.stdout.count("\n") > 60
+    with open(plan, encoding="ascii") as it:
+        count = it.read().count("\nput ")
+    wanted = 14 + 400 * bool(option)
+    return same and count == wanted and not ran.returncode or tell("calls, live", f"{count} puts, and said {ran.stderr[:300]}\n{ran.stdout[:300]}")
+
+
+def outlives(program, room):
+    """Whether the recording of a process that is killed is there up to its end."""
+    path, plan = os.path.join(room, "calls"), os.path.join(room, "killed.plan")
+    ran = command("-o", plan, "mpirun", "--oversubscribe", "-n", "2", path, "threads", "killed", env=environment())
+    if ran.returncode != 1 or "the command ended" not in ran.stderr:
+        return tell("killed, live", f"ended with {ran.returncode} and said {ran.stderr[:300]}")
+    with open(plan, encoding="ascii") as it:
+        text = it.read()
+    scripts = scripts_of(text)
+    well = "PMIx_Finalize" in text and len(scripts) == 2 and scripts[1][-1] == "fence all" and scripts[1].count("commit") == 2
+    return well or tell("killed, live", text[:600])
+
+
+def is_without_fault(room):
+    """Whether Valgrind's memcheck finds no fault of the recorder, in a program with threads and callbacks and in one with messages."""
+    for name, option in (("calls", ["threads"]), ("told", [])):
+        log = os.path.join(room, f"{name}.memcheck.%p")
+        run = ["mpirun", "--oversubscribe", "-n", "2", "valgrind", "-q", "--leak-check=full", f"--log-file={log}", os.path.join(room, name), *option]
+        ran = command("-o", os.path.join(room, "plan"), *run, env=environment())
+        logs = [it for it in os.listdir(room) if it.startswith(f"{name}.memcheck.")]
+        if ran.returncode or len(logs) != 2:
+            return tell(f"{name} under memcheck", f"ended with {ran.returncode} and said {ran.stderr[:300]}")
+        for it in logs:
+            with open(os.path.join(room, it), encoding="utf-8", errors="replace") as log:
+                wrong = faults(log.read())
+            if wrong:
+                return tell(f"{name} under memcheck", wrong[0])
+    return True
+
+
+def faults(log):
+    """The blocks of a log of memcheck whose first frame outside of the C library and Valgrind is the recorder's."""
+    found = []
+    for block in re.split(r"==\d+== \n", log):
+        frames = re.findall(r"(?:at|by) 0x[0-9A-F]+: .*", block)
+        own = [it for it in frames if not re.search(r"vgpreload|\(in [^)]*/libc\.so|\((?:strdup|clone|pthread_\w+)\.[cS]:", it)]
+        if own and "/record" in own[0]:
+            found.append(block)
+    return found
+
+
+def live(program):
+    """The tests of programs that run."""
+    lacking = live_lacks()
+    if lacking:
+        print(f"recording: programs were not recorded live: there is no {', no '.join(lacking)}")
+        return []
+    built = subprocess.run(["make", "-s", "record", "record-mpi"], cwd=TOP, capture_output=True, text=True, check=False)
+    if built.returncode or built.stderr:
+        return [tell("make record record-mpi", built.stderr[:600])]
+    with tempfile.TemporaryDirectory(prefix="wire-up-") as room:
+        well = [lives(program, room, name, *how) for name, how in LIVE.items()]
+        well += [sees_the_same(room, []), sees_the_same(room, ["threads"]), outlives(program, room)]
+        if shutil.which("valgrind"):
+            well.append(is_without_fault(room))
+        else:
+            print("recording: memcheck was left out: there is no valgrind")
+        return well
+
+
+def all_runs(program):
+    """Runs all, and answers how many went well and how many didn't."""
+    if not program:
+        print("recording: the plans were made, and not checked: no program was named")
+    with tempfile.TemporaryDirectory(prefix="wire-up-") as room:
+        well = [becomes(room, *it) for it in calls_become()]
+        well += [is_twisted(room, *it) for it in twisted(room)]
+        well += [is_used(*it) for it in usages(room)]
+        well += [is_ordered(room, seed, is_short) for seed in range(RANDOM_PROGRAMS) for is_short in (False, True)]
+        well.append(is_shortened(room))
+    well += [is_refused(*it) for it in damages()]
+    well += [ships(program, name, counts) for name, counts in FINDINGS.items()]
+    well += live(program)
+    return well.count(True), well.count(False)
+
+
+if __name__ == "__main__":
+    if len(sys.argv) > 2:
+        sys.exit(__doc__)
+    passed, failed = all_runs(os.path.abspath(sys.argv[1]) if len(sys.argv) == 2 else None)
+    print(f"{passed} passed, {failed} failed")
+    sys.exit(1 if failed else 0)
