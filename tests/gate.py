@@ -1,4 +1,5 @@
-"""The gate: `rt ci`, then the program that it proved and built, run as a user would, and the commands that the documents show.
+"""The gate: `rt ci`, then the program that it proved and built, run as a user would, the recorder, and the commands that the documents
+show.
 
 The last line is 'N passed, M failed' for all of it, and the status is 1 where anything failed. A line tells how far it is; what
 `rt ci` prints goes to out/gate.log, and where something failed, what the log says of it is printed too.
@@ -12,6 +13,7 @@ import bench
 import program
 import progress
 import readme
+import recording
 
 BUILT = os.path.join(progress.TOP, "crates", "program", "out", "program")
 # The lines of `rt ci` that tell how far it is.
@@ -87,7 +89,7 @@ def main():
         os.remove(BUILT)
     counts = [prove()]
     if os.path.exists(BUILT):
-        counts += [program.all_runs(BUILT), readme.all_commands(BUILT), bench.works(BUILT)]
+        counts += [program.all_runs(BUILT), recording.all_runs(BUILT), readme.all_commands(BUILT), bench.works(BUILT)]
     else:
         print("the program was not built, and so it was not run")
         counts.append((0, 1))

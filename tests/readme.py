@@ -73,7 +73,7 @@ def like_the_top(room):
 
 def went_well(program, room, path, number, words, shown):
     """Whether a command writes what the document shows; if not, tells."""
-    really = words.replace("./wire_up", shlex.quote(program))
+    really = re.sub(r"\./wire_up(?![\w-])", lambda _: shlex.quote(program), words)
     how = {"cwd": room, "stdin": subprocess.DEVNULL, "stdout": subprocess.PIPE, "stderr": subprocess.STDOUT, "timeout": SECONDS}
     try:
         wrote = subprocess.run(really, shell=True, check=False, **how).stdout.decode(errors="replace")
