@@ -5,7 +5,6 @@ PREFIX ?= /usr/local
 
 .PHONY: run try test bench record record-mpi install
 
-CC = cc
 MPICC ?= mpicc
 CFLAGS ?= -O2 -Wall -Wextra
 SHARED = -std=gnu11 $(CFLAGS) -shared -fPIC -pthread

@@ -106,7 +106,7 @@ def scripts_of(plan):
     for line in plan.splitlines():
         if line.startswith("rank "):
             found.append([])
-        elif found and not line.startswith("job "):
+        elif found and not line.startswith(("job ", "#")):
             found[-1].append(line)
     return found
 
@@ -535,7 +535,7 @@ def twisted(room):
     tapes = in_world(0, 2), in_world(1, 2)
     tapes[0].call("publish blocks mpi.0.1.1=text:x -").begin("send 1 1 0 4")
     tapes[1].call("receive 1", "0 0 0 4")
-    yield "a name that looks like ours", tapes, [["publish mpi.0.1.1 x", "publish mpi_.0.1.1 sent"], ["lookup-wait mpi_.0.1.1"]], "begins with `mpi_.`"
+    yield "a name that looks like ours", tapes, [["publish mpi.0.1.1 x", "publish mpi_.0.1.1 sent"], ["lookup-wait mpi_.0.1.1"]], "`mpi_.`"
     # A barrier of a communicator of some, and one in which not all came.
     tapes = [in_world(rank, 3) for rank in range(3)]
     for rank in (0, 2):
