@@ -138,12 +138,13 @@ def calls_become():
     yield "a put that failed", [("put global k text:v", "-27")], [], [], [], "1 puts that failed"
     yield "a commit", [("commit", "0")], [], ["commit"], [], None
     yield "a commit that failed", [("commit", "-25")], [], [], [], "1 commits that failed"
-    put = ("put global k text:v", "0")
-    yield "a get", [put], [("get blocks job:0 :k -", "0 text:v")], ["put global k v"], ["get app:0 k"], None
-    yield "a get of its own job", [put], [("get nb %:0 :k -", "0 text:v")], ["put global k v"], ["get app:0 k"], None
+    put, commit = ("put global k text:v", "0"), ("commit", "0")
+    yield "a get", [put, commit], [("get blocks job:0 :k -", "0 text:v")], ["put global k v", "commit"], ["get app:0 k"], None
+    yield "a get of its own job", [put, commit], [("get nb %:0 :k -", "0 text:v")], ["put global k v", "commit"], ["get app:0 k"], None
     yield "a get at once", [put], [("get blocks job:0 :k pmix.immediate=number:1:1", "-46")], ["put global k v"], ["get-now app:0 k"], None
     yield "an optional get", [put], [("get blocks job:0 :k pmix.optional=number:1:1", "-46")], ["put global k v"], ["get-now app:0 k"], None
-    yield "no directive at all", [put], [("get blocks job:0 :k pmix.optional=number:1:0", "0 text:v")], ["put global k v"], ["get app:0 k"], None
+    yield "no directive at all", [put, commit], [("get blocks job:0 :k pmix.optional=number:1:0", "0 text:v")], ["put global k v", "commit"], [
+        "get app:0 k"], None
     yield "a get that failed", [put], [("get blocks job:0 :k -", "-46")], ["put global k v"], ["get-now app:0 k"], "1 gets that were answered"
     yield "a get out of scope", [("put remote k text:v", "0")], [("get blocks job:0 :k -", "-46")], ["put remote k v"], ["get app:0 k"], None
     yield "a get with a timeout", [put], [("get blocks job:0 :k pmix.timeout=number:4:2", "-24")], ["put global k v"], ["get-now app:0 k"], (
@@ -153,6 +154,10 @@ def calls_become():
     yield "a get of a reserved key", [], [("get blocks job:0 :pmix.lrank -", "0 number:2:0")], [], [], "1 gets of reserved keys"
     yield "a get of every key", [], [("get blocks job:0 every -", "-27")], [], [], "1 gets of every key"
     yield "a get of no process", [], [("get blocks none :k -", "-27")], [], [], "1 gets that name no process"
+    yield "a get of what isn't put", [], [("get blocks job:0 :k -", "0 text:v")], [], [], "1 gets of keys whose put isn't recorded"
+    yield "a get of what isn't committed", [put], [("get blocks job:0 :k -", "0 text:v")], ["put global k v"], [], "1 gets of keys whose put"
+    yield "an own get of what isn't put", [("get blocks job:0 :k -", "0 text:v")], [], [], [], "1 gets of keys whose put"
+    yield "an own get", [put, ("get blocks job:0 :k -", "0 text:v")], [], ["put global k v", "get app:0 k"], [], None
     yield "a get of another job", [], [("get blocks other:0 :k -", "-46")], [], [], "1 gets of processes that aren't recorded"
     both = [("fence blocks all -", "0")]
     yield "a fence", both, both, ["fence all"], ["fence all"], None
@@ -233,6 +238,16 @@ def damages():
     yield "too many processes", {f"{n:03}": Tape(n).text() for n in range(257)}, "at most 256 processes, and this one would have 257"
     yield "too many nodes", {f"{n:03}": Tape(n, host=f"n{n}").text() for n in range(65)}, "at most 64 nodes, and this one would have 65"
     yield "too many jobs", {f"{n:03}": Tape(0, namespace=f"j{n}").text() for n in range(17)}, "at most 16 jobs, and this one would have 17"
+    first, second = Tape(0), Tape(1)
+    fence = first.begin("fence nb all pmix.collect=number:1:1")
+    first.call("put global k text:v").call("commit").end(fence)
+    second.call("get blocks job:0 :k -", "0 text:v").call("fence blocks all pmix.collect=number:1:1")
+    yield "calls that a plan can't order", {"a": first.text(), "b": second.text()}, "call 1 of app:0, `fence all collect`, ended, but in a plan"
+    first, second = in_world(0, 2), in_world(1, 2)
+    fence = first.begin("fence nb all pmix.collect=number:1:1")
+    first.call("collective barrier 1", "0 all").end(fence)
+    second.call("collective barrier 1", "0 all").call("fence blocks all pmix.collect=number:1:1")
+    yield "fences in two orders", {"a": first.text(), "b": second.text()}, "call 1 of app:0, `fence all collect`, ended, but in a plan"
     many = Tape(0)
     for _ in range(16385):
         many.call("commit")
@@ -479,16 +494,15 @@ def twisted(room):
     # A barrier beside a fence over the same processes, in the same order.
     tapes = in_world(0, 2), in_world(1, 2)
     for tape in tapes:
-        tape.call("fence blocks all pmix.collect=number:1:1").call("collective barrier 1", "0 all").call("fence blocks all -")
+        tape.call("fence blocks all pmix.collect=number:1:1").call("collective barrier 1", "0 all").call("fence nb all -")
     yield "a barrier among fences", tapes, [["fence all collect", "fence all", "fence all"]] * 2, "0 messages and 1 collectives"
-    # The same in two orders, by a fence that doesn't block: no fence stands for the barrier.
+    # The same in two orders, by a fence that doesn't block: both are names.
     tapes = in_world(0, 2), in_world(1, 2)
-    fence = tapes[0].begin("fence nb all pmix.collect=number:1:1")
+    fence = tapes[0].begin("fence nb all -")
     tapes[0].call("collective barrier 1", "0 all").end(fence)
-    tapes[1].call("collective barrier 1", "0 all").call("fence blocks all pmix.collect=number:1:1")
+    tapes[1].call("collective barrier 1", "0 all").call("fence blocks all -")
     yield "a barrier and a fence in two orders", tapes, [
-        ["fence all collect", "publish mpi.0.all.1 sent", "lookup-wait mpi.1.all.1"],
-        ["publish mpi.1.all.1 sent", "lookup-wait mpi.0.all.1", "fence all collect"]], None
+        ["publish fence.0.1 sent", "fence all", "lookup-wait fence.1.1"], ["fence all", "publish fence.1.1 sent", "lookup-wait fence.0.1"]], None
     # Calls in a barrier aren't before it, nor after.
     tapes = in_world(0, 2), in_world(1, 2)
     barrier = tapes[0].begin("collective barrier 1")
@@ -507,6 +521,31 @@ def twisted(room):
     for rank, tape in enumerate(tapes):
         tape.call("collective allreduce 1", "0 none").call("collective bcast 1", f"0 {'none' if rank == 0 else 0}")
     yield "a broadcast", tapes, [["publish mpi.0.all.2 sent"], ["lookup-wait mpi.0.all.2"]], None
+    # A fence that doesn't block, with a call before its end: arriving and leaving stand apart.
+    tapes = Tape(0), Tape(1)
+    fence = tapes[0].begin("fence nb all -")
+    tapes[0].call(mark).end(fence)
+    tapes[1].call("fence blocks all -")
+    yield "a fence that doesn't block", tapes, [
+        ["publish fence.0.1 sent", "publish m x", "lookup-wait fence.1.1"], ["publish fence.1.1 sent", "lookup-wait fence.0.1"]], "2 calls of fences among"
+    # The same where it collects: that can't be said.
+    tapes = Tape(0), Tape(1)
+    fence = tapes[0].begin("fence nb all pmix.collect=number:1:1")
+    tapes[0].call(mark).end(fence)
+    tapes[1].call("fence blocks all pmix.collect=number:1:1")
+    yield "a fence that collects and doesn't block", tapes, [["fence all collect", "publish m x"], ["fence all collect"]], "1 calls made while one"
+    # A get that doesn't block is where it ends.
+    tapes = Tape(0), Tape(1)
+    get = tapes[0].begin("get nb job:1 :k -")
+    tapes[0].call(mark).end(get, "0 text:v")
+    tapes[1].call("put global k text:v").call("commit")
+    yield "a get that doesn't block", tapes, [["publish m x", "get app:1 k"], ["put global k v", "commit"]], None
+    # A fence that ended for one although the other's isn't there.
+    tapes = Tape(0).call("fence blocks all -"), Tape(1)
+    yield "half a fence", tapes, [[], []], "1 fences that ended although"
+    tapes = Tape(0), Tape(1)
+    tapes[0].begin("fence blocks all -")
+    yield "half a fence that hangs", tapes, [["fence all"], []], None
     # A synchronous send ends after its receive has begun.
     tapes = in_world(0, 2), in_world(1, 2)
     tapes[0].call("send 1 1 0 4")
