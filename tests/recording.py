@@ -668,6 +668,36 @@ def sees_the_same(room, option):
     return same and count == wanted and not ran.returncode or tell("calls, live", f"{count} puts, and said {ran.stderr[:300]}\n{ran.stdout[:300]}")
 
 
+# Whose data each of the four processes waits for in the collectives of `messages`, as the recordings must say.
+SOURCES = {
+    "barrier": ["all"] * 4, "bcast": ["none", "3", "3", "3"], "gather": ["none", "none", "all", "none"], "scatter": ["1", "none", "1", "1"],
+    "reduce": ["none", "none", "all", "none"], "scan": ["below"] * 4, "exscan": ["below"] * 4, "allgather": ["all"] * 4, "allgatherv": ["1,3"] * 4,
+    "alltoall": ["all"] * 4, "alltoallv": ["none", "0", "0,1", "all"], "alltoallw": ["none", "0", "0,1", "all"], "reduce_scatter": ["all"] * 4,
+    "reduce_scatter_block": ["all"] * 4, "allreduce": ["all"] * 4,
+}
+STEPS = 20
+
+
+def is_followed(program, room):
+    """Whether messages and collectives of all kinds order what they must, and what the recordings say of whom each process waited for."""
+    path, plan, kept = compiled(room, "messages"), os.path.join(room, "messages.plan"), os.path.join(room, "messages.kept")
+    ran = command("-o", plan, "--keep", kept, "mpirun", "--oversubscribe", "-n", "4", path, env=environment())
+    if ran.returncode or ran.stdout.count(f": {STEPS} steps, 0 wrong") != 4:
+        return tell("messages, live", f"ended with {ran.returncode}, wrote {ran.stdout[:300]} and said {ran.stderr[:300]}")
+    for file in RECORD.files_of([kept]):
+        with open(file, "rb") as it:
+            recording = RECORD.Recording(file, it.read())
+        for call in recording.calls:
+            if call.verb == "collective" and call.end[1] != SOURCES[call.parts[0]][recording.rank]:
+                return tell("messages, live", f"in {call.parts[0]} rank {recording.rank} waited for {call.end[1]}")
+    if not program:
+        return True
+    well = [answer(program, "check", plan)[1].splitlines()[-1] == "findings 0"]
+    command("--no-mpi", "-o", plan, "--from", kept)
+    well.append(answer(program, "check", plan)[1].splitlines()[-1] == f"findings {STEPS}")
+    return all(well) or tell("messages, live", f"of its findings (none, and {STEPS} without MPI) {well.count(False)} counts are wrong")
+
+
 def outlives(program, room):
     """Whether the recording of a process that is killed is there up to its end."""
     path, plan = os.path.join(room, "calls"), os.path.join(room, "killed.plan")
@@ -720,7 +750,7 @@ def live(program):
         return [tell("make record record-mpi", built.stderr[:600])]
     with tempfile.TemporaryDirectory(prefix="wire-up-") as room:
         well = [lives(program, room, name, *how) for name, how in LIVE.items()]
-        well += [sees_the_same(room, []), sees_the_same(room, ["threads"]), outlives(program, room)]
+        well += [sees_the_same(room, []), sees_the_same(room, ["threads"]), is_followed(program, room), outlives(program, room)]
         if shutil.which("valgrind"):
             well.append(is_without_fault(room))
         else:
