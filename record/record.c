@@ -115,39 +115,48 @@ static void add_key(struct text *to, const char *key) { add_word(to, key, strnle
 
 /* --- the file --- */
 
+/* Says so once: whoever takes the descriptor away says why. */
 static void give_up(const char *why)
 {
-    file = -1;
-    fprintf(stderr, "wire_up-record: %s: %s; what follows isn't recorded\n", path, why);
+    if (__atomic_exchange_n(&file, -1, __ATOMIC_ACQ_REL) >= 0)
+        fprintf(stderr, "wire_up-record: %s: %s; what follows isn't recorded\n", path, why);
 }
 
-/* Whether the file is still the one that was opened: a program may close descriptors that it doesn't know. */
-static bool is_still_open(void)
+/* Whether a descriptor is still the file that was opened: a program may close descriptors that it doesn't know. */
+static bool is_still_open(int to)
 {
     struct stat it;
-    return fstat(file, &it) == 0 && it.st_dev == its_device && it.st_ino == its_number;
+    return fstat(to, &it) == 0 && it.st_dev == its_device && it.st_ino == its_number;
 }
 
-static void write_whole(const char *bytes, size_t length)
+static bool write_whole(int to, const char *bytes, size_t length)
 {
-    if (!is_still_open()) {
+    if (!is_still_open(to)) {
         give_up("the program closed it");
-        return;
+        return false;
     }
     ssize_t wrote;
     do
-        wrote = write(file, bytes, length);
+        wrote = write(to, bytes, length);
     while (wrote < 0 && errno == EINTR);
     if (wrote < 0)
         give_up(strerror(errno));
     else if ((size_t)wrote < length)
         give_up("no room");
+    return wrote >= 0 && (size_t)wrote == length;
+}
+
+/* The descriptor of the file in this process; -1 where nothing is to be written. */
+static int mine(void)
+{
+    int to = __atomic_load_n(&file, __ATOMIC_ACQUIRE);
+    return to >= 0 && getpid() == owner ? to : -1;
 }
 
 bool wire_up_is_recording(void)
 {
     int was = errno;
-    bool is = file >= 0 && getpid() == owner;
+    bool is = mine() >= 0;
     errno = was;
     return is;
 }
@@ -156,8 +165,8 @@ unsigned long wire_up_number(void) { return __atomic_add_fetch(&calls, 1, __ATOM
 
 void wire_up_write(char sign, unsigned long number, const struct text *what)
 {
-    int was = errno;
-    if (file >= 0 && getpid() == owner) {
+    int was = errno, to = mine();
+    if (to >= 0) {
         struct timespec now;
         struct text line;
         clock_gettime(CLOCK_MONOTONIC, &now);
@@ -171,9 +180,9 @@ void wire_up_write(char sign, unsigned long number, const struct text *what)
         wire_up_text_open(&line);
         wire_up_text_add(&line, "%c %lu %lu %ld.%06ld %s\n", sign, number, my_thread, seconds, nanoseconds / 1000, what->at);
         if (line.is_lost || what->is_lost)
-            write_whole("lost\n", 5);
+            write_whole(to, "lost\n", 5);
         else
-            write_whole(line.at, line.length);
+            write_whole(to, line.at, line.length);
         wire_up_text_close(&line);
     }
     errno = was;
@@ -229,12 +238,14 @@ static void open_file(const pmix_proc_t *me, const char *version)
     wire_up_text_add(&head, " %ld\nbegan %lld.%06ld\nlibrary ", (long)owner, (long long)today.tv_sec, today.tv_nsec / 1000);
     add_word(&head, version, strlen(version));
     wire_up_text_add(&head, "\n");
-    __atomic_store_n(&file, opened, __ATOMIC_RELEASE);
-    if (head.is_lost)
-        write_whole("lost\n", 5);
-    else
-        write_whole(head.at, head.length);
+    bool is_written = !head.is_lost && write_whole(opened, head.at, head.length);
     wire_up_text_close(&head);
+    if (is_written) {
+        __atomic_store_n(&file, opened, __ATOMIC_RELEASE);
+    } else {
+        fprintf(stderr, "wire_up-record: %s: can't be written; nothing is recorded\n", path);
+        close(opened);
+    }
 }
 
 /* --- the library's own functions --- */
