@@ -618,9 +618,21 @@ LIVE = {"names": (4, 0), "ring": (4, 0), "collectives": (4, 0), "told": (2, 0), 
 def live_lacks():
     """What is missing for live tests, if anything is."""
     lacking = [it for it in ("mpicc", "mpirun", "make", "cc") if not shutil.which(it)]
+    if shutil.which("mpirun") and not runs_plainly():
+        lacking.append("mpirun of Open MPI that can run")
     if shutil.which("pkg-config") and subprocess.run(["pkg-config", "--exists", "pmix"], check=False).returncode:
         lacking.append("the headers of PMIx")
     return lacking if shutil.which("pkg-config") else [*lacking, "pkg-config"]
+
+
+def runs_plainly():
+    """Whether there is an Open MPI whose launcher can start two processes here."""
+    try:
+        version = subprocess.run(["mpirun", "--version"], capture_output=True, text=True, timeout=SECONDS, check=False)
+        ran = subprocess.run(["mpirun", "--oversubscribe", "-n", "2", "true"], capture_output=True, timeout=SECONDS, env=environment(), check=False)
+    except subprocess.TimeoutExpired:
+        return False
+    return "Open MPI" in version.stdout and ran.returncode == 0
 
 
 def environment():
@@ -644,7 +656,8 @@ def lives(program, room, name, processes, count):
     """Whether a program that runs is recorded, and its plan is checked and replayed as it was."""
     path = compiled(room, name)
     plan, answers = os.path.join(room, f"{name}.plan"), os.path.join(room, f"{name}.answers")
-    run = ["mpirun", "--oversubscribe", "-n", str(processes), path]
+    option = ["-x", "NAME=value"] if name == "told" else []
+    run = ["mpirun", *option, "--oversubscribe", "-n", str(processes), path]
     plainly = subprocess.run(run, capture_output=True, text=True, timeout=SECONDS, env=environment(), check=False)
     ran = command("-o", plan, "--answers", answers, *run, env=environment())
     if (ran.returncode, sorted(ran.stdout.split("\n"))) != (plainly.returncode, sorted(plainly.stdout.split("\n"))):
