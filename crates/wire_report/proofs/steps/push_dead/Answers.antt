@@ -1,0 +1,19 @@
+use Rattle.std.proofs.Common.{◌∙◌, [], ◌++◌, ap, sym, refl, subst}
+use Rattle.std.proofs.lemmas.List.{append-nil}
+use Rattle.wire_runs.specs.Order.{Live}
+use Rattle.wire_rehearsal.specs.Scripts.{Scripts}
+use Rattle.wire_rehearsal.specs.Planned.{plan_of}
+use Rattle.wire_report.specs.Chain.{dead_line, Dead, Alive}
+use Rattle.wire_report.proofs.Chains.{on_ok}
+use Rattle.wire_report.proofs.steps.push_dead.Goals as goal
+
+pub returns-then-live : goal.returns-then-live
+returns-then-live c =
+    let live = (c.live.ensures (plan_of c.args.plan.now) c.requires.marks).0 c.if-live.true in
+    ([], Alive (subst (Live (plan_of c.args.plan.now)) c.first_event.ensures live) refl, sym (append-nil _))
+
+pub returns : goal.returns
+returns c =
+    on_ok c.push_dead_line.result
+    (λ e. (dead_line c.args.plan.now c.args.call, Dead (λ l. cc (c.if-live.false, (c.live.ensures (plan_of c.args.plan.now) c.requires.marks).1 (subst (Live (plan_of c.args.plan.now)) (sym c.first_event.ensures) l))) refl, e ∙ ap (λ (s : Scripts). c.args.out.now.items ++ dead_line s c.args.call) c.scripts.ensures.scripts))
+    c.push_dead_line.ensures
