@@ -160,6 +160,37 @@ struct Left {
     words: Vec<u64>,
 }
 
+/// Whether the lanes of two ranks, the second of which waits for two events of the first, are ready and are served when they
+/// should be; and that nothing is so of a rank that isn't there.
+fn are_served_in_turn<R: Wait>(rt: &R, lanes: &Lanes<'_>) -> bool {
+    let (first, second, missing) = (Proc::new(0), Proc::new(1), Proc::new(9));
+    if lanes.ready(rt, second) || !lanes.ready(rt, first) || lanes.serve(rt, first) != 2 {
+        return false;
+    }
+    if !lanes.ready(rt, second) || lanes.serve(rt, second) != 1 || lanes.ready(rt, second) {
+        return false;
+    }
+    !lanes.ready(rt, missing) && lanes.serve(rt, missing) == 0
+}
+
+/// The same of the lanes of a settled plan.
+fn lanes_are_served<R: Wait>(rt: &R, alloc: Global, settled: &Settled) -> Result<bool, Fault> {
+    let (board, seats) = Board::new(alloc, settled)?;
+    let lanes = Lanes::new(alloc, &board, settled, seats)?;
+    Ok(are_served_in_turn(rt, &lanes))
+}
+
+/// A lane is ready exactly where its next event can happen, and is served as far as it goes.
+#[test]
+fn a_lane_is_served_once_it_is_ready(rt: HostRuntime) -> Result<(), Fail> {
+    let alloc = rt.alloc();
+    let settled = settled(&rt, alloc, WAITING)?;
+    let served = lanes_are_served(&rt, alloc, &settled);
+    drop(settled);
+    assert!(rt; served?);
+    Ok(())
+}
+
 /// One worker serves a round of one deque in this thread. Answers how many events that were.
 fn worked_round<R: Wait>(
     rt: &R,

@@ -82,6 +82,28 @@ rank n1
 commit
 ";
 
+/// Puts, gets, a fence that collects, and a name, on two nodes.
+const CARDS: &[u8] = b"\
+rehearsal 1
+node n0
+node n1
+job app
+rank n0
+put global k v
+put global m w
+commit
+fence all collect
+publish x 7
+rank n0
+get app:0 m
+get-now app:0 k
+fence all collect
+rank n1
+fence all collect
+get-now app:0 k
+lookup-wait x
+";
+
 /// The plan of a file.
 fn plan_of_file(alloc: Global, file: &[u8]) -> Result<Plan, Fault> {
     let scripts = read(alloc, file)?;
@@ -273,7 +295,12 @@ fn one_worker_serves_a_round(rt: HostRuntime) -> Result<(), Fail> {
 fn the_collector_serves_nothing(rt: HostRuntime) -> Result<(), Fail> {
     let alloc = rt.alloc();
     let commits = commits(alloc)?;
-    for (file, rounds) in [(WAITING, 1u64), (commits.as_bytes(), 1), (IN_A_ROW, 3)] {
+    for (file, rounds) in [
+        (WAITING, 1u64),
+        (commits.as_bytes(), 1),
+        (IN_A_ROW, 3),
+        (CARDS, 2),
+    ] {
         let gate = Counter::new();
         let (outcome, _) = ran(&rt, alloc, file, 1, &gate)?;
         assert_eq!(rt; outcome.waiting, 0);

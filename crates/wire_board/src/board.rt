@@ -18,7 +18,7 @@ use wire_races::Settled;
 use wire_rehearsal::Scripts;
 use wire_types::{Fault, Proc};
 
-/// One word for each process: the number of its events that are done. Between any two steps of any
+/// One atomic word for each process: the number of its events that are done. Between any two steps of any
 /// threads the words are the cut of a state that a run can come to. Contracts see which board it is, and
 /// the settled plan of which it was made.
 #[derive(Drop)]
@@ -46,8 +46,8 @@ fn zeros(alloc: Global, count: u32) -> Result<Vec<u64>, AllocError>
 }
 
 impl Board {
-    /// A board for a settled plan, and a seat for each rank, in process order; without ranks there is
-    /// none. No event is done, and each seat knows this. The one fault is `Fault::Memory`.
+    /// A board for a settled plan, and a seat for each rank, in process order: no seat without ranks. No
+    /// event is done yet. The one fault is `Fault::Memory`.
     pub fn new(alloc: Global, settled: &Settled) -> Result<(Board, Vec<Seat>), Fault>
         ensures plan { IfOk result (λ made. made.0.plan ≡ settled.now) }
         ensures seats { IfOk result (λ made. made.1.items ≡ opening_seats made.0) }
@@ -188,7 +188,7 @@ impl Board {
     /// The words at the end: of each process the number of its events that are done. They are the cut of a
     /// state that a run can come to. Of each of these seats the place is the word of its rank, and nothing
     /// that it knew is above the words. The caller ensures that all seats are of this board; there may be
-    /// none. The one fault is `Fault::Memory`.
+    /// none, and then the contract doesn't say of which run the words are. The one fault is `Fault::Memory`.
     pub fn close(self, alloc: Global, seats: Vec<Seat>) -> Result<Vec<u64>, Fault>
         requires { All (λ seat. seat.board ≡ self) seats.items }
         ensures count { IfOk result (λ words. length words.items ≡ procs_of self.plan) }

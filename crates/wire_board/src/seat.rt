@@ -15,8 +15,9 @@ use wire_plan::{Plan, Sources};
 use wire_races::{Fate, Settled};
 use wire_types::{Event, Proc};
 
-/// The owner of one rank: it alone moves the word of that rank. It knows of each process a number of
-/// events that are done. Contracts see its board, its rank and what it knows.
+/// The owner of one rank: it alone moves the word of that rank. It knows a position of each process: a
+/// number of its events that are done. That of its own rank is its place, and it is exact. Contracts see its
+/// board, its rank and what it knows.
 #[derive(Drop)]
 pub struct Seat {
     pub(crate) token: Token,

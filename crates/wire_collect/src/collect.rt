@@ -54,13 +54,14 @@ fn told(alloc: Global, core: &Core<'_>) -> Result<(Outcome, Vec<Proc>), Fault>
     Ok((outcome, history))
 }
 
-/// Runs a plan by so many workers, each a thread of its own, until no process is ready. Gives what became of every call,
-/// and the history of the steps. Which interleaving runs is open: for a plan with races, another run may give another.
+/// Runs a plan by at most so many workers at once, until no process is ready. Gives what became of every call, and the
+/// history of the steps. Which interleaving runs is open: for a plan with races, another run may give another.
 ///
-/// The workers share one core under a lock. They work by rounds, and each round deals every process. A worker whose
-/// thread can't be started is left out. The calling thread is the collector: it serves what no worker of a round takes, and
-/// after a round without a step the lowest ready process. It calls the gate with the number `workers`, which is no
-/// worker's.
+/// The workers share one core under a lock. They work by rounds, and each round deals every process. The first worker runs
+/// on the calling thread, and each other on a thread of its own. All work in the first round, and in a later one as many
+/// as the round before had steps for. A worker whose thread can't be started is left out. After the workers of a round,
+/// the calling thread is the collector: it serves what no worker took, and after a round without a step the lowest
+/// ready process. It calls the gate with the number `workers`, which is no worker's.
 ///
 /// The fault is `Workers` where there is no worker or more than 64, before all else, and `Memory` where memory ran out.
 pub fn run_any<R: Threads + Wait + Sync, G: Gate + Sync>(

@@ -1,5 +1,5 @@
-//! A run by many threads, round by round. Which interleaving runs is open: that it is one, and that it can't go on, is
-//! not.
+//! A run by many threads, round by round. Which interleaving runs is open. It is proved to be an interleaving that can't
+//! go on.
 #![tactic(auto)]
 
 mod collect;

@@ -18,23 +18,23 @@ fn serve_left<R: Wait, G: Gate>(
     rt: &R,
     locked: &LockedCore<'_>,
     left: &[Piece],
-    workers: usize,
+    collector: usize,
     gate: &G,
 ) -> usize {
     let mut steps = 0usize;
     for piece in left {
-        gate.pass(workers, piece.rank);
+        gate.pass(collector, piece.rank);
         steps = steps.saturating_add(locked.serve(rt, piece.rank));
     }
     steps
 }
 
-// A round that is dealt, and how many of its workers are to start.
+// A round that is dealt, with the number that the gate is called with for the collector.
 #[derive(Drop)]
 struct Dealt {
     round: Round,
     passes: Vec<Pass>,
-    wanted: usize,
+    collector: usize,
 }
 
 // One round: the workers serve the pieces, and the collector those that are left. Gives the core back, with the number
@@ -50,25 +50,24 @@ fn one_round<'a, R: Threads + Wait + Sync, G: Gate + Sync>(
     let Dealt {
         round,
         passes,
-        wanted,
+        collector,
     } = dealt;
-    let workers = round.workers();
     let locked = LockedCore::new(core);
     let crew = Crew {
         locked: &locked,
         round: &round,
         gate,
     };
-    let (passes, taken) = run_round(rt, &crew, passes, wanted);
+    let (passes, taken) = run_round(rt, &crew, passes);
     let left = round.finish(passes);
-    let steps = serve_left(rt, &locked, left.as_slice(), workers, gate);
+    let steps = serve_left(rt, &locked, left.as_slice(), collector, gate);
     (locked.into_core(), taken.saturating_add(steps))
 }
 
 // Serves the lowest process that is ready.
-fn serve_lowest<G: Gate>(core: &mut Core<'_>, workers: usize, gate: &G) {
+fn serve_lowest<G: Gate>(core: &mut Core<'_>, collector: usize, gate: &G) {
     if let Some(proc) = core.lowest_ready() {
-        gate.pass(workers, proc);
+        gate.pass(collector, proc);
         let _ = advance_far(core, proc);
     }
 }
@@ -83,20 +82,29 @@ fn after_round<'a, R: Threads + Wait + Sync, G: Gate + Sync>(
 ) -> (Core<'a>, usize)
     requires { ArePassesOf dealt.round dealt.passes.items }
 {
-    let workers = dealt.round.workers();
+    let collector = dealt.collector;
     let (mut core, steps) = one_round(rt, core, dealt, gate);
     if steps == 0 {
-        serve_lowest(&mut core, workers, gate);
+        serve_lowest(&mut core, collector, gate);
     }
     (core, steps)
 }
 
-/// How many steps of one round are work for one more thread in the next. To start a thread takes longer than fewer steps.
-const STEPS_A_THREAD: usize = 1_000;
+/// How many steps of one round are work for one more worker in the next. To start a thread takes about as long as several
+/// hundred steps.
+const STEPS_A_WORKER: usize = 1_000;
+
+// How many workers the round after one of so many steps has: at least one, and at most all.
+fn wanted_after(steps: usize, workers: usize) -> usize
+    requires { 0 < workers }
+    ensures { 0 < result }
+{
+    workers.min(steps / STEPS_A_WORKER + 1)
+}
 
 /// Runs a core by rounds, each of which deals every process, until no process is ready. Each round takes a step, so there
-/// are no more rounds than events. In the first round all workers start, and in a later one as many as the steps of the
-/// round before it are work for. The one fault is `Fault::Memory`.
+/// are no more rounds than events. The first round has all workers, and a later one as many as the steps of the round
+/// before it are work for. The one fault is `Fault::Memory`.
 pub(crate) fn run_rounds<'a, R: Threads + Wait + Sync, G: Gate + Sync>(
     rt: &R,
     alloc: Global,
@@ -114,16 +122,16 @@ pub(crate) fn run_rounds<'a, R: Threads + Wait + Sync, G: Gate + Sync>(
         if core.ended() {
             break;
         }
-        match Round::deal(alloc, number, plan.process_count(), workers) {
+        match Round::deal(alloc, number, plan.process_count(), wanted) {
             Ok((round, passes)) => {
                 let dealt = Dealt {
                     round,
                     passes,
-                    wanted,
+                    collector: workers,
                 };
                 let (next, steps) = after_round(rt, core, dealt, gate);
                 core = next;
-                wanted = steps / STEPS_A_THREAD + 1;
+                wanted = wanted_after(steps, workers);
             }
             Err(fault) => {
                 drop(core);

@@ -34,7 +34,8 @@ fn worked<R: Wait, W: Works>(rt: &R, works: &W, pass: Pass) -> (Pass, usize)
     (pass, steps)
 }
 
-// What a worker's thread does. Where it was refused, the caller of this is another thread, and it only gives the pass back.
+// What a worker's thread does. If no thread could be started, the thread that tried calls this, and it only gives the pass
+// back.
 fn thread_work<R: Wait, W: Works>(
     rt: &R,
     works: &W,
@@ -102,15 +103,14 @@ fn with_last<W: Works>(works: &W, passes: Vec<Pass>, pass: Pass) -> Vec<Pass>
     passes
 }
 
-/// Lets the first `wanted` workers of the passes serve pieces, and gives the passes back, with the number of steps taken.
-/// The first worker runs on the calling thread, which has nothing else to do until the others end. Each other one has a
-/// thread of its own, and is joined.
+/// Lets a worker for each pass serve pieces, and gives the passes back, with the number of steps taken. The first worker
+/// runs on the calling thread, which has nothing else to do until the others end. Each other one has a thread of its own,
+/// and is joined.
 #[cycle(workers)]
 pub(crate) fn run_round<R: Threads + Wait + Sync, W: Works + Sync>(
     rt: &R,
     works: &W,
     passes: Vec<Pass>,
-    wanted: usize,
 ) -> (Vec<Pass>, usize)
     requires { AreFirstPasses (W.dealt works.now) passes.items }
     ensures passes { AreFirstPasses (W.dealt works.now) result.0.items }
@@ -125,11 +125,7 @@ pub(crate) fn run_round<R: Threads + Wait + Sync, W: Works + Sync>(
         let (pass, steps) = worked(rt, works, pass);
         return (with_last(works, passes, pass), steps);
     }
-    if wanted <= passes.len() {
-        let (passes, steps) = run_round(rt, works, passes, wanted);
-        return (with_last(works, passes, pass), steps);
-    }
-    let (passes, pass, steps) = run_beside(rt, works, passes, pass, wanted);
+    let (passes, pass, steps) = run_beside(rt, works, passes, pass);
     (with_last(works, passes, pass), steps)
 }
 
@@ -140,7 +136,6 @@ fn run_beside<R: Threads + Wait + Sync, W: Works + Sync>(
     works: &W,
     passes: Vec<Pass>,
     pass: Pass,
-    wanted: usize,
 ) -> (Vec<Pass>, Pass, usize)
     requires passes { AreFirstPasses (W.dealt works.now) passes.items }
     requires pass { IsPassOf (W.dealt works.now) pass }
@@ -158,7 +153,7 @@ fn run_beside<R: Threads + Wait + Sync, W: Works + Sync>(
             ensures { AreFirstPasses (W.dealt works.entry.now) result.0.items × (vec_len result.0 ≡ vec_len passes) × (vec_capacity result.0 ≡ vec_capacity passes) × IsPassOf (W.dealt works.entry.now) result.1 × (worker_of result.1 ≡ worker_of pass) }
         {
             let started = start_worker(scope, rt, works, flag, pass);
-            let (passes, others) = run_round(rt, works, passes, wanted);
+            let (passes, others) = run_round(rt, works, passes);
             match started {
                 Ok(handle) => {
                     let (pass, steps) = handle.join(rt);

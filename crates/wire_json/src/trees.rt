@@ -8,7 +8,7 @@ use crate::strings::printed_text;
 use serde_json::{Value, json};
 use std::alloc::{AllocError, Global};
 use wire_rehearsal::{Process, Scripts};
-use wire_types::{Call, CallEnd, Value as Brought};
+use wire_types::{Call, CallEnd, Value as ReplyValue};
 use wire_words::{end_word, push_process, push_value, replied_value, verb};
 
 /// The processes, each with its row.
@@ -70,7 +70,7 @@ fn call_tree(
     ensures { IfOk result (λ value. view value ≡ spec.call_data scripts.now call.now end.now) }
 {
     let value = replied_value(end);
-    if value == Brought::Nothing {
+    if value == ReplyValue::Nothing {
         return bare_call(alloc, end_word(end), verb(call));
     }
     let mut text = Vec::new(alloc);

@@ -35,7 +35,7 @@ impl<'a> Model for Lane<'a> {
 }
 
 impl<'a> Lane<'a> {
-    /// A lane of a seat no event of whose rank is done. It reserves its whole trail. The caller ensures
+    /// A lane for a seat at place 0. It reserves its whole trail. The caller ensures
     /// that the board was made of this settled plan, and the seat is of the board. The one fault is
     /// `Fault::Memory`.
     pub fn new(

@@ -22,8 +22,8 @@ pub struct Lanes<'a> {
 
 impl<'a> Lanes<'a> {
     /// A lane for each of these seats. Each reserves its whole trail. The caller ensures that the board was
-    /// made of this settled plan, and that the seats are those that `Board::new` gave, in their order. The
-    /// one fault is `Fault::Memory`.
+    /// made of this settled plan, and that the seats are those that `Board::new` gave, in their order, with
+    /// nothing read or done yet. The one fault is `Fault::Memory`.
     pub fn new(
         alloc: Global,
         board: &'a Board,

@@ -175,8 +175,8 @@ fn rehearsed<R: Threads + Wait + Sync, G: Gate + Sync>(
     }
 }
 
-/// Rehearses a file of scripts with so many workers, each a thread of its own: reads the file to its end, judges its
-/// plan as `check` does, and writes what came of it, as lines or as JSON. A worker that can't be started is left out.
+/// Rehearses a file of scripts with at most so many workers at once (`run_any` of `wire_collect` says how): reads the file to
+/// its end, judges its plan as `check` does, and writes what came of it, as lines or as JSON.
 ///
 /// Where there is nothing to find, it runs the plan and writes what became of every call: the same for any number of
 /// workers, the report of the plain run. It answers `Clean`. Else it writes the findings, or, with `anyway`, it runs
