@@ -3,7 +3,7 @@
 
 PREFIX ?= /usr/local
 
-.PHONY: run try test bench record record-mpi install
+.PHONY: run try test soak bench record record-mpi install
 
 MPICC ?= mpicc
 CFLAGS ?= -O2 -Wall -Wextra
@@ -21,6 +21,10 @@ try:
 # The gate: every proof from nothing, every test, and the program as a user calls it.
 test:
 	@python3 tests/gate.py
+
+# Random and damaged files, for so many minutes: `make soak MINUTES=60`, and `SEED=1` for the same files again.
+soak:
+	@python3 tests/soak.py --minutes $(or $(MINUTES),1) $(if $(SEED),--seed $(SEED))
 
 # Times ./wire_up on files near the limits. `make bench BESIDE=program` times another program beside it.
 bench:

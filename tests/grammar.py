@@ -1,0 +1,236 @@
+"""A second reader of files of scripts, written from docs/plan-format.md alone: judges a file, and gives its canonical text.
+
+Usage: python3 tests/grammar.py FILE
+Prints the fault that the program must name, or the canonical text.
+"""
+import collections
+import re
+import sys
+
+FILE_BYTES, NAME_BYTES, VALUE_BYTES = 4_194_304, 63, 255
+NODES, JOBS, RANKS, CALLS = 64, 16, 256, 16_384
+NUMBERS = {"TooLong": 2, "BadHeader": 3, "BadLine": 4, "UnknownName": 5, "Twice": 6, "NotMember": 7, "TooMany": 8}
+SCOPES = (b"local", b"remote", b"global")
+RANK = re.compile(rb"0|[1-9][0-9]{0,8}")
+# What stands behind the first word of each call.
+SHAPES = {
+    b"put": ("scope", "key", "value"),
+    b"commit": (),
+    b"fence": ("set",),
+    b"get": ("proc", "key"),
+    b"get-now": ("proc", "key"),
+    b"publish": ("key", "value"),
+    b"lookup": ("key",),
+    b"lookup-wait": ("key",),
+    b"unpublish": ("key",),
+}
+
+# The nodes, the jobs (a name, and how many processes), and the processes: the job and rank, the node, and the words of each call.
+Scripts = collections.namedtuple("Scripts", "nodes jobs procs")
+Process = collections.namedtuple("Process", "job rank node calls")
+
+
+class Refused(Exception):
+    """A file that is refused, by the name of the fault and the line."""
+
+    def __init__(self, name, line):
+        super().__init__(name, line)
+        self.name, self.line = name, line
+
+    def said(self):
+        """What the program says of it."""
+        return f"wire_up: fault {NUMBERS[self.name]} {self.name} {self.line}\n".encode()
+
+
+def lines_of(text):
+    """The number and the words of each line that isn't skipped, and how many lines there are."""
+    pieces = text.split(b"\n")
+    if not pieces[-1]:
+        pieces.pop()
+    found = []
+    for number, piece in enumerate(pieces, 1):
+        piece = piece.removesuffix(b"\r")
+        words = [it for it in re.split(rb"[ \t]+", piece) if it]
+        if words and not words[0].startswith(b"#"):
+            found.append((number, words))
+    return found, len(pieces)
+
+
+def is_name(word):
+    return bool(word) and not re.search(rb"[:,#*]", word)
+
+
+def parts_of_proc(word):
+    """The name and the rank of a PROC, or None."""
+    name, colon, rank = word.partition(b":")
+    return (name, int(rank)) if colon and is_name(name) and RANK.fullmatch(rank) else None
+
+
+def items_of_set(word):
+    """The items of a SET, each a name and a rank (None for all of its ranks); an empty list for `all`; None where it's no SET."""
+    if word == b"all":
+        return []
+    items = []
+    for it in word.split(b","):
+        name, _, rest = it.partition(b":")
+        item = (name, None) if rest == b"*" and is_name(name) else parts_of_proc(it)
+        if not item:
+            return None
+        items.append(item)
+    return items
+
+
+def fits(kind, word):
+    """Whether a word has its shape, length aside."""
+    if kind == "scope":
+        return word in SCOPES
+    if kind == "key":
+        return word != b"*"
+    if kind == "proc":
+        return parts_of_proc(word) is not None
+    if kind == "set":
+        return items_of_set(word) is not None
+    return True
+
+
+def is_long(kind, word):
+    """Whether a word, or a name in it, is too long."""
+    if kind == "proc":
+        return len(parts_of_proc(word)[0]) > NAME_BYTES
+    if kind == "set":
+        return any(len(name) > NAME_BYTES for name, _ in items_of_set(word))
+    return len(word) > (VALUE_BYTES if kind == "value" else NAME_BYTES)
+
+
+class FirstPass:
+    """The lines from the top, each judged by itself and by those above it."""
+
+    def __init__(self):
+        self.nodes, self.jobs, self.procs, self.calls = [], [], [], []
+
+    def take(self, number, words):
+        """Takes the next line, which isn't skipped."""
+        verb, rest = words[0], words[1:]
+        if any(byte < 33 or byte > 126 for word in words for byte in word):
+            raise Refused("BadLine", number)
+        if verb in (b"node", b"job", b"rank"):
+            self.take_place(number, verb, rest)
+        elif verb in SHAPES:
+            self.take_call(number, verb, rest)
+        else:
+            raise Refused("BadLine", number)
+
+    def take_place(self, number, verb, rest):
+        """Takes a line of a node, a job or a rank."""
+        is_early = (verb == b"rank" and not self.jobs) or (verb == b"node" and self.jobs)
+        if len(rest) != 1 or not is_name(rest[0]) or is_early:
+            raise Refused("BadLine", number)
+        if len(rest[0]) > NAME_BYTES:
+            raise Refused("TooLong", number)
+        if verb == b"rank":
+            if rest[0] not in self.nodes:
+                raise Refused("UnknownName", number)
+            here, most = self.procs, RANKS
+        else:
+            here, most = (self.nodes, NODES) if verb == b"node" else (self.jobs, JOBS)
+            if rest[0] in (here if verb == b"node" else [it[0] for it in here]):
+                raise Refused("Twice", number)
+        if len(here) == most:
+            raise Refused("TooMany", number)
+        if verb == b"node":
+            self.nodes.append(rest[0])
+        elif verb == b"job":
+            self.jobs.append([rest[0], 0])
+        else:
+            self.procs.append(Process(self.jobs[-1][0], self.jobs[-1][1], rest[0], []))
+            self.jobs[-1][1] += 1
+
+    def take_call(self, number, verb, rest):
+        """Takes a line of a call."""
+        shape = SHAPES[verb] + (("collect",) if verb == b"fence" and len(rest) == 2 else ())
+        well = len(rest) == len(shape) and all(fits(*it) for it in zip(shape, rest)) and (shape[-1:] != ("collect",) or rest[-1] == b"collect")
+        if not well or not self.jobs or not self.jobs[-1][1]:
+            raise Refused("BadLine", number)
+        if any(is_long(*it) for it in zip(shape, rest)):
+            raise Refused("TooLong", number)
+        if len(self.calls) == CALLS:
+            raise Refused("TooMany", number)
+        self.calls.append((number, self.procs[-1], [verb, *rest]))
+        self.procs[-1].calls.append([verb, *rest])
+
+
+def members_of(scripts, caller, word):
+    """The numbers of the processes in a SET, by the processes that there are. The caller's job is that of `all`."""
+    items = items_of_set(word) or [(caller.job, None)]
+    return {n for n, it in enumerate(scripts.procs) if (it.job, it.rank) in items or (it.job, None) in items}
+
+
+def judge_names(scripts, number, caller, words):
+    """The second pass over a line of a call."""
+    sizes = dict(map(tuple, scripts.jobs))
+    named = []
+    if words[0] in (b"get", b"get-now"):
+        named = [parts_of_proc(words[1])]
+    elif words[0] == b"fence":
+        named = items_of_set(words[1])
+    if any(job not in sizes or (rank is not None and rank >= sizes[job]) for job, rank in named):
+        raise Refused("UnknownName", number)
+    if words[0] == b"fence" and scripts.procs.index(caller) not in members_of(scripts, caller, words[1]):
+        raise Refused("NotMember", number)
+
+
+def read(text):
+    """The scripts of a file. Raises what it's refused for."""
+    if len(text) > FILE_BYTES:
+        raise Refused("TooLong", 1 + text[:FILE_BYTES].count(b"\n"))
+    lines, count = lines_of(text)
+    if not lines or lines[0][1] != [b"rehearsal", b"1"]:
+        raise Refused("BadHeader", lines[0][0] if lines else count + 1)
+    first = FirstPass()
+    for number, words in lines[1:]:
+        first.take(number, words)
+    scripts = Scripts(first.nodes, first.jobs, first.procs)
+    for number, caller, words in first.calls:
+        judge_names(scripts, number, caller, words)
+    return scripts
+
+
+def canonical_set(scripts, caller, word):
+    """A SET as the canonical text spells it."""
+    members, job = members_of(scripts, caller, word), {n for n, it in enumerate(scripts.procs) if it.job == caller.job}
+    if members == job:
+        return b"all"
+    items = []
+    for name, _ in scripts.jobs:
+        its = [n for n, it in enumerate(scripts.procs) if it.job == name]
+        if its and members.issuperset(its):
+            items.append(name + b":*")
+        else:
+            items += [b"%s:%d" % (name, scripts.procs[n].rank) for n in its if n in members]
+    return b",".join(items)
+
+
+def canonical(scripts):
+    """The canonical text."""
+    lines = [b"rehearsal 1", *(b"node " + it for it in scripts.nodes)]
+    for name, _ in scripts.jobs:
+        lines.append(b"job " + name)
+        for proc in scripts.procs:
+            if proc.job == name:
+                lines.append(b"rank " + proc.node)
+                for words in proc.calls:
+                    if words[0] == b"fence":
+                        words = [words[0], canonical_set(scripts, proc, words[1]), *words[2:]]
+                    lines.append(b" ".join(words))
+    return b"\n".join(lines) + b"\n"
+
+
+if __name__ == "__main__":
+    if len(sys.argv) != 2:
+        sys.exit(__doc__)
+    with open(sys.argv[1], "rb") as it:
+        given = it.read()
+    try:
+        sys.stdout.buffer.write(canonical(read(given)))
+    except Refused as why:
+        sys.exit(why.said().decode().rstrip())
