@@ -10,10 +10,13 @@ import sys
 
 sys.dont_write_bytecode = True
 import bench
+import hostile
 import program
 import progress
 import readme
 import recording
+import refuse
+import soak
 
 BUILT = os.path.join(progress.TOP, "crates", "program", "out", "program")
 # The lines of `rt ci` that tell how far it is.
@@ -89,7 +92,8 @@ def main():
         os.remove(BUILT)
     counts = [prove()]
     if os.path.exists(BUILT):
-        counts += [program.all_runs(BUILT), recording.all_runs(BUILT), readme.all_commands(BUILT), bench.works(BUILT)]
+        counts += [program.all_runs(BUILT), hostile.all_hostile(BUILT), refuse.all_refusals(BUILT), recording.all_runs(BUILT)]
+        counts += [readme.all_commands(BUILT), soak.works(BUILT), bench.works(BUILT)]
     else:
         print("the program was not built, and so it was not run")
         counts.append((0, 1))

@@ -57,9 +57,10 @@ NAMES = [b"app", b"a", b"b", b"all", b"n0", b"tool", b"j" * 63, b"!\"$%&'()", b"
 KEYS = [b"k", b"m", b"card", b"x", b"y", b"#k", b"**", b":", b"k" * 63, b'q"\\', b"all", b"-1"]
 RESERVED = [b"PMIX_RANK", b"PMIX_LOCAL_RANK", b"PMIX_NODE_RANK", b"PMIX_JOB_SIZE", b"PMIX_HOSTNAME", b"pmix.x", b"PMIX_", b"pmix"]
 VALUES = [b"v", b"1", b"w", b'"', b"\\", b'\\"q\\', b"v" * 255, b"#", b"*", b"{}", b"\\u0000", b"~!"]
-NUMBERS = [b"0", b"00", b"01", b"1", b"2", b"63", b"64", b"65", b"255", b"256", b"16384", b"999999999", b"1000000000", b"9" * 10, b"9" * 30, b"-1", b"+1"]
-WORDS = [b"rehearsal", b"rehearsal 1", b"rehearsal 2", b"node", b"job", b"rank", b"*", b"all", b"collect", b"all,app:0", b",", b":", b"app:*", b"app:00",
-         b"k" * 64, b"v" * 256, b"#", b"\t", b"keep", *grammar.SHAPES, *grammar.SCOPES]
+NUMBERS = b"0 00 01 1 2 63 64 65 255 256 16384 999999999 1000000000 9999999999 -1 +1".split() + [b"9" * 30]
+WORDS = b"rehearsal node job rank * all collect all,app:0 , : app:* app:00 # keep".split()
+WORDS += [b"rehearsal 1", b"rehearsal 2", b"\t", b"k" * 64, b"v" * 256, *grammar.SHAPES, *grammar.SCOPES]
+VERBS = b"put put commit commit fence fence get get get-now get-now publish lookup lookup-wait unpublish".split()
 
 
 class Maker:
@@ -67,10 +68,10 @@ class Maker:
 
     def __init__(self, dice):
         self.dice = dice
-        self.is_tame = dice.random() < 0.5
+        self.is_tame = dice.random() < 0.4
         self.nodes = dice.sample([b"n%d" % n for n in range(4)] + NAMES, dice.choice((1, 1, 2, 2, 3, 5)))
         self.jobs = dice.sample(NAMES[:10], dice.choice((1, 1, 1, 2, 2, 3)))
-        self.sizes = [dice.choice((0, 1, 1, 2, 2, 2, 3, 3, 4, 6)) for _ in self.jobs]
+        self.sizes = [dice.choice((0, 1, 2, 2, 2, 3, 3, 3, 4, 6)) for _ in self.jobs]
         if dice.random() < 0.01:
             self.sizes[0] = dice.choice((40, 255, 256, 257))
         self.procs = [b"%s:%d" % (job, rank) for job, size in zip(self.jobs, self.sizes) for rank in range(size)]
@@ -96,8 +97,8 @@ class Maker:
     def call(self, caller):
         """One call, of any kind."""
         dice = self.dice
-        verb = dice.choice([b"put", b"put", b"commit", b"commit", b"fence", b"fence", b"get", b"get", b"get-now", b"get-now", b"publish", b"lookup", b"lookup-wait", b"unpublish"])
-        key = dice.choice(RESERVED) if dice.random() < 0.12 else dice.choice(KEYS[: dice.choice((3, 3, 12))])
+        verb = dice.choice(VERBS)
+        key = dice.choice(RESERVED) if dice.random() < 0.12 else dice.choice(KEYS[: dice.choice((1, 2, 3, 12))])
         if verb == b"put":
             return [verb, dice.choice(grammar.SCOPES), key, dice.choice(VALUES)]
         if verb == b"commit":
@@ -133,7 +134,7 @@ class Maker:
 
     def lines(self):
         """The lines, each a list of words."""
-        dice, most = self.dice, self.dice.choice((1, 3, 6, 12))
+        dice, most = self.dice, self.dice.choice((2, 4, 8, 14))
         lines = [[b"rehearsal", b"1"], *([b"node", it] for it in self.nodes)]
         for job, size in zip(self.jobs, self.sizes):
             lines.append([b"job", job])
@@ -152,7 +153,8 @@ def styled(dice, lines):
     out = []
     for words in lines:
         while dice.random() < gap * 0.6:
-            out.append(dice.choice((b"", b" ", b"\t", b"# note", b" \t# \xc8\x00 *", b"#" + bytes(dice.choice((0, 13, 200, 255)) for _ in range(3)))))
+            foreign = b"#" + bytes(dice.choice((0, 13, 200, 255)) for _ in range(3))
+            out.append(dice.choice((b"", b" ", b"\t", b"# note", b" \t# \xc8\x00 *", foreign)))
         spaces = [dice.choice((b" ", b"  ", b"\t", b" \t ")) if dice.random() < gap else b" " for _ in words]
         line = b"".join(it for pair in zip(words, spaces) for it in pair).rstrip()
         line = (b"  " if dice.random() < gap else b"") + line + (b" \t" if dice.random() < gap else b"")
@@ -180,7 +182,8 @@ def swapped(dice, text):
 
 def with_byte(dice, text):
     at = dice.randrange(len(text) + 1)
-    return text[:at] + bytes([dice.choice((0, 9, 10, 13, 13, 32, 35, 42, 44, 58, 127, 128, 200, 255, dice.randrange(256)))]) + text[at + dice.choice((0, 1)) :]
+    byte = dice.choice((0, 9, 10, 13, 13, 32, 35, 42, 44, 58, 127, 128, 200, 255, dice.randrange(256)))
+    return text[:at] + bytes([byte]) + text[at + dice.choice((0, 1)) :]
 
 
 def with_word(dice, text):
@@ -333,8 +336,8 @@ class Look:
     def at_refusal(self, said):
         """Each command refuses the file alike."""
         order, refused = self.runner.written("it.order", b"app:9\n"), Ran(2, b"", said)
-        forms = [["check"], ["replay"], ["replay", "--json", "--workers", "2"], ["replay", "--anyway"], ["follow", order], ["why", "a:0", "1", "x", "0"]]
-        for words in forms:
+        replays = [["replay"], ["replay", "--json", "--workers", "2"], ["replay", "--anyway"]]
+        for words in (["check"], *replays, ["follow", order], ["why", "a:0", "1", "x", "0"]):
             same(f"a refusal by {words[0]}", refused, self.runner.run(*words, self.path), "the second reader's and the program's")
         same("a refusal of standard input", refused, self.runner.run("check", given=self.text))
         if self.is_small:

@@ -1,0 +1,189 @@
+"""Refuses the built program each request for memory in turn, and each start of a thread.
+
+Usage: python3 tests/refuse.py PROGRAM [--only WORD] [--tell]
+A library that the machine's C compiler builds (tests/refuse.c) stands before the C library and refuses the N-th request that is made
+after main was called; N rises until a run meets no refusal. This is done twice: one request is refused, and that one with all that
+follow. Each run must end with `wire_up: fault 1 Memory`, status 3 and nothing on standard output, or exactly as it does without a
+refusal. With `--anyway` any order is right that gives its report when it is followed. A worker whose start is refused is left out.
+Prints a line for each command for which this doesn't hold, and last 'N passed, M failed'. --tell prints how many requests each made.
+"""
+import argparse
+import collections
+import concurrent.futures
+import json
+import os
+import shutil
+import subprocess
+import sys
+import tempfile
+
+sys.dont_write_bytecode = True
+import program
+
+SOURCE = os.path.join(program.TOP, "tests", "refuse.c")
+SECONDS, AT_ONCE, MOST = 30, 16, 100_000
+MEMORY = (3, b"", b"wire_up: fault 1 Memory\n")
+
+# A command, with its words and what standard input gives, and whether its order is free.
+Form = collections.namedtuple("Form", "name words given is_free", defaults=(None, False))
+
+
+def library(room):
+    """The path of the library, or None where there is no C compiler."""
+    compiler = next(filter(None, map(shutil.which, ("cc", "gcc", "clang"))), None)
+    if not compiler:
+        return None
+    made = os.path.join(room, "refuse.so")
+    subprocess.run([compiler, "-O1", "-shared", "-fPIC", "-o", made, SOURCE, "-ldl"], check=True)
+    return made
+
+
+def run_with(library_path, words, given=None, stdout=subprocess.PIPE, **told):
+    """How a run ended, with the library before the C library, and what the library told."""
+    ours, its = os.pipe()
+    settings = {f"WIRE_UP_{name.upper()}": str(value) for name, value in told.items()}
+    environment = {**os.environ, "LD_PRELOAD": library_path, "WIRE_UP_TOLD": str(its), **settings}
+    how = {"stdin": subprocess.DEVNULL} if given is None else {"input": given}
+    try:
+        ran = subprocess.run(words, env=environment, pass_fds=(its,), stdout=stdout, stderr=subprocess.PIPE, timeout=SECONDS, check=False, **how)
+        outcome = (ran.returncode, ran.stdout, ran.stderr)
+    except subprocess.TimeoutExpired:
+        outcome = ("no end", b"", b"")
+    finally:
+        os.close(its)
+        with os.fdopen(ours, "rb") as it:
+            said = it.read()
+    return outcome, said
+
+
+def forms(room):
+    """All commands in all their forms."""
+    cards, racy = program.written(room, "cards.plan", program.CARDS), program.written(room, "racy.plan", program.RACY)
+    whole = program.written(room, "cards.order", "".join(f"app:{it}\n" for it in "00001112001222").encode())
+    late, early = program.written(room, "late.order", b"app:1\napp:0\napp:0\n"), program.written(room, "early.order", b"app:1\napp:1\n")
+    unknown = program.written(room, "unknown.order", b"# one\napp:0\napp:9\n")
+    for name, path, order, question in (("cards", cards, whole, ["app:0", "1", "app:2", "3"]), ("a race", racy, late, ["app:0", "2", "app:1", "1"])):
+        yield Form(f"check {name}", ["check", path])
+        for workers in ("1", "2"):
+            yield Form(f"replay {name}, {workers} workers", ["replay", "--workers", workers, path])
+            yield Form(f"replay {name}, {workers} workers, JSON", ["replay", "--workers", workers, "--json", path])
+        yield Form(f"follow {name}", ["follow", order, path])
+        yield Form(f"why, {name}", ["why", *question, path])
+    for workers in ("1", "2"):
+        yield Form(f"replay a race anyway, {workers} workers", ["replay", "--anyway", "--workers", workers, racy], is_free=True)
+        yield Form(f"replay a race anyway, {workers} workers, JSON", ["replay", "--anyway", "--json", "--workers", workers, racy], is_free=True)
+    yield Form("replay cards, 7 workers", ["replay", "--workers", "7", cards])
+    yield Form("check standard input", ["check"], given=program.CARDS)
+    yield Form("help", ["--help"])
+    yield Form("help on replay", ["replay", "--help"])
+    yield Form("the version", ["--version"])
+    yield Form("no command", [])
+    yield Form("an unknown option", ["check", "--loud"])
+    yield Form("an unknown command", ["chek", cards])
+    yield Form("no worker", ["replay", "--workers", "0", cards])
+    yield Form("workers that are no number", ["replay", "--workers", "x", cards])
+    yield Form("a step that isn't ready", ["follow", early, racy])
+    yield Form("an unknown rank in an order", ["follow", unknown, racy])
+    yield Form("a wrong word of a question", ["why", "app:0", "1", "app:7", "x", cards])
+    yield Form("no such file", ["check", os.path.join(room, "none")])
+    head = b"rehearsal 1\nnode n0\n"
+    refused = [
+        ("an empty file", b""),
+        ("a file cut in a scope", head + b"job app\nrank n0\nput glo"),
+        ("an unknown rank", head + b"job app\nrank n0\nget app:5 k\n"),
+        ("a node declared twice", head + b"node n0\n"),
+        ("a fence of others", head + b"job app\nrank n0\nrank n0\nfence app:0\n"),
+    ]
+    for name, text in refused:
+        yield Form(name, ["replay", program.written(room, name.replace(" ", "-"), text)])
+
+
+class Trial:
+    """One form: what it does without a refusal, and with each."""
+
+    def __init__(self, started, library_path, room, form):
+        self.started, self.library, self.room, self.form = started, library_path, room, form
+        self.usual, self.counts = self.run()
+
+    def run(self, **told):
+        return run_with(self.library, [self.started, *self.form.words], self.form.given, **told)
+
+    def is_right(self, outcome):
+        """Whether a run may end so."""
+        return outcome in (MEMORY, self.usual) or (self.form.is_free and self.is_followed(outcome))
+
+    def is_followed(self, outcome):
+        """Whether a run with `--anyway` gives an order that, followed, gives its report."""
+        status, wrote, said = outcome
+        if (status, said) != (1, b""):
+            return False
+        if "--json" in self.form.words:
+            form = json.loads(wrote)
+            order, report = "".join(f"{it}\n" for it in form.pop("order")).encode(), form
+            is_headed = report.pop("unsettled") is True
+        else:
+            report, _, order = wrote.removeprefix(b"unsettled\n").partition(b"order ")
+            count, _, order = order.partition(b"\n")
+            is_headed = wrote.startswith(b"unsettled\n") and int(count) == order.count(b"\n")
+        with tempfile.NamedTemporaryFile(dir=self.room) as it:
+            it.write(order)
+            it.flush()
+            followed = subprocess.run([self.started, "follow", it.name, self.form.words[-1]], capture_output=True, timeout=SECONDS, check=False)
+        same = json.loads(program.as_json(followed.stdout)) if "--json" in self.form.words else followed.stdout
+        return is_headed and same == report
+
+    def refused(self, pool, is_on):
+        """How many requests were refused in turn, how many of them with the fault, and what isn't right."""
+        wrong, faults = [], 0
+        for first in range(1, MOST, AT_ONCE):
+            numbers = range(first, first + AT_ONCE)
+            for number, (outcome, said) in zip(numbers, pool.map(lambda n: self.run(refuse=n, refuse_on=int(is_on)), numbers)):
+                if b"m" not in said.partition(b" ")[0]:
+                    return number - 1, faults, wrong + ([] if self.is_right(outcome) else [(number, outcome)])
+                faults += outcome == MEMORY
+                if not self.is_right(outcome):
+                    wrong.append((number, outcome))
+        return MOST, faults, [*wrong, (MOST, ("no end of the requests", b"", b""))]
+
+    def went_well(self, pool, tells):
+        """Whether all is right; if not, tells."""
+        well = True
+        for is_on in (False, True):
+            name = f"{self.form.name}, {'each request from the N-th on' if is_on else 'the N-th request'} refused"
+            count, faults, wrong = self.refused(pool, is_on)
+            if tells:
+                print(f"{name}: {count} requests, {faults} of them answered by fault 1", flush=True)
+            for number, (status, wrote, said) in wrong[:3]:
+                so = f"the program ended with {status}, wrote {wrote[:200]}, and said {said[:200]}"
+                print(f"{name}, N = {number} ({len(wrong)} of {count} so): {so}")
+            if count and not faults:
+                print(f"{name}: none of {count} was answered by fault 1")
+            well = well and not wrong and bool(faults)
+        return well
+
+
+def all_refusals(started, only="", tells=False):
+    """Tries all forms, and answers how many went well and how many didn't."""
+    with tempfile.TemporaryDirectory(prefix="wire-up-") as room, concurrent.futures.ThreadPoolExecutor(os.cpu_count()) as pool:
+        library_path = library(room)
+        if not library_path:
+            print("tests/refuse.py: left out, as this machine has no C compiler (cc)")
+            return 0, 0
+        well = [Trial(started, library_path, room, it).went_well(pool, tells) for it in forms(room) if only in it.name]
+    print(f"tests/refuse.py: {well.count(True)} passed, {well.count(False)} failed", flush=True)
+    return well.count(True), well.count(False)
+
+
+def main():
+    parser = argparse.ArgumentParser(description=__doc__, formatter_class=argparse.RawDescriptionHelpFormatter)
+    parser.add_argument("program")
+    parser.add_argument("--only", default="")
+    parser.add_argument("--tell", action="store_true")
+    args = parser.parse_args()
+    passed, failed = all_refusals(os.path.abspath(args.program), args.only, args.tell)
+    print(f"{passed} passed, {failed} failed")
+    return 1 if failed else 0
+
+
+if __name__ == "__main__":
+    sys.exit(main())
