@@ -86,6 +86,8 @@ def fits(kind, word):
         return word in SCOPES
     if kind == "key":
         return word != b"*"
+    if kind == "collect":
+        return word == b"collect"
     if kind == "proc":
         return parts_of_proc(word) is not None
     if kind == "set":
@@ -148,7 +150,7 @@ class FirstPass:
     def take_call(self, number, verb, rest):
         """Takes a line of a call."""
         shape = SHAPES[verb] + (("collect",) if verb == b"fence" and len(rest) == 2 else ())
-        well = len(rest) == len(shape) and all(fits(*it) for it in zip(shape, rest)) and (shape[-1:] != ("collect",) or rest[-1] == b"collect")
+        well = len(rest) == len(shape) and all(fits(*it) for it in zip(shape, rest))
         if not well or not self.jobs or not self.jobs[-1][1]:
             raise Refused("BadLine", number)
         if any(is_long(*it) for it in zip(shape, rest)):

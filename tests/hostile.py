@@ -132,7 +132,8 @@ def places(room):
         yield Run(f"{name}, and standard input for writing", words, status=4, said=READ, set_up=program.onto("/dev/null", 0))
         yield Run(f"{name}, and nothing on standard input", words, status=2, said=refused("BadHeader", 1))
         yield Run(f"{name}, and standard output closed", [*words, plan], status=4, said=full, set_up=program.closed(1))
-        yield Run(f"{name}, and standard output for reading", [*words, plan], status=4, said=full, set_up=program.onto("/dev/null", 1, os.O_RDONLY))
+        for_reading = program.onto("/dev/null", 1, os.O_RDONLY)
+        yield Run(f"{name}, and standard output for reading", [*words, plan], status=4, said=full, set_up=for_reading)
         yield Run(f"{name}, and a full device", [*words, plan], status=4, said=full, set_up=program.onto("/dev/full", 1))
         yield Run(f"{name}, and standard error closed", [*words, plan], wrote=it.wrote, status=it.status, set_up=program.closed(2))
         yield Run(f"{name} on no file, and standard error closed", [*words, none], status=4, set_up=program.closed(2))
@@ -283,7 +284,8 @@ def breaks_off_at_full_pipe(started, form):
     """Whether a pipe that doesn't wait, and that nobody reads, is told as the fault of a write after all that the pipe takes."""
     ours, its = small_pipe()
     os.set_blocking(its, False)
-    ran = subprocess.run([started, *form.words], stdin=subprocess.DEVNULL, stdout=its, stderr=subprocess.PIPE, timeout=program.SECONDS, check=False)
+    how = {"stdin": subprocess.DEVNULL, "stdout": its, "stderr": subprocess.PIPE, "timeout": program.SECONDS}
+    ran = subprocess.run([started, *form.words], check=False, **how)
     os.close(its)
     with os.fdopen(ours, "rb") as it:
         took = len(it.read())
@@ -335,10 +337,12 @@ class Broken:
         """Whether each read that fails is told, and nothing is written."""
         words = [*form.words, self.plan]
         reads = int(self.run(words, read_bytes=1)[1].split()[3])
-        told = [{"read_bytes": 1, "fail_read": n, "error": number} for number in (errno.EIO, errno.EINTR, errno.EAGAIN) for n in range(1, reads + 1)]
+        numbers = (errno.EIO, errno.EINTR, errno.EAGAIN)
+        told = [{"read_bytes": 1, "fail_read": n, "error": number} for number in numbers for n in range(1, reads + 1)]
         outcomes = self.pool.map(lambda it: self.run(words, **it)[0], told)
         wrong = [(it, outcome) for it, outcome in zip(told, outcomes) if outcome != (4, b"", READ)]
-        return (reads > len(PLAN) and not wrong) or tell(f"{form.name}, reads that fail", f"ended so ({len(wrong)} of {len(told)}): {wrong[:2]}")
+        so = f"ended so ({len(wrong)} of {len(told)}): {wrong[:2]}"
+        return (reads > len(PLAN) and not wrong) or tell(f"{form.name}, reads that fail", so)
 
     def writes_by_the_byte(self, form):
         outcome, _ = self.run(form.words, write_bytes=1)

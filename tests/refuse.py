@@ -38,14 +38,15 @@ def library(room):
     return made
 
 
-def run_with(library_path, words, given=None, stdout=subprocess.PIPE, **told):
+def run_with(library_path, words, given=None, **told):
     """How a run ended, with the library before the C library, and what the library told."""
     ours, its = os.pipe()
     settings = {f"WIRE_UP_{name.upper()}": str(value) for name, value in told.items()}
     environment = {**os.environ, "LD_PRELOAD": library_path, "WIRE_UP_TOLD": str(its), **settings}
     how = {"stdin": subprocess.DEVNULL} if given is None else {"input": given}
     try:
-        ran = subprocess.run(words, env=environment, pass_fds=(its,), stdout=stdout, stderr=subprocess.PIPE, timeout=SECONDS, check=False, **how)
+        how |= {"env": environment, "pass_fds": (its,), "stdout": subprocess.PIPE, "stderr": subprocess.PIPE, "timeout": SECONDS}
+        ran = subprocess.run(words, check=False, **how)
         outcome = (ran.returncode, ran.stdout, ran.stderr)
     except subprocess.TimeoutExpired:
         outcome = ("no end", b"", b"")
@@ -62,7 +63,8 @@ def forms(room):
     whole = program.written(room, "cards.order", "".join(f"app:{it}\n" for it in "00001112001222").encode())
     late, early = program.written(room, "late.order", b"app:1\napp:0\napp:0\n"), program.written(room, "early.order", b"app:1\napp:1\n")
     unknown = program.written(room, "unknown.order", b"# one\napp:0\napp:9\n")
-    for name, path, order, question in (("cards", cards, whole, ["app:0", "1", "app:2", "3"]), ("a race", racy, late, ["app:0", "2", "app:1", "1"])):
+    of_cards, of_race = ["app:0", "1", "app:2", "3"], ["app:0", "2", "app:1", "1"]
+    for name, path, order, question in (("cards", cards, whole, of_cards), ("a race", racy, late, of_race)):
         yield Form(f"check {name}", ["check", path])
         for workers in ("1", "2"):
             yield Form(f"replay {name}, {workers} workers", ["replay", "--workers", workers, path])
@@ -70,8 +72,9 @@ def forms(room):
         yield Form(f"follow {name}", ["follow", order, path])
         yield Form(f"why, {name}", ["why", *question, path])
     for workers in ("1", "2"):
-        yield Form(f"replay a race anyway, {workers} workers", ["replay", "--anyway", "--workers", workers, racy], is_free=True)
-        yield Form(f"replay a race anyway, {workers} workers, JSON", ["replay", "--anyway", "--json", "--workers", workers, racy], is_free=True)
+        words = ["replay", "--anyway", "--workers", workers]
+        yield Form(f"replay a race anyway, {workers} workers", [*words, racy], is_free=True)
+        yield Form(f"replay a race anyway, {workers} workers, JSON", [*words, "--json", racy], is_free=True)
     yield Form("replay cards, 7 workers", ["replay", "--workers", "7", cards])
     yield Form("check standard input", ["check"], given=program.CARDS)
     yield Form("help", ["--help"])
@@ -128,7 +131,8 @@ class Trial:
         with tempfile.NamedTemporaryFile(dir=self.room) as it:
             it.write(order)
             it.flush()
-            followed = subprocess.run([self.started, "follow", it.name, self.form.words[-1]], capture_output=True, timeout=SECONDS, check=False)
+            words = [self.started, "follow", it.name, self.form.words[-1]]
+            followed = subprocess.run(words, capture_output=True, timeout=SECONDS, check=False)
         same = json.loads(program.as_json(followed.stdout)) if "--json" in self.form.words else followed.stdout
         return is_headed and same == report
 

@@ -468,21 +468,25 @@ def reduced(runner, text, seed, name):
     """A file of fewer lines that shows the same, as small as it gets in the time."""
 
     def still(lines):
-        if time.monotonic() > until:
-            return False
-        found = [difference_of(runner, b"\n".join(lines), seed + n)[0] for n in range(2)]
+        found = (difference_of(runner, b"\n".join(lines), seed + n)[0] for n in range(4) if time.monotonic() < until)
         return any(it and it.name == name for it in found)
 
-    until, lines, size = time.monotonic() + REDUCE_SECONDS, text.split(b"\n"), 1 << 20
-    while size:
-        size, at = min(size, len(lines)), 0
+    def without_parts(lines, size):
+        at = 0
         while at < len(lines):
             fewer = lines[:at] + lines[at + size :]
             if still(fewer):
                 lines = fewer
             else:
                 at += size
-        size //= 2
+        return lines
+
+    until, lines = time.monotonic() + REDUCE_SECONDS, text.split(b"\n")
+    size = 1 << len(lines).bit_length()
+    while size:
+        fewer = without_parts(lines, size)
+        size = size // 2 if len(fewer) == len(lines) else size
+        lines = fewer
     return b"\n".join(lines)
 
 
@@ -526,8 +530,8 @@ class Soak:
     def told(self):
         """How far it is, in a line."""
         kinds = ", ".join(f"{self.kinds[it]:,} {it}" for it in ("refused", "with findings", "without findings"))
-        seconds = time.monotonic() - self.began
-        return f"{seconds:.0f} s: {self.kinds.total():,} files ({kinds}), {self.runner.runs.total():,} runs, {self.kinds['different']:,} differences"
+        seconds, runs = time.monotonic() - self.began, self.runner.runs.total()
+        return f"{seconds:.0f} s: {self.kinds.total():,} files ({kinds}), {runs:,} runs, {self.kinds['different']:,} differences"
 
     def tell_end(self):
         """What it tried."""
