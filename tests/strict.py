@@ -128,17 +128,16 @@ def measured(started, path, name, command):
     return well or tell(f"{name}, {' '.join(command)}", so)
 
 
-def few_descriptors(started, path):
-    """With each number of file descriptors the answer comes, or the fault of a read."""
-    usual = None
-    for count in range(16, 2, -1):
-        for command in COMMANDS[:3]:
-            status, wrote, said, _, _ = ran([started, *command, path], limited(NOFILE=count))
-            usual = usual or (status, wrote, said)
-            well = (status, wrote, said) == (4, 0, b"wire_up: fault 10 Read\n") or status in (0, 1)
-            if count == 16 or not well or status == 4:
-                print(f"{count} descriptors, {' '.join(command)}: status {status}, {said.decode().strip()}", flush=True)
-            yield well or tell(f"{count} descriptors", f"ended with {status}, and said {said[:300]}")
+def few_descriptors(started, room):
+    """With each number of file descriptors the answer comes, or the fault of a read. With three the loader can't load the C library."""
+    path, order = program.written(room, "cards.plan", program.CARDS), program.written(room, "cards.order", b"app:0\n")
+    for command in (["check"], ["replay"], ["replay", "--workers", "4"], ["follow", order]):
+        usual = ran([started, *command, path])[:3]
+        for count in (4, 5, 6, 8, 16):
+            it = ran([started, *command, path], limited(NOFILE=count))[:3]
+            if it != usual:
+                print(f"{count} file descriptors, {command[0]}: status {it[0]}, {it[2].decode().strip()}", flush=True)
+            yield it in (usual, (4, 0, b"wire_up: fault 10 Read\n")) or tell(f"{count} descriptors", f"ended so: {it}")
 
 
 def under_memcheck(started, path, name, command):
@@ -161,7 +160,7 @@ def looks(started, room, args):
         for command in (*COMMANDS, question) if kind.name != "comments" else COMMANDS:
             yield (under_memcheck if args.memcheck else measured)(started, path, kind.name, command)
     if not args.memcheck:
-        yield from few_descriptors(started, program.written(room, "cards.plan", program.CARDS))
+        yield from few_descriptors(started, room)
 
 
 def main():
