@@ -1,4 +1,5 @@
-"""A second reader of files of scripts, written from docs/plan-format.md alone: judges a file, and gives its canonical text.
+"""A second reader of files of scripts, orders and questions, written from docs/plan-format.md alone: judges them, and gives the canonical
+text of a file.
 
 Usage: python3 tests/grammar.py FILE
 Prints the fault that the program must name, or the canonical text.
@@ -9,9 +10,10 @@ import sys
 
 FILE_BYTES, NAME_BYTES, VALUE_BYTES = 4_194_304, 63, 255
 NODES, JOBS, RANKS, CALLS = 64, 16, 256, 16_384
-NUMBERS = {"TooLong": 2, "BadHeader": 3, "BadLine": 4, "UnknownName": 5, "Twice": 6, "NotMember": 7, "TooMany": 8}
+NUMBERS = {"TooLong": 2, "BadHeader": 3, "BadLine": 4, "UnknownName": 5, "Twice": 6, "NotMember": 7, "TooMany": 8, "BadOrder": 13}
 SCOPES = (b"local", b"remote", b"global")
 RANK = re.compile(rb"0|[1-9][0-9]{0,8}")
+NUMBER = re.compile(rb"[1-9][0-9]{0,8}")
 # What stands behind the first word of each call.
 SHAPES = {
     b"put": ("scope", "key", "value"),
@@ -195,6 +197,32 @@ def read(text):
     for number, caller, words in first.calls:
         judge_names(scripts, number, caller, words)
     return scripts
+
+
+def process_named(scripts, word):
+    """The process that a PROC names, or None."""
+    named = parts_of_proc(word)
+    return next((it for it in scripts.procs if (it.job, it.rank) == named), None)
+
+
+def steps_of(scripts, order):
+    """The steps of an order, each a PROC. Raises what it's refused for."""
+    steps = []
+    for number, words in lines_of(order)[0]:
+        if len(words) != 1 or not process_named(scripts, words[0]):
+            raise Refused("BadOrder", number)
+        steps.append(words[0])
+    return steps
+
+
+def judge_question(scripts, words):
+    """Raises what the four words of a question are refused for."""
+    for at in (0, 2):
+        process = process_named(scripts, words[at])
+        if not process:
+            raise Refused("BadOrder", at + 1)
+        if not NUMBER.fullmatch(words[at + 1]) or int(words[at + 1]) > len(process.calls):
+            raise Refused("BadOrder", at + 2)
 
 
 def canonical_set(scripts, caller, word):

@@ -11,7 +11,8 @@ holds for each file:
   text, and the file with comments, blank lines, tabs and carriage returns added.
 - Without findings `replay` writes the same with 1, 2, 7 and 64 workers, its JSON form says the same, and so does the report of a random
   complete order. With findings it writes those that `check` writes, and the order of `--anyway`, followed, gives its report.
-- `why` says the same of two calls in both directions.
+- `why` says the same of two calls in both directions. A question or an order that the second reader refuses is refused with the fault that
+  it names. Where a step can't be taken, the order before it can be followed, and leaves that rank unready.
 
 A file for which this fails is made as small as it can be, by lines, and kept in FOLDER (out/soak). Prints what it tried each minute and
 at the end, and last 'N differences'.
@@ -325,7 +326,9 @@ class Look:
         same("canonical text that reads as another", self.canonical, grammar.canonical(grammar.read(self.canonical)))
         checked = self.at_inputs("check")
         self.at_questions()
+        self.at_odd_question()
         self.at_order(b"", "an empty order")
+        self.at_odd_order()
         if checked.status:
             self.at_findings(checked)
             return "with findings"
@@ -437,6 +440,40 @@ class Look:
         turned = {b"before": b"after", b"after": b"before", b"unordered": b"unordered"}
         chains = [sorted(it.splitlines()) if head == b"unordered" else it for it in (chain, other.wrote.partition(b"\n")[2])]
         same("a question from both sides", (turned.get(head), chains[0]), (other.wrote.partition(b"\n")[0], chains[1]), words)
+
+
+    def at_odd_question(self):
+        """Asks with random words."""
+        procs = [b"%s:%d" % (it.job, it.rank) for it in self.scripts.procs] + [b"app:0", b"app", b"a:00", b"", b":0", b"no:1"]
+        numbers = [b"1", b"1", b"2", b"3", *NUMBERS, b""]
+        words = [self.dice.choice(it) for it in (procs, numbers, procs, numbers)]
+        ran = self.runner.run("why", "--", *words, self.path)
+        try:
+            grammar.judge_question(self.scripts, words)
+        except grammar.Refused as why:
+            same("an odd question", Ran(2, b"", why.said()), ran, words)
+            return
+        same("the status of a question", 0, ran.status, words)
+
+    def at_odd_order(self):
+        """Follows a random order, which may be damaged."""
+        procs = [b"%s:%d" % (it.job, it.rank) for it in self.scripts.procs] or [b"app:0"]
+        order = styled(self.dice, [[self.dice.choice(procs)] for _ in range(self.dice.choice((1, 2, 4, 8, 20)))])
+        for _ in range(self.dice.choice((0, 0, 1, 2))):
+            order = self.dice.choice(DAMAGES)(self.dice, order)
+        ran = self.runner.run("follow", self.runner.written("it.order", order), self.path)
+        try:
+            steps = grammar.steps_of(self.scripts, order)
+        except grammar.Refused as why:
+            same("an odd order", Ran(2, b"", why.said()), ran, order)
+            return
+        if ran.status:
+            late = re.fullmatch(rb"wire_up: fault 12 NotReady (\d+)\n", ran.said)
+            if not late or not 1 <= int(late[1]) <= len(steps):
+                raise Difference("an order refused", f"{order}: {ran.said}")
+            before = self.at_order(b"".join(it + b"\n" for it in steps[: int(late[1]) - 1]), "the steps before it").wrote
+            stands = [it for it in before.splitlines() if it.startswith(steps[int(late[1]) - 1] + b" ") and it.endswith(b" ready")]
+            same("a step that was ready", [], stands, order)
 
 
 def dumped(form):
