@@ -51,8 +51,15 @@ def falling_names(ranks, rounds):
     return bench.ONE_NODE + bench.ranks_of(bench.on_one, scripts)
 
 
+def spellings(ranks, rounds):
+    """Fences of all ranks, each in a spelling of its own."""
+    lines = [f"fence {'app:*,' * 38}app:{n % ranks},app:{n // ranks}\n" for n in range(ranks * rounds)]
+    return bench.ONE_NODE + bench.ranks_of(bench.on_one, ["".join(lines[n * rounds : (n + 1) * rounds]) for n in range(ranks)])
+
+
 KINDS = [
     *bench.KINDS,
+    bench.Kind("spellings", "256 ranks meet in 64 fences, each call of which spells the set otherwise", spellings, 256, 64),
     bench.Kind("falling-names", "256 ranks, each of which waits for a name of the next one in 32 rounds", falling_names, 256, 32),
     bench.Kind("strangers", "a rank asks n/2 times while two others meet in n/4 fences that could bring the key", strangers, 3, 16_380),
     bench.Kind("publishers", "256 ranks publish one name 64 times each", publishers, 256, 64),
