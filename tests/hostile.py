@@ -25,7 +25,7 @@ import refuse
 import soak
 from program import Run, tell
 
-HEAD_A, HEAD_B = b"rehearsal 1\nnode n0\nnode n1\njob app\n", b"rehearsal 1\nnode n0\njob app\n"
+HEAD = b"rehearsal 1\nnode n0\njob app\n"
 # Row 2 of the tests' plans: a rank puts and commits, and another one waits for it.
 PLAN, REPORT = program.text_of(program.EXAMPLE), program.text_of(program.ITS_REPORT)
 COMMITS = 16_384
@@ -67,9 +67,9 @@ def table():
     yield "4,194,305 empty lines", b"\n" * 4_194_305, refused("TooLong", 4_194_305)
     yield "65 nodes", b"rehearsal 1\n" + b"".join(b"node n%d\n" % n for n in range(65)), refused("TooMany", 66)
     yield "17 jobs", b"rehearsal 1\n" + b"".join(b"job j%d\n" % n for n in range(17)), refused("TooMany", 18)
-    yield "257 ranks", HEAD_B + b"rank n0\n" * 257, refused("TooMany", 260)
-    yield "16,384 calls", HEAD_B + b"rank n0\n" + b"commit\n" * COMMITS, commits + b"waiting 0\n"
-    yield "16,385 calls", HEAD_B + b"rank n0\n" + b"commit\n" * (COMMITS + 1), refused("TooMany", 16_389)
+    yield "257 ranks", HEAD + b"rank n0\n" * 257, refused("TooMany", 260)
+    yield "16,384 calls", HEAD + b"rank n0\n" + b"commit\n" * COMMITS, commits + b"waiting 0\n"
+    yield "16,385 calls", HEAD + b"rank n0\n" + b"commit\n" * (COMMITS + 1), refused("TooMany", 16_389)
     yield "a cut in the header", cut[: at[b"rehearsal"]], refused("BadHeader", 1)
     yield "a cut in a commit", cut[: at[b"commi"]], refused("BadLine", 7)
     yield "a cut in a node", cut[:second_rank], refused("UnknownName", 8)
@@ -234,10 +234,10 @@ def reads_named_pipe(started, room, form):
 
 def large_forms(room):
     """Commands that write more than a pipe takes."""
-    calls = program.written(room, "calls.plan", HEAD_B + b"rank n0\n" + b"commit\n" * COMMITS)
+    calls = program.written(room, "calls.plan", HEAD + b"rank n0\n" + b"commit\n" * COMMITS)
     names = b"".join(b"publish x%d 1\n" % n for n in range(4096))
-    twice = program.written(room, "twice.plan", HEAD_B + (b"rank n0\n" + names) * 2)
-    chain = program.written(room, "chain.plan", HEAD_B + b"rank n0\n" + b"commit\n" * COMMITS)
+    twice = program.written(room, "twice.plan", HEAD + (b"rank n0\n" + names) * 2)
+    chain = program.written(room, "chain.plan", HEAD + b"rank n0\n" + b"commit\n" * COMMITS)
     nothing = program.written(room, "nothing.order", b"")
     for name, words in (
         ("check", ["check", twice]),
