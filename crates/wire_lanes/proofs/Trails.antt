@@ -5,7 +5,10 @@ use Rattle.std.proofs.lemmas.Option.{same_Some}
 use Rattle.wire_runs.specs.Plan.{Plan}
 use Rattle.wire_races.specs.declared.Fate.{Fate}
 use Rattle.wire_races.specs.Fates.{IsFateOf}
-use Rattle.wire_lanes.specs.Lanes.{AreFates, Grows}
+use Rattle.wire_rehearsal.specs.Scripts.{Scripts}
+use Rattle.wire_rehearsal.specs.Planned.{plan_of}
+use Rattle.wire_board.specs.Seats.{BoardIs}
+use Rattle.wire_lanes.specs.Lanes.{AreFates, Grows, LaneIs, IsLane, IsTrail}
 
 pub get_push : {A : Type 0} (xs : List A) (v : A) (i : ℕ) (b : A) → slice_get (xs ++ v ∷ []) i ≡ Some b → (slice_get xs i ≡ Some b) ⊎ ((i ≡ length xs) × (b ≡ v))
 get_push [] v zero b h = inr (refl, same_Some _ _ (sym h))
@@ -52,3 +55,10 @@ grows_far old new n longer count = record {
 
 pub longer_length : (old new : List Fate) → IsLonger old new → length old ≤ length new
 longer_length old new longer = let l = ap length longer.1 in let m = length-append old longer.0 in omega (arith, l, m)
+
+-- what the type of a lane keeps of its trail
+pub trail_kept : (lane : LaneIs) (board : BoardIs) (settled : Scripts) (capacity : ℕ) → IsLane board settled lane.seat lane.trail capacity → IsTrail lane
+trail_kept lane board settled capacity kept = record {
+  as_long = kept.as_long;
+  fates = subst (λ (p : Scripts). AreFates (plan_of p) lane.seat.rank lane.trail) (sym (ap (λ (b : BoardIs). b.plan) kept.board_is ∙ kept.plan_is)) kept.fates;
+}

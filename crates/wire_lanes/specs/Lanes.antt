@@ -26,6 +26,11 @@ pub record IsLane (board : BoardIs) (settled : Scripts) (seat : SeatIs) (trail :
   pub fates : AreFates (plan_of settled) seat.rank trail
   pub room : event_count (plan_of settled) seat.rank ≤ capacity
 
+-- the trail has the fates of the rank's first events, as many as are done
+pub record IsTrail (lane : LaneIs) : Type 0 where
+  pub as_long : length lane.trail ≡ place_of lane.seat
+  pub fates : AreFates (plan_of lane.seat.board.plan) lane.seat.rank lane.trail
+
 -- n entries more
 pub record Grows (old new : List Fate) (n : ℕ) : Type 0 where
   pub added : List Fate

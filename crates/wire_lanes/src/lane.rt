@@ -5,7 +5,7 @@ ghost use Rattle.wire_types.specs.declared.Fault.TheVariants.{Memory};
 ghost use Rattle.wire_runs.specs.Plan.{event_count};
 ghost use Rattle.wire_rehearsal.specs.Planned.{plan_of};
 ghost use Rattle.wire_board.specs.Seats.{place_of, IsReady};
-ghost use Rattle.wire_lanes.specs.Lanes.{AreFates, Grows, SameLane};
+ghost use Rattle.wire_lanes.specs.Lanes.{AreFates, IsTrail, Grows, SameLane};
 
 use std::alloc::Global;
 use std::marker::Model;
@@ -64,6 +64,14 @@ impl<'a> Lane<'a> {
         ensures { result.number ≡ self.now.seat.rank }
     {
         self.seat.rank()
+    }
+
+    /// What the rank's events did: the fates of its first events, as many as are done.
+    pub fn trail(&self) -> &[Fate]
+        ensures value { result.now ≡ self.now.trail }
+        ensures trail { IsTrail self.now }
+    {
+        self.trail.as_slice()
     }
 
     // Reads the word of a process afresh, if it is one of the plan.
