@@ -20,7 +20,8 @@ use Rattle.wire_runs.proofs.HaveFates.{have_fates}
 use Rattle.wire_marks.specs.Clocks.{Clocks, AreMarks}
 use Rattle.wire_races.specs.declared.fate.Fate.{Fate as Told}
 use Rattle.wire_races.specs.declared.fate.Fate.TheVariants as code
-use Rattle.wire_races.specs.Fates.{told_by, fate_told, IsFateOf, TellsReply, TellsEnabled, IsFateInPast, IsStanding, GivesPublish, GivesUnpublish, GivesLookup, WaitsFor}
+use Rattle.wire_races.specs.Fates.{told_by, fate_told, IsFateOf, TellsReply, TellsEnabled}
+use Rattle.wire_races.specs.Pasts.{IsFateInPast, IsStanding, GivesPublish, GivesUnpublish, GivesLookup, WaitsFor}
 use Rattle.wire_races.proofs.Marked.{marks_of}
 
 module _ (plan : Plan) (y : Event) (past : State) where

@@ -19,7 +19,7 @@ use Rattle.wire_runs.proofs.Brought.{Bringer, bringer, delivered_from, complete_
 use Rattle.wire_runs.proofs.Fates.{live_event}
 use Rattle.wire_plan.proofs.KeyFacts.{put_exactly, own_first, stored_first, never_put, never_put_stored}
 use Rattle.wire_plan.proofs.KeyRows.{none_or_some}
-use Rattle.wire_races.specs.Fates.{HasBefore, GivesSight, GivesGet, GivesGetNow, GivesServed, GivesBrought}
+use Rattle.wire_races.specs.Pasts.{HasBefore, GivesSight, GivesGet, GivesGetNow, GivesServed, GivesBrought}
 
 some_is : (o : Option ℕ) (i : ℕ) → is_some o ≡ true → ((v : ℕ) → o ≡ Some v → v ≡ i) → o ≡ Some i
 some_is None i h only = absurd (true≢false (sym h))

@@ -17,7 +17,7 @@ use Rattle.wire_marks.specs.declared.Update.{Update}
 use Rattle.wire_marks.specs.Clocks.{Clocks, AreMarks}
 use Rattle.wire_marks.specs.Updates.{and_newest, newest_first, AreUpdates}
 use Rattle.wire_races.specs.NameRaces.{IsCut}
-use Rattle.wire_races.specs.Fates.{events_in, IsStanding}
+use Rattle.wire_races.specs.Pasts.{events_in, IsStanding}
 use Rattle.wire_races.proofs.Marked.{marks_of}
 use Rattle.wire_races.proofs.NameRaces.{HoldsInFront}
 use Rattle.wire_races.proofs.Fates.{live_within}

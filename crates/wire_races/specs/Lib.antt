@@ -8,3 +8,4 @@ pub mod KeyRaces
 pub mod NameRaces
 pub mod Pieces
 pub mod Fates
+pub mod Pasts

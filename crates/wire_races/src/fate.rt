@@ -5,7 +5,8 @@ ghost use Rattle.wire_rehearsal.specs.Planned.{plan_of};
 ghost use Rattle.wire_runs.specs.Order.{Live};
 ghost use Rattle.wire_runs.specs.Races.{IsSettled};
 ghost use Rattle.wire_marks.specs.Clocks.{AreMarks};
-ghost use Rattle.wire_races.specs.Fates.{IsFateOf, IsFateInPast};
+ghost use Rattle.wire_races.specs.Fates.{IsFateOf};
+ghost use Rattle.wire_races.specs.Pasts.{IsFateInPast};
 
 use crate::key_fates::{get_now_reply, get_reply};
 use crate::name_fates::{lookup_reply, publish_reply, standing, unpublish_reply, waiting_fate};

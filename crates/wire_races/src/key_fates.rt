@@ -9,7 +9,7 @@ ghost use Rattle.wire_runs.specs.Order.{Live};
 ghost use Rattle.wire_runs.specs.Races.{IsSettled};
 ghost use Rattle.wire_plan.specs.Index.{IsFirstPut};
 ghost use Rattle.wire_marks.specs.Clocks.{AreMarks};
-ghost use Rattle.wire_races.specs.Fates.{GivesSight, GivesGet, GivesGetNow, GivesServed, GivesBrought};
+ghost use Rattle.wire_races.specs.Pasts.{GivesSight, GivesGet, GivesGetNow, GivesServed, GivesBrought};
 
 use crate::key_races::{Asked, comes_surely};
 use wire_marks::Marks;

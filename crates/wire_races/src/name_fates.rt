@@ -9,7 +9,7 @@ ghost use Rattle.wire_runs.specs.Races.{IsSettled};
 ghost use Rattle.wire_marks.specs.Clocks.{AreMarks};
 ghost use Rattle.wire_marks.specs.Updates.{AreUpdates};
 ghost use Rattle.wire_races.specs.NameRaces.{IsCut};
-ghost use Rattle.wire_races.specs.Fates.{events_in, IsStanding, GivesPublish, GivesLookup, GivesUnpublish, WaitsFor};
+ghost use Rattle.wire_races.specs.Pasts.{events_in, IsStanding, GivesPublish, GivesLookup, GivesUnpublish, WaitsFor};
 
 use crate::fate::Fate;
 use wire_marks::{Marks, Update};

@@ -4,7 +4,7 @@ use Rattle.wire_runs.specs.Plan.{Get, event_of, kind, node_of, same_node, proces
 use Rattle.wire_runs.specs.Sight.{served}
 use Rattle.wire_rehearsal.specs.Planned.{plan_of}
 use Rattle.wire_runs.proofs.Basics.{process_within}
-use Rattle.wire_races.specs.Fates.{GivesSight, GivesGet}
+use Rattle.wire_races.specs.Pasts.{GivesSight, GivesGet}
 use Rattle.wire_races.proofs.KeyFates.{get_shown, get_never}
 use Rattle.wire_races.proofs.key_fates.get_reply.Goals as goal
 

@@ -4,7 +4,7 @@ use Rattle.wire_rehearsal.specs.Planned.{plan_of}
 use Rattle.wire_runs.specs.Puts.{own}
 use Rattle.wire_runs.specs.Sight.{held}
 use Rattle.wire_runs.proofs.Basics.{event_within}
-use Rattle.wire_races.specs.Fates.{GivesSight}
+use Rattle.wire_races.specs.Pasts.{GivesSight}
 use Rattle.wire_races.proofs.KeyFates.{own_shown, own_hidden, own_never}
 use Rattle.wire_races.proofs.key_fates.own_reply.Goals as goal
 

@@ -4,7 +4,7 @@ use Rattle.std.proofs.lemmas.Option.{slice_get_within}
 use Rattle.std.proofs.lemmas.List.{length-map}
 use Rattle.wire_runs.specs.Plan.{event_of}
 use Rattle.wire_runs.specs.Order.{Before}
-use Rattle.wire_races.specs.Fates.{events_in}
+use Rattle.wire_races.specs.Pasts.{events_in}
 use Rattle.wire_races.proofs.NameRaces.{low_rises, high_falls, narrowed_cut}
 use Rattle.wire_races.proofs.NameFates.{update_at, event_at, before_in_front}
 use Rattle.wire_races.proofs.name_fates.count_before.Goals as goal

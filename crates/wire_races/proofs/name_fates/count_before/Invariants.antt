@@ -4,7 +4,7 @@ use Rattle.wire_runs.specs.Order.{Live, Before}
 use Rattle.wire_runs.specs.Races.{IsSettled}
 use Rattle.wire_marks.specs.Clocks.{AreMarks}
 use Rattle.wire_marks.specs.Updates.{AreUpdates}
-use Rattle.wire_races.specs.Fates.{events_in}
+use Rattle.wire_races.specs.Pasts.{events_in}
 use Rattle.wire_races.proofs.NameRaces.{IsNarrowed}
 use Rattle.wire_races.proofs.name_fates.count_before.Given as goal
 
