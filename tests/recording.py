@@ -652,15 +652,25 @@ def compiled(room, name):
     return path
 
 
+def runs_alike(run, *options):
+    """Runs a program without the recorder, and with it. Answers the second run, and whether both ended alike and wrote the same lines.
+    `mpirun` may mix the lines of two processes, so it tries three times."""
+    for _ in range(3):
+        plainly = subprocess.run(run, capture_output=True, text=True, timeout=SECONDS, env=environment(), check=False)
+        ran = command(*options, *run, env=environment())
+        if (ran.returncode, sorted(ran.stdout.split("\n"))) == (plainly.returncode, sorted(plainly.stdout.split("\n"))):
+            return ran, True
+    return ran, False
+
+
 def lives(program, room, name, processes, count):
     """Whether a program that runs is recorded, and its plan is checked and replayed as it was."""
     path = compiled(room, name)
     plan, answers = os.path.join(room, f"{name}.plan"), os.path.join(room, f"{name}.answers")
     option = ["-x", "NAME=value"] if name == "told" else []
     run = ["mpirun", *option, "--oversubscribe", "-n", str(processes), path]
-    plainly = subprocess.run(run, capture_output=True, text=True, timeout=SECONDS, env=environment(), check=False)
-    ran = command("-o", plan, "--answers", answers, *run, env=environment())
-    if (ran.returncode, sorted(ran.stdout.split("\n"))) != (plainly.returncode, sorted(plainly.stdout.split("\n"))):
+    ran, same = runs_alike(run, "-o", plan, "--answers", answers)
+    if not same:
         return tell(f"{name}, live", f"ended with {ran.returncode}, wrote {ran.stdout[:300]} and said {ran.stderr[:300]}")
     wrong = program and (found(program, plan, count) or differs(program, plan, answers))
     return not wrong or tell(f"{name}, live", wrong)
@@ -672,13 +682,12 @@ def sees_the_same(room, option):
     if not os.path.exists(path):
         compiled(room, "calls")
     run = ["mpirun", "--oversubscribe", "-n", "2", path, *option]
-    plainly = subprocess.run(run, capture_output=True, text=True, timeout=SECONDS, env=environment(), check=False)
-    ran = command("-o", plan, *run, env=environment())
-    same = sorted(ran.stdout.split("\n")) == sorted(plainly.stdout.split("\n")) and ran.stdout.count("\n") > 60
+    ran, same = runs_alike(run, "-o", plan)
     with open(plan, encoding="ascii") as it:
         count = it.read().count("\nput ")
     wanted = 14 + 400 * bool(option)
-    return same and count == wanted and not ran.returncode or tell("calls, live", f"{count} puts, and said {ran.stderr[:300]}\n{ran.stdout[:300]}")
+    is_well = same and ran.stdout.count("\n") > 60 and count == wanted and not ran.returncode
+    return is_well or tell("calls, live", f"{count} puts, and said {ran.stderr[:300]}\n{ran.stdout[:300]}")
 
 
 # Whose data each of the four processes waits for in the collectives of `messages`, as the recordings must say.
