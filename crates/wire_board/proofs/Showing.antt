@@ -12,7 +12,8 @@ use Rattle.wire_rehearsal.specs.Scripts.{Scripts}
 use Rattle.wire_rehearsal.specs.Planned.{plan_of}
 use Rattle.wire_plan.specs.Index.{AreSources, source_list}
 use Rattle.wire_board.specs.Cuts.{shows_event, ShowsSources}
-use Rattle.wire_board.specs.Seats.{SeatIs, next_of, IsReady}
+use Rattle.wire_board.specs.declared.hold.Hold.{Hold}
+use Rattle.wire_board.specs.Positions.{hold, next_in, IsShown}
 
 all_at : (p : Event → Bool) (xs : List Event) (k : ℕ) (x : Event) → list_all p xs ≡ true → slice_get xs k ≡ Some x → p x ≡ true
 all_at p [] k x all is = absurd (none_some is)
@@ -43,16 +44,20 @@ in_parts known previous awaited arrivals =
     list_all-append p one (two ++ map event_of arrivals)
     ∙ ap (λ b. list_all p one && b) (list_all-append p two (map event_of arrivals) ∙ ap (λ b. list_all p two && b) (list_all-map p event_of arrivals))
 
--- A seat that is ready, told of the plan and the event that the code has
+-- The owner of a rank whose positions show that its next event can happen, told of the plan and the event that the code has
 
-pub ready_from : (plan : Scripts) (seat : SeatIs) (y : Event) → seat.board.plan ≡ plan → y ≡ next_of seat → y.at < event_count (plan_of plan) y.proc → ShowsSources (plan_of plan) seat.known y → ¬ (HasFate (plan_of plan) y Waits) → IsReady seat
-ready_from plan seat y of is there sources comes =
-    let P : Scripts × Event → Type 0 = λ t. (t.1.at < event_count (plan_of t.0) t.1.proc) × (ShowsSources (plan_of t.0) seat.known t.1) × ¬ (HasFate (plan_of t.0) t.1 Waits) in
-    let all : P (seat.board.plan, next_of seat) = subst P (λ i. (sym of i, is i)) (there, sources, comes) in
+pub shown_from : (own plan : Scripts) (h : Hold) (y : Event) → own ≡ plan → y ≡ next_in h → y.at < event_count (plan_of plan) y.proc → ShowsSources (plan_of plan) h.known y → ¬ (HasFate (plan_of plan) y Waits) → IsShown (plan_of own) h
+shown_from own plan h y of is there sources comes =
+    let P : Scripts × Event → Type 0 = λ t. (t.1.at < event_count (plan_of t.0) t.1.proc) × (ShowsSources (plan_of t.0) h.known t.1) × ¬ (HasFate (plan_of t.0) t.1 Waits) in
+    let all : P (own, next_in h) = subst P (λ i. (sym of i, is i)) (there, sources, comes) in
     record { next = all.0; sources = all.1; comes = all.2 }
 
-pub ready_shows : (plan : Scripts) (seat : SeatIs) (y : Event) → seat.board.plan ≡ plan → y ≡ next_of seat → IsReady seat → ShowsSources (plan_of plan) seat.known y
-ready_shows plan seat y of is ready = subst (λ (t : Scripts × Event). ShowsSources (plan_of t.0) seat.known t.1) (λ i. (of i, sym is i)) ready.sources
+pub shown_sources : (own plan : Scripts) (h : Hold) (y : Event) → own ≡ plan → y ≡ next_in h → IsShown (plan_of own) h → ShowsSources (plan_of plan) h.known y
+shown_sources own plan h y of is shown = subst (λ (t : Scripts × Event). ShowsSources (plan_of t.0) h.known t.1) (λ i. (of i, sym is i)) shown.sources
 
-pub ready_comes : (plan : Scripts) (seat : SeatIs) (y : Event) → seat.board.plan ≡ plan → y ≡ next_of seat → IsReady seat → ¬ (HasFate (plan_of plan) y Waits)
-ready_comes plan seat y of is ready = subst (λ (t : Scripts × Event). ¬ (HasFate (plan_of t.0) t.1 Waits)) (λ i. (of i, sym is i)) ready.comes
+pub shown_comes : (own plan : Scripts) (h : Hold) (y : Event) → own ≡ plan → y ≡ next_in h → IsShown (plan_of own) h → ¬ (HasFate (plan_of plan) y Waits)
+shown_comes own plan h y of is shown = subst (λ (t : Scripts × Event). ¬ (HasFate (plan_of t.0) t.1 Waits)) (λ i. (of i, sym is i)) shown.comes
+
+-- whichever scripts the owner has
+pub shown_of : (own plan : Scripts) (rank : ℕ) (known : List ℕ) → own ≡ plan → IsShown (plan_of own) (hold own rank known) → IsShown (plan_of plan) (hold plan rank known)
+shown_of own plan rank known of shown = subst (λ p. IsShown (plan_of p) (hold p rank known)) of shown

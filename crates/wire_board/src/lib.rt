@@ -7,6 +7,8 @@ mod board;
 mod hold;
 pub mod laws;
 mod seat;
+mod shown;
 
 pub use board::Board;
 pub use seat::Seat;
+pub use shown::shown_fate;

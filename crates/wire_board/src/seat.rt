@@ -10,10 +10,10 @@ ghost use Rattle.wire_board.specs.Cuts.{procs_of, shows_event, ShowsSources};
 ghost use Rattle.wire_board.specs.Seats.{SeatIs, place_of, next_of, IsReady};
 
 use crate::hold::Token;
+use crate::shown::shown_fate;
 use std::marker::Model;
-use wire_plan::{Plan, Sources};
 use wire_races::{Fate, Settled};
-use wire_types::{Event, Proc};
+use wire_types::Proc;
 
 /// The owner of one rank: it alone moves the word of that rank. It knows a position of each process: a
 /// number of its events that are done. That of its own rank is its place, and it is exact. Contracts see its
@@ -53,70 +53,6 @@ impl Seat {
         self.known[self.rank.index()]
     }
 
-    // Whether what it knows shows that an event is done.
-    fn shows_event(&self, event: Event) -> bool
-        ensures { result ≡ shows_event self.now.known (event_of event) }
-    {
-        match self.known.get(event.proc.index()) {
-            Some(done) => (event.at as u64) < *done,
-            None => false,
-        }
-    }
-
-    // The same of an event that needn't be there.
-    fn shows_awaited(&self, event: Option<Event>) -> bool
-        ensures { result ≡ list_all (shows_event self.now.known) (option_to_list (option_map event_of event)) }
-    {
-        match event {
-            Some(event) => self.shows_event(event),
-            None => true,
-        }
-    }
-
-    // The same of each of these events.
-    fn shows_each(&self, events: &[Event]) -> bool
-        ensures { result ≡ list_all (λ event. shows_event self.now.known (event_of event)) events.now }
-    {
-        events.iter().all(|event| self.shows_event(*event))
-    }
-
-    // The same of each of these sources. Each is looked at once.
-    fn shows_all(&self, sources: Sources<'_>) -> bool
-        ensures { result ≡ list_all (shows_event self.now.known) (source_list sources.entry.previous sources.entry.awaited sources.entry.arrivals.now) }
-    {
-        if !self.shows_awaited(sources.previous) {
-            return false;
-        }
-        if !self.shows_awaited(sources.awaited) {
-            return false;
-        }
-        self.shows_each(sources.arrivals)
-    }
-
-    // Whether what it knows shows all sources of an event of the plan.
-    fn shows_sources(&self, plan: &Plan, event: Event) -> bool
-        requires { event.at < event_count (plan_of plan.now) event.proc.number }
-        ensures { IsTrue result ↔ ShowsSources (plan_of plan.now) self.now.known (event_of event) }
-    {
-        self.shows_all(plan.sources(event))
-    }
-
-    // The next event of its rank, if there is one.
-    fn next_event(&self, plan: &Plan) -> Option<Event>
-        requires { self.now.board.plan ≡ plan.now }
-        ensures { MatchOption result (event_count (plan_of plan.now) self.now.rank ≤ place_of self.now)
-            (λ event. (event_of event ≡ next_of self.now) × (event.at < event_count (plan_of plan.now) event.proc.number)) }
-    {
-        let place = self.place();
-        if place >= plan.event_count(self.rank) as u64 {
-            return None;
-        }
-        Some(Event {
-            proc: self.rank,
-            at: place as u32,
-        })
-    }
-
     /// The fate of the next event of its rank, where that event can happen: there is one, the positions
     /// that the seat knows show all its sources, and its fate isn't `Waits`. Else `None`. It takes no
     /// memory, and looks at each source once. The caller ensures that the seat's board was made of this
@@ -126,15 +62,7 @@ impl Seat {
         ensures ready { (result ≢ None) ↔ IsReady self.now }
         ensures fate { IfSome result (λ fate. IsFateOf (plan_of settled.now) (next_of self.now) fate × (fate ≢ Fate.Waits)) }
     {
-        let plan = settled.plan();
-        let event = self.next_event(plan)?;
-        if !self.shows_sources(plan, event) {
-            return None;
-        }
-        match settled.fate(event) {
-            Fate::Waits => None,
-            fate => Some(fate),
-        }
+        shown_fate(settled, self.known.as_slice(), self.rank)
     }
 
     /// Whether the next event of its rank can happen: there is one, its fate isn't `Waits`, and the
