@@ -44,11 +44,7 @@ fn add_unreached(ends: &mut Vec<CallEnd>, count: usize) -> Result<(), AllocError
 }
 
 /// Adds so many calls without a reply: the process stands at the first, and hasn't come to the others.
-pub(crate) fn add_unanswered(
-    ends: &mut Vec<CallEnd>,
-    ready: bool,
-    count: usize,
-) -> Result<(), AllocError>
+pub fn add_unanswered(ends: &mut Vec<CallEnd>, ready: bool, count: usize) -> Result<(), AllocError>
     ensures { OnOk result (ends.new.items ≡ ends.old.items ++ unanswered ready count) }
 {
     if count == 0 {

@@ -13,4 +13,5 @@ mod running;
 mod sight;
 mod waits;
 
+pub use ends::add_unanswered;
 pub use running::Core;
