@@ -1,12 +1,9 @@
 //! Seats: what the owner of a rank knows of the words.
 
-ghost use Rattle.std.specs.Prelude.{◌≡◌, ◌≢◌, ◌↔◌, ◌<◌, None, map, option_map, option_to_list, slice_index, IfSome, MatchOption, IsTrue, ◌≤◌};
-ghost use Rattle.std.specs.List.{list_all};
-ghost use Rattle.wire_runs.specs.Plan.{event_of, event_count};
+ghost use Rattle.std.specs.Prelude.{◌≡◌, ◌≢◌, ◌↔◌, ◌<◌, None, IfSome, IsTrue};
 ghost use Rattle.wire_rehearsal.specs.Planned.{plan_of};
-ghost use Rattle.wire_plan.specs.Index.{source_list};
 ghost use Rattle.wire_races.specs.Fates.{IsFateOf};
-ghost use Rattle.wire_board.specs.Cuts.{procs_of, shows_event, ShowsSources};
+ghost use Rattle.wire_board.specs.Cuts.{procs_of};
 ghost use Rattle.wire_board.specs.Seats.{SeatIs, place_of, next_of, IsReady};
 
 use crate::hold::Token;
