@@ -54,9 +54,18 @@ commit
 ";
 
 /// The fate of an event of a file, which is a settled plan.
-fn fate_in<R: Threads + Sync>(rt: &R, alloc: Global, file: &[u8], proc: u32, at: u32) -> Result<Fate, Fault> {
+fn fate_in<R: Threads + Sync>(
+    rt: &R,
+    alloc: Global,
+    file: &[u8],
+    proc: u32,
+    at: u32,
+) -> Result<Fate, Fault> {
     let settled = settled(rt, alloc, file)?;
-    let fate = settled.fate(Event { proc: Proc::new(proc), at });
+    let fate = settled.fate(Event {
+        proc: Proc::new(proc),
+        at,
+    });
     drop(settled);
     Ok(fate)
 }
@@ -70,11 +79,17 @@ fn fates(rt: HostRuntime) -> Result<(), Fail> {
     assert_eq!(rt; fate_in(&rt, alloc, TAKEN_AWAY, 1, 2)?, Fate::Waits);
     assert_eq!(rt; fate_in(&rt, alloc, TAKEN_AWAY, 1, 3)?, Fate::Waits);
     // app:0 has put, commit, arrive, leave; app:1 has arrive, leave, get-now
-    assert_eq!(rt; fate_in(&rt, alloc, NOT_COLLECTED, 1, 2)?, Fate::Says(Reply::bare(Status::NotFound)));
+    assert_eq!(rt;
+        fate_in(&rt, alloc, NOT_COLLECTED, 1, 2)?,
+        Fate::Says(Reply::bare(Status::NotFound))
+    );
     assert_eq!(rt; fate_in(&rt, alloc, NOT_COLLECTED, 0, 2)?, Fate::Silent);
     assert_eq!(rt; fate_in(&rt, alloc, NOT_COLLECTED, 1, 0)?, Fate::Silent);
     for number in 0..6 {
-        assert_eq!(rt; fate_in(&rt, alloc, STUCK, number / 3, number % 3)?, Fate::Waits);
+        assert_eq!(rt;
+            fate_in(&rt, alloc, STUCK, number / 3, number % 3)?,
+            Fate::Waits
+        );
     }
     Ok(())
 }

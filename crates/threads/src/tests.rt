@@ -148,7 +148,11 @@ fn judged<R: Threads + Sync>(
 }
 
 /// A file as a settled plan. Where something is found, the fault is `NotReady`.
-pub(crate) fn settled<R: Threads + Sync>(rt: &R, alloc: Global, file: &[u8]) -> Result<Settled, Fault> {
+pub(crate) fn settled<R: Threads + Sync>(
+    rt: &R,
+    alloc: Global,
+    file: &[u8],
+) -> Result<Settled, Fault> {
     let plan = plan_of_file(alloc, file)?;
     match judged(rt, alloc, &plan) {
         Ok((marks, found)) => match Settled::try_new(plan, marks, found) {
