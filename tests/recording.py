@@ -552,6 +552,11 @@ def twisted(room):
     tapes[1].call("receive 1", "0 0 0 4")
     yield "a synchronous send", tapes, [
         ["publish mpi.0.1.1 sent", "lookup-wait mpi.0.1.1.begun"], ["publish mpi.0.1.1.begun sent", "lookup-wait mpi.0.1.1"]], None
+    # A matched probe took its message, so the receive that is there may be of the next one, and had perhaps not begun.
+    tapes = in_world(0, 2), in_world(1, 2)
+    tapes[0].call("send 1 1 0 4").begin("send 1 1 0 4")
+    tapes[1].say("other MPI_Mrecv").call("receive 1", "0 0 0 4")
+    yield "a synchronous send to a matched probe", tapes, [["publish mpi.0.1.1 sent"], ["lookup-wait mpi.0.1.1"]], "1 calls of MPI_Mrecv"
     # Messages that can't be matched order nothing.
     tapes = in_world(0, 2), in_world(1, 2)
     tapes[0].begin("send 1 1 0 4")
