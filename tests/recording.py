@@ -534,6 +534,12 @@ def twisted(room):
     tapes[0].call(mark).end(fence)
     tapes[1].call("fence blocks all pmix.collect=number:1:1")
     yield "a fence that collects and doesn't block", tapes, [["fence all collect", "publish m x"], ["fence all collect"]], "1 calls made while one"
+    # A publish that doesn't block, and a barrier before its end: the plan says that the barrier waited for it, and tells so.
+    tapes = in_world(0, 2), in_world(1, 2)
+    publish = tapes[0].begin("publish nb m=text:x -")
+    tapes[0].call("collective barrier 1", "0 all").end(publish)
+    tapes[1].call("collective barrier 1", "0 all")
+    yield "a barrier beside a publish", tapes, [["publish m x", "fence all"], ["fence all"]], "1 calls made while one"
     # A get that doesn't block is where it ends.
     tapes = Tape(0), Tape(1)
     get = tapes[0].begin("get nb job:1 :k -")
