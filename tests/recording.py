@@ -235,6 +235,7 @@ def damages():
     yield "a rank that a fence tells of", {"a": Tape(0).call("fence blocks job:0,job:2 -").text()}, "no recording of 2 of them: 1, 2"
     yield "a rank that the job's size tells of", {"a": Tape(0).call("get blocks job:* :pmix.job.size -", "0 number:4:2").text()}, "of 1 of them: 1"
     yield "a rank past all limits", {"a": Tape(4294967290).text()}, "job has 4294967291 ranks"
+    yield "a time past all dates", {"a": Tape(0, began=10**12).text()}, "line 3 says a time after the year 9999"
     yield "too many processes", {f"{n:03}": Tape(n).text() for n in range(257)}, "at most 256 processes, and this one would have 257"
     yield "too many nodes", {f"{n:03}": Tape(n, host=f"n{n}").text() for n in range(65)}, "at most 64 nodes, and this one would have 65"
     yield "too many jobs", {f"{n:03}": Tape(0, namespace=f"j{n}").text() for n in range(17)}, "at most 16 jobs, and this one would have 17"
@@ -592,6 +593,15 @@ def twisted(room):
         tapes[rank].say("comm 2 1 c1 2,0").call("collective barrier 2", "0 all")
     tapes[0].begin("collective barrier 1")
     yield "a barrier of some", tapes, [["fence app:0,app:2"], [], ["fence app:0,app:2"]], None
+    # Communicators that don't have their process, as no recorder writes them.
+    tapes = [Tape(rank).say(f"world {rank} 3").say(f"comm 1 0 w0 {ranks}").call("collective scan 1", "0 below") for rank, ranks in enumerate(("1-2", "1-2", "0-1"))]
+    yield "a communicator without its process", tapes, [[], [], []], "2 collectives in communicators that aren't recorded"
+    # A send to a rank that isn't there, which MPI refused.
+    tapes = in_world(0, 2).call("send 1 -5 0 4"), in_world(1, 2)
+    yield "a send to no rank", tapes, [[], []], None
+    # A fence with a rank that isn't there, which PMIx refused.
+    tapes = Tape(0).call("fence blocks job:0,job:7 -", "-27"), Tape(1)
+    yield "a fence with no rank", tapes, [[], []], "1 fences with processes that aren't recorded"
     # Ended badly.
     tapes = Tape(0).text(False), Tape(1).text()
     yield "a process that ended badly", tapes, [[], []], "1 processes whose recordings end before PMIx_Finalize"
