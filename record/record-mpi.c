@@ -540,7 +540,7 @@ static void about_to_start(MPI_Request request)
 int MPI_Start(MPI_Request *request)
 {
     REAL(MPI_Start);
-    if (is_noted())
+    if (request && is_noted())
         about_to_start(*request);
     inside++;
     int result = real(request);
@@ -551,7 +551,7 @@ int MPI_Start(MPI_Request *request)
 int MPI_Startall(int count, MPI_Request list[])
 {
     REAL(MPI_Startall);
-    if (is_noted())
+    if (list && is_noted())
         for (int n = 0; n < count; n++)
             about_to_start(list[n]);
     inside++;
@@ -563,7 +563,7 @@ int MPI_Startall(int count, MPI_Request list[])
 int MPI_Request_free(MPI_Request *request)
 {
     REAL(MPI_Request_free);
-    if (is_noted()) {
+    if (request && is_noted()) {
         if (posted_by(*request))
             note_other("MPI_Request_free of a receive");
         forget_request(*request);
@@ -640,8 +640,8 @@ int MPI_Wait(MPI_Request *request, MPI_Status *status)
 {
     REAL(MPI_Wait);
     MPI_Status mine;
-    bool is = is_noted();
-    MPI_Request was = *request;
+    bool is = request && is_noted();
+    MPI_Request was = is ? *request : (MPI_Request)0;
     MPI_Status *to = is && status == MPI_STATUS_IGNORE ? &mine : status;
     inside++;
     int result = real(request, to);
@@ -655,8 +655,8 @@ int MPI_Test(MPI_Request *request, int *flag, MPI_Status *status)
 {
     REAL(MPI_Test);
     MPI_Status mine;
-    bool is = is_noted();
-    MPI_Request was = *request;
+    bool is = request && is_noted();
+    MPI_Request was = is ? *request : (MPI_Request)0;
     MPI_Status *to = is && status == MPI_STATUS_IGNORE ? &mine : status;
     inside++;
     int result = real(request, flag, to);
@@ -679,7 +679,7 @@ static struct watch watch(int count, const MPI_Request list[], MPI_Status *statu
     int was = errno;
     struct watch it = {.statuses = statuses};
     bool is = false;
-    if (is_noted())
+    if (list && is_noted())
         for (int n = 0; n < count && !is; n++)
             is = posted_by(list[n]) != 0;
     if (is) {
@@ -742,7 +742,7 @@ int MPI_Testall(int count, MPI_Request list[], int *flag, MPI_Status *statuses)
     inside++;
     int result = real(count, list, flag, it.statuses);
     inside--;
-    for (int n = 0; it.is_on && (*flag || result == MPI_ERR_IN_STATUS) && n < count; n++)
+    for (int n = 0; it.is_on && (result == MPI_ERR_IN_STATUS || (result == MPI_SUCCESS && *flag)) && n < count; n++)
         if (result_of(result, &it.statuses[n]) != MPI_ERR_PENDING)
             complete(it.were[n], result_of(result, &it.statuses[n]), &it.statuses[n]);
     return unwatch(&it, result, count);
@@ -756,7 +756,8 @@ int MPI_Testall(int count, MPI_Request list[], int *flag, MPI_Status *statuses)
         inside++;                                                                                                                \
         int result = real(count, list, ended, which, it.statuses);                                                               \
         inside--;                                                                                                                \
-        int some = it.is_on && *ended != MPI_UNDEFINED ? *ended : 0;                                                             \
+        bool is_told = it.is_on && (result == MPI_SUCCESS || result == MPI_ERR_IN_STATUS);                                       \
+        int some = is_told && *ended != MPI_UNDEFINED ? *ended : 0;                                                              \
         for (int n = 0; n < some; n++)                                                                                           \
             complete(it.were[which[n]], result_of(result, &it.statuses[n]), &it.statuses[n]);                                    \
         return unwatch(&it, result, some);                                                                                       \
@@ -774,7 +775,7 @@ int MPI_Waitany(int count, MPI_Request list[], int *which, MPI_Status *status)
     inside++;
     int result = real(count, list, which, to);
     inside--;
-    if (it.is_on && *which != MPI_UNDEFINED && *which >= 0 && *which < count)
+    if (it.is_on && which && *which != MPI_UNDEFINED && *which >= 0 && *which < count)
         complete(it.were[*which], result, to);
     return unwatch(&it, result, 0);
 }
@@ -788,7 +789,7 @@ int MPI_Testany(int count, MPI_Request list[], int *which, int *flag, MPI_Status
     inside++;
     int result = real(count, list, which, flag, to);
     inside--;
-    if (it.is_on && *flag && *which != MPI_UNDEFINED && *which >= 0 && *which < count)
+    if (it.is_on && flag && which && *flag && *which != MPI_UNDEFINED && *which >= 0 && *which < count)
         complete(it.were[*which], result, to);
     return unwatch(&it, result, 0);
 }
@@ -868,12 +869,17 @@ static const char *one(char to[16], int rank)
     return to;
 }
 
+/* The arguments of one that failed aren't looked at: they may be why. */
 #define COLLECTIVE(kind, name, call)                                                                                             \
     REAL(name);                                                                                                                  \
     struct collective it = begin(kind, #name, comm);                                                                             \
     inside++;                                                                                                                    \
     int result = call;                                                                                                           \
-    inside--
+    inside--;                                                                                                                    \
+    if (result != MPI_SUCCESS) {                                                                                                 \
+        end(&it, result, "none");                                                                                                \
+        return result;                                                                                                           \
+    }
 
 int MPI_Barrier(MPI_Comm comm)
 {
@@ -1086,7 +1092,8 @@ int MPI_Comm_create_group(MPI_Comm comm, MPI_Group group, int tag, MPI_Comm *mad
 int MPI_Comm_free(MPI_Comm *comm)
 {
     REAL(MPI_Comm_free);
-    forget_communicator(*comm);
+    if (comm)
+        forget_communicator(*comm);
     inside++;
     int result = real(comm);
     inside--;
@@ -1096,7 +1103,8 @@ int MPI_Comm_free(MPI_Comm *comm)
 int MPI_Comm_disconnect(MPI_Comm *comm)
 {
     REAL(MPI_Comm_disconnect);
-    forget_communicator(*comm);
+    if (comm)
+        forget_communicator(*comm);
     inside++;
     int result = real(comm);
     inside--;
