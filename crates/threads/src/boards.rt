@@ -1,16 +1,179 @@
-//! What lanes serve.
+//! What seats of a board show, and what lanes serve.
 
-ghost use Rattle.std.specs.Prelude.{◌≡◌};
+ghost use Rattle.std.specs.Prelude.{◌≡◌, ◌<◌, IfOk, IfSome};
+ghost use Rattle.std.specs.List.{All};
+ghost use Rattle.wire_board.specs.Cuts.{procs_of};
 ghost use Rattle.wire_board.specs.Seats.{opening_seats};
 
-use crate::tests::{WAITING, commits, settled};
+use crate::tests::{APART, WAITING, commits, settled};
 use std::alloc::Global;
 use std::sync::Wait;
 use std::test::Fail;
+use std::thread::{self, Threads, join};
 use wire_board::{Board, Seat};
 use wire_races::{Fate, Settled};
 use wire_sched::{Lanes, OpenGate, Round, work};
 use wire_types::{Fault, Proc};
+
+/// How often a thread looks before it gives up.
+const MOST_TURNS: u32 = 1_000_000;
+
+/// A board with its seats, which are all of it.
+fn seated(alloc: Global, settled: &Settled) -> Result<(Board, Vec<Seat>), Fault>
+    ensures plan { IfOk result (λ made. made.0.plan ≡ settled.now) }
+    ensures seats { IfOk result (λ made. All (λ seat. seat.board ≡ made.0) made.1.items) }
+{
+    Board::new(alloc, settled)
+}
+
+/// The last seat.
+fn last_seat(board: &Board, seats: &mut Vec<Seat>) -> Option<Seat>
+    requires { All (λ seat. seat.board ≡ board.now) seats.old.items }
+    ensures seat { IfSome result (λ seat. seat.board ≡ board.now) }
+    ensures rest { All (λ seat. seat.board ≡ board.now) seats.new.items }
+{
+    seats.pop()
+}
+
+/// A board with the seats of its last two ranks; `None` where there are fewer.
+fn last_two(alloc: Global, settled: &Settled) -> Result<Option<(Board, Seat, Seat)>, Fault>
+    ensures { IfOk result (λ o. IfSome o (λ t. (t.0.plan ≡ settled.now) × (t.1.board ≡ t.0) × (t.2.board ≡ t.0))) }
+{
+    let (board, seats) = seated(alloc, settled)?;
+    let mut seats = seats;
+    let Some(two) = last_seat(&board, &mut seats) else {
+        return Ok(None);
+    };
+    let Some(one) = last_seat(&board, &mut seats) else {
+        return Ok(None);
+    };
+    Ok(Some((board, one, two)))
+}
+
+/// These two seats.
+fn pair(alloc: Global, one: Seat, two: Seat) -> Result<Vec<Seat>, Fault>
+    requires { one.board ≡ two.board }
+    ensures { IfOk result (λ seats. All (λ seat. seat.board ≡ one.board) seats.items) }
+{
+    let mut seats = Vec::with_capacity(alloc, 2)?;
+    seats.push_reserved(one);
+    seats.push_reserved(two);
+    Ok(seats)
+}
+
+/// What the second seat of a board shows before the first one has done its two events, after that, and
+/// after it has read the first one's word; what it read; and the words at the end.
+#[derive(Drop)]
+struct Shown {
+    before: bool,
+    unread: bool,
+    read: u64,
+    after: bool,
+    words: Vec<u64>,
+}
+
+/// The first seat does an event, if it shows that it can happen.
+fn advanced(board: &Board, seat: &mut Seat, settled: &Settled) -> bool
+    requires { (seat.old.board ≡ board.now) × (board.now.plan ≡ settled.now) }
+    ensures { seat.new.board ≡ board.now }
+{
+    let shown = seat.shows(settled);
+    if shown {
+        board.advance(seat, settled);
+    }
+    shown
+}
+
+/// Steps through the board of a plan whose second rank waits for two events of the first.
+fn stepped(alloc: Global, settled: &Settled) -> Result<Option<Shown>, Fault> {
+    let Some((board, mut zero, mut one)) = last_two(alloc, settled)? else {
+        return Ok(None);
+    };
+    let before = one.shows(settled);
+    if !advanced(&board, &mut zero, settled) || !advanced(&board, &mut zero, settled) {
+        return Ok(None);
+    }
+    let unread = one.shows(settled);
+    let rank = zero.rank();
+    let read = board.read(&mut one, rank);
+    let after = advanced(&board, &mut one, settled);
+    let words = board.close(alloc, pair(alloc, zero, one)?)?;
+    Ok(Some(Shown {
+        before,
+        unread,
+        read,
+        after,
+        words,
+    }))
+}
+
+/// A seat shows an event once it has read that the sources are done.
+#[test]
+fn a_seat_shows_what_it_has_read(rt: HostRuntime) -> Result<(), Fail> {
+    let alloc = rt.alloc();
+    let settled = settled(&rt, alloc, WAITING)?;
+    let stepped = stepped(alloc, &settled);
+    drop(settled);
+    let Some(shown) = stepped? else {
+        panic!(rt; "two ranks, the first of which waits for nothing")
+    };
+    assert!(rt; !shown.before && !shown.unread && shown.after);
+    assert_eq!(rt; shown.read, 2);
+    assert_eq!(rt; shown.words.as_slice(), [2u64, 1].as_slice());
+    Ok(())
+}
+
+/// Reads another rank's word until it is 1. Whether it came to that.
+fn comes(board: &Board, seat: &mut Seat, other: Proc) -> bool
+    requires seat { seat.old.board ≡ board.now }
+    requires other { other.number < procs_of board.now.plan }
+{
+    'turns: for _ in 0..MOST_TURNS {
+        if board.read(seat, other) == 1 {
+            return true;
+        }
+        thread::yield_now();
+    }
+    false
+}
+
+/// A seat does one event, and then reads another rank's word until that is 1. Whether it saw that.
+fn saw_another(board: &Board, settled: &Settled, seat: Seat, other: Proc) -> bool
+    requires plan { board.now.plan ≡ settled.now }
+    requires seat { seat.board ≡ board.now }
+    requires other { other.number < procs_of board.now.plan }
+{
+    let mut seat = seat;
+    advanced(board, &mut seat, settled) && comes(board, &mut seat, other)
+}
+
+/// Two threads, each with a seat. Whether each saw the other's event.
+fn both_saw<R: Threads + Wait + Sync>(
+    rt: &R,
+    alloc: Global,
+    settled: &Settled,
+) -> Result<(bool, bool), Fault> {
+    let Some((board, zero, one)) = last_two(alloc, settled)? else {
+        return Ok((false, false));
+    };
+    let (first, second) = (zero.rank(), one.rank());
+    Ok(join(
+        rt,
+        || saw_another(&board, settled, zero, second),
+        || saw_another(&board, settled, one, first),
+    ))
+}
+
+/// What one seat stores, the other reads before long.
+#[test]
+fn each_seat_sees_the_others_event(rt: HostRuntime) -> Result<(), Fail> {
+    let alloc = rt.alloc();
+    let settled = settled(&rt, alloc, APART)?;
+    let saw = both_saw(&rt, alloc, &settled);
+    drop(settled);
+    assert_eq!(rt; saw?, (true, true));
+    Ok(())
+}
 
 /// What one worker leaves of a plan: how many events it answered, the trails, and the words.
 #[derive(Drop)]
