@@ -2,18 +2,22 @@
 
 ghost use Rattle.std.specs.Prelude.{◌≡◌, ◌<◌, IfOk, IfSome};
 ghost use Rattle.std.specs.List.{All};
+ghost use Rattle.wire_rehearsal.specs.Planned.{plan_of};
 ghost use Rattle.wire_board.specs.Cuts.{procs_of};
 ghost use Rattle.wire_board.specs.Seats.{opening_seats};
+ghost use Rattle.wire_lanes.specs.Lanes.{AreTrails};
 
-use crate::tests::{APART, WAITING, commits, settled};
+use crate::tests::{APART, CARDS, WAITING, commits, settled};
 use std::alloc::Global;
 use std::sync::Wait;
 use std::test::Fail;
 use std::thread::{self, Threads, join};
 use wire_board::{Board, Seat};
+use wire_collect::plain_outcome;
 use wire_races::{Fate, Settled};
 use wire_sched::{Lanes, OpenGate, Round, work};
-use wire_types::{Fault, Proc};
+use wire_trails::outcome_of;
+use wire_types::{Fault, Outcome, Proc};
 
 /// How often a thread looks before it gives up.
 const MOST_TURNS: u32 = 1_000_000;
@@ -299,5 +303,86 @@ fn one_worker_serves_256_ranks_over_the_board(rt: HostRuntime) -> Result<(), Fai
     let left = left?;
     assert_eq!(rt; left.events, 256);
     assert_eq!(rt; left.words.len(), 256);
+    Ok(())
+}
+
+/// How often each of two threads serves all ranks.
+const MOST_PASSES: u32 = 64;
+
+/// Serves all ranks once. Answers how many events that were.
+fn served_once<R: Wait>(rt: &R, lanes: &Lanes<'_>, processes: u32) -> usize {
+    let mut events = 0usize;
+    for number in 0..processes {
+        events = events.saturating_add(lanes.serve(rt, Proc::new(number)));
+    }
+    events
+}
+
+/// Serves all ranks, again and again. Answers how many events that were.
+fn served_often<R: Wait>(rt: &R, lanes: &Lanes<'_>, processes: u32) -> usize {
+    let mut events = 0usize;
+    for _ in 0..MOST_PASSES {
+        events = events.saturating_add(served_once(rt, lanes, processes));
+    }
+    events
+}
+
+/// Two threads serve the lanes of a board. Answers how many events that were, and the trails.
+fn served_by_two<R: Threads + Wait + Sync>(
+    rt: &R,
+    alloc: Global,
+    board: &Board,
+    settled: &Settled,
+    seats: Vec<Seat>,
+) -> Result<(usize, Option<Vec<Vec<Fate>>>), Fault>
+    requires plan { board.now.plan ≡ settled.now }
+    requires seats { seats.items ≡ opening_seats board.now }
+    ensures { IfOk result (λ r. IfSome r.1 (λ trails. AreTrails (plan_of settled.now) trails.items)) }
+{
+    let lanes = Lanes::new(alloc, board, settled, seats)?;
+    let processes = settled.plan().process_count();
+    let (one, two) = join(
+        rt,
+        || served_often(rt, &lanes, processes),
+        || served_often(rt, &lanes, processes),
+    );
+    let trails = lanes.trails(alloc, settled)?;
+    Ok((one.saturating_add(two), trails))
+}
+
+/// What the trails and the words tell, once two threads have served the lanes, and how many events these did.
+fn told_by_two<R: Threads + Wait + Sync>(
+    rt: &R,
+    alloc: Global,
+    settled: &Settled,
+) -> Result<(usize, Option<Outcome>), Fault> {
+    let (board, seats) = Board::new(alloc, settled)?;
+    let served = served_by_two(rt, alloc, &board, settled, seats);
+    let words = board.close(alloc, Vec::new(alloc))?;
+    match served? {
+        (events, Some(trails)) => Ok((
+            events,
+            outcome_of(alloc, settled, trails.as_slice(), words.as_slice())?,
+        )),
+        (events, None) => Ok((events, None)),
+    }
+}
+
+/// Two threads together do each event once, and then the trails and the words tell the plain run's outcome.
+#[test]
+fn two_threads_serve_the_lanes(rt: HostRuntime) -> Result<(), Fail> {
+    let alloc = rt.alloc();
+    let settled = settled(&rt, alloc, CARDS)?;
+    let told = told_by_two(&rt, alloc, &settled);
+    let total = settled.plan().event_total();
+    let plain = plain_outcome(alloc, settled.plan());
+    drop(settled);
+    let (events, outcome) = told?;
+    assert_eq!(rt; events, total);
+    let Some(outcome) = outcome else {
+        panic!(rt; "a run that can't go on")
+    };
+    let plain = plain?;
+    assert!(rt; outcome.rows == plain.rows && outcome.waiting == plain.waiting);
     Ok(())
 }

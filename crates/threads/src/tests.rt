@@ -83,7 +83,7 @@ commit
 ";
 
 /// Puts, gets, a fence that collects, and a name, on two nodes.
-const CARDS: &[u8] = b"\
+pub(crate) const CARDS: &[u8] = b"\
 rehearsal 1
 node n0
 node n1

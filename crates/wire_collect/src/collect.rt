@@ -8,9 +8,9 @@ ghost use Rattle.wire_core.specs.Course.{plan_in, state_of};
 ghost use Rattle.wire_trails.specs.EndsAfter.{plain_ends};
 ghost use Rattle.wire_collect.specs.Collect.{MayWork, IsCompleteRun};
 
-use crate::locked::run_core;
+use crate::over_core::run_core;
+use crate::over_lanes::{Settings, board_outcome};
 use crate::plain::plain_outcome;
-use crate::unlocked::{Work, board_outcome};
 use std::alloc::Global;
 use std::sync::Wait;
 use std::thread::Threads;
@@ -71,7 +71,9 @@ fn told(alloc: Global, core: &Core<'_>) -> Result<(Outcome, Vec<Proc>), Fault>
 /// on the calling thread, and each other on a thread of its own. All work in the first round, and in a later one as many
 /// as the round before had steps for. A worker whose thread can't be started is left out. After the workers of a round,
 /// the calling thread is the collector: it serves what no worker took, and after a round without a step the lowest
-/// ready process. It calls the gate with the number `workers`, which is no worker's.
+/// ready process. It calls the gate with the number `workers`, which is no worker's. Where the core that comes back isn't
+/// of this plan, or a process is still ready, the calling thread calls the gate with that number and process 0, and runs
+/// the plan alone.
 ///
 /// The fault is `Workers` where there is no worker or more than 64, before all else, and `Memory` where memory ran out.
 pub fn run_any<R: Threads + Wait + Sync, G: Gate + Sync>(
@@ -91,17 +93,17 @@ pub fn run_any<R: Threads + Wait + Sync, G: Gate + Sync>(
     let core = Core::new(alloc, plan)?;
     let core = run_core(rt, alloc, core, workers, gate)?;
     let core = completed(alloc, plan, core, workers, gate)?;
-    let told = told(alloc, &core);
+    let ran = told(alloc, &core);
     drop(core);
-    told
+    ran
 }
 
-/// Runs a settled plan by so many workers, and gives what became of every call. Whatever the workers do, that is what the
+/// Runs a settled plan by `workers` workers, and gives what became of every call. Whatever the workers do, that is what the
 /// plain run gives, in which at each step the lowest ready process takes it.
 ///
-/// The workers serve the lanes of a board. They and the collector work by rounds as in `run_any`, but for the state, round
-/// which there is no lock. Where the trails and the words at the end don't tell the outcome, the calling thread calls the
-/// gate with the number `workers` and process 0, and runs the plan alone. The faults are those of `run_any`.
+/// The workers and the collector work by rounds as in `run_any`, but they serve the lanes of a board and not a core under a
+/// lock. Where the trails and the words at the end don't tell the outcome, the calling thread calls the gate with the number
+/// `workers` and process 0, and runs the plan alone. The faults are those of `run_any`.
 pub fn run_workers<R: Threads + Wait + Sync, G: Gate + Sync>(
     rt: &R,
     alloc: Global,
@@ -116,12 +118,12 @@ pub fn run_workers<R: Threads + Wait + Sync, G: Gate + Sync>(
     if !may_work(workers) {
         return Err(Fault::Workers);
     }
-    let work = Work {
+    let settings = Settings {
         settled,
         workers,
         gate,
     };
-    match board_outcome(rt, alloc, &work)? {
+    match board_outcome(rt, alloc, &settings)? {
         Some(outcome) => Ok(outcome),
         None => {
             gate.pass(workers, Proc::new(0));

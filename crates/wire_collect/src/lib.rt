@@ -4,11 +4,11 @@
 
 mod collect;
 mod crew;
-mod locked;
+mod over_core;
+mod over_lanes;
 mod plain;
 mod rounds;
 mod threads;
-mod unlocked;
 
 pub use collect::{MOST_WORKERS, run_any, run_workers};
 pub use plain::plain_outcome;

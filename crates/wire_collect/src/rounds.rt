@@ -60,12 +60,12 @@ pub(crate) fn serve_round<R: Threads + Wait + Sync, S: Serves + Sync, G: Gate + 
 
 /// How many events of one round are work for one more worker in the next. To start a thread takes about as long as several
 /// hundred events.
-const EVENTS_A_WORKER: usize = 1_000;
+const EVENTS_PER_WORKER: usize = 1_000;
 
 /// How many workers the round after one of so many events has: at least one, and at most all.
 pub(crate) fn wanted_after(events: usize, workers: usize) -> usize
     requires { 0 < workers }
     ensures { 0 < result }
 {
-    workers.min(events / EVENTS_A_WORKER + 1)
+    workers.min(events / EVENTS_PER_WORKER + 1)
 }

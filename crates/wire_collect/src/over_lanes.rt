@@ -1,4 +1,4 @@
-//! Rounds of workers over a board: each process has a lane, and no lock is round the state.
+//! Rounds of workers over the lanes of a board.
 
 ghost use Rattle.std.specs.Prelude.{◌≡◌, ◌<◌, IfOk, IfSome, IsOkUnless};
 ghost use Rattle.wire_types.specs.Outcome.{ends_of};
@@ -20,18 +20,18 @@ use wire_types::{Fault, Outcome, Proc};
 
 /// What a run over a board is given: the settled plan, how many workers, and the gate.
 #[derive(Drop)]
-pub(crate) struct Work<'a, G> {
+pub(crate) struct Settings<'a, G> {
     pub(crate) settled: &'a Settled,
     pub(crate) workers: usize,
     pub(crate) gate: &'a G,
 }
 
 // Serves the lowest process that is ready. Answers how many events that were.
-fn serve_lowest<R: Wait, G: Gate>(rt: &R, lanes: &Lanes<'_>, work: &Work<'_, G>) -> usize {
-    for number in 0..work.settled.plan().process_count() {
+fn serve_lowest<R: Wait, G: Gate>(rt: &R, lanes: &Lanes<'_>, settings: &Settings<'_, G>) -> usize {
+    for number in 0..settings.settled.plan().process_count() {
         let proc = Proc::new(number);
         if lanes.ready(rt, proc) {
-            work.gate.pass(work.workers, proc);
+            settings.gate.pass(settings.workers, proc);
             return lanes.serve(rt, proc);
         }
     }
@@ -39,48 +39,49 @@ fn serve_lowest<R: Wait, G: Gate>(rt: &R, lanes: &Lanes<'_>, work: &Work<'_, G>)
 }
 
 // One round, and where it did no event, the lowest process that is ready. Answers how many events that were.
-fn unlocked_round<R: Threads + Wait + Sync, G: Gate + Sync>(
+fn lanes_round<R: Threads + Wait + Sync, G: Gate + Sync>(
     rt: &R,
     lanes: &Lanes<'_>,
     dealt: Dealt,
-    work: &Work<'_, G>,
+    settings: &Settings<'_, G>,
 ) -> usize
     requires { ArePassesOf dealt.round dealt.passes.items }
 {
-    match serve_round(rt, lanes, dealt, work.gate) {
-        0 => serve_lowest(rt, lanes, work),
+    match serve_round(rt, lanes, dealt, settings.gate) {
+        0 => serve_lowest(rt, lanes, settings),
         events => events,
     }
 }
 
 // Serves lanes by rounds, each of which deals every process, until all events are done or no process is ready. Each round
-// but the last does an event, so there are no more rounds than events.
+// but the last does an event, so there are no more rounds than events. That all are done is told by a sum of answers. It
+// only ends the rounds: what became of the calls is told by the trails and the words.
 fn run_lanes<R: Threads + Wait + Sync, G: Gate + Sync>(
     rt: &R,
     alloc: Global,
     lanes: &Lanes<'_>,
-    work: &Work<'_, G>,
+    settings: &Settings<'_, G>,
 ) -> Result<(), Fault>
-    requires { 0 < work.now.workers }
+    requires { 0 < settings.now.workers }
     ensures memory { IsOkUnless result Fault.Memory }
 {
-    let plan = work.settled.plan();
+    let plan = settings.settled.plan();
     let total = plan.event_total();
-    let mut wanted = work.workers;
+    let mut wanted = settings.workers;
     let mut done = 0usize;
     'rounds: for number in 0..total as u64 {
         let (round, passes) = Round::deal(alloc, number, plan.process_count(), wanted)?;
         let dealt = Dealt {
             round,
             passes,
-            collector: work.workers,
+            collector: settings.workers,
         };
-        let events = unlocked_round(rt, lanes, dealt, work);
+        let events = lanes_round(rt, lanes, dealt, settings);
         done = done.saturating_add(events);
         if events == 0 || done >= total {
             break;
         }
-        wanted = wanted_after(events, work.workers);
+        wanted = wanted_after(events, settings.workers);
     }
     Ok(())
 }
@@ -91,17 +92,22 @@ fn served_trails<R: Threads + Wait + Sync, G: Gate + Sync>(
     alloc: Global,
     board: &Board,
     seats: Vec<Seat>,
-    work: &Work<'_, G>,
+    settings: &Settings<'_, G>,
 ) -> Result<Option<Vec<Vec<Fate>>>, Fault>
-    requires workers { 0 < work.now.workers }
-    requires plan { board.now.plan ≡ work.now.settled.now }
+    requires workers { 0 < settings.now.workers }
+    requires plan { board.now.plan ≡ settings.now.settled.now }
     requires seats { seats.items ≡ opening_seats board.now }
-    ensures trails { IfOk result (λ o. IfSome o (λ trails. AreTrails (plan_of work.now.settled.now) trails.items)) }
+    ensures trails { IfOk result (λ o. IfSome o (λ trails. AreTrails (plan_of settings.now.settled.now) trails.items)) }
     ensures memory { IsOkUnless result Fault.Memory }
 {
-    let lanes = Lanes::new(alloc, board, work.settled, seats)?;
-    run_lanes(rt, alloc, &lanes, work)?;
-    lanes.trails(alloc, work.settled)
+    let lanes = Lanes::new(alloc, board, settings.settled, seats)?;
+    match run_lanes(rt, alloc, &lanes, settings) {
+        Ok(()) => lanes.trails(alloc, settings.settled),
+        Err(fault) => {
+            drop(lanes);
+            Err(fault)
+        }
+    }
 }
 
 /// Runs a settled plan by workers over a board, round by round, and tells what became of every call by the trails of the
@@ -110,17 +116,18 @@ fn served_trails<R: Threads + Wait + Sync, G: Gate + Sync>(
 pub(crate) fn board_outcome<R: Threads + Wait + Sync, G: Gate + Sync>(
     rt: &R,
     alloc: Global,
-    work: &Work<'_, G>,
+    settings: &Settings<'_, G>,
 ) -> Result<Option<Outcome>, Fault>
-    requires { 0 < work.now.workers }
-    ensures ok { IfOk result (λ o. IfSome o (λ outcome. ends_of outcome ≡ plain_ends work.now.settled.now)) }
+    requires { 0 < settings.now.workers }
+    ensures ok { IfOk result (λ o. IfSome o (λ outcome. ends_of outcome ≡ plain_ends settings.now.settled.now)) }
     ensures memory { IsOkUnless result Fault.Memory }
 {
-    let (board, seats) = Board::new(alloc, work.settled)?;
-    let trails = served_trails(rt, alloc, &board, seats, work)?;
-    let words = board.close(alloc, Vec::new(alloc))?;
-    match trails {
-        Some(trails) => outcome_of(alloc, work.settled, trails.as_slice(), words.as_slice()),
-        None => Ok(None),
-    }
+    let (board, seats) = Board::new(alloc, settings.settled)?;
+    let trails = served_trails(rt, alloc, &board, seats, settings);
+    let words = board.close(alloc, Vec::new(alloc));
+    let Some(trails) = trails? else {
+        return Ok(None);
+    };
+    let words = words?;
+    outcome_of(alloc, settings.settled, trails.as_slice(), words.as_slice())
 }

@@ -12,16 +12,18 @@ use wire_locked::{LockedCore, advance_far};
 use wire_sched::{Gate, Round};
 use wire_types::Fault;
 
-// Serves the lowest process that is ready.
-fn serve_lowest<G: Gate>(core: &mut Core<'_>, collector: usize, gate: &G) {
-    if let Some(proc) = core.lowest_ready() {
-        gate.pass(collector, proc);
-        let _ = advance_far(core, proc);
+// Serves the lowest process that is ready. Answers how many steps that were.
+fn serve_lowest<G: Gate>(core: &mut Core<'_>, collector: usize, gate: &G) -> usize {
+    match core.lowest_ready() {
+        Some(proc) => {
+            gate.pass(collector, proc);
+            advance_far(core, proc)
+        }
+        None => 0,
     }
 }
 
-// One round, and where it took no step, the lowest process that is ready. Gives the core back, with the number of steps
-// that the round took.
+// One round, and where it took no step, the lowest process that is ready. Gives the core back, with the number of steps.
 fn locked_round<'a, R: Threads + Wait + Sync, G: Gate + Sync>(
     rt: &R,
     core: Core<'a>,
@@ -34,9 +36,10 @@ fn locked_round<'a, R: Threads + Wait + Sync, G: Gate + Sync>(
     let locked = LockedCore::new(core);
     let steps = serve_round(rt, &locked, dealt, gate);
     let mut core = locked.into_core();
-    if steps == 0 {
-        serve_lowest(&mut core, collector, gate);
-    }
+    let steps = match steps {
+        0 => serve_lowest(&mut core, collector, gate),
+        steps => steps,
+    };
     (core, steps)
 }
 
