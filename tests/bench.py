@@ -4,7 +4,7 @@ Usage: python3 tests/bench.py [PROGRAM] [--beside OTHER] [--only WORD] [--runs N
 Prints the tables of docs/performance.md: for each file its bytes, calls and findings; for each command the least time of N runs,
 with the start of the process in it and the output thrown away, how that grows from a quarter of the calls, and the greatest
 resident size. With OTHER, its time and size in the same runs, and the ratio. The last table has the run by one thread that judges no
-findings (crates/plain, which is built where it isn't there), and `replay` by one worker beside it. --small takes files of a few
+findings (`plain` of crates/parts, which is built where it isn't there), and `replay` by one worker beside it. --small takes files of a few
 calls, each once: it only shows that all of it still works.
 """
 import argparse
@@ -16,7 +16,7 @@ import tempfile
 import time
 
 TOP = os.path.dirname(os.path.dirname(os.path.abspath(__file__)))
-PLAIN = os.path.join(TOP, "crates", "plain", "out", "plain")
+PARTS = os.path.join(TOP, "crates", "parts", "out", "parts")
 ONE_NODE = "rehearsal 1\nnode n0\njob app\n"
 TWO_NODES = "rehearsal 1\nnode n0\nnode n1\njob app\n"
 QUARTER, WHOLE = 1, 4
@@ -213,7 +213,7 @@ class Bench:
         path, _ = self.file_of(kind, WHOLE)
         if findings_in(self.programs[0], path):
             return
-        took = [(run([PLAIN], path)[0], run([self.programs[0], "replay", path])[0]) for _ in range(self.runs)]
+        took = [(run([PARTS, "plain"], path)[0], run([self.programs[0], "replay", path])[0]) for _ in range(self.runs)]
         plain, replay = (1000 * min(it) for it in zip(*took))
         print(f"| {kind.name} | {plain:.1f} | {replay:.1f} | {replay / plain:.1f} |", flush=True)
 
@@ -234,13 +234,12 @@ class Bench:
             self.tell_plain(kind)
 
 
-def build_plain():
-    """Builds the program of plain runs, where it isn't there."""
-    if not os.path.exists(PLAIN):
-        print("building crates/plain", file=sys.stderr, flush=True)
-        subprocess.run(["rt", "run"], cwd=os.path.join(TOP, "crates", "plain"), capture_output=True, check=False)
-    if not os.path.exists(PLAIN):
-        sys.exit("crates/plain can't be built: `rt run` in that folder shows why")
+def has_parts():
+    """Whether there is the program that has plain runs. It is built where it isn't there."""
+    if not os.path.exists(PARTS):
+        print("building crates/parts", file=sys.stderr, flush=True)
+        subprocess.run(["rt", "run"], cwd=os.path.join(TOP, "crates", "parts"), capture_output=True, check=False)
+    return os.path.exists(PARTS)
 
 
 def works(program):
@@ -265,7 +264,8 @@ def main():
     for program in filter(None, (args.program, args.beside)):
         if not os.path.exists(program):
             sys.exit(f"there is no {program}: make run builds ./wire_up")
-    build_plain()
+    if not has_parts():
+        sys.exit("crates/parts can't be built: `rt run` in that folder shows why")
     if args.small:
         args.runs = 1
     with tempfile.TemporaryDirectory(prefix="wire-up-") as room:
