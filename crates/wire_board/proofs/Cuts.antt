@@ -13,15 +13,15 @@ use Rattle.wire_runs.proofs.Fates.{runs_are_sound}
 use Rattle.wire_rehearsal.specs.Scripts.{Scripts}
 use Rattle.wire_rehearsal.specs.Planned.{plan_of}
 use Rattle.wire_board.specs.declared.hold.Hold.{Hold}
-use Rattle.wire_board.specs.Cuts.{IsCut, CutsAreSound}
-use Rattle.wire_board.specs.Positions.{Fits, next_in, IsShown}
+use Rattle.wire_board.specs.Cuts.{IsReachedCut, CutsAreSound}
+use Rattle.wire_board.specs.Positions.{Fits, next_in, ShowsNextIn}
 
 pub zero_at : (n r : ℕ) → get_or (replicate {A = ℕ} n 0) r 0 ≡ 0
 zero_at zero r = refl
 zero_at (suc n) zero = refl
 zero_at (suc n) (suc r) = zero_at n r
 
-pub cut_start : (plan : Plan) (n : ℕ) → IsCut plan (replicate {A = ℕ} n 0)
+pub cut_start : (plan : Plan) (n : ℕ) → IsReachedCut plan (replicate {A = ℕ} n 0)
 cut_start plan n = record { state = start; reached = ([], tt, refl); done = λ p. sym (zero_at n p) }
 
 -- One more event
@@ -38,7 +38,7 @@ reached_more : (plan : Plan) (s : State) (p : ℕ) → IsReachable plan s → is
 reached_more plan s p r on =
     (r.0 ++ p ∷ [], legal_push plan start r.0 p r.1 (subst (λ t. is_enabled plan t p ≡ true) (sym r.2) on), run_push plan start r.0 p ∙ ap (λ t. step plan t p) r.2)
 
-cut_more : (plan : Plan) (words : List ℕ) (p : ℕ) → p < length words → (c : IsCut plan words) → is_enabled plan c.state p ≡ true → IsCut plan (set words p (get_or words p 0 + 1))
+cut_more : (plan : Plan) (words : List ℕ) (p : ℕ) → p < length words → (c : IsReachedCut plan words) → is_enabled plan c.state p ≡ true → IsReachedCut plan (set words p (get_or words p 0 + 1))
 cut_more plan words p here c on = record {
   state = step plan c.state p;
   reached = reached_more plan c.state p c.reached on;
@@ -60,16 +60,16 @@ enabled plan s p told r sources comes =
     ((told.tell s r).enabled p f.0 f.1).1 (sources, λ (e : f.0 ≡ Waits). comes (subst (HasFate plan (next_event s p)) e f.1))
 
 -- the owner of a rank knows that its next event can happen, and so it can
-shown_enabled : (plan : Scripts) (words : List ℕ) (h : Hold) → AreTold (plan_of plan) → (c : IsCut (plan_of plan) words) → Fits plan words h → IsShown (plan_of plan) h → is_enabled (plan_of plan) c.state h.rank ≡ true
+shown_enabled : (plan : Scripts) (words : List ℕ) (h : Hold) → AreTold (plan_of plan) → (c : IsReachedCut (plan_of plan) words) → Fits plan words h → ShowsNextIn (plan_of plan) h → is_enabled (plan_of plan) c.state h.rank ≡ true
 shown_enabled plan words h told c f shown =
     let same : next_in h ≡ next_event c.state h.rank = λ i. record { proc = h.rank; at = (f.place ∙ sym (c.done h.rank)) i } in
     enabled (plan_of plan) c.state h.rank told c.reached
     (λ x e. let k = shown.sources x (subst (λ y. Edge (plan_of plan) x y) (sym same) e) in let b = f.below x.proc in let d = c.done x.proc in omega (arith, k, b, d))
     (λ w. shown.comes (subst (λ y. HasFate (plan_of plan) y Waits) (sym same) w))
 
-pub reaches : (plan : Scripts) (words : List ℕ) (h : Hold) → AreTold (plan_of plan) → IsCut (plan_of plan) words → Fits plan words h → IsShown (plan_of plan) h → IsCut (plan_of plan) (set words h.rank (get_or h.known h.rank 0 + 1))
+pub reaches : (plan : Scripts) (words : List ℕ) (h : Hold) → AreTold (plan_of plan) → IsReachedCut (plan_of plan) words → Fits plan words h → ShowsNextIn (plan_of plan) h → IsReachedCut (plan_of plan) (set words h.rank (get_or h.known h.rank 0 + 1))
 reaches plan words h told c f shown =
-    subst (λ n. IsCut (plan_of plan) (set words h.rank (n + 1))) (sym f.place)
+    subst (λ n. IsReachedCut (plan_of plan) (set words h.rank (n + 1))) (sym f.place)
     (cut_more (plan_of plan) words h.rank f.here c (shown_enabled plan words h told c f shown))
 
 pub cuts_are_sound : CutsAreSound

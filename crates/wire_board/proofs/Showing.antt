@@ -13,7 +13,7 @@ use Rattle.wire_rehearsal.specs.Planned.{plan_of}
 use Rattle.wire_plan.specs.Index.{AreSources, source_list}
 use Rattle.wire_board.specs.Cuts.{shows_event, ShowsSources}
 use Rattle.wire_board.specs.declared.hold.Hold.{Hold}
-use Rattle.wire_board.specs.Positions.{hold, next_in, IsShown}
+use Rattle.wire_board.specs.Positions.{hold, next_in, ShowsNextIn}
 
 all_at : (p : Event → Bool) (xs : List Event) (k : ℕ) (x : Event) → list_all p xs ≡ true → slice_get xs k ≡ Some x → p x ≡ true
 all_at p [] k x all is = absurd (none_some is)
@@ -46,18 +46,18 @@ in_parts known previous awaited arrivals =
 
 -- The owner of a rank whose positions show that its next event can happen, told of the plan and the event that the code has
 
-pub shown_from : (own plan : Scripts) (h : Hold) (y : Event) → own ≡ plan → y ≡ next_in h → y.at < event_count (plan_of plan) y.proc → ShowsSources (plan_of plan) h.known y → ¬ (HasFate (plan_of plan) y Waits) → IsShown (plan_of own) h
+pub shown_from : (own plan : Scripts) (h : Hold) (y : Event) → own ≡ plan → y ≡ next_in h → y.at < event_count (plan_of plan) y.proc → ShowsSources (plan_of plan) h.known y → ¬ (HasFate (plan_of plan) y Waits) → ShowsNextIn (plan_of own) h
 shown_from own plan h y of is there sources comes =
     let P : Scripts × Event → Type 0 = λ t. (t.1.at < event_count (plan_of t.0) t.1.proc) × (ShowsSources (plan_of t.0) h.known t.1) × ¬ (HasFate (plan_of t.0) t.1 Waits) in
     let all : P (own, next_in h) = subst P (λ i. (sym of i, is i)) (there, sources, comes) in
     record { next = all.0; sources = all.1; comes = all.2 }
 
-pub shown_sources : (own plan : Scripts) (h : Hold) (y : Event) → own ≡ plan → y ≡ next_in h → IsShown (plan_of own) h → ShowsSources (plan_of plan) h.known y
+pub shown_sources : (own plan : Scripts) (h : Hold) (y : Event) → own ≡ plan → y ≡ next_in h → ShowsNextIn (plan_of own) h → ShowsSources (plan_of plan) h.known y
 shown_sources own plan h y of is shown = subst (λ (t : Scripts × Event). ShowsSources (plan_of t.0) h.known t.1) (λ i. (of i, sym is i)) shown.sources
 
-pub shown_comes : (own plan : Scripts) (h : Hold) (y : Event) → own ≡ plan → y ≡ next_in h → IsShown (plan_of own) h → ¬ (HasFate (plan_of plan) y Waits)
+pub shown_comes : (own plan : Scripts) (h : Hold) (y : Event) → own ≡ plan → y ≡ next_in h → ShowsNextIn (plan_of own) h → ¬ (HasFate (plan_of plan) y Waits)
 shown_comes own plan h y of is shown = subst (λ (t : Scripts × Event). ¬ (HasFate (plan_of t.0) t.1 Waits)) (λ i. (of i, sym is i)) shown.comes
 
 -- whichever scripts the owner has
-pub shown_of : (own plan : Scripts) (rank : ℕ) (known : List ℕ) → own ≡ plan → IsShown (plan_of own) (hold own rank known) → IsShown (plan_of plan) (hold plan rank known)
-shown_of own plan rank known of shown = subst (λ p. IsShown (plan_of p) (hold p rank known)) of shown
+pub shown_of : (own plan : Scripts) (rank : ℕ) (known : List ℕ) → own ≡ plan → ShowsNextIn (plan_of own) (hold own rank known) → ShowsNextIn (plan_of plan) (hold plan rank known)
+shown_of own plan rank known of shown = subst (λ p. ShowsNextIn (plan_of p) (hold p rank known)) of shown

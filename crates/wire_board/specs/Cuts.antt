@@ -14,7 +14,7 @@ abbrev pub procs_of : Scripts → ℕ
 procs_of scripts = process_count (plan_of scripts)
 
 -- the words are the cut of a state that a run can come to
-pub record IsCut (plan : Plan) (words : List ℕ) : Type 0 where
+pub record IsReachedCut (plan : Plan) (words : List ℕ) : Type 0 where
   pub state : State
   pub reached : IsReachable plan state
   pub done : (p : ℕ) → state.done p ≡ slice_index words p
@@ -29,4 +29,4 @@ ShowsSources plan known y = (x : Event) → Edge plan x y → x.at < slice_index
 
 -- such words, of a settled plan, are a sound cut
 abbrev pub CutsAreSound : Type 0
-CutsAreSound = (plan : Plan) (words : List ℕ) → IsSettled plan → IsCut plan words → IsSoundCut plan (λ p. slice_index words p)
+CutsAreSound = (plan : Plan) (words : List ℕ) → IsSettled plan → IsReachedCut plan words → IsSoundCut plan (λ p. slice_index words p)

@@ -8,7 +8,7 @@ use Rattle.wire_runs.specs.Fate.{HasFate, Waits}
 use Rattle.wire_rehearsal.specs.Scripts.{Scripts}
 use Rattle.wire_rehearsal.specs.Planned.{plan_of}
 use Rattle.wire_board.specs.declared.hold.Hold.{Hold}
-use Rattle.wire_board.specs.Cuts.{procs_of, IsCut, ShowsSources}
+use Rattle.wire_board.specs.Cuts.{procs_of, IsReachedCut, ShowsSources}
 
 abbrev pub hold : Scripts → ℕ → List ℕ → Hold
 hold plan rank known = record { plan = plan; rank = rank; known = known }
@@ -39,7 +39,7 @@ owners_of r (v ∷ vs) = count_of r v + owners_of r vs
 -- the words are the cut of a state that a run can come to, what each seat knows is true, and each rank has one owner at most.
 -- A seat that is spent owns no rank and knows nothing
 pub record IsKept {S : Type 0} (plan : Scripts) (s : State S (List Hold)) : Type 0 where
-  pub cut : IsCut (plan_of plan) s.words
+  pub cut : IsReachedCut (plan_of plan) s.words
   pub fits : (seat : ℕ) (v : List Hold) → get_elem? s.views seat ≡ some v → Each (Fits plan s.words) v
   pub apart : (r : ℕ) → owners_of r s.views ≤ 1
 
@@ -61,15 +61,15 @@ abbrev pub Learns : {S : Type 0} → Step S → Me S (List Hold) → ℕ → Me 
 Learns s m found n = (n ≡ (map (learn s.word found) m.0, m.1)) × Each (λ (h : Hold). (slice_index h.known s.word ≤ found) × (s.word ≡ h.rank → found ≡ slice_index h.known s.word)) m.0
 
 -- what is stored is known from now on
-abbrev pub Told : {S : Type 0} → Step S → Me S (List Hold) → ℕ → Me S (List Hold) → Type 0
-Told s m stored n = n ≡ (map (learn s.word stored) m.0, m.1)
+abbrev pub Stored : {S : Type 0} → Step S → Me S (List Hold) → ℕ → Me S (List Hold) → Type 0
+Stored s m stored n = n ≡ (map (learn s.word stored) m.0, m.1)
 
 -- the next event of the owner's rank
 abbrev pub next_in : Hold → Event
 next_in h = record { proc = h.rank; at = slice_index h.known h.rank }
 
 -- the owner of the rank knows that its next event can happen
-pub record IsShown (plan : Plan) (h : Hold) : Type 0 where
+pub record ShowsNextIn (plan : Plan) (h : Hold) : Type 0 where
   pub next : slice_index h.known h.rank < event_count plan h.rank
   pub sources : ShowsSources plan h.known (next_in h)
   pub comes : ¬ (HasFate plan (next_in h) Waits)

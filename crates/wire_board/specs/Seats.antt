@@ -7,7 +7,7 @@ use Rattle.wire_rehearsal.specs.Scripts.{Scripts}
 use Rattle.wire_rehearsal.specs.Planned.{plan_of}
 use Rattle.wire_board.specs.declared.hold.Hold.{Hold}
 use Rattle.wire_board.specs.Cuts.{procs_of}
-use Rattle.wire_board.specs.Positions.{hold, holds_from, next_in, IsShown}
+use Rattle.wire_board.specs.Positions.{hold, holds_from, next_in, ShowsNextIn}
 
 -- which board it is, and the scripts of the plan of which it was made
 pub record BoardIs : Type 0 where
@@ -32,8 +32,8 @@ abbrev pub next_of : SeatIs → Event
 next_of seat = next_in (hold_of seat)
 
 -- there is a next event, its fate isn't to wait, and the positions that the seat knows show all its sources
-abbrev pub IsReady : SeatIs → Type 0
-IsReady seat = IsShown (plan_of seat.board.plan) (hold_of seat)
+abbrev pub ShowsNext : SeatIs → Type 0
+ShowsNext seat = ShowsNextIn (plan_of seat.board.plan) (hold_of seat)
 
 -- what the table knows of a seat
 pub record IsHeld (me : Me (Unit {0}) (List Hold)) (seat : SeatIs) : Type 0 where

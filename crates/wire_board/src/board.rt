@@ -4,8 +4,8 @@ ghost use Rattle.std.specs.Prelude.{◌≡◌, ℕ, ◌+◌, ◌<◌, ◌≤◌,
 ghost use Rattle.std.specs.Mem.Slots.{slots_items, slots_len, IsFull};
 ghost use Rattle.wire_types.specs.declared.Fault.TheVariants.{Memory};
 ghost use Rattle.wire_rehearsal.specs.Planned.{plan_of};
-ghost use Rattle.wire_board.specs.Cuts.{procs_of, IsCut};
-ghost use Rattle.wire_board.specs.Seats.{place_of, hold_of, opening_seat, opening_seats, ranks_from, Has, IsReady, IsTrueOf};
+ghost use Rattle.wire_board.specs.Cuts.{procs_of, IsReachedCut};
+ghost use Rattle.wire_board.specs.Seats.{place_of, hold_of, opening_seat, opening_seats, ranks_from, Has, ShowsNext, IsTrueOf};
 
 use crate::hold::{Hold, Positions, Ranks, Reads, Stores, Token};
 use crate::seat::Seat;
@@ -131,7 +131,7 @@ impl Board {
     pub fn advance(&self, seat: &mut Seat, settled: &Settled)
         requires seat { seat.old.board ≡ self.now }
         requires plan { self.now.plan ≡ settled.now }
-        requires ready { IsReady seat.old }
+        requires ready { ShowsNext seat.old }
         ensures known { seat.new ≡ record seat.old { known = slice_set seat.old.known seat.old.rank (place_of seat.old + 1) } }
         ensures place { place_of seat.new ≡ place_of seat.old + 1 }
     {
@@ -174,7 +174,7 @@ impl Board {
         requires { All (λ seat. seat.board ≡ self) seats.items }
         ensures counts { (slots_len result.words ≡ procs_of self.plan) × (slots_len result.slots ≡ 0) }
         ensures full { IsFull result.words }
-        ensures cut { IsCut (plan_of self.plan) (slots_items result.words) }
+        ensures cut { IsReachedCut (plan_of self.plan) (slots_items result.words) }
         ensures seats { All (IsTrueOf (slots_items result.words)) seats.items }
     {
         let bundle = self.gather(seats);
@@ -192,7 +192,7 @@ impl Board {
     pub fn close(self, alloc: Global, seats: Vec<Seat>) -> Result<Vec<u64>, Fault>
         requires { All (λ seat. seat.board ≡ self) seats.items }
         ensures count { IfOk result (λ words. length words.items ≡ procs_of self.plan) }
-        ensures cut { IfOk result (λ words. IsCut (plan_of self.plan) words.items) }
+        ensures cut { IfOk result (λ words. IsReachedCut (plan_of self.plan) words.items) }
         ensures seats { IfOk result (λ words. All (IsTrueOf words.items) seats.items) }
         ensures memory { IsOkUnless result Memory }
     {

@@ -40,9 +40,9 @@ impl Play<(), LinkedList<Hold>> for Reads {
 pub(crate) struct Stores;
 
 impl Play<(), LinkedList<Hold>> for Stores {
-    ghost use Rattle.wire_board.specs.Positions.{Told};
+    ghost use Rattle.wire_board.specs.Positions.{Stored};
 
-    ghost then = { Told };
+    ghost then = { Stored };
 }
 
 /// A split cuts off the first rank. A join puts the other's ranks in front, and leaves the other none.

@@ -7,14 +7,14 @@ ghost use Rattle.wire_rehearsal.specs.Planned.{plan_of};
 ghost use Rattle.wire_plan.specs.Index.{source_list};
 ghost use Rattle.wire_races.specs.Fates.{IsFateOf};
 ghost use Rattle.wire_board.specs.Cuts.{shows_event, ShowsSources};
-ghost use Rattle.wire_board.specs.Positions.{hold, next_in, IsShown};
+ghost use Rattle.wire_board.specs.Positions.{hold, next_in, ShowsNextIn};
 
 use wire_plan::{Plan, Sources};
 use wire_races::{Fate, Settled};
 use wire_types::{Event, Proc};
 
-// Whether the positions show that an event is done.
-fn shows_event(known: &[u64], event: Event) -> bool
+/// Whether the positions show that an event is done.
+pub(crate) fn shows_event(known: &[u64], event: Event) -> bool
     ensures { result ≡ shows_event known.now (event_of event) }
 {
     match known.get(event.proc.index()) {
@@ -83,7 +83,7 @@ fn next_event(known: &[u64], plan: &Plan, rank: Proc) -> Option<Event>
 /// its sources are done, and its fate isn't `Waits`. Else `None`. It takes no memory, and looks at each
 /// source once.
 pub fn shown_fate(settled: &Settled, known: &[u64], rank: Proc) -> Option<Fate>
-    ensures ready { (result ≢ None) ↔ IsShown (plan_of settled.now) (hold settled.now rank.number known.now) }
+    ensures ready { (result ≢ None) ↔ ShowsNextIn (plan_of settled.now) (hold settled.now rank.number known.now) }
     ensures fate { IfSome result (λ fate. IsFateOf (plan_of settled.now) (next_in (hold settled.now rank.number known.now)) fate × (fate ≢ Fate.Waits)) }
 {
     let plan = settled.plan();

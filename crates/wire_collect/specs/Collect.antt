@@ -5,23 +5,14 @@ use Rattle.wire_rehearsal.specs.Scripts.{Scripts}
 use Rattle.wire_rehearsal.specs.Planned.{plan_of}
 use Rattle.wire_runs.specs.State.{start}
 use Rattle.wire_runs.specs.Step.{IsInterleaving, IsEnd, run}
-use Rattle.wire_runs.specs.PlainRun.{plain_run}
-use Rattle.wire_runs.specs.Ends.{outcome}
+use Rattle.wire_trails.specs.EndsAfter.{ends_after}
 
 -- so many workers a run may have
 abbrev pub MayWork : ℕ → Type 0
 MayWork workers = (1 ≤ workers) × (workers ≤ 64)
-
--- what became of every call after this history
-abbrev pub ends_after : Scripts → List ℕ → Ends
-ends_after scripts history = outcome (plan_of scripts) (run (plan_of scripts) history)
 
 -- the history is an interleaving of the plan that can't go on, and the ends are exactly those of this history
 pub record IsCompleteRun (scripts : Scripts) (history : List ℕ) (ends : Ends) : Type 0 where
   pub legal : IsInterleaving (plan_of scripts) start history
   pub ended : IsEnd (plan_of scripts) (run (plan_of scripts) history)
   pub told : ends ≡ ends_after scripts history
-
--- what became of every call where the plain run can't go on
-abbrev pub plain_ends : Scripts → Ends
-plain_ends scripts = ends_after scripts (plain_run (plan_of scripts))

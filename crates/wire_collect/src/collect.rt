@@ -1,13 +1,16 @@
 //! The run of a plan by workers.
 
-ghost use Rattle.std.specs.Prelude.{◌≡◌, Err, IfOk, IsOkUnless, map};
+ghost use Rattle.std.specs.Prelude.{◌≡◌, ◌↔◌, Err, IfOk, IsOkUnless, IsTrue, map};
 ghost use Rattle.wire_types.specs.declared.Fault.TheVariants.{Memory, Workers};
 ghost use Rattle.wire_types.specs.Outcome.{ends_of};
 ghost use Rattle.wire_runs.specs.Step.{IsEnd};
 ghost use Rattle.wire_core.specs.Course.{plan_in, state_of};
-ghost use Rattle.wire_collect.specs.Collect.{MayWork, IsCompleteRun, plain_ends};
+ghost use Rattle.wire_trails.specs.EndsAfter.{plain_ends};
+ghost use Rattle.wire_collect.specs.Collect.{MayWork, IsCompleteRun};
 
-use crate::rounds::run_rounds;
+use crate::locked::run_core;
+use crate::plain::plain_outcome;
+use crate::unlocked::{Work, board_outcome};
 use std::alloc::Global;
 use std::sync::Wait;
 use std::thread::Threads;
@@ -19,6 +22,13 @@ use wire_types::{Fault, Outcome, Proc};
 
 /// The highest number of workers of a run. The lowest is 1.
 pub const MOST_WORKERS: usize = 64;
+
+// Whether a run may have so many workers.
+fn may_work(workers: usize) -> bool
+    ensures { IsTrue result ↔ MayWork workers }
+{
+    workers >= 1 && workers <= MOST_WORKERS
+}
 
 // The core, where it is of this plan and no process is ready; else a new one of the plan, run to its end.
 fn completed<'a, G: Gate>(
@@ -75,11 +85,11 @@ pub fn run_any<R: Threads + Wait + Sync, G: Gate + Sync>(
     ensures memory { MayWork workers → IsOkUnless result Memory }
     ensures workers { (MayWork workers → ⊥) → result ≡ Err Workers }
 {
-    if workers == 0 || workers > MOST_WORKERS {
+    if !may_work(workers) {
         return Err(Fault::Workers);
     }
     let core = Core::new(alloc, plan)?;
-    let core = run_rounds(rt, alloc, core, workers, gate)?;
+    let core = run_core(rt, alloc, core, workers, gate)?;
     let core = completed(alloc, plan, core, workers, gate)?;
     let told = told(alloc, &core);
     drop(core);
@@ -87,7 +97,11 @@ pub fn run_any<R: Threads + Wait + Sync, G: Gate + Sync>(
 }
 
 /// Runs a settled plan by so many workers, and gives what became of every call. Whatever the workers do, that is what the
-/// plain run gives, in which at each step the lowest ready process takes it. The faults are those of `run_any`.
+/// plain run gives, in which at each step the lowest ready process takes it.
+///
+/// The workers serve the lanes of a board. They and the collector work by rounds as in `run_any`, but for the state, round
+/// which there is no lock. Where the trails and the words at the end don't tell the outcome, the calling thread calls the
+/// gate with the number `workers` and process 0, and runs the plan alone. The faults are those of `run_any`.
 pub fn run_workers<R: Threads + Wait + Sync, G: Gate + Sync>(
     rt: &R,
     alloc: Global,
@@ -99,7 +113,19 @@ pub fn run_workers<R: Threads + Wait + Sync, G: Gate + Sync>(
     ensures memory { MayWork workers → IsOkUnless result Memory }
     ensures workers { (MayWork workers → ⊥) → result ≡ Err Workers }
 {
-    settled.one_end();
-    let (outcome, _) = run_any(rt, alloc, settled.plan(), workers, gate)?;
-    Ok(outcome)
+    if !may_work(workers) {
+        return Err(Fault::Workers);
+    }
+    let work = Work {
+        settled,
+        workers,
+        gate,
+    };
+    match board_outcome(rt, alloc, &work)? {
+        Some(outcome) => Ok(outcome),
+        None => {
+            gate.pass(workers, Proc::new(0));
+            plain_outcome(alloc, settled.plan())
+        }
+    }
 }

@@ -1,10 +1,14 @@
-//! A run by many threads, round by round. Which interleaving runs is open. It is proved to be an interleaving that can't
-//! go on.
+//! A run by many threads, round by round: of any plan over a core under a lock, of a settled one over a board without such
+//! a lock. Which interleaving runs is open. It is proved that it can't go on, and what became of every call.
 #![tactic(auto)]
 
 mod collect;
 mod crew;
+mod locked;
+mod plain;
 mod rounds;
 mod threads;
+mod unlocked;
 
 pub use collect::{MOST_WORKERS, run_any, run_workers};
+pub use plain::plain_outcome;

@@ -1,10 +1,11 @@
 -- What clauses see of a lane, and what its type keeps.
-use Rattle.std.specs.Prelude.{◌≡◌, ℕ, ◌++◌, ◌≤◌, List, Some, Vec, length, slice_get}
+use Rattle.std.specs.Prelude.{◌≡◌, ◌≢◌, ℕ, ◌++◌, ◌≤◌, List, Some, Vec, length, slice_get}
 use Rattle.std.specs.declared.alloc.Global.{Global}
 use Rattle.wire_runs.specs.Plan.{Plan, event_count, process_count}
 use Rattle.wire_rehearsal.specs.Scripts.{Scripts}
 use Rattle.wire_rehearsal.specs.Planned.{plan_of}
 use Rattle.wire_races.specs.declared.Fate.{Fate}
+use Rattle.wire_races.specs.declared.Fate.TheVariants.{Waits}
 use Rattle.wire_races.specs.Fates.{IsFateOf}
 use Rattle.wire_board.specs.Seats.{BoardIs, SeatIs, place_of}
 
@@ -13,9 +14,9 @@ pub record LaneIs : Type 0 where
   pub seat : SeatIs
   pub trail : List Fate
 
--- the fates of the rank's first events, in their order
+-- the fates of the rank's first events, in their order. None of them is to wait
 abbrev pub AreFates : Plan → ℕ → List Fate → Type 0
-AreFates plan rank trail = (i : ℕ) (fate : Fate) → slice_get trail i ≡ Some fate → IsFateOf plan (record { proc = rank; at = i }) fate
+AreFates plan rank trail = (i : ℕ) (fate : Fate) → slice_get trail i ≡ Some fate → IsFateOf plan (record { proc = rank; at = i }) fate × (fate ≢ Waits)
 
 -- the seat is of this board, and the board was made of this settled plan; the trail has the fates of the rank's first events, as
 -- many as are done, and room for all
@@ -41,6 +42,10 @@ pub record Grows (old new : List Fate) (n : ℕ) : Type 0 where
 pub record SameLane (old new : LaneIs) : Type 0 where
   pub board : new.seat.board ≡ old.seat.board
   pub rank : new.seat.rank ≡ old.seat.rank
+
+-- how many lanes there are
+pub record LanesAre : Type 0 where
+  pub count : ℕ
 
 -- a trail for each rank of the plan, in process order
 pub record AreTrails (plan : Plan) (trails : List (Vec Fate Global)) : Type 0 where

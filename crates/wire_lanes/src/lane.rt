@@ -1,10 +1,11 @@
 //! One rank's seat, and the trail of what its events did.
 
-ghost use Rattle.std.specs.Prelude.{◌≡◌, ◌+◌, ◌<◌, [], length, IfOk, IfSome, IsOkUnless, IsTrue, ◌↔◌, false};
+ghost use Rattle.std.specs.Prelude.{◌≡◌, ◌≢◌, ◌+◌, ◌<◌, [], length, None, IfOk, IfSome, IsOkUnless, IsTrue, ◌↔◌, false};
 ghost use Rattle.wire_types.specs.declared.Fault.TheVariants.{Memory};
-ghost use Rattle.wire_runs.specs.Plan.{event_count};
+ghost use Rattle.wire_runs.specs.Plan.{event_of, event_count};
 ghost use Rattle.wire_rehearsal.specs.Planned.{plan_of};
-ghost use Rattle.wire_board.specs.Seats.{place_of, IsReady};
+ghost use Rattle.wire_races.specs.Fates.{IsFateOf};
+ghost use Rattle.wire_board.specs.Seats.{place_of, ShowsNext};
 ghost use Rattle.wire_lanes.specs.Lanes.{AreFates, IsTrail, Grows, SameLane};
 
 use std::alloc::Global;
@@ -74,30 +75,37 @@ impl<'a> Lane<'a> {
         self.trail.as_slice()
     }
 
-    // Reads the word of a process afresh, if it is one of the plan.
-    fn look(&mut self, proc: Proc)
+    // Whether the seat knows that an event is done. Where it doesn't, it reads the word of the event's process
+    // afresh first.
+    fn finds(&mut self, event: Event) -> bool
         ensures same { SameLane self.old self.new }
         ensures trail { self.new.trail ≡ self.old.trail }
     {
         let board = self.board;
         let settled = self.settled;
-        if proc.number < settled.plan().process_count() {
-            board.read(&mut self.seat, proc);
+        if self.seat.knows(event) {
+            return true;
         }
+        if event.proc.number >= settled.plan().process_count() {
+            return false;
+        }
+        board.read(&mut self.seat, event.proc) > event.at as u64
     }
 
-    // Reads the words of the processes of these events afresh.
-    fn look_at_each(&mut self, events: &[Event])
+    // The same of these events, up to the first that it doesn't know to be done after a fresh read.
+    fn find_each(&mut self, events: &[Event])
         ensures same { SameLane self.old self.new }
         ensures trail { self.new.trail ≡ self.old.trail }
     {
         for event in events {
-            self.look(event.proc);
+            if !self.finds(*event) {
+                break;
+            }
         }
     }
 
-    // Reads the words of all sources of the next event afresh, each once. The event before it in its own
-    // process is done: the seat's place shows it.
+    // Reads the words of the sources of the next event afresh, where the seat doesn't know them to be done, up to the
+    // first that isn't done. The event before it in its own process is done: the seat's place shows it.
     fn refresh(&mut self)
         ensures same { SameLane self.old self.new }
         ensures trail { self.new.trail ≡ self.old.trail }
@@ -113,16 +121,18 @@ impl<'a> Lane<'a> {
             at: done as u32,
         });
         if let Some(awaited) = sources.awaited {
-            self.look(awaited.proc);
+            if !self.finds(awaited) {
+                return;
+            }
         }
-        self.look_at_each(sources.arrivals);
+        self.find_each(sources.arrivals);
     }
 
     // One event, if the seat shows that it can happen. Whether it did.
     fn step(&mut self) -> bool
         ensures same { SameLane self.old self.new }
         ensures more { IsTrue result → Grows self.old.trail self.new.trail 1 × (length self.old.trail < event_count (plan_of self.old.seat.board.plan) self.old.seat.rank) }
-        ensures stays { result ≡ false → (self.new ≡ self.old) × ¬ (IsReady self.new.seat) }
+        ensures stays { result ≡ false → (self.new ≡ self.old) × ¬ (ShowsNext self.new.seat) }
     {
         let board = self.board;
         let settled = self.settled;
@@ -134,13 +144,14 @@ impl<'a> Lane<'a> {
         true
     }
 
-    /// Serves the rank as far as it goes: reads all sources of the next event afresh, and does the event
-    /// where its seat shows that it can happen, until it doesn't after fresh reads. Answers how many events
-    /// that were: so many entries the trail has more. It waits for nobody, takes no memory and can't fail.
+    /// Serves the rank as far as it goes: reads afresh the sources of the next event that aren't known to be
+    /// done, up to the first that isn't done, and does the event where its seat shows that it can happen,
+    /// until it doesn't after fresh reads. Answers how many events that were: so many entries the trail has
+    /// more. It waits for nobody, takes no memory and can't fail.
     pub fn advance_far(&mut self) -> usize
         ensures same { SameLane self.old self.new }
         ensures trail { Grows self.old.trail self.new.trail result }
-        ensures rests { ¬ (IsReady self.new.seat) }
+        ensures rests { ¬ (ShowsNext self.new.seat) }
     {
         let before = self.trail.len();
         self.refresh();
@@ -150,31 +161,62 @@ impl<'a> Lane<'a> {
         self.trail.len() - before
     }
 
-    /// Whether the next event of the rank can happen, after fresh reads of all its sources. It waits for
-    /// nobody, takes no memory and can't fail.
+    /// Whether the next event of the rank can happen, after fresh reads as those of `advance_far`. It waits
+    /// for nobody, takes no memory and can't fail.
     pub fn is_ready(&mut self) -> bool
         ensures same { SameLane self.old self.new }
         ensures trail { self.new.trail ≡ self.old.trail }
-        ensures ready { IsTrue result ↔ IsReady self.new.seat }
+        ensures ready { IsTrue result ↔ ShowsNext self.new.seat }
     {
         self.refresh();
         self.seat.shows(self.settled)
     }
 
-    /// Its trail, where it is the lane of this rank and of this plan; else `None`.
+    /// Its trail, where it is a lane of this rank and its entries are the fates that this plan gives the rank's
+    /// first events; else `None`.
     pub fn into_trail(self, settled: &Settled, rank: Proc) -> Option<Vec<Fate>>
-        ensures { IfSome result (λ trail. AreFates (plan_of settled.now) rank.number trail.items × (trail.items ≡ self.entry.trail)) }
+        ensures trail { IfSome result (λ trail. trail.items ≡ self.entry.trail) }
+        ensures some { (result ≢ None) ↔ ((self.entry.seat.rank ≡ rank.number) × AreFates (plan_of settled.now) rank.number self.entry.trail) }
     {
         let Lane {
             board: _,
-            settled: own,
+            settled: _,
             seat,
             trail,
         } = self;
-        if seat.rank() == rank && *own.plan() == *settled.plan() {
-            Some(trail)
-        } else {
-            None
+        if seat.rank() != rank {
+            return None;
+        }
+        if !are_fates(settled, rank, trail.as_slice()) {
+            return None;
+        }
+        Some(trail)
+    }
+}
+
+// Whether an event has this fate, and it isn't to wait.
+fn has_fate(settled: &Settled, event: Event, fate: Fate) -> bool
+    ensures { IsTrue result ↔ (IsFateOf (plan_of settled.now) (event_of event) fate × (fate ≢ Fate.Waits)) }
+{
+    settled.has_fates();
+    settled.fate(event) == fate && fate != Fate::Waits
+}
+
+// Whether these are the fates of a rank's first events.
+fn are_fates(settled: &Settled, rank: Proc, trail: &[Fate]) -> bool
+    ensures { IsTrue result ↔ AreFates (plan_of settled.now) rank.number trail.now }
+{
+    if trail.len() > settled.plan().event_count(rank) as usize {
+        return false;
+    }
+    for at in 0..trail.len() {
+        let event = Event {
+            proc: rank,
+            at: at as u32,
+        };
+        if !has_fate(settled, event, trail[at]) {
+            return false;
         }
     }
+    true
 }

@@ -1,23 +1,35 @@
 //! The lanes of all ranks, each under a lock.
 
-ghost use Rattle.std.specs.Prelude.{◌≡◌, IfOk, IfSome, IsOkUnless};
+ghost use Rattle.std.specs.Prelude.{◌≡◌, length, IfOk, IfSome, IsOkUnless};
 ghost use Rattle.wire_types.specs.declared.Fault.TheVariants.{Memory};
 ghost use Rattle.wire_rehearsal.specs.Planned.{plan_of};
+ghost use Rattle.wire_board.specs.Cuts.{procs_of};
 ghost use Rattle.wire_board.specs.Seats.{opening_seats};
 ghost use Rattle.wire_lanes.specs.Lanes.{AreTrails};
 
 use crate::lane::Lane;
 use std::alloc::Global;
+use std::marker::Model;
 use std::sync::{Mutex, Wait};
 use wire_board::{Board, Seat};
 use wire_races::{Fate, Settled};
 use wire_types::{Fault, Proc};
 
 /// A lane for each rank, in process order, each under a lock of its own. Whenever the lock is free, the
-/// lane's trail has the fates of its rank's first events, as many as are done.
+/// lane's trail has the fates of its rank's first events, as many as are done. Contracts see how many lanes
+/// there are.
 #[derive(Drop)]
 pub struct Lanes<'a> {
     lanes: Vec<Mutex<Lane<'a>>>,
+}
+
+impl<'a> Model for Lanes<'a> {
+    ghost use Rattle.std.specs.Prelude.{vec_len};
+    ghost use Rattle.wire_lanes.specs.Lanes.{LanesAre};
+
+    ghost Value = { LanesAre };
+
+    ghost view = { λ l. record { count = vec_len l.lanes } };
 }
 
 impl<'a> Lanes<'a> {
@@ -32,6 +44,7 @@ impl<'a> Lanes<'a> {
     ) -> Result<Lanes<'a>, Fault>
         requires plan { board.now.plan ≡ settled.now }
         requires seats { seats.items ≡ opening_seats board.now }
+        ensures count { IfOk result (λ lanes. lanes.count ≡ procs_of board.now.plan) }
         ensures memory { IsOkUnless result Memory }
     {
         let mut lanes = Vec::with_capacity(alloc, seats.len())?;
@@ -53,7 +66,7 @@ impl<'a> Lanes<'a> {
     }
 
     /// Waits for the lock of a rank's lane, then answers whether the rank's next event can happen, after
-    /// fresh reads of all its sources (`Lane::is_ready`); false for a process that has no lane. It takes no
+    /// fresh reads of its sources (`Lane::is_ready`); false for a process that has no lane. It takes no
     /// memory.
     pub fn ready<R: Wait>(&self, rt: &R, proc: Proc) -> bool {
         match self.lanes.get(proc.index()) {
@@ -62,10 +75,12 @@ impl<'a> Lanes<'a> {
         }
     }
 
-    /// The trails of all ranks of this plan, in process order; `None` where a lane's rank or plan isn't the
-    /// one expected. The one fault is `Fault::Memory`.
+    /// The trails of all ranks of this plan, in process order; `None` where there aren't as many lanes as
+    /// ranks, or where a lane is of another rank than its place says or has entries that aren't the fates of
+    /// this plan. The one fault is `Fault::Memory`.
     pub fn trails(self, alloc: Global, settled: &Settled) -> Result<Option<Vec<Vec<Fate>>>, Fault>
         ensures trails { IfOk result (λ o. IfSome o (λ trails. AreTrails (plan_of settled.now) trails.items)) }
+        ensures count { IfOk result (λ o. IfSome o (λ trails. length trails.items ≡ self.entry.count)) }
         ensures memory { IsOkUnless result Memory }
     {
         let mut lanes = self.lanes;

@@ -16,10 +16,11 @@ use Rattle.wire_runs.proofs.Known.{reachable_known}
 use Rattle.wire_runs.proofs.Fates.{fates_tell}
 use Rattle.wire_races.specs.declared.Fate.{Fate}
 use Rattle.wire_races.specs.Fates.{answer_told, fate_told}
-use Rattle.wire_board.specs.Cuts.{IsCut}
+use Rattle.wire_board.specs.Cuts.{IsReachedCut}
 use Rattle.wire_lanes.specs.Lanes.{AreFates, AreTrails}
 use Rattle.wire_lanes.proofs.Trails.{fates_none}
-use Rattle.wire_trails.specs.Trails.{plain_ends, said_by, said_in, items_in, trail_of, told_row, told_rows, told_waiting, told_outcome, AreAtRest}
+use Rattle.wire_trails.specs.EndsAfter.{plain_ends}
+use Rattle.wire_trails.specs.Trails.{said_by, said_in, items_in, trail_of, told_row, told_rows, told_waiting, told_outcome, AreAtRest}
 use Rattle.wire_trails.proofs.AtRest.{end_if_none_shown, is_plain_end}
 
 said_given : (plan : Plan) (a : Answer) → said_by (answer_told plan a) ≡ given plan a
@@ -46,7 +47,7 @@ said_is plan (f ∷ fates) (a ∷ rest) long each =
 trail_said : (plan : Plan) (s : State) (p : ℕ) (trail : List Fate) → IsSettled plan → IsReachable plan s → AreFates plan p trail → length trail ≡ s.done p → said_in trail ≡ replies_of plan (s.replies p)
 trail_said plan s p trail settled r fates long =
     said_is plan trail (s.replies p) (long ∙ sym ((reachable_known plan settled s r).lengths p))
-    (λ i fate a at is. let f = fates i fate at in f.is ∙ ap (fate_told plan) ((fates_tell plan s settled r).answers (record { proc = p; at = i }) a f.fate is f.has))
+    (λ i fate a at is. let f = (fates i fate at).0 in f.is ∙ ap (fate_told plan) ((fates_tell plan s settled r).answers (record { proc = p; at = i }) a f.fate is f.has))
 
 -- At an end
 
@@ -102,7 +103,7 @@ fates_at plan trails p are = go (slice_get trails p) refl
     go (Some trail) e = are.each p trail e
 
 -- what trails tell where no process can go on is the end of the plain run
-pub told_plainly : (scripts : Scripts) (words : List ℕ) (trails : List (Vec Fate Global)) → IsSettled (plan_of scripts) → IsCut (plan_of scripts) words → AreTrails (plan_of scripts) trails → AreAtRest scripts words trails → told_outcome (plan_of scripts) trails ≡ plain_ends scripts
+pub told_plainly : (scripts : Scripts) (words : List ℕ) (trails : List (Vec Fate Global)) → IsSettled (plan_of scripts) → IsReachedCut (plan_of scripts) words → AreTrails (plan_of scripts) trails → AreAtRest scripts words trails → told_outcome (plan_of scripts) trails ≡ plain_ends scripts
 told_plainly scripts words trails settled c are rest =
     let plan = plan_of scripts in
     let n = process_count plan in

@@ -9,16 +9,10 @@ use Rattle.wire_types.specs.declared.Reply.{Reply}
 use Rattle.wire_rehearsal.specs.Scripts.{Scripts}
 use Rattle.wire_rehearsal.specs.Planned.{plan_of}
 use Rattle.wire_runs.specs.Plan.{Plan, event_count, process_count}
-use Rattle.wire_runs.specs.PlainRun.{plain_run}
-use Rattle.wire_runs.specs.Step.{run}
-use Rattle.wire_runs.specs.Ends.{calls_of, unanswered, outcome}
+use Rattle.wire_runs.specs.Ends.{calls_of, unanswered}
 use Rattle.wire_races.specs.declared.Fate.{Fate}
 use Rattle.wire_races.specs.declared.Fate.TheVariants.{Says, Silent, Waits}
-use Rattle.wire_board.specs.Positions.{hold, IsShown}
-
--- what became of every call where the plain run can't go on
-abbrev pub plain_ends : Scripts → Ends
-plain_ends scripts = outcome (plan_of scripts) (run (plan_of scripts) (plain_run (plan_of scripts)))
+use Rattle.wire_board.specs.Positions.{hold, ShowsNextIn}
 
 -- the fates in a trail; none where there is no trail
 abbrev pub items_in : Option (Vec Fate Global) → List Fate
@@ -31,7 +25,7 @@ trail_of trails p = items_in (slice_get trails p)
 -- its trail is as long as its word, and the words don't show that its next event can happen
 pub record IsAtRest (scripts : Scripts) (words : List ℕ) (p : ℕ) (trail : List Fate) : Type 0 where
   pub as_long : length trail ≡ slice_index words p
-  pub rests : ¬ (IsShown (plan_of scripts) (hold scripts p words))
+  pub rests : ¬ (ShowsNextIn (plan_of scripts) (hold scripts p words))
 
 -- and so of each process
 abbrev pub AreAtRest : Scripts → List ℕ → List (Vec Fate Global) → Type 0

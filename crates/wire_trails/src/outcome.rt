@@ -4,9 +4,10 @@ ghost use Rattle.std.specs.Prelude.{◌≡◌, ◌≢◌, ◌↔◌, None, IfOk,
 ghost use Rattle.wire_types.specs.declared.Fault.TheVariants.{Memory};
 ghost use Rattle.wire_types.specs.Outcome.{ends_of};
 ghost use Rattle.wire_rehearsal.specs.Planned.{plan_of};
-ghost use Rattle.wire_board.specs.Cuts.{IsCut};
+ghost use Rattle.wire_board.specs.Cuts.{IsReachedCut};
 ghost use Rattle.wire_lanes.specs.Lanes.{AreTrails};
-ghost use Rattle.wire_trails.specs.Trails.{plain_ends, AreAtRest};
+ghost use Rattle.wire_trails.specs.EndsAfter.{plain_ends};
+ghost use Rattle.wire_trails.specs.Trails.{AreAtRest};
 
 use crate::rest::all_at_rest;
 use crate::rows::told_outcome;
@@ -26,7 +27,7 @@ pub fn outcome_of(
     words: &[u64],
 ) -> Result<Option<Outcome>, Fault>
     requires trails { AreTrails (plan_of settled.now) trails.now }
-    requires words { IsCut (plan_of settled.now) words.now }
+    requires words { IsReachedCut (plan_of settled.now) words.now }
     ensures some { IfOk result (λ o. (o ≢ None) ↔ AreAtRest settled.now words.now trails.now) }
     ensures ok { IfOk result (λ o. IfSome o (λ outcome. ends_of outcome ≡ plain_ends settled.now)) }
     ensures memory { IsOkUnless result Memory }

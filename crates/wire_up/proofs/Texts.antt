@@ -10,7 +10,7 @@ use Rattle.wire_runs.specs.State.{start}
 use Rattle.wire_runs.specs.Step.{run, IsInterleaving}
 use Rattle.wire_runs.specs.Ends.{outcome, calls_of}
 use Rattle.wire_report.specs.Report.{report}
-use Rattle.wire_collect.specs.Collect.{plain_ends}
+use Rattle.wire_trails.specs.EndsAfter.{plain_ends}
 use Rattle.wire_up.specs.Replay.{plain_report}
 use Rattle.wire_up.specs.Follow.{StopsAfter, report_after}
 

@@ -11,7 +11,7 @@ use Rattle.wire_races.specs.declared.finding.Finding.{Finding}
 use Rattle.wire_races.specs.Findings.{AreFindings}
 use Rattle.wire_races.specs.declared.settled.Unsettled.{Unsettled}
 use Rattle.wire_marks.specs.Clocks.{Clocks}
-use Rattle.wire_collect.specs.Collect.{plain_ends}
+use Rattle.wire_trails.specs.EndsAfter.{plain_ends}
 use Rattle.wire_up.specs.declared.checking.Ended.{Ended}
 use Rattle.wire_up.specs.declared.checking.Ended.TheVariants.{Clean, Found}
 use Rattle.wire_up.specs.declared.rehearsing.Mode.{Mode}

@@ -9,13 +9,13 @@ use Rattle.wire_rehearsal.specs.Planned.{plan_of}
 use Rattle.wire_order.specs.Order.{order_read}
 use Rattle.wire_runs.specs.State.{start}
 use Rattle.wire_runs.specs.Step.{is_enabled, run, IsInterleaving}
-use Rattle.wire_runs.specs.Ends.{outcome}
+use Rattle.wire_trails.specs.EndsAfter.{ends_after}
 use Rattle.wire_report.specs.Report.{report}
 use Rattle.wire_up.specs.Replay.{WereComing, ReadAs, Refuses}
 
 -- the report of the state after these steps
 abbrev pub report_after : Scripts → List ℕ → List ℕ
-report_after scripts steps = report scripts (outcome (plan_of scripts) (run (plan_of scripts) steps))
+report_after scripts steps = report scripts (ends_after scripts steps)
 
 -- what was to come read as an order of these steps of the scripts
 pub record OrdersAs (coming : Option (List ℕ)) (scripts : Scripts) (steps : List ℕ) : Type 0 where

@@ -10,7 +10,8 @@ use Rattle.wire_rehearsal.specs.Scripts.{Scripts}
 use Rattle.wire_rehearsal.specs.Planned.{plan_of}
 use Rattle.wire_runs.specs.Laws.{HasOneEnd}
 use Rattle.wire_races.specs.declared.finding.Finding.{Finding}
-use Rattle.wire_collect.specs.Collect.{MayWork, IsCompleteRun, plain_ends}
+use Rattle.wire_trails.specs.EndsAfter.{plain_ends}
+use Rattle.wire_collect.specs.Collect.{MayWork, IsCompleteRun}
 use Rattle.wire_report.specs.Report.{report_form}
 use Rattle.wire_report.specs.Findings.{findings_form}
 use Rattle.wire_report.specs.Unsettled.{unsettled_form}

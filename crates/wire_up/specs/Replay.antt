@@ -4,7 +4,7 @@ use Rattle.std.specs.Io.KnownBytes.{Appends}
 use Rattle.wire_types.specs.declared.Fault.{Fault}
 use Rattle.wire_rehearsal.specs.Scripts.{Scripts}
 use Rattle.wire_script.specs.Reads.{Reads}
-use Rattle.wire_collect.specs.Collect.{plain_ends}
+use Rattle.wire_trails.specs.EndsAfter.{plain_ends}
 use Rattle.wire_report.specs.Report.{report}
 
 -- the report of the plain run

@@ -3,18 +3,16 @@
 ghost use Rattle.std.specs.Prelude.{◌≡◌, ◌≢◌, ◌⊎◌, ℕ, Err, OnOk, OnErr, IfOk, IfErr};
 ghost use Rattle.wire_types.specs.declared.Fault.TheVariants.{Memory, Read, Write};
 ghost use Rattle.wire_types.specs.Counting.{one_more};
-ghost use Rattle.wire_types.specs.Outcome.{ends_of};
-ghost use Rattle.wire_collect.specs.Collect.{plain_ends};
 ghost use Rattle.wire_up.specs.Replay.{plain_report, ReadAs, WritesReport, Refuses, BreaksOff};
 
 use crate::reading::read_up_to;
 use std::alloc::Global;
-use wire_core::Core;
+use wire_collect::plain_outcome;
 use wire_plan::Plan;
 use wire_rehearsal::Scripts;
 use wire_report::{report_text, write_text};
 use wire_script::{FILE_BYTES, read};
-use wire_types::{Fault, Outcome, Sink, Source};
+use wire_types::{Fault, Sink, Source};
 
 /// One byte more than a file may have, so that a longer one is seen to be too long.
 const FILE_BYTES_AND_ONE: usize = FILE_BYTES + 1;
@@ -29,16 +27,6 @@ pub(crate) fn read_scripts<R: Source>(alloc: Global, reader: &mut R) -> Result<S
 {
     let bytes = read_up_to(alloc, reader, FILE_BYTES_AND_ONE)?;
     read(alloc, bytes.as_slice())
-}
-
-/// What became of every call in the plain run of a plan.
-fn plain_outcome(alloc: Global, plan: &Plan) -> Result<Outcome, Fault>
-    ensures ok { IfOk result (λ o. ends_of o ≡ plain_ends plan.now) }
-    ensures err { IfErr result (λ e. e ≡ Memory) }
-{
-    let mut core = Core::new(alloc, plan)?;
-    core.run_lowest();
-    core.outcome(alloc)
 }
 
 /// The report of the plain run of a plan.
