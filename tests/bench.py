@@ -3,9 +3,9 @@
 Usage: python3 tests/bench.py [PROGRAM] [--beside OTHER] [--only WORD] [--runs N] [--small]
 Prints the tables of docs/performance.md: for each file its bytes, calls and findings; for each command the least time of N runs,
 with the start of the process in it and the output thrown away, how that grows from a quarter of the calls, and the greatest
-resident size. With OTHER, its time and size in the same runs, and the ratio. The last table has the run by one thread that judges no
-findings (`plain` of crates/parts, which is built where it isn't there), and `replay` by one worker beside it. --small takes files of a few
-calls, each once: it only shows that all of it still works.
+resident size. With OTHER, its time and size in the same runs, and the ratio. The last table has two runs that judge no findings, and
+`replay` by one worker beside them: the plain run by one thread, and that by one worker over a core under a lock (both of crates/parts,
+which is built where it isn't there). --small takes files of a few calls, each once: it only shows that all of it still works.
 """
 import argparse
 import collections
@@ -209,13 +209,14 @@ class Bench:
         print(f"| {' | '.join(cells)} |", flush=True)
 
     def tell_plain(self, kind):
-        """A row of the table of plain runs. With findings, `replay` runs nothing, and there is no row."""
+        """A row of the table of runs that judge no findings. With findings, `replay` runs nothing, and there is no row."""
         path, _ = self.file_of(kind, WHOLE)
         if findings_in(self.programs[0], path):
             return
-        took = [(run([PARTS, "plain"], path)[0], run([self.programs[0], "replay", path])[0]) for _ in range(self.runs)]
-        plain, replay = (1000 * min(it) for it in zip(*took))
-        print(f"| {kind.name} | {plain:.1f} | {replay:.1f} | {replay / plain:.1f} |", flush=True)
+        runs = ([PARTS, "plain"], [PARTS, "workers"], [self.programs[0], "replay", path])
+        took = [[run(words, path)[0] for words in runs] for _ in range(self.runs)]
+        plain, locked, replay = (1000 * min(it) for it in zip(*took))
+        print(f"| {kind.name} | {plain:.1f} | {locked:.1f} | {replay:.1f} | {replay / plain:.1f} |", flush=True)
 
     def tell_all(self, kinds):
         print("| file | what stands in it | bytes | calls | findings |\n|---|---|---|---|---|")
@@ -229,13 +230,14 @@ class Bench:
             print(f"\n`{' '.join(words)}`:\n\n| {' | '.join(heads)} |\n|{'---|' * len(heads)}")
             for kind in its:
                 self.tell_command(kind, programs, words)
-        print("\nA plain run, and `replay`:\n\n| file | plain, ms | replay, ms | times as long |\n|---|---|---|---|")
+        heads = ["file", "plain, ms", "locked core, 1 worker, ms", "replay, ms", "times as long"]
+        print(f"\nA plain run, a run over a locked core, and `replay`:\n\n| {' | '.join(heads)} |\n|{'---|' * len(heads)}")
         for kind in kinds:
             self.tell_plain(kind)
 
 
 def has_parts():
-    """Whether there is the program that has plain runs. It is built where it isn't there."""
+    """Whether there is the program that has functions by themselves. It is built where it isn't there."""
     if not os.path.exists(PARTS):
         print("building crates/parts", file=sys.stderr, flush=True)
         subprocess.run(["rt", "run"], cwd=os.path.join(TOP, "crates", "parts"), capture_output=True, check=False)

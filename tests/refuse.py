@@ -125,6 +125,7 @@ def parts():
         "core": b"unsettled\n" + program.CARDS_REPORT + b"order 14\n" + ORDER,
         "board": seats,
         "round": deal,
+        "workers": program.CARDS_REPORT,
         "plain": program.CARDS_REPORT,
     }
     for name, wrote in of_cards.items():

@@ -8,14 +8,16 @@ ghost use Rattle.wire_races.specs.Findings.{AreFindings};
 
 use crate::texts::{marks_text, plan_text, push_pieces, push_seats, push_words, push_workers};
 use std::alloc::Global;
+use std::sync::Wait;
 use std::thread::Threads;
 use wire_board::{Board, Seat};
+use wire_collect::run_any;
 use wire_core::Core;
 use wire_marks::Marks;
 use wire_plan::Plan;
 use wire_races::{Finding, Settled, findings};
-use wire_report::{findings_text, unsettled_text};
-use wire_sched::Round;
+use wire_report::{findings_text, report_text, unsettled_text};
+use wire_sched::{OpenGate, Round};
 use wire_script::read;
 use wire_types::Fault;
 
@@ -24,7 +26,7 @@ const ROUND: u64 = 5;
 const WORKERS: usize = 7;
 
 /// A function of the library.
-#[derive(Clone, Copy, Debug, PartialEq, Eq)]
+#[derive(Clone, Copy)]
 pub enum Part {
     /// `plain`.
     Plain,
@@ -39,7 +41,7 @@ pub enum Part {
 }
 
 /// A function that is given a plan, or what is made of it.
-#[derive(Clone, Copy, Debug, PartialEq, Eq)]
+#[derive(Clone, Copy)]
 pub enum OverPlan {
     /// `Marks::of`.
     Marks,
@@ -49,10 +51,12 @@ pub enum OverPlan {
     Core,
     /// `Round::deal`.
     Round,
+    /// `run_any` by one worker.
+    Workers,
 }
 
 /// How far a run is: what the function needs is made, or the function is called, or what it gave is told.
-#[derive(Clone, Copy, Debug, PartialEq, Eq)]
+#[derive(Clone, Copy)]
 pub enum Stage {
     Before,
     Within,
@@ -72,7 +76,7 @@ impl Stage {
 
 /// What a function gives over a file.
 pub fn text_of(
-    rt: &(impl AllocGlobal + Threads + Sync),
+    rt: &(impl AllocGlobal + Threads + Wait + Sync),
     part: Part,
     file: &[u8],
     stage: &mut Stage,
@@ -115,7 +119,7 @@ fn planned(alloc: Global, file: &[u8]) -> Result<Plan, Fault> {
 
 /// What a function gives over the plan of a file.
 fn of_part(
-    rt: &(impl AllocGlobal + Threads + Sync),
+    rt: &(impl AllocGlobal + Threads + Wait + Sync),
     part: OverPlan,
     file: &[u8],
     stage: &mut Stage,
@@ -126,6 +130,7 @@ fn of_part(
         OverPlan::Findings => of_findings(rt, &plan, stage),
         OverPlan::Core => of_core(rt.alloc(), &plan, stage),
         OverPlan::Round => of_round(rt.alloc(), &plan, stage),
+        OverPlan::Workers => of_workers(rt, &plan, stage),
     };
     drop(plan);
     text
@@ -177,6 +182,19 @@ fn of_round(alloc: Global, plan: &Plan, stage: &mut Stage) -> Result<Vec<u8>, Fa
     told?;
     push_pieces(&mut text, left.as_slice())?;
     Ok(text.into_bytes())
+}
+
+/// What `run_any` gives by one worker, as its report.
+fn of_workers(
+    rt: &(impl AllocGlobal + Threads + Wait + Sync),
+    plan: &Plan,
+    stage: &mut Stage,
+) -> Result<Vec<u8>, Fault> {
+    *stage = Stage::Within;
+    let (outcome, order) = run_any(rt, rt.alloc(), plan, 1, &OpenGate)?;
+    *stage = Stage::After;
+    drop(order);
+    report_text(rt.alloc(), plan.scripts(), &outcome, false)
 }
 
 /// The marks and the findings of a plan.

@@ -11,16 +11,17 @@ mod answers;
 mod texts;
 
 use crate::answers::{OverPlan, Part, Stage, text_of};
-use std::io::{self, Read};
+use std::io::Read;
 use std::process::ExitCode;
 use std::rt::Env;
+use std::sync::Wait;
 use std::thread::Threads;
-use std::env;
+use std::{env, io};
 use wire_types::{Fault, FromRead, ToWrite, write_out};
 use wire_up::plain;
 
 /// The functions, by the words that ask for them.
-const PARTS: [(&str, Part); 8] = [
+const PARTS: [(&str, Part); 9] = [
     ("plain", Part::Plain),
     ("read", Part::Read),
     ("plan", Part::Plan),
@@ -28,6 +29,7 @@ const PARTS: [(&str, Part); 8] = [
     ("findings", Part::Over(OverPlan::Findings)),
     ("core", Part::Over(OverPlan::Core)),
     ("round", Part::Over(OverPlan::Round)),
+    ("workers", Part::Over(OverPlan::Workers)),
     ("board", Part::Board),
 ];
 
@@ -71,12 +73,12 @@ fn input(rt: &(impl Input + AllocGlobal)) -> Result<Vec<u8>, Fault> {
 
 /// Calls a function, and writes what it gave. `plain` reads and writes by itself.
 fn run(
-    rt: &(impl Input + Print + AllocGlobal + Threads + Sync),
+    rt: &(impl Input + Print + AllocGlobal + Threads + Wait + Sync),
     part: Part,
     stage: &mut Stage,
 ) -> Result<(), Fault> {
     let mut writer = ToWrite::new(io::writer(rt));
-    if part == Part::Plain {
+    if matches!(part, Part::Plain) {
         *stage = Stage::Within;
         return plain(rt.alloc(), &mut FromRead::new(rt.reader()), &mut writer);
     }
@@ -87,7 +89,7 @@ fn run(
 
 /// Calls the function that is asked for, if there is one. Answers whether there is.
 fn obey(
-    rt: &(impl Env + Input + Print + AllocGlobal + Threads + Sync),
+    rt: &(impl Env + Input + Print + AllocGlobal + Threads + Wait + Sync),
     stage: &mut Stage,
 ) -> Result<bool, Fault> {
     let Some(part) = asked(rt)? else {

@@ -1,6 +1,6 @@
 //! Values of the library, as text.
 
-ghost use Rattle.std.specs.Prelude.{◌≡◌, ◌×◌, ◌<◌};
+ghost use Rattle.std.specs.Prelude.{◌≡◌, ◌<◌};
 ghost use Rattle.std.specs.List.{All};
 ghost use Rattle.wire_runs.specs.Plan.{event_count};
 ghost use Rattle.wire_rehearsal.specs.Planned.{plan_of};
