@@ -7,7 +7,7 @@ pub returns-in_err-outcome-clause-ok : goal.returns-in_err-outcome-clause-ok
 returns-in_err-outcome-clause-ok c = not_ok c.from_residual.result c.in_err-outcome.field-0.0 _ c.from_residual.ensures.1
 
 pub returns-in_err-outcome-clause-err : goal.returns-in_err-outcome-clause-err
-returns-in_err-outcome-clause-err c = handed_on c.from_residual.result c.in_err-outcome.field-0.0 _ c.from_residual.ensures.1 (c.in_err-outcome.ensures.err)
+returns-in_err-outcome-clause-err c = handed_on c.from_residual.result c.in_err-outcome.field-0.0 _ c.from_residual.ensures.1 (c.in_err-outcome.ensures.memory)
 
 pub returns-clause-ok : goal.returns-clause-ok
 returns-clause-ok c =
