@@ -41,9 +41,11 @@ REFUSED = (
     ("a fence of others", b"rehearsal 1\nnode n0\nnode n1\njob app\nrank n0\nrank n1\nfence app:0\n", b"7 NotMember 7"),
 )
 
+# The clock of each event of the cards: how many events of each rank are it or before it.
+CLOCKS = "100 200 300 400 531 631 310 320 330 441 001 432 433 634"
 # A command or a function, with its words and what standard input gives, whether its order is free, how it must end without a refusal, where
-# that is told, and whether it is a function by itself.
-Form = collections.namedtuple("Form", "name words given is_free usual is_part", defaults=(None, False, None, False))
+# that is told, whether it is a function by itself, and whether it takes memory.
+Form = collections.namedtuple("Form", "name words given is_free usual is_part takes", defaults=(None, False, None, False, True))
 
 
 def library(room):
@@ -117,10 +119,12 @@ def parts():
     race, late = b"race app:0 2 app:1 1 key app:0 k\n", b"app:0 1 put PMIX_SUCCESS\napp:0 2 commit PMIX_SUCCESS\napp:1 1 get-now PMIX_SUCCESS v\n"
     seats = b"rank 0 true\nrank 1 false\nrank 2 true\nwords [0, 0, 0]\n"
     deal = b"".join(b"worker %d\n" % it for it in range(7)) + b"".join(b"rank %d of round 5\n" % it for it in range(3))
+    publish = "Event { proc: Proc { number: 0 }, at: 5 }"
+    marks = "".join(f"{' '.join(it)} true\n" for it in CLOCKS.split()) + f"0 [Update {{ event: {publish}, standing: Some({publish}) }}]\n"
     of_cards = {
         "read": program.CARDS,
         "plan": None,
-        "marks": None,
+        "marks": marks.encode(),
         "findings": program.NOTHING,
         "core": b"unsettled\n" + program.CARDS_REPORT + b"order 14\n" + ORDER,
         "board": seats,
@@ -133,7 +137,8 @@ def parts():
     for name, wrote in (("findings", race + b"findings 1\n"), ("plain", late + b"waiting 0\n")):
         yield Form(f"{name} alone, a race", [name], program.RACY, usual=(0, wrote, b""), is_part=True)
     for name, text, fault in REFUSED:
-        yield Form(f"read alone, {name}", ["read"], text, usual=(2, b"", b"within\nwire_up: fault %s\n" % fault), is_part=True)
+        usual = (2, b"", b"within\nwire_up: fault %s\n" % fault)
+        yield Form(f"read alone, {name}", ["read"], text, usual=usual, is_part=True, takes=bool(text))
 
 
 class Trial:
@@ -198,9 +203,9 @@ class Trial:
             for number, (status, wrote, said) in wrong[:3]:
                 so = f"the program ended with {status}, wrote {wrote[:200]}, and said {said[:200]}"
                 print(f"{name}, N = {number} ({len(wrong)} of {count} so): {so}")
-            if count and not faults:
+            if self.form.takes and not faults:
                 print(f"{name}: none of {count} was answered by fault 1")
-            well = well and not wrong and bool(faults)
+            well = well and not wrong and bool(faults) == self.form.takes
         return well
 
 

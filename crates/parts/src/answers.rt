@@ -23,6 +23,7 @@ use wire_types::Fault;
 
 /// What the deal of a round has: its number, and how many workers.
 const ROUND: u64 = 5;
+
 const WORKERS: usize = 7;
 
 /// A function of the library.
