@@ -3,9 +3,9 @@
 Usage: python3 tests/bench.py [PROGRAM] [--beside OTHER] [--only WORD] [--runs N] [--small]
 Prints the tables of docs/performance.md: for each file its bytes, calls and findings; for each command the least time of N runs,
 with the start of the process in it and the output thrown away, how that grows from a quarter of the calls, and the greatest
-resident size. With OTHER, its time and size in the same runs, and the ratio. The last table has the run by one thread that judges no
-findings (crates/plain, which is built where it isn't there), and `replay` by one worker beside it. --small takes files of a few
-calls, each once: it only shows that all of it still works.
+resident size. With OTHER, its time and size in the same runs, and the ratio. The last table has two runs that judge no findings, and
+`replay` by one worker beside them: the plain run by one thread, and that by one worker over a core under a lock (both of crates/parts,
+which is built where it isn't there). --small takes files of a few calls, each once: it only shows that all of it still works.
 """
 import argparse
 import collections
@@ -16,7 +16,7 @@ import tempfile
 import time
 
 TOP = os.path.dirname(os.path.dirname(os.path.abspath(__file__)))
-PLAIN = os.path.join(TOP, "crates", "plain", "out", "plain")
+PARTS = os.path.join(TOP, "crates", "parts", "out", "parts")
 ONE_NODE = "rehearsal 1\nnode n0\njob app\n"
 TWO_NODES = "rehearsal 1\nnode n0\nnode n1\njob app\n"
 QUARTER, WHOLE = 1, 4
@@ -209,13 +209,14 @@ class Bench:
         print(f"| {' | '.join(cells)} |", flush=True)
 
     def tell_plain(self, kind):
-        """A row of the table of plain runs. With findings, `replay` runs nothing, and there is no row."""
+        """A row of the table of runs that judge no findings. With findings, `replay` runs nothing, and there is no row."""
         path, _ = self.file_of(kind, WHOLE)
         if findings_in(self.programs[0], path):
             return
-        took = [(run([PLAIN], path)[0], run([self.programs[0], "replay", path])[0]) for _ in range(self.runs)]
-        plain, replay = (1000 * min(it) for it in zip(*took))
-        print(f"| {kind.name} | {plain:.1f} | {replay:.1f} | {replay / plain:.1f} |", flush=True)
+        runs = ([PARTS, "plain"], [PARTS, "workers"], [self.programs[0], "replay", path])
+        took = [[run(words, path)[0] for words in runs] for _ in range(self.runs)]
+        plain, locked, replay = (1000 * min(it) for it in zip(*took))
+        print(f"| {kind.name} | {plain:.1f} | {locked:.1f} | {replay:.1f} | {replay / plain:.1f} |", flush=True)
 
     def tell_all(self, kinds):
         print("| file | what stands in it | bytes | calls | findings |\n|---|---|---|---|---|")
@@ -229,18 +230,18 @@ class Bench:
             print(f"\n`{' '.join(words)}`:\n\n| {' | '.join(heads)} |\n|{'---|' * len(heads)}")
             for kind in its:
                 self.tell_command(kind, programs, words)
-        print("\nA plain run, and `replay`:\n\n| file | plain, ms | replay, ms | times as long |\n|---|---|---|---|")
+        heads = ["file", "plain, ms", "locked core, 1 worker, ms", "replay, ms", "times as long"]
+        print(f"\nA plain run, a run over a locked core, and `replay`:\n\n| {' | '.join(heads)} |\n|{'---|' * len(heads)}")
         for kind in kinds:
             self.tell_plain(kind)
 
 
-def build_plain():
-    """Builds the program of plain runs, where it isn't there."""
-    if not os.path.exists(PLAIN):
-        print("building crates/plain", file=sys.stderr, flush=True)
-        subprocess.run(["rt", "run"], cwd=os.path.join(TOP, "crates", "plain"), capture_output=True, check=False)
-    if not os.path.exists(PLAIN):
-        sys.exit("crates/plain can't be built: `rt run` in that folder shows why")
+def has_parts():
+    """Whether there is the program that has functions by themselves. It is built where it isn't there."""
+    if not os.path.exists(PARTS):
+        print("building crates/parts", file=sys.stderr, flush=True)
+        subprocess.run(["rt", "run"], cwd=os.path.join(TOP, "crates", "parts"), capture_output=True, check=False)
+    return os.path.exists(PARTS)
 
 
 def works(program):
@@ -265,7 +266,8 @@ def main():
     for program in filter(None, (args.program, args.beside)):
         if not os.path.exists(program):
             sys.exit(f"there is no {program}: make run builds ./wire_up")
-    build_plain()
+    if not has_parts():
+        sys.exit("crates/parts can't be built: `rt run` in that folder shows why")
     if args.small:
         args.runs = 1
     with tempfile.TemporaryDirectory(prefix="wire-up-") as room:

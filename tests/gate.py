@@ -88,8 +88,9 @@ def prove():
 
 def main():
     progress.need_kit()
-    if os.path.exists(BUILT):
-        os.remove(BUILT)
+    for path in (BUILT, bench.PARTS):
+        if os.path.exists(path):
+            os.remove(path)
     counts = [prove()]
     if os.path.exists(BUILT):
         counts += [program.all_runs(BUILT), hostile.all_hostile(BUILT), refuse.all_refusals(BUILT), recording.all_runs(BUILT)]

@@ -19,6 +19,7 @@ import tempfile
 import threading
 
 sys.dont_write_bytecode = True
+import bench
 import grammar
 import program
 import refuse
@@ -295,10 +296,27 @@ def breaks_off_at_full_pipe(started, form):
 
 def prefixes(started, room):
     """Every prefix of a file is read or refused, by every command alike, and what is read has a canonical text that reads as the same."""
-    runner = soak.Runner(started, room)
+    runner, has_parts = soak.Runner(started, room), bench.has_parts()
+    yield has_parts or tell("canonical texts", "crates/parts isn't built: `rt run` in that folder shows why")
     for size in range(len(program.CARDS) + 1):
-        found, _ = soak.difference_of(runner, program.CARDS[:size], size)
-        yield not found or tell(f"the first {size} bytes of the cards", f"isn't held to itself: {found and (found.name, found.detail)}")
+        name, text = f"the first {size} bytes of the cards", program.CARDS[:size]
+        found, _ = soak.difference_of(runner, text, size)
+        yield not found or tell(name, f"isn't held to itself: {found and (found.name, found.detail)}")
+        if has_parts:
+            yield reads_back(name, text)
+
+
+def reads_back(name, text):
+    """Whether the library gives the canonical text of a file that the second reader gives, and that of this text too; or its fault."""
+    try:
+        wanted = (0, grammar.canonical(grammar.read(text)), b"")
+    except grammar.Refused as why:
+        wanted = (2, b"", b"within\n" + why.said())
+    for it in {text, wanted[1] or text}:
+        ran = subprocess.run([bench.PARTS, "read"], input=it, capture_output=True, timeout=program.SECONDS, check=False)
+        if (ran.returncode, ran.stdout, ran.stderr) != wanted:
+            return tell(f"{name}, read alone", f"ended so: {ran}")
+    return True
 
 
 class Broken:
