@@ -1,2 +1,3 @@
 pub mod Trails
 pub mod Opening
+mod Looking

@@ -76,7 +76,7 @@ trail_kept lane board settled capacity kept = record {
   fates = subst (λ (p : Scripts). AreFates (plan_of p) lane.seat.rank lane.trail) (sym (ap (λ (b : BoardIs). b.plan) kept.board_is ∙ kept.plan_is)) kept.fates;
 }
 
-get_set : (xs : List ℕ) (k j n : ℕ) → (k ≡ j → n ≡ get_or xs j 0) → get_or (set xs k n) j 0 ≡ get_or xs j 0
+pub get_set : (xs : List ℕ) (k j n : ℕ) → (k ≡ j → n ≡ get_or xs j 0) → get_or (set xs k n) j 0 ≡ get_or xs j 0
 get_set [] k j n own = refl
 get_set (x ∷ xs) zero zero n own = own refl
 get_set (x ∷ xs) zero (suc j) n own = refl

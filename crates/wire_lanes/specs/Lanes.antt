@@ -1,5 +1,5 @@
 -- What clauses see of a lane, and what its type keeps.
-use Rattle.std.specs.Prelude.{◌≡◌, ◌≢◌, ℕ, ◌++◌, ◌≤◌, List, Some, Vec, length, slice_get}
+use Rattle.std.specs.Prelude.{◌≡◌, ◌≢◌, ℕ, ◌++◌, ◌≤◌, List, Some, Vec, length, slice_get, slice_index}
 use Rattle.std.specs.declared.alloc.Global.{Global}
 use Rattle.wire_runs.specs.Plan.{Plan, event_count, process_count}
 use Rattle.wire_rehearsal.specs.Scripts.{Scripts}
@@ -42,6 +42,14 @@ pub record Grows (old new : List Fate) (n : ℕ) : Type 0 where
 pub record SameLane (old new : LaneIs) : Type 0 where
   pub board : new.seat.board ≡ old.seat.board
   pub rank : new.seat.rank ≡ old.seat.rank
+
+-- the lane once its seat has read words: nothing else changed
+pub record HasRead (old new : LaneIs) : Type 0 where
+  pub board : new.seat.board ≡ old.seat.board
+  pub rank : new.seat.rank ≡ old.seat.rank
+  pub trail : new.trail ≡ old.trail
+  pub place : place_of new.seat ≡ place_of old.seat
+  pub rises : (k : ℕ) → slice_index old.seat.known k ≤ slice_index new.seat.known k
 
 -- how many lanes there are
 pub record LanesAre : Type 0 where

@@ -1,16 +1,20 @@
 //! One rank's seat, and the trail of what its events did.
 
-ghost use Rattle.std.specs.Prelude.{◌≡◌, ◌≢◌, ◌+◌, ◌<◌, [], length, None, IfOk, IfSome, IsOkUnless, IsTrue, ◌↔◌, false};
+ghost use Rattle.std.specs.Prelude.{◌≡◌, ◌≢◌, ◌+◌, ◌<◌, [], length, option_map, option_to_list, None, IfOk, IfSome, IsOkUnless, IsTrue, ◌↔◌};
+ghost use Rattle.std.specs.List.{list_all};
 ghost use Rattle.wire_types.specs.declared.Fault.TheVariants.{Memory};
 ghost use Rattle.wire_runs.specs.Plan.{event_of, event_count};
 ghost use Rattle.wire_rehearsal.specs.Planned.{plan_of};
 ghost use Rattle.wire_races.specs.Fates.{IsFateOf};
-ghost use Rattle.wire_board.specs.Seats.{place_of, ShowsNext};
-ghost use Rattle.wire_lanes.specs.Lanes.{AreFates, IsTrail, Grows, SameLane};
+ghost use Rattle.wire_plan.specs.Index.{source_list};
+ghost use Rattle.wire_board.specs.Cuts.{shows_event};
+ghost use Rattle.wire_board.specs.Seats.{place_of, next_of, ShowsNext};
+ghost use Rattle.wire_lanes.specs.Lanes.{AreFates, IsTrail, Grows, HasRead, SameLane};
 
 use std::alloc::Global;
 use std::marker::Model;
 use wire_board::{Board, Seat};
+use wire_plan::Sources;
 use wire_races::{Fate, Settled};
 use wire_types::{Event, Fault, Proc};
 
@@ -78,8 +82,8 @@ impl<'a> Lane<'a> {
     // Whether the seat knows that an event is done. Where it doesn't, it reads the word of the event's process
     // afresh first.
     fn finds(&mut self, event: Event) -> bool
-        ensures same { SameLane self.old self.new }
-        ensures trail { self.new.trail ≡ self.old.trail }
+        ensures read { HasRead self.old self.new }
+        ensures found { result ≡ shows_event self.new.seat.known (event_of event) }
     {
         let board = self.board;
         let settled = self.settled;
@@ -89,59 +93,86 @@ impl<'a> Lane<'a> {
         if event.proc.number >= settled.plan().process_count() {
             return false;
         }
-        board.read(&mut self.seat, event.proc) > event.at as u64
+        let _ = board.read(&mut self.seat, event.proc);
+        self.seat.knows(event)
     }
 
-    // The same of these events, up to the first that it doesn't know to be done after a fresh read.
-    fn find_each(&mut self, events: &[Event])
-        ensures same { SameLane self.old self.new }
-        ensures trail { self.new.trail ≡ self.old.trail }
+    // The same of an event that needn't be there.
+    fn finds_awaited(&mut self, event: Option<Event>) -> bool
+        ensures read { HasRead self.old self.new }
+        ensures found { result ≡ list_all (shows_event self.new.seat.known) (option_to_list (option_map event_of event)) }
+    {
+        match event {
+            Some(event) => self.finds(event),
+            None => true,
+        }
+    }
+
+    // The same of each of these events. It stops at the first that isn't done.
+    fn finds_each(&mut self, events: &[Event]) -> bool
+        ensures read { HasRead self.old self.new }
+        ensures found { result ≡ list_all (λ event. shows_event self.new.seat.known (event_of event)) events.now }
     {
         for event in events {
             if !self.finds(*event) {
-                break;
+                return false;
             }
         }
+        true
     }
 
-    // Reads the words of the sources of the next event afresh, where the seat doesn't know them to be done, up to the
-    // first that isn't done. The event before it in its own process is done: the seat's place shows it.
-    fn refresh(&mut self)
-        ensures same { SameLane self.old self.new }
-        ensures trail { self.new.trail ≡ self.old.trail }
+    // The same of all these sources. That of its own process is known by the seat's place.
+    fn finds_all(&mut self, sources: Sources<'_>) -> bool
+        ensures read { HasRead self.old self.new }
+        ensures found { result ≡ list_all (shows_event self.new.seat.known) (source_list sources.entry.previous sources.entry.awaited sources.entry.arrivals.now) }
     {
-        let plan = self.settled.plan();
+        if !self.finds_awaited(sources.previous) {
+            return false;
+        }
+        if !self.finds_awaited(sources.awaited) {
+            return false;
+        }
+        self.finds_each(sources.arrivals)
+    }
+
+    // The fate of the next event, where the seat shows that it can happen after it read afresh the words of sources that
+    // it didn't know to be done; else `None`.
+    fn next_fate(&mut self) -> Option<Fate>
+        ensures read { HasRead self.old self.new }
+        ensures ready { (result ≢ None) ↔ ShowsNext self.new.seat }
+        ensures fate { IfSome result (λ fate. IsFateOf (plan_of self.new.seat.board.plan) (next_of self.new.seat) fate × (fate ≢ Fate.Waits)) }
+    {
+        let settled = self.settled;
+        let plan = settled.plan();
         let proc = self.seat.rank();
         let done = self.trail.len();
         if done >= plan.event_count(proc) as usize {
-            return;
+            return None;
         }
-        let sources = plan.sources(Event {
+        let event = Event {
             proc,
             at: done as u32,
-        });
-        if let Some(awaited) = sources.awaited {
-            if !self.finds(awaited) {
-                return;
-            }
+        };
+        if !self.finds_all(plan.sources(event)) {
+            return None;
         }
-        self.find_each(sources.arrivals);
+        match settled.fate(event) {
+            Fate::Waits => None,
+            fate => Some(fate),
+        }
     }
 
-    // One event, if the seat shows that it can happen. Whether it did.
-    fn step(&mut self) -> bool
+    // The next event happens, with this fate.
+    fn happen(&mut self, fate: Fate)
+        requires ready { ShowsNext self.old.seat }
+        requires fate { IsFateOf (plan_of self.old.seat.board.plan) (next_of self.old.seat) fate × (fate ≢ Fate.Waits) }
         ensures same { SameLane self.old self.new }
-        ensures more { IsTrue result → Grows self.old.trail self.new.trail 1 × (length self.old.trail < event_count (plan_of self.old.seat.board.plan) self.old.seat.rank) }
-        ensures stays { result ≡ false → (self.new ≡ self.old) × ¬ (ShowsNext self.new.seat) }
+        ensures more { Grows self.old.trail self.new.trail 1 × (length self.old.trail < event_count (plan_of self.old.seat.board.plan) self.old.seat.rank) }
     {
         let board = self.board;
         let settled = self.settled;
-        let Some(fate) = self.seat.next_fate(settled) else {
-            return false;
-        };
         board.advance(&mut self.seat, settled);
         self.trail.push_reserved(fate);
-        true
     }
 
     /// Serves the rank as far as it goes: reads afresh the sources of the next event that aren't known to be
@@ -154,9 +185,8 @@ impl<'a> Lane<'a> {
         ensures rests { ¬ (ShowsNext self.new.seat) }
     {
         let before = self.trail.len();
-        self.refresh();
-        'events: while self.step() {
-            self.refresh();
+        'events: while let Some(fate) = self.next_fate() {
+            self.happen(fate);
         }
         self.trail.len() - before
     }
@@ -168,8 +198,7 @@ impl<'a> Lane<'a> {
         ensures trail { self.new.trail ≡ self.old.trail }
         ensures ready { IsTrue result ↔ ShowsNext self.new.seat }
     {
-        self.refresh();
-        self.seat.shows(self.settled)
+        self.next_fate().is_some()
     }
 
     /// Its trail, where it is a lane of this rank and its entries are the fates that this plan gives the rank's
