@@ -4,7 +4,7 @@ Usage: python3 tests/bench.py [PROGRAM] [--beside OTHER] [--only WORD] [--runs N
 Prints the tables of docs/performance.md: for each file its bytes, calls and findings; for each command the least time of N runs,
 with the start of the process in it and the output thrown away, how that grows from a quarter of the calls, and the greatest
 resident size. With OTHER, its time and size in the same runs, and the ratio. The last table has two runs that judge no findings, and
-`replay` by one worker beside them: the plain run by one thread, and that by one worker over a core under a lock (both of crates/parts,
+`replay` by 1, 2 and 4 workers beside them: the plain run by one thread, and one worker over a core under a lock (both of crates/parts,
 which is built where it isn't there). --small takes files of a few calls, each once: it only shows that all of it still works.
 """
 import argparse
@@ -213,10 +213,12 @@ class Bench:
         path, _ = self.file_of(kind, WHOLE)
         if findings_in(self.programs[0], path):
             return
-        runs = ([PARTS, "plain"], [PARTS, "workers"], [self.programs[0], "replay", path])
+        replay = [self.programs[0], "replay", path]
+        runs = ([PARTS, "plain"], [PARTS, "workers"], *([*replay, "--workers", it] for it in ("1", "2", "4")))
         took = [[run(words, path)[0] for words in runs] for _ in range(self.runs)]
-        plain, locked, replay = (1000 * min(it) for it in zip(*took))
-        print(f"| {kind.name} | {plain:.1f} | {locked:.1f} | {replay:.1f} | {replay / plain:.1f} |", flush=True)
+        least = [1000 * min(it) for it in zip(*took)]
+        cells = [kind.name, *(f"{it:.1f}" for it in least), f"{least[2] / least[0]:.1f}"]
+        print(f"| {' | '.join(cells)} |", flush=True)
 
     def tell_all(self, kinds):
         print("| file | what stands in it | bytes | calls | findings |\n|---|---|---|---|---|")
@@ -230,8 +232,9 @@ class Bench:
             print(f"\n`{' '.join(words)}`:\n\n| {' | '.join(heads)} |\n|{'---|' * len(heads)}")
             for kind in its:
                 self.tell_command(kind, programs, words)
-        heads = ["file", "plain, ms", "locked core, 1 worker, ms", "replay, ms", "times as long"]
-        print(f"\nA plain run, a run over a locked core, and `replay`:\n\n| {' | '.join(heads)} |\n|{'---|' * len(heads)}")
+        heads = ["file", "plain", "locked core", "1 worker", "2 workers", "4 workers", "1 worker / plain"]
+        print("\nA plain run, one worker over a locked core, and `replay` by workers, in milliseconds:\n")
+        print(f"| {' | '.join(heads)} |\n|{'---|' * len(heads)}")
         for kind in kinds:
             self.tell_plain(kind)
 
