@@ -1,15 +1,19 @@
 -- What a lane's seat shows once it has read words.
-use Rattle.std.proofs.Common.{◌≡◌, ◌∙◌, ap, sym, refl, subst, ℕ, zero, suc, ◌+◌, ◌<◌, ◌≤◌, List, [], ◌∷◌, ◌&&◌, Bool, true, Option, Some, None, get_or, set, take, arith, lt-ltb, ltb-true}
-use Rattle.std.specs.Prelude.{slice_get, slice_index, slice_set}
+use Rattle.std.proofs.Common.{◌≡◌, ◌∙◌, ap, sym, refl, subst, ℕ, zero, suc, ◌≤◌, List, [], ◌∷◌, ◌++◌, Bool, true, false, Option, Some, None, IfSome, get_or, set, take, map, arith, lt-ltb, ltb-true}
+use Rattle.std.specs.Prelude.{slice_get, slice_index, slice_set, option_map, option_to_list}
 use Rattle.std.specs.List.{list_all}
-use Rattle.std.proofs.lemmas.Bool.{and_parts, and_from}
-use Rattle.std.proofs.lemmas.Option.{none-some, same_Some}
-use Rattle.wire_runs.specs.Plan.{Event}
+use Rattle.std.proofs.lemmas.Bool.{and_parts, and_from, true≢false}
+use Rattle.std.proofs.lemmas.Option.{none-some, same_Some, slice_get-map}
+use Rattle.wire_types.specs.declared.Event.{Event as CodeEvent}
+use Rattle.wire_runs.specs.Plan.{Plan, Event, event_of}
+use Rattle.wire_runs.specs.Order.{Edge}
 use Rattle.wire_rehearsal.specs.Scripts.{Scripts}
+use Rattle.wire_rehearsal.specs.Planned.{plan_of}
+use Rattle.wire_plan.specs.Index.{AreSources, source_list}
 use Rattle.wire_races.specs.declared.Fate.{Fate}
 use Rattle.wire_board.specs.Cuts.{shows_event}
-use Rattle.wire_board.specs.Seats.{BoardIs, SeatIs, place_of, next_of}
-use Rattle.wire_lanes.specs.Lanes.{LaneIs, HasRead}
+use Rattle.wire_board.specs.Seats.{BoardIs, SeatIs, place_of, next_of, ShowsNext}
+use Rattle.wire_lanes.specs.Lanes.{LaneIs, HasRead, IsSource, IsMissing, IsLane}
 use Rattle.wire_lanes.proofs.Trails.{get_set}
 
 pub read_nothing : (lane : LaneIs) → HasRead lane lane
@@ -58,8 +62,70 @@ all_next p (y ∷ ys) zero x at all is = and_from _ _ (subst (λ z. p z ≡ true
 all_next p (y ∷ ys) (suc i) x at all is = and_from _ _ (and_parts (p y) (list_all p (take i ys)) all).0 (all_next p ys i x at (and_parts (p y) (list_all p (take i ys)) all).1 is)
 
 -- the next event is the same
+pub next_same : (old new : LaneIs) → HasRead old new → next_of old.seat ≡ next_of new.seat
+next_same old new r = λ i. record { proc = sym r.rank i; at = sym r.place i }
+
 pub next_still : (old new : LaneIs) (y : Event) → HasRead old new → y ≡ next_of old.seat → y ≡ next_of new.seat
-next_still old new y r is = is ∙ (λ i. record { proc = sym r.rank i; at = sym r.place i })
+next_still old new y r is = is ∙ next_same old new r
 
 pub plan_still : (old new : LaneIs) (settled : Scripts) → HasRead old new → old.seat.board.plan ≡ settled → new.seat.board.plan ≡ settled
 plan_still old new settled r is = ap (λ (b : BoardIs). b.plan) r.board ∙ is
+
+-- and so are its sources
+edge_by : (p q : Scripts) (y z : Event) (x : CodeEvent) → p ≡ q → y ≡ z → Edge (plan_of p) (event_of x) y → Edge (plan_of q) (event_of x) z
+edge_by p q y z x of same edge = subst (λ (t : Scripts × Event). Edge (plan_of t.0) (event_of x) t.1) (λ i. (of i, same i)) edge
+
+pub source_still : (old new : LaneIs) (x : CodeEvent) → HasRead old new → IsSource old x → IsSource new x
+source_still old new x r is = edge_by old.seat.board.plan new.seat.board.plan (next_of old.seat) (next_of new.seat) x (ap (λ (b : BoardIs). b.plan) (sym r.board)) (next_same old new r) is
+
+-- what is noted as missing
+pub missing_still : (settled : Scripts) (old new : LaneIs) (noted : Option CodeEvent) → HasRead old new → IsMissing settled old.seat noted → IsMissing settled new.seat noted
+missing_still settled old new None r is = tt
+missing_still settled old new (Some x) r is = edge_by settled settled (next_of old.seat) (next_of new.seat) x refl (next_same old new r) is
+
+-- the scripts of a lane are those of the plan that it borrows
+pub lane_plan : (board : BoardIs) (settled : Scripts) (lane : LaneIs) (capacity : ℕ) → IsLane board settled lane.seat lane.trail capacity → lane.seat.board.plan ≡ settled
+lane_plan board settled lane capacity kept = ap (λ (b : BoardIs). b.plan) kept.board_is ∙ kept.plan_is
+
+pub noted_is : (settled : Scripts) (lane : LaneIs) (x : CodeEvent) → lane.seat.board.plan ≡ settled → IsSource lane x → IsMissing settled lane.seat (Some x)
+noted_is settled lane x of is = edge_by lane.seat.board.plan settled (next_of lane.seat) (next_of lane.seat) x of refl is
+
+pub source_noted : (settled : Scripts) (lane : LaneIs) (x : CodeEvent) → lane.seat.board.plan ≡ settled → IsMissing settled lane.seat (Some x) → IsSource lane x
+source_noted settled lane x of is = edge_by settled lane.seat.board.plan (next_of lane.seat) (next_of lane.seat) x (sym of) refl is
+
+-- where a source isn't shown, the next event can't happen yet
+pub not_shown : (lane : LaneIs) (x : CodeEvent) → IsSource lane x → shows_event lane.seat.known (event_of x) ≡ false → ¬ (ShowsNext lane.seat)
+not_shown lane x source no_ shown =
+    let y = event_of x in
+    let lt = shown.sources y source in
+    true≢false (sym (lt-ltb y.at (slice_index lane.seat.known y.proc) lt) ∙ no_)
+
+-- The sources of an event, in their three parts
+
+get_after : {A : Type 0} (xs ys : List A) (i : ℕ) (x : A) → slice_get ys i ≡ Some x → (k : ℕ) × (slice_get (xs ++ ys) k ≡ Some x)
+get_after [] ys i x at = (i, at)
+get_after (y ∷ xs) ys i x at = let there = get_after xs ys i x at in (suc there.0, there.1)
+
+pub first_source : (plan : Plan) (y : Event) (previous awaited : Option CodeEvent) (arrivals : List CodeEvent) → AreSources plan y (source_list previous awaited arrivals) → IfSome previous (λ x. Edge plan (event_of x) y)
+first_source plan y None awaited arrivals are = tt
+first_source plan y (Some x) awaited arrivals are = are.only 0 (event_of x) refl
+
+pub awaited_source : (plan : Plan) (y : Event) (previous awaited : Option CodeEvent) (arrivals : List CodeEvent) → AreSources plan y (source_list previous awaited arrivals) → IfSome awaited (λ x. Edge plan (event_of x) y)
+awaited_source plan y previous None arrivals are = tt
+awaited_source plan y previous (Some x) arrivals are = let there = get_after (option_to_list (option_map event_of previous)) (event_of x ∷ map event_of arrivals) 0 (event_of x) refl in are.only there.0 (event_of x) there.1
+
+pub arrival_sources : (plan : Plan) (y : Event) (previous awaited : Option CodeEvent) (arrivals : List CodeEvent) → AreSources plan y (source_list previous awaited arrivals) → (i : ℕ) (x : CodeEvent) → slice_get arrivals i ≡ Some x → Edge plan (event_of x) y
+arrival_sources plan y previous awaited arrivals are i x at =
+    let one = option_to_list (option_map event_of previous) in
+    let two = option_to_list (option_map event_of awaited) in
+    let mapped : slice_get (map event_of arrivals) i ≡ Some (event_of x) = slice_get-map event_of arrivals i ∙ ap (option_map event_of) at in
+    let behind = get_after two (map event_of arrivals) i (event_of x) mapped in
+    let there = get_after one (two ++ map event_of arrivals) behind.0 (event_of x) behind.1 in
+    are.only there.0 (event_of x) there.1
+
+pub some_source : (plan : Scripts) (y : Event) (lane : LaneIs) (o : Option CodeEvent) → plan ≡ lane.seat.board.plan → y ≡ next_of lane.seat → IfSome o (λ x. Edge (plan_of plan) (event_of x) y) → IfSome o (IsSource lane)
+some_source plan y lane None of same is = tt
+some_source plan y lane (Some x) of same is = edge_by plan lane.seat.board.plan y (next_of lane.seat) x of same is
+
+pub one_source : (plan : Scripts) (y : Event) (lane : LaneIs) (x : CodeEvent) → plan ≡ lane.seat.board.plan → y ≡ next_of lane.seat → Edge (plan_of plan) (event_of x) y → IsSource lane x
+one_source plan y lane x of same is = edge_by plan lane.seat.board.plan y (next_of lane.seat) x of same is

@@ -9,7 +9,7 @@ ghost use Rattle.wire_races.specs.Fates.{IsFateOf};
 ghost use Rattle.wire_plan.specs.Index.{source_list};
 ghost use Rattle.wire_board.specs.Cuts.{shows_event};
 ghost use Rattle.wire_board.specs.Seats.{place_of, next_of, ShowsNext};
-ghost use Rattle.wire_lanes.specs.Lanes.{AreFates, IsTrail, Grows, HasRead, SameLane};
+ghost use Rattle.wire_lanes.specs.Lanes.{AreFates, IsTrail, Grows, HasRead, IsSource, AreSourcesOf, SameLane};
 
 use std::alloc::Global;
 use std::marker::Model;
@@ -26,17 +26,19 @@ pub struct Lane<'a> {
     settled: &'a Settled,
     seat: Seat,
     trail: Vec<Fate>,
+    /// A source of the next event that wasn't done when its word was last read, if one was met.
+    missing: Option<Event>,
 }
 
 impl<'a> Model for Lane<'a> {
     ghost use Rattle.std.specs.Prelude.{vec_capacity};
-    ghost use Rattle.wire_lanes.specs.Lanes.{LaneIs, IsLane};
+    ghost use Rattle.wire_lanes.specs.Lanes.{LaneIs, IsLane, IsMissing};
 
     ghost Value = { LaneIs };
 
     ghost view = { λ l. record { seat = l.seat; trail = l.trail.items } };
 
-    ghost invariant = { λ l. IsLane l.board.now l.settled.now l.seat l.trail.items (vec_capacity l.trail) };
+    ghost invariant = { λ l. IsLane l.board.now l.settled.now l.seat l.trail.items (vec_capacity l.trail) × IsMissing l.settled.now l.seat l.missing };
 }
 
 impl<'a> Lane<'a> {
@@ -61,6 +63,7 @@ impl<'a> Lane<'a> {
             settled,
             seat,
             trail,
+            missing: None,
         })
     }
 
@@ -79,42 +82,49 @@ impl<'a> Lane<'a> {
         self.trail.as_slice()
     }
 
-    // Whether the seat knows that an event is done. Where it doesn't, it reads the word of the event's process
-    // afresh first.
-    fn finds(&mut self, event: Event) -> bool
+    // Whether the seat knows that a source of the next event is done. Where it doesn't, it reads the word of the source's
+    // process afresh first.
+    fn finds(&mut self, source: Event) -> bool
+        requires { IsSource self.old source }
         ensures read { HasRead self.old self.new }
-        ensures found { result ≡ shows_event self.new.seat.known (event_of event) }
+        ensures found { result ≡ shows_event self.new.seat.known (event_of source) }
     {
         let board = self.board;
         let settled = self.settled;
-        if self.seat.knows(event) {
+        if self.seat.knows(source) {
             return true;
         }
-        if event.proc.number >= settled.plan().process_count() {
+        if source.proc.number >= settled.plan().process_count() {
             return false;
         }
-        let _ = board.read(&mut self.seat, event.proc);
-        self.seat.knows(event)
+        let _ = board.read(&mut self.seat, source.proc);
+        let found = self.seat.knows(source);
+        if !found {
+            self.missing = Some(source);
+        }
+        found
     }
 
-    // The same of an event that needn't be there.
-    fn finds_awaited(&mut self, event: Option<Event>) -> bool
+    // The same of a source that needn't be there.
+    fn finds_awaited(&mut self, source: Option<Event>) -> bool
+        requires { IfSome source (IsSource self.old) }
         ensures read { HasRead self.old self.new }
-        ensures found { result ≡ list_all (shows_event self.new.seat.known) (option_to_list (option_map event_of event)) }
+        ensures found { result ≡ list_all (shows_event self.new.seat.known) (option_to_list (option_map event_of source)) }
     {
-        match event {
-            Some(event) => self.finds(event),
+        match source {
+            Some(source) => self.finds(source),
             None => true,
         }
     }
 
-    // The same of each of these events. It stops at the first that isn't done.
-    fn finds_each(&mut self, events: &[Event]) -> bool
+    // The same of each of these sources. It stops at the first that isn't done.
+    fn finds_each(&mut self, sources: &[Event]) -> bool
+        requires { AreSourcesOf self.old sources.now }
         ensures read { HasRead self.old self.new }
-        ensures found { result ≡ list_all (λ event. shows_event self.new.seat.known (event_of event)) events.now }
+        ensures found { result ≡ list_all (λ event. shows_event self.new.seat.known (event_of event)) sources.now }
     {
-        for event in events {
-            if !self.finds(*event) {
+        for source in sources {
+            if !self.finds(*source) {
                 return false;
             }
         }
@@ -123,6 +133,9 @@ impl<'a> Lane<'a> {
 
     // The same of all these sources. That of its own process is known by the seat's place.
     fn finds_all(&mut self, sources: Sources<'_>) -> bool
+        requires previous { IfSome sources.previous (IsSource self.old) }
+        requires awaited { IfSome sources.awaited (IsSource self.old) }
+        requires arrivals { AreSourcesOf self.old sources.arrivals.now }
         ensures read { HasRead self.old self.new }
         ensures found { result ≡ list_all (shows_event self.new.seat.known) (source_list sources.entry.previous sources.entry.awaited sources.entry.arrivals.now) }
     {
@@ -135,9 +148,32 @@ impl<'a> Lane<'a> {
         self.finds_each(sources.arrivals)
     }
 
+    // Whether the source that was missing last is still missing, after a fresh read.
+    fn is_missing(&mut self) -> bool
+        ensures read { HasRead self.old self.new }
+        ensures missing { IsTrue result → ¬ (ShowsNext self.new.seat) }
+    {
+        match self.missing {
+            Some(source) => !self.finds(source),
+            None => false,
+        }
+    }
+
     // The fate of the next event, where the seat shows that it can happen after it read afresh the words of sources that
     // it didn't know to be done; else `None`.
     fn next_fate(&mut self) -> Option<Fate>
+        ensures read { HasRead self.old self.new }
+        ensures ready { (result ≢ None) ↔ ShowsNext self.new.seat }
+        ensures fate { IfSome result (λ fate. IsFateOf (plan_of self.new.seat.board.plan) (next_of self.new.seat) fate × (fate ≢ Fate.Waits)) }
+    {
+        if self.is_missing() {
+            return None;
+        }
+        self.look_at_all()
+    }
+
+    // The same, whatever was missing before.
+    fn look_at_all(&mut self) -> Option<Fate>
         ensures read { HasRead self.old self.new }
         ensures ready { (result ≢ None) ↔ ShowsNext self.new.seat }
         ensures fate { IfSome result (λ fate. IsFateOf (plan_of self.new.seat.board.plan) (next_of self.new.seat) fate × (fate ≢ Fate.Waits)) }
@@ -173,6 +209,7 @@ impl<'a> Lane<'a> {
         let settled = self.settled;
         board.advance(&mut self.seat, settled);
         self.trail.push_reserved(fate);
+        self.missing = None;
     }
 
     /// Serves the rank as far as it goes: reads afresh the sources of the next event that aren't known to be
@@ -212,6 +249,7 @@ impl<'a> Lane<'a> {
             settled: _,
             seat,
             trail,
+            missing: _,
         } = self;
         if seat.rank() != rank {
             return None;

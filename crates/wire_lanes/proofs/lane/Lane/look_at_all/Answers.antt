@@ -9,8 +9,8 @@ use Rattle.wire_races.specs.Fates.{IsFateOf}
 use Rattle.wire_board.specs.Seats.{BoardIs, place_of, hold_of, next_of}
 use Rattle.wire_board.proofs.Showing.{sources_shown, shown_sources, shown_from}
 use Rattle.wire_lanes.specs.Lanes.{LaneIs}
-use Rattle.wire_lanes.proofs.Looking.{next_still, plan_still}
-use Rattle.wire_lanes.proofs.lane.Lane.next_fate.Goals as goal
+use Rattle.wire_lanes.proofs.Looking.{next_still, plan_still, first_source, awaited_source, arrival_sources, some_source, one_source}
+use Rattle.wire_lanes.proofs.lane.Lane.look_at_all.Goals as goal
 
 something : {A : Type 0} (x : A) → ◌≡◌ {A = Option A} (Some x) None → ⊥
 something x e = cc
@@ -18,7 +18,7 @@ something x e = cc
 pub returns-then-not-finds_all-clause-ready : goal.returns-then-not-finds_all-clause-ready
 returns-then-not-finds_all-clause-ready c =
     let lane = c.self.inside in
-    let kept = c.self.invariant in
+    let kept = c.self.invariant.0 in
     let old = c.args.self.now in
     let new = c.finds_all.new.self in
     let plan = c.plan-plan.result.now in
@@ -34,7 +34,7 @@ returns-then-not-finds_all-clause-ready c =
 pub returns-in_default : goal.returns-in_default
 returns-in_default c =
     let lane = c.self.inside in
-    let kept = c.self.invariant in
+    let kept = c.self.invariant.0 in
     let old = c.args.self.now in
     let new = c.finds_all.new.self in
     let plan = c.plan-plan.result.now in
@@ -52,4 +52,25 @@ returns-in_default c =
       read = c.finds_all.ensures.read;
       ready = (λ _. shown_from new.seat.board.plan plan (hold_of new.seat) event (of ∙ sym c.plan-plan.ensures.same) is there sources comes, λ _. something c.fate.result);
       fate = (subst (λ (t : Scripts × Event). IsFateOf (plan_of t.0) t.1 c.fate.result) (λ i. (sym of i, is i)) c.fate.ensures.fate, c.in_default.not-Waits);
+    }
+
+pub finds_all-requires : goal.finds_all-requires
+finds_all-requires c =
+    let lane = c.self.inside in
+    let kept = c.self.invariant.0 in
+    let old = c.args.self.now in
+    let view = c.self.view_is in
+    let plan = c.plan-plan.result.now in
+    let found = c.sources.result in
+    let own = ap (λ (l : LaneIs). l.seat.board.plan) (sym view) ∙ (ap (λ (b : BoardIs). b.plan) kept.board_is ∙ kept.plan_is) in
+    let of : plan ≡ old.seat.board.plan = c.plan-plan.ensures.same ∙ sym own in
+    let rank = ap (λ (p : Proc). p.number) c.rank-proc.ensures.value ∙ ap (λ (l : LaneIs). l.seat.rank) view in
+    let place = c.len-done.ensures ∙ (lane.trail.ok.0 ∙ kept.as_long ∙ ap (λ (l : LaneIs). place_of l.seat) view) in
+    let event : Event = record { proc = c.rank-proc.result.number; at = c.len-done.result } in
+    let is : event ≡ next_of old.seat = λ i. record { proc = rank i; at = place i } in
+    let are = c.sources.ensures.sources in
+    record {
+      previous = some_source plan event old found.previous of is (first_source (plan_of plan) event found.previous found.awaited found.arrivals.now are);
+      awaited = some_source plan event old found.awaited of is (awaited_source (plan_of plan) event found.previous found.awaited found.arrivals.now are);
+      arrivals = λ i x at. one_source plan event old x of is (arrival_sources (plan_of plan) event found.previous found.awaited found.arrivals.now are i x at);
     }
