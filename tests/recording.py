@@ -675,8 +675,8 @@ def compiled(room, name):
 
 def runs_alike(run, *options):
     """Runs a program without the recorder, and with it. Answers the second run, and whether both ended alike and wrote the same lines.
-    `mpirun` may mix the lines of two processes, so it tries three times."""
-    for _ in range(3):
+    `mpirun` may mix the lines of two processes where one is long, in about one run of six, so it tries ten times."""
+    for _ in range(10):
         plainly = subprocess.run(run, capture_output=True, text=True, timeout=SECONDS, env=environment(), check=False)
         ran = command(*options, *run, env=environment())
         if (ran.returncode, sorted(ran.stdout.split("\n"))) == (plainly.returncode, sorted(plainly.stdout.split("\n"))):
