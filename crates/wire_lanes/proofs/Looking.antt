@@ -1,9 +1,9 @@
 -- What a lane's seat shows once it has read words.
-use Rattle.std.proofs.Common.{◌≡◌, ◌∙◌, ap, sym, refl, subst, ℕ, zero, suc, ◌≤◌, List, [], ◌∷◌, ◌++◌, Bool, true, false, Option, Some, None, IfSome, get_or, set, take, map, arith, lt-ltb, ltb-true}
+use Rattle.std.proofs.Common.{◌≡◌, ◌∙◌, ap, sym, refl, subst, ℕ, zero, suc, ◌≤◌, List, [], ◌∷◌, ◌++◌, Bool, true, false, Option, Some, None, IfSome, get_or, set, map, length, arith, lt-ltb, ltb-true}
 use Rattle.std.specs.Prelude.{slice_get, slice_index, slice_set, option_map, option_to_list}
 use Rattle.std.specs.List.{list_all}
 use Rattle.std.proofs.lemmas.Bool.{and_parts, and_from, true≢false}
-use Rattle.std.proofs.lemmas.Option.{none-some, same_Some, slice_get-map}
+use Rattle.std.proofs.lemmas.Option.{slice_get-map}
 use Rattle.wire_types.specs.declared.Event.{Event as CodeEvent}
 use Rattle.wire_runs.specs.Plan.{Plan, Event, event_of}
 use Rattle.wire_runs.specs.Order.{Edge}
@@ -14,7 +14,7 @@ use Rattle.wire_races.specs.declared.Fate.{Fate}
 use Rattle.wire_board.specs.Cuts.{shows_event}
 use Rattle.wire_board.specs.Seats.{BoardIs, SeatIs, place_of, next_of, ShowsNext}
 use Rattle.wire_lanes.specs.Lanes.{LaneIs, HasRead, IsSource, IsMissing, IsLane}
-use Rattle.wire_lanes.proofs.Trails.{get_set}
+use Rattle.wire_lanes.proofs.Trails.{get_set, kept_reading}
 
 pub read_nothing : (lane : LaneIs) → HasRead lane lane
 read_nothing lane = record { board = refl; rank = refl; trail = refl; place = refl; rises = λ k. omega arith }
@@ -56,11 +56,6 @@ pub all_still : {A : Type 0} (p q : A → Bool) (xs : List A) → ((x : A) → p
 all_still p q [] each all = refl
 all_still p q (x ∷ xs) each all = and_from _ _ (each x (and_parts _ _ all).0) (all_still p q xs each (and_parts _ _ all).1)
 
-pub all_next : {A : Type 0} (p : A → Bool) (xs : List A) (i : ℕ) (x : A) → slice_get xs i ≡ Some x → list_all p (take i xs) ≡ true → p x ≡ true → list_all p (take (suc i) xs) ≡ true
-all_next p [] i x at all is = absurd (none-some x at)
-all_next p (y ∷ ys) zero x at all is = and_from _ _ (subst (λ z. p z ≡ true) (sym (same_Some y x at)) is) refl
-all_next p (y ∷ ys) (suc i) x at all is = and_from _ _ (and_parts (p y) (list_all p (take i ys)) all).0 (all_next p ys i x at (and_parts (p y) (list_all p (take i ys)) all).1 is)
-
 -- the next event is the same
 pub next_same : (old new : LaneIs) → HasRead old new → next_of old.seat ≡ next_of new.seat
 next_same old new r = λ i. record { proc = sym r.rank i; at = sym r.place i }
@@ -92,6 +87,20 @@ noted_is settled lane x of is = edge_by lane.seat.board.plan settled (next_of la
 
 pub source_noted : (settled : Scripts) (lane : LaneIs) (x : CodeEvent) → lane.seat.board.plan ≡ settled → IsMissing settled lane.seat (Some x) → IsSource lane x
 source_noted settled lane x of is = edge_by settled lane.seat.board.plan (next_of lane.seat) (next_of lane.seat) x (sym of) refl is
+
+-- what the type of a lane keeps, where its seat reads a word
+pub kept_looking : (board : BoardIs) (settled : Scripts) (seat new : SeatIs) (k n : ℕ) (trail : List Fate) (capacity : ℕ) (noted : Option CodeEvent) → IsLane board settled seat trail capacity → IsMissing settled seat noted → new ≡ record { board = seat.board; rank = seat.rank; known = slice_set seat.known k n } → slice_index seat.known k ≤ n → (k ≡ seat.rank → n ≡ place_of seat) → IsLane board settled new trail capacity × IsMissing settled new noted
+kept_looking board settled seat new k n trail capacity noted kept missing is rises own = (
+  kept_reading board settled seat new k n trail capacity kept is own,
+  missing_still settled (record { seat = seat; trail = trail }) (record { seat = new; trail = trail }) noted (read_word seat new trail k n is rises own) missing,
+)
+
+-- the scripts of a lane whose seat has read, and the next event of its rank
+pub next_told : (board : BoardIs) (settled : Scripts) (inside now new : LaneIs) (capacity : ℕ) (y : Event) → IsLane board settled inside.seat inside.trail capacity → inside ≡ now → HasRead now new → y.proc ≡ inside.seat.rank → y.at ≡ length inside.trail → (new.seat.board.plan ≡ settled) × (y ≡ next_of new.seat)
+next_told board settled inside now new capacity y kept view read here long = (
+  plan_still now new settled read (subst (λ (l : LaneIs). l.seat.board.plan ≡ settled) view (lane_plan board settled inside capacity kept)),
+  next_still now new y read (subst (λ (l : LaneIs). y ≡ next_of l.seat) view (λ i. record { proc = here i; at = (long ∙ kept.as_long) i })),
+)
 
 -- where a source isn't shown, the next event can't happen yet
 pub not_shown : (lane : LaneIs) (x : CodeEvent) → IsSource lane x → shows_event lane.seat.known (event_of x) ≡ false → ¬ (ShowsNext lane.seat)
