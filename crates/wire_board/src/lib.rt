@@ -1,6 +1,6 @@
-//! The board of a run by threads without locks: one word for each process, the number of its events that
-//! are done. Each word is moved by one seat alone, and the words are at every moment the cut of a state
-//! that a run can come to.
+//! The board of a run by threads: one word for each process, the number of its events that are done. No
+//! call waits for a lock. Each word is moved by one seat alone, and the words are at every moment the cut
+//! of a state that a run can come to.
 #![tactic(auto)]
 
 mod board;

@@ -1,16 +1,14 @@
 //! Seats: what the owner of a rank knows of the words.
 
-ghost use Rattle.std.specs.Prelude.{◌≡◌, ◌≢◌, ◌↔◌, ◌<◌, None, IfSome, IsTrue};
+ghost use Rattle.std.specs.Prelude.{◌≡◌, ◌↔◌, ◌<◌, IsTrue};
 ghost use Rattle.wire_runs.specs.Plan.{event_of};
-ghost use Rattle.wire_rehearsal.specs.Planned.{plan_of};
-ghost use Rattle.wire_races.specs.Fates.{IsFateOf};
 ghost use Rattle.wire_board.specs.Cuts.{procs_of, shows_event};
-ghost use Rattle.wire_board.specs.Seats.{SeatIs, place_of, next_of, ShowsNext};
+ghost use Rattle.wire_board.specs.Seats.{SeatIs, place_of, ShowsNext};
 
 use crate::hold::Token;
 use crate::shown::{shown_fate, shows_event};
 use std::marker::Model;
-use wire_races::{Fate, Settled};
+use wire_races::Settled;
 use wire_types::{Event, Proc};
 
 /// The owner of one rank: it alone moves the word of that rank. It knows a position of each process: a
@@ -58,18 +56,6 @@ impl Seat {
         shows_event(self.known.as_slice(), event)
     }
 
-    /// The fate of the next event of its rank, where that event can happen: there is one, the positions
-    /// that the seat knows show all its sources, and its fate isn't `Waits`. Else `None`. It takes no
-    /// memory, and looks at each source once. The caller ensures that the seat's board was made of this
-    /// settled plan.
-    pub fn next_fate(&self, settled: &Settled) -> Option<Fate>
-        requires { self.now.board.plan ≡ settled.now }
-        ensures ready { (result ≢ None) ↔ ShowsNext self.now }
-        ensures fate { IfSome result (λ fate. IsFateOf (plan_of settled.now) (next_of self.now) fate × (fate ≢ Fate.Waits)) }
-    {
-        shown_fate(settled, self.known.as_slice(), self.rank)
-    }
-
     /// Whether the next event of its rank can happen: there is one, its fate isn't `Waits`, and the
     /// positions that the seat knows show all its sources. It takes no memory, and looks at each source
     /// once. The caller ensures that the seat's board was made of this settled plan.
@@ -77,6 +63,6 @@ impl Seat {
         requires { self.now.board.plan ≡ settled.now }
         ensures { IsTrue result ↔ ShowsNext self.now }
     {
-        self.next_fate(settled).is_some()
+        shown_fate(settled, self.known.as_slice(), self.rank).is_some()
     }
 }

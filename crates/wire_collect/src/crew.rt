@@ -5,58 +5,7 @@ ghost use Rattle.wire_sched.specs.declared.round.Round.{Round};
 ghost use Rattle.wire_sched.specs.Rounds.{IsPassOf, worker_of};
 
 use std::sync::Wait;
-use wire_locked::LockedCore;
-use wire_sched::{Gate, Lanes, Pass, Round, work, work_locked};
-use wire_types::Proc;
-
-/// What workers serve processes of: a core under one lock, or the lanes of a board, each under its own.
-pub(crate) trait Serves {
-    /// Waits for the lock, and then serves a process as far as it goes. Answers how many events that were.
-    fn serve_far<R: Wait>(&self, rt: &R, proc: Proc) -> usize;
-
-    /// Serves pieces of a round, and calls the gate before each. Answers how many events that were.
-    fn serve_pieces<R: Wait, G: Gate>(
-        &self,
-        rt: &R,
-        round: &Round,
-        pass: &mut Pass,
-        gate: &G,
-    ) -> usize
-        requires { IsPassOf round.now pass.old }
-        ensures { IsPassOf round.now pass.new × (worker_of pass.new ≡ worker_of pass.old) };
-}
-
-impl<'a> Serves for LockedCore<'a> {
-    fn serve_far<R: Wait>(&self, rt: &R, proc: Proc) -> usize {
-        self.serve(rt, proc)
-    }
-
-    fn serve_pieces<R: Wait, G: Gate>(
-        &self,
-        rt: &R,
-        round: &Round,
-        pass: &mut Pass,
-        gate: &G,
-    ) -> usize {
-        work_locked(rt, self, round, pass, gate)
-    }
-}
-
-impl<'a> Serves for Lanes<'a> {
-    fn serve_far<R: Wait>(&self, rt: &R, proc: Proc) -> usize {
-        self.serve(rt, proc)
-    }
-
-    fn serve_pieces<R: Wait, G: Gate>(
-        &self,
-        rt: &R,
-        round: &Round,
-        pass: &mut Pass,
-        gate: &G,
-    ) -> usize {
-        work(rt, self, round, pass, gate)
-    }
-}
+use wire_sched::{Gate, Pass, Round, Serves, serve_pieces};
 
 /// What a worker can do in a round.
 pub(crate) trait Works {
@@ -89,6 +38,6 @@ impl<'r, S: Serves, G: Gate> Works for Crew<'r, S, G> {
     }
 
     fn work<R: Wait>(&self, rt: &R, pass: &mut Pass) -> usize {
-        self.served.serve_pieces(rt, self.round, pass, self.gate)
+        serve_pieces(rt, self.served, self.round, pass, self.gate)
     }
 }

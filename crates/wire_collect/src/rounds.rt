@@ -3,11 +3,11 @@
 ghost use Rattle.std.specs.Prelude.{◌<◌};
 ghost use Rattle.wire_sched.specs.Rounds.{ArePassesOf};
 
-use crate::crew::{Crew, Serves};
+use crate::crew::Crew;
 use crate::threads::run_round;
 use std::sync::Wait;
 use std::thread::Threads;
-use wire_sched::{Gate, Pass, Piece, Round};
+use wire_sched::{Gate, Pass, Piece, Round, Serves};
 
 // Serves the pieces that no worker took. Answers how many events that were.
 fn serve_left<R: Wait, S: Serves, G: Gate>(

@@ -77,9 +77,13 @@ delivered_done plan cut p node key (suc n) late = step (delivered_done plan cut 
           ∙ before ge
     ]
 
-and_none : (b : Bool) → (b && false) ≡ false
+pub and_none : (b : Bool) → (b && false) ≡ false
 and_none true = refl
 and_none false = refl
+
+pub and_all : (b : Bool) → (b && true) ≡ b
+and_all true = refl
+and_all false = refl
 
 -- an arrival at a fence that doesn't collect, or doesn't reach the node, brings nothing to it in any cut
 pub may_not : (s : Scripts) (table : FenceTable) (p at number node : ℕ) (members : List ℕ) (collect : Bool) → AreFencesOf s table → kind_at (plan_of s) p at ≡ Some (Arrive members collect) → IsMet s table (record { proc = p; at = at }) number → (collects_in (fence_at table number) && reaches_in table node (fence_at table number)) ≡ false → (cut : ℕ → ℕ) → brings_at (plan_of s) cut p node at ≡ false

@@ -64,7 +64,13 @@ pub(crate) fn brings(
     match plan.kind(event) {
         Kind::Arrive { .. } => {
             let fence = fence_of(plan, fences, event);
-            arrivals.complete(fence) && fences.collects(fence) && fences.reaches(fence, node)
+            if !arrivals.complete(fence) {
+                return false;
+            }
+            if !fences.reaches(fence, node) {
+                return false;
+            }
+            fences.collects(fence)
         }
         _ => false,
     }

@@ -1,6 +1,7 @@
 pub mod Calls
 pub mod Told
 pub mod Adding
+pub mod Packing
 pub mod Ordered
 pub mod AllKinds
 pub mod Growing

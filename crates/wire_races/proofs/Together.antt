@@ -24,38 +24,38 @@ use Rattle.wire_races.proofs.Gathered.{gathered}
 use Rattle.wire_races.proofs.Deliveries.{race_within, race_below, race_told, race_by}
 
 -- what is added to nothing is a piece
-pub piece_of : (plan : Plan) (those : Finding → Type 0) (old new : List Told) (piece : Vec Told Global) → old ≡ [] → Adds plan old new those → piece.items ≡ new → IsPiece plan those piece
-piece_of plan those old new piece empty h is = record {
-  found = subst (λ l. AreFound plan l) (sym is) h.found;
+pub piece_of : (plan : Plan) (those : Finding → Type 0) (old new : List Told) → old ≡ [] → Adds plan old new those → IsPiece plan those new
+piece_of plan those old new empty h = record {
+  found = h.found;
   told = λ f. (
-    (λ t. elim (h.only f (subst (λ l. Tells plan l f) is t)) [
+    (λ t. elim (h.only f t) [
       | inl was ↦ absurd (subst (λ l. Tells plan l f) empty was)
       | inr it ↦ it
     ]),
-    (λ t. subst (λ l. Tells plan l f) (sym is) (h.all f t)),
+    (λ t. h.all f t),
   );
 }
 
 -- one piece more
-pub some_more : (plan : Plan) (done : List (Vec Told Global)) (piece : Vec Told Global) (old now new : List Told) → Adds plan old now (IsInSome plan done) → Adds plan now new (Tells plan piece.items) → Adds plan old new (IsInSome plan (done ++ piece ∷ []))
+pub some_more : (plan : Plan) (done : List (List Told)) (piece : List Told) (old now new : List Told) → Adds plan old now (IsInSome plan done) → Adds plan now new (Tells plan piece) → Adds plan old new (IsInSome plan (done ++ piece ∷ []))
 some_more plan done piece old now new =
-    adds_both plan old now new (IsInSome plan done) (Tells plan piece.items) (IsInSome plan (done ++ piece ∷ []))
+    adds_both plan old now new (IsInSome plan done) (Tells plan piece) (IsInSome plan (done ++ piece ∷ []))
     (λ f t. (t.0, t.1, in_front done piece t.0 t.1 t.2, t.3))
     (λ f t. (length done, piece, at_end done piece, t))
     (λ f t. elim (in_either done piece t.0 t.1 t.2) [
       | inl there ↦ inl (t.0, t.1, there, t.3)
-      | inr last ↦ inr (subst (λ (p : Vec Told Global). Tells plan p.items f) (sym last.1) t.3)
+      | inr last ↦ inr (subst (λ (p : List Told). Tells plan p f) (sym last.1) t.3)
     ])
 
 -- none at all
 pub none_more : (plan : Plan) (found : List Told) → AreFound plan found → Adds plan found found (IsInSome plan [])
-none_more plan found are = adds_none plan found (IsInSome plan []) are (λ f t. let lt = slice_get_within {A = Vec Told Global} [] t.0 t.1 t.2 in omega (arith, lt))
+none_more plan found are = adds_none plan found (IsInSome plan []) are (λ f t. let lt = slice_get_within {A = List Told} [] t.0 t.1 t.2 in omega (arith, lt))
 
-pub all_found : (plan : Plan) (n : ℕ) (those : ℕ → Finding → Type 0) (pieces : List (Vec Told Global)) → ArePieces plan n those pieces → AreAllFound plan pieces
+pub all_found : (plan : Plan) (n : ℕ) (those : ℕ → Finding → Type 0) (pieces : List (List Told)) → ArePieces plan n those pieces → AreAllFound plan pieces
 all_found plan n those pieces are = λ k piece is. (are.each k piece is).found
 
 -- the pieces tell all findings of a kind
-pub pieces_added : (plan : Plan) (n : ℕ) (those : ℕ → Finding → Type 0) (kind : Finding → Type 0) (pieces : List (Vec Told Global)) (old new : List Told)
+pub pieces_added : (plan : Plan) (n : ℕ) (those : ℕ → Finding → Type 0) (kind : Finding → Type 0) (pieces : List (List Told)) (old new : List Told)
     → ((k : ℕ) (f : Finding) → those k f → OfKind plan kind f)
     → ((f : Finding) → OfKind plan kind f → (k : ℕ) × (k < n) × those k f)
     → ArePieces plan n those pieces → Adds plan old new (IsInSome plan pieces) → AllAdded plan kind old new
@@ -74,7 +74,7 @@ pieces_added plan n those kind pieces old new there back are h =
     h)
 
 -- the pieces of the processes tell all races on keys
-pub key_pieces_added : (plan : Plan) (pieces : List (Vec Told Global)) (old new : List Told) → ArePieces plan (process_count plan) (IsKeyRaceOf plan) pieces → Adds plan old new (IsInSome plan pieces) → AllAdded plan IsOfKey old new
+pub key_pieces_added : (plan : Plan) (pieces : List (List Told)) (old new : List Told) → ArePieces plan (process_count plan) (IsKeyRaceOf plan) pieces → Adds plan old new (IsInSome plan pieces) → AllAdded plan IsOfKey old new
 key_pieces_added plan pieces old new =
     pieces_added plan (process_count plan) (IsKeyRaceOf plan) IsOfKey pieces old new
     (λ k f t. race_told plan t.0 f t.1)
@@ -83,7 +83,7 @@ key_pieces_added plan pieces old new =
     (by.0.proc, race_below plan by.0 f by.1, (by.0, by.1, refl, race_within plan by.0 f by.1)))
 
 -- the pieces of the names tell all races on names
-pub name_pieces_added : (s : Scripts) → IsSound s → (pieces : List (Vec Told Global)) (old new : List Told) → ArePieces (plan_of s) (length s.names) (IsRaceOn (plan_of s)) pieces → Adds (plan_of s) old new (IsInSome (plan_of s) pieces) → AllAdded (plan_of s) IsOfName old new
+pub name_pieces_added : (s : Scripts) → IsSound s → (pieces : List (List Told)) (old new : List Told) → ArePieces (plan_of s) (length s.names) (IsRaceOn (plan_of s)) pieces → Adds (plan_of s) old new (IsInSome (plan_of s) pieces) → AllAdded (plan_of s) IsOfName old new
 name_pieces_added s sound pieces old new =
     let plan = plan_of s in
     pieces_added plan (length s.names) (IsRaceOn plan) IsOfName pieces old new
@@ -93,14 +93,14 @@ name_pieces_added s sound pieces old new =
     (w.0, named_within s w.0 w.1.x sound (low_calls plan w.1.x w.1.y w.0 (subst (IsFound plan) w.1.is w.1.found)), w.1))
 
 module _ (plan : Plan) (n : ℕ) (those : ℕ → Finding → Type 0) where
-  as_pieces : (r : Result (Vec (Vec Told Global) Global) AllocError)
-      → IfOk r (λ v. (length v.items ≡ n) × ((k : ℕ) (piece : Vec Told Global) → slice_get v.items k ≡ Some piece → IsPiece plan (those k) piece))
+  as_pieces : (r : Result (Vec (List Told) Global) AllocError)
+      → IfOk r (λ v. (length v.items ≡ n) × ((k : ℕ) (piece : List Told) → slice_get v.items k ≡ Some piece → IsPiece plan (those k) piece))
       → IfOk r (λ v. ArePieces plan n those v.items)
   as_pieces (Err e) h = tt
   as_pieces (Ok v) h = record { count = h.0; each = h.1 }
 
   -- what the threads give, whatever pieces they took, where no call failed
-  pub are_pieces : (r : Result (Vec (Vec Told Global) Global) AllocError) (xs : List (Result (Vec Told Global) AllocError)) → AllZip (λ k x. IfOk x (IsPiece plan (those k))) (range_with_len 0 n) xs
-      → MatchResult r (λ v. (ys : List (Vec Told Global)) × (xs ≡ map Ok ys) × (v.items ≡ ys)) (λ e. Contains xs (Err e))
+  pub are_pieces : (r : Result (Vec (List Told) Global) AllocError) (xs : List (Result (List Told) AllocError)) → AllZip (λ k x. IfOk x (IsPiece plan (those k))) (range_with_len 0 n) xs
+      → MatchResult r (λ v. (ys : List (List Told)) × (xs ≡ map Ok ys) × (v.items ≡ ys)) (λ e. Contains xs (Err e))
       → IfOk r (λ v. ArePieces plan n those v.items)
   are_pieces r xs h m = as_pieces r (gathered AllocError (λ k. IsPiece plan (those k)) n r xs h m)

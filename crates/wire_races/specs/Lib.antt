@@ -1,5 +1,6 @@
 pub mod Findings
 pub mod Collected
+pub mod Packing
 pub mod Standings
 pub mod FindingKinds
 pub mod Adding

@@ -1,15 +1,18 @@
 //! The findings so far, and the list that they come to.
 
-ghost use Rattle.std.specs.Prelude.{◌≡◌, ◌↔◌, ◌++◌, ℕ, Bool, [], OnOk};
+ghost use Rattle.std.specs.Prelude.{◌≡◌, ◌↔◌, ◌++◌, ◌∷◌, ℕ, Bool, [], OnOk};
 ghost use Rattle.std.specs.Ordering.{eq_by_cmp};
 ghost use Rattle.wire_runs.specs.Plan as runs;
 ghost use Rattle.wire_runs.specs.Findings as told;
 ghost use Rattle.wire_runs.specs.Findings.{IsSorted};
 ghost use Rattle.wire_races.specs.Findings.{shown, all_shown};
 ghost use Rattle.wire_races.specs.Collected.{Tells, AreFound, IsAdded};
-ghost use Rattle.wire_races.specs.Standings.{standing, standing_cmp};
+ghost use Rattle.wire_races.specs.Packing.{all_told_by};
+ghost use Rattle.wire_races.specs.Standings.{entry_standing, standing_cmp};
 
+use crate::compact::FindingList;
 use crate::finding::Finding;
+use crate::packed::{Packed, Subject, pack, unpack};
 use std::alloc::{AllocError, Global};
 use std::cmp::Ordering;
 use std::marker::Model;
@@ -24,49 +27,41 @@ struct Standing {
     then: CallAt,
 }
 
-// The standing of a finding.
-fn standing_of(finding: &Finding) -> Standing
-    ensures { result ≡ standing finding.now }
+// The standing of the finding that an entry stands for.
+fn standing_of(entry: &Packed) -> Standing
+    ensures { result ≡ entry_standing entry.now }
 {
-    match finding {
-        Finding::Rewrite(first, later) => Standing {
-            is_race: false,
-            by: *later,
-            then: *first,
-        },
-        Finding::KeyRace(lower, higher, _, _) => Standing {
-            is_race: true,
-            by: *lower,
-            then: *higher,
-        },
-        Finding::NameRace(lower, higher, _) => Standing {
-            is_race: true,
-            by: *lower,
-            then: *higher,
-        },
+    Standing {
+        is_race: entry.subject != 0,
+        by: entry.by,
+        then: entry.then,
     }
 }
 
 // Whether two findings have one standing.
-fn is_same_standing(x: &Finding, y: &Finding) -> bool
-    ensures { result ≡ eq_by_cmp standing_cmp (standing x.now) (standing y.now) }
+fn is_same_standing(x: &Packed, y: &Packed) -> bool
+    ensures { result ≡ eq_by_cmp standing_cmp (entry_standing x.now) (entry_standing y.now) }
 {
     standing_of(x).cmp(&standing_of(y)) == Ordering::Equal
 }
 
-/// Findings as they are met, in any order. One that is met twice stands there twice.
+/// Findings as they are met, in any order, in few bytes. One that is met twice stands there twice.
 #[derive(Drop)]
 pub(crate) struct Found {
-    list: Vec<Finding>,
+    entries: Vec<Packed>,
+    subjects: Vec<Subject>,
 }
 
 impl Model for Found {
     ghost use Rattle.std.specs.Prelude.{List};
     ghost use Rattle.wire_races.specs.declared.finding.Finding.{Finding as Told};
+    ghost use Rattle.wire_races.specs.Packing.{all_told_by, AreWithin};
 
     ghost Value = { List Told };
 
-    ghost view = { λ f. f.list.items };
+    ghost view = { λ f. all_told_by f.subjects.items f.entries.items };
+
+    ghost invariant = { λ f. AreWithin f.subjects.items f.entries.items };
 }
 
 impl Found {
@@ -75,45 +70,56 @@ impl Found {
         ensures { result ≡ [] }
     {
         Found {
-            list: Vec::new(alloc),
+            entries: Vec::new(alloc),
+            subjects: Vec::new(alloc),
         }
+    }
+
+    // Puts a finding behind the others.
+    fn push(&mut self, finding: Finding) -> Result<(), AllocError>
+        ensures { OnOk result (self.new ≡ self.old ++ finding ∷ []) }
+    {
+        let entry = pack(&mut self.subjects, finding)?;
+        self.entries.push(entry)?;
+        Ok(())
     }
 
     /// Adds a finding.
     pub(crate) fn add(&mut self, finding: Finding) -> Result<(), AllocError>
         ensures { OnOk result ((plan : runs.Plan) → IsAdded plan self.old self.new (shown plan finding)) }
     {
-        self.list.push(finding)?;
-        Ok(())
+        self.push(finding)
     }
 
-    /// Adds the findings of a piece. Where nothing is there yet, they needn't be moved.
-    pub(crate) fn append(&mut self, mut piece: Vec<Finding>) -> Result<(), AllocError>
-        ensures { OnOk result (self.new ≡ self.old ++ piece.items) }
+    // Puts the findings that these entries stand for behind the others, one by one.
+    fn push_all(&mut self, subjects: &[Subject], entries: &[Packed]) -> Result<(), AllocError>
+        ensures { OnOk result (self.new ≡ self.old ++ all_told_by subjects.now entries.now) }
     {
-        if self.list.is_empty() {
-            self.list = piece;
-        } else {
-            self.list.append(&mut piece)?;
+        for entry in entries {
+            self.push(unpack(subjects, *entry))?;
         }
         Ok(())
     }
 
-    /// The findings as they were met.
-    pub(crate) fn into_piece(self) -> Vec<Finding>
-        ensures { result.items ≡ self }
+    /// Adds the findings of a piece. Where nothing is there yet, they needn't be moved.
+    pub(crate) fn append(&mut self, piece: Found) -> Result<(), AllocError>
+        ensures { OnOk result (self.new ≡ self.old ++ piece) }
     {
-        self.list
+        if self.entries.is_empty() {
+            *self = piece;
+            return Ok(());
+        }
+        self.push_all(piece.subjects.as_slice(), piece.entries.as_slice())
     }
 
     /// The findings of a plan, each once, in their order.
-    pub(crate) fn into_list(self) -> Vec<Finding>
-        ensures those { (plan : runs.Plan) → AreFound plan self → (f : told.Finding) → Tells plan result.items f ↔ Tells plan self f }
-        ensures sorted { (plan : runs.Plan) → AreFound plan self → (lower_name : ℕ → ℕ → Bool) → IsSorted lower_name (all_shown plan result.items) }
+    pub(crate) fn into_list(self) -> FindingList
+        ensures those { (plan : runs.Plan) → AreFound plan self → (f : told.Finding) → Tells plan result f ↔ Tells plan self f }
+        ensures sorted { (plan : runs.Plan) → AreFound plan self → (lower_name : ℕ → ℕ → Bool) → IsSorted lower_name (all_shown plan result) }
     {
-        let mut list = self.list;
-        list.sort_unstable_by_key(|finding| standing_of(finding));
-        list.dedup_by(|x, y| is_same_standing(x, y));
-        list
+        let mut entries = self.entries;
+        entries.sort_unstable_by_key(|entry| standing_of(entry));
+        entries.dedup_by(|x, y| is_same_standing(x, y));
+        FindingList::new(entries, self.subjects)
     }
 }

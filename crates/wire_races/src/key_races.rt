@@ -375,13 +375,13 @@ fn add_process(plan: &Plan, marks: &Marks, found: &mut Found, proc: Proc) -> Res
 }
 
 /// The races of the gets of a process: a piece of the search.
-fn piece(alloc: Global, plan: &Plan, marks: &Marks, proc: Proc) -> Result<Vec<Finding>, AllocError>
+fn piece(alloc: Global, plan: &Plan, marks: &Marks, proc: Proc) -> Result<Found, AllocError>
     requires { AreMarks (plan_of plan.now) marks.now }
     ensures { IfOk result (IsPiece (plan_of plan.now) (IsKeyRaceOf (plan_of plan.now) proc.number)) }
 {
     let mut found = Found::new(alloc);
     add_process(plan, marks, &mut found, proc)?;
-    Ok(found.into_piece())
+    Ok(found)
 }
 
 /// A piece for each process, in their order, made by several threads.
@@ -390,7 +390,7 @@ fn pieces(
     alloc: Global,
     plan: &Plan,
     marks: &Marks,
-) -> Result<Vec<Vec<Finding>>, AllocError>
+) -> Result<Vec<Found>, AllocError>
     requires { AreMarks (plan_of plan.now) marks.now }
     ensures { IfOk result (λ pieces. ArePieces (plan_of plan.now) (process_count (plan_of plan.now)) (IsKeyRaceOf (plan_of plan.now)) pieces.items) }
 {
@@ -398,7 +398,7 @@ fn pieces(
         .into_par_iter()
         .with_min_len(1)
         .map(
-            |number: u32| -> Result<Vec<Finding>, AllocError>
+            |number: u32| -> Result<Found, AllocError>
                 requires { AreMarks (plan_of plan.now) marks.now }
                 ensures { IfOk result (IsPiece (plan_of plan.entry.now) (IsKeyRaceOf (plan_of plan.entry.now) number)) }
             { piece(alloc, plan, marks, Proc { number }) },

@@ -1,6 +1,7 @@
 //! What the checker finds in a plan, and plans in which it finds nothing.
 #![tactic(auto)]
 
+mod compact;
 mod fate;
 mod finding;
 mod found;
@@ -10,11 +11,13 @@ pub mod laws;
 mod list;
 mod name_fates;
 mod name_races;
+mod packed;
 mod pieces;
 mod rewrites;
 mod settled;
 
+pub use compact::FindingList;
 pub use fate::Fate;
 pub use finding::Finding;
-pub use list::findings;
+pub use list::{finding_list, findings};
 pub use settled::{Settled, Unsettled};

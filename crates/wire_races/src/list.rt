@@ -5,6 +5,7 @@ ghost use Rattle.wire_rehearsal.specs.Planned.{plan_of};
 ghost use Rattle.wire_marks.specs.Clocks.{AreMarks};
 ghost use Rattle.wire_races.specs.Findings.{AreFindings};
 
+use crate::compact::FindingList;
 use crate::finding::Finding;
 use crate::found::Found;
 use crate::key_races::add_key_races;
@@ -22,9 +23,9 @@ fn all_findings(
     alloc: Global,
     plan: &Plan,
     marks: &Marks,
-) -> Result<Vec<Finding>, AllocError>
+) -> Result<FindingList, AllocError>
     requires { AreMarks (plan_of plan.now) marks.now }
-    ensures { IfOk result (λ found. AreFindings (plan_of plan.now) found.items) }
+    ensures { IfOk result (AreFindings (plan_of plan.now)) }
 {
     let mut found = Found::new(alloc);
     add_rewrites(plan, &mut found)?;
@@ -34,10 +35,46 @@ fn all_findings(
     Ok(list)
 }
 
+// All findings of a plan, in their order, one by one in a `Vec`.
+fn vec_of_findings(
+    rt: &(impl Threads + Sync),
+    alloc: Global,
+    plan: &Plan,
+    marks: &Marks,
+) -> Result<Vec<Finding>, AllocError>
+    requires { AreMarks (plan_of plan.now) marks.now }
+    ensures { IfOk result (λ found. AreFindings (plan_of plan.now) found.items) }
+{
+    let list = all_findings(rt, alloc, plan, marks)?;
+    list.to_vec(alloc)
+}
+
 /// The findings of a plan, each once: the rewrites by the later put, then the races by the lower
 /// event and the higher one. Several threads look for the races, and the list is the same whatever
 /// pieces they take. The caller ensures that the marks are those of the plan. The one fault is
 /// `Fault::Memory`.
+///
+/// The list takes 20 bytes for each finding. [`findings`] gives the same ones as a `Vec`.
+pub fn finding_list(
+    rt: &(impl Threads + Sync),
+    alloc: Global,
+    plan: &Plan,
+    marks: &Marks,
+) -> Result<FindingList, Fault>
+    requires { AreMarks (plan_of plan.now) marks.now }
+    ensures ok { IfOk result (AreFindings (plan_of plan.now)) }
+    ensures memory { IsOkUnless result Fault.Memory }
+{
+    let list = all_findings(rt, alloc, plan, marks)?;
+    Ok(list)
+}
+
+/// The findings of a plan, each once: the rewrites by the later put, then the races by the lower
+/// event and the higher one. Several threads look for the races, and the list is the same whatever
+/// pieces they take. The caller ensures that the marks are those of the plan. The one fault is
+/// `Fault::Memory`.
+///
+/// The `Vec` is made from the list that [`finding_list`] gives, and while it is made there are both.
 pub fn findings(
     rt: &(impl Threads + Sync),
     alloc: Global,
@@ -48,6 +85,6 @@ pub fn findings(
     ensures ok { IfOk result (λ found. AreFindings (plan_of plan.now) found.items) }
     ensures memory { IsOkUnless result Fault.Memory }
 {
-    let found = all_findings(rt, alloc, plan, marks)?;
+    let found = vec_of_findings(rt, alloc, plan, marks)?;
     Ok(found)
 }

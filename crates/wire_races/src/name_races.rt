@@ -252,14 +252,14 @@ fn add_races_on(
 }
 
 // The races on a name: a piece of the search.
-fn piece(alloc: Global, plan: &Plan, marks: &Marks, name: u32) -> Result<Vec<Finding>, AllocError>
+fn piece(alloc: Global, plan: &Plan, marks: &Marks, name: u32) -> Result<Found, AllocError>
     requires { AreMarks (plan_of plan.now) marks.now }
     ensures { IfOk result (IsPiece (plan_of plan.now) (IsRaceOn (plan_of plan.now) name)) }
 {
     let mut found = Found::new(alloc);
     let writers = writers_of(alloc, plan, name)?;
     add_races_on(plan, marks, &mut found, name, writers.as_slice())?;
-    Ok(found.into_piece())
+    Ok(found)
 }
 
 // A piece for each name, in their order, made by several threads. Most names have few calls, so
@@ -269,7 +269,7 @@ fn pieces(
     alloc: Global,
     plan: &Plan,
     marks: &Marks,
-) -> Result<Vec<Vec<Finding>>, AllocError>
+) -> Result<Vec<Found>, AllocError>
     requires { AreMarks (plan_of plan.now) marks.now }
     ensures { IfOk result (λ pieces. ArePieces (plan_of plan.now) (length plan.now.names) (IsRaceOn (plan_of plan.now)) pieces.items) }
 {
@@ -277,7 +277,7 @@ fn pieces(
         .into_par_iter()
         .with_min_len(16)
         .map(
-            |name: u32| -> Result<Vec<Finding>, AllocError>
+            |name: u32| -> Result<Found, AllocError>
                 requires { AreMarks (plan_of plan.now) marks.now }
                 ensures { IfOk result (IsPiece (plan_of plan.entry.now) (IsRaceOn (plan_of plan.entry.now) name)) }
             { piece(alloc, plan, marks, name) },

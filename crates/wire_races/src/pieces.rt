@@ -7,12 +7,11 @@ ghost use Rattle.wire_races.specs.Collected.{AreFound};
 ghost use Rattle.wire_races.specs.Adding.{Adds};
 ghost use Rattle.wire_races.specs.Pieces.{IsInSome, AreAllFound};
 
-use crate::finding::Finding;
 use crate::found::Found;
 use std::alloc::AllocError;
 
 /// Adds the findings of all pieces. The one error is that memory ran out.
-pub(crate) fn add_pieces(found: &mut Found, pieces: Vec<Vec<Finding>>) -> Result<(), AllocError>
+pub(crate) fn add_pieces(found: &mut Found, pieces: Vec<Found>) -> Result<(), AllocError>
     ensures { OnOk result ((plan : runs.Plan) → AreFound plan found.old → AreAllFound plan pieces.items → Adds plan found.old found.new (IsInSome plan pieces.items)) }
 {
     for piece in pieces {

@@ -1,3 +1,5 @@
-pub mod LinesLeft
-pub mod Rows
 pub mod Chains
+pub mod LinesLeft
+pub mod Room
+pub mod Rows
+pub mod Streams

@@ -1,10 +1,10 @@
 -- The text of a chain, as bytes: whether one call is before another, and the events that show it.
-use Rattle.std.specs.Prelude.{◌≡◌, ℕ, ◌+◌, List, [], ◌++◌, Option, Some, None, codes, decimal, slice_get}
+use Rattle.std.specs.Prelude.{◌≡◌, ℕ, List, [], ◌++◌, Option, Some, None, codes}
 use Rattle.std.specs.List.{flat_map}
 use Rattle.wire_types.specs.declared.Call.{Call}
 use Rattle.wire_types.specs.declared.CallAt.{CallAt}
 use Rattle.wire_runs.specs.Plan.{Plan, Event, Kind, Arrive, Leave, kind}
-use Rattle.wire_rehearsal.specs.Scripts.{Scripts, Process, call_at}
+use Rattle.wire_rehearsal.specs.Scripts.{Scripts, call_at}
 use Rattle.wire_rehearsal.specs.Planned.{plan_of}
 use Rattle.wire_runs.specs.Order.{Live, Before}
 use Rattle.wire_runs.specs.Ends.{call_of, first_event}

@@ -35,9 +35,13 @@ finding_words scripts (NameRace lower higher name) = codes "race " ++ pair_text 
 abbrev pub finding_line : Scripts → Finding → List ℕ
 finding_line scripts finding = finding_words scripts finding ++ codes "\n"
 
+-- the last line: how many findings there are
+abbrev pub count_line : ℕ → List ℕ
+count_line count = codes "findings " ++ decimal count ++ codes "\n"
+
 -- all lines, and last how many findings there are
 abbrev pub findings_report : Scripts → List Finding → List ℕ
-findings_report scripts found = flat_map (finding_line scripts) found ++ codes "findings " ++ decimal (length found) ++ codes "\n"
+findings_report scripts found = flat_map (finding_line scripts) found ++ count_line (length found)
 
 -- the findings in lines, or as JSON
 abbrev pub findings_form : Bool → Scripts → List Finding → List ℕ

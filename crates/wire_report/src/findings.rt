@@ -1,19 +1,17 @@
 //! The text of what the checker finds.
 
-ghost use Rattle.std.specs.Prelude.{◌≡◌, ◌≢◌, ◌⊎◌, ◌++◌, Err, codes, map, OnOk, IfOk, IfErr};
-ghost use Rattle.std.specs.Io.KnownBytes.{Appends};
+ghost use Rattle.std.specs.Prelude.{◌≡◌, ◌+◌, ◌<◌, ◌≤◌, ◌++◌, codes, length, map, vec_capacity, OnOk, OnErr, IfOk, IfErr};
 ghost use Rattle.std.specs.List.{flat_map};
 ghost use Rattle.wire_types.specs.declared.Fault.TheVariants.{Memory};
-ghost use Rattle.wire_types.specs.Counting.{one_more};
-ghost use Rattle.wire_types.specs.Front.{WritesFront};
 ghost use Rattle.wire_rehearsal.specs.Scripts.{call_at};
 ghost use Rattle.wire_report.specs.Findings as spec;
+ghost use Rattle.wire_report.specs.Lines.{AreNumbered, IsNumbered};
 
 use std::alloc::{AllocError, Global};
 use wire_json::findings_json;
 use wire_races::Finding;
 use wire_rehearsal::Scripts;
-use wire_types::{Call, CallAt, Fault, Sink, write_out};
+use wire_types::{Call, CallAt, Fault};
 use wire_words::{find_call, push_call, push_number, push_proc};
 
 /// The text of findings: a line for each, and last how many they are, or the lines as JSON. A rewrite
@@ -34,29 +32,8 @@ pub fn findings_text(
     }
     let mut text = Vec::new(alloc);
     push_findings(&mut text, scripts, findings)?;
-    text.extend_from_slice(b"findings ")?;
-    push_number(&mut text, findings.len() as u64)?;
-    text.extend_from_slice(b"\n")?;
+    push_count(&mut text, findings.len())?;
     Ok(text)
-}
-
-/// Writes the text of findings to the sink, once all of it is made: where memory runs out, nothing is
-/// written.
-pub fn write_findings<S: Sink>(
-    alloc: Global,
-    scripts: &Scripts,
-    findings: &[Finding],
-    json: bool,
-    sink: &mut S,
-) -> Result<(), Fault>
-    ensures ok { OnOk result (Appends (S.written sink.old) (S.written sink.new) (spec.findings_form json scripts.now findings.now)) }
-    ensures quiet { OnOk result (S.failures sink.new ≡ S.failures sink.old) }
-    ensures memory { result ≡ Err Memory → sink.new ≡ sink.old }
-    ensures err { IfErr result (λ e. (e ≡ Memory) ⊎ WritesFront (S.written sink.old) (S.written sink.new) (spec.findings_form json scripts.now findings.now) e) }
-    ensures failed { IfErr result (λ e. e ≢ Memory → S.failures sink.new ≡ one_more (S.failures sink.old)) }
-{
-    let text = findings_text(alloc, scripts, findings, json)?;
-    write_out(sink, text.as_slice()).map_err(Fault::Write)
 }
 
 /// The words of each of these findings.
@@ -86,15 +63,43 @@ fn push_findings(
     ensures { OnOk result (out.new.items ≡ out.old.items ++ flat_map (spec.finding_line scripts.now) findings.now) }
 {
     for finding in findings {
-        push_finding(out, scripts, *finding)?;
-        out.extend_from_slice(b"\n")?;
+        push_line(out, scripts, *finding)?;
     }
     Ok(())
 }
 
-/// Appends the words of a finding.
+/// Appends the last line, which says how many findings there are. Fails only where there is no room for it.
+pub(crate) fn push_count(out: &mut Vec<u8>, count: usize) -> Result<(), AllocError>
+    ensures ok { OnOk result (out.new.items ≡ out.old.items ++ spec.count_line count) }
+    ensures capacity { vec_capacity out.old ≤ vec_capacity out.new }
+    ensures full { OnErr result (vec_capacity out.old < length out.old.items + length (spec.count_line count)) }
+{
+    out.extend_from_slice(b"findings ")?;
+    push_number(out, count as u64)?;
+    out.extend_from_slice(b"\n")
+}
+
+/// Appends the line of a finding. Fails only where there is no room for it.
+pub(crate) fn push_line(
+    out: &mut Vec<u8>,
+    scripts: &Scripts,
+    finding: Finding,
+) -> Result<(), AllocError>
+    ensures ok { OnOk result (out.new.items ≡ out.old.items ++ spec.finding_line scripts.now finding) }
+    ensures capacity { vec_capacity out.old ≤ vec_capacity out.new }
+    ensures full { OnErr result (vec_capacity out.old < length out.old.items + length (spec.finding_line scripts.now finding)) }
+    ensures numbered { IsNumbered finding }
+{
+    push_finding(out, scripts, finding)?;
+    out.extend_from_slice(b"\n")
+}
+
+/// Appends the words of a finding. Fails only where there is no room for them.
 fn push_finding(out: &mut Vec<u8>, scripts: &Scripts, finding: Finding) -> Result<(), AllocError>
-    ensures { OnOk result (out.new.items ≡ out.old.items ++ spec.finding_words scripts.now finding) }
+    ensures ok { OnOk result (out.new.items ≡ out.old.items ++ spec.finding_words scripts.now finding) }
+    ensures capacity { vec_capacity out.old ≤ vec_capacity out.new }
+    ensures full { OnErr result (vec_capacity out.old < length out.old.items + length (spec.finding_words scripts.now finding)) }
+    ensures numbered { IsNumbered finding }
 {
     match finding {
         Finding::Rewrite(first, later) => push_rewrite(out, scripts, first, later),
@@ -113,14 +118,17 @@ fn push_finding(out: &mut Vec<u8>, scripts: &Scripts, finding: Finding) -> Resul
     }
 }
 
-/// Appends the words of a rewrite.
+/// Appends the words of a rewrite. Fails only where there is no room for them.
 fn push_rewrite(
     out: &mut Vec<u8>,
     scripts: &Scripts,
     first: CallAt,
     later: CallAt,
 ) -> Result<(), AllocError>
-    ensures { OnOk result (out.new.items ≡ out.old.items ++ codes "rewrite " ++ spec.rewrite_text scripts.now first later) }
+    ensures ok { OnOk result (out.new.items ≡ out.old.items ++ codes "rewrite " ++ spec.rewrite_text scripts.now first later) }
+    ensures capacity { vec_capacity out.old ≤ vec_capacity out.new }
+    ensures full { OnErr result (vec_capacity out.old < length (out.old.items ++ codes "rewrite " ++ spec.rewrite_text scripts.now first later)) }
+    ensures numbered { AreNumbered first later }
 {
     out.extend_from_slice(b"rewrite ")?;
     push_call(out, scripts, first)?;
@@ -130,14 +138,17 @@ fn push_rewrite(
     out.extend_from_slice(put_key(scripts, later))
 }
 
-/// Appends the calls of a race, the lower place first.
+/// Appends the calls of a race, the lower place first. Fails only where there is no room for their words.
 fn push_race(
     out: &mut Vec<u8>,
     scripts: &Scripts,
     lower: CallAt,
     higher: CallAt,
 ) -> Result<(), AllocError>
-    ensures { OnOk result (out.new.items ≡ out.old.items ++ codes "race " ++ spec.pair_text scripts.now lower higher) }
+    ensures ok { OnOk result (out.new.items ≡ out.old.items ++ codes "race " ++ spec.pair_text scripts.now lower higher) }
+    ensures capacity { vec_capacity out.old ≤ vec_capacity out.new }
+    ensures full { OnErr result (vec_capacity out.old < length (out.old.items ++ codes "race " ++ spec.pair_text scripts.now lower higher)) }
+    ensures numbered { AreNumbered lower higher }
 {
     out.extend_from_slice(b"race ")?;
     push_call(out, scripts, lower)?;

@@ -6,11 +6,13 @@ mod findings;
 mod lines;
 mod report;
 mod steps;
+mod streaming;
 mod unsettled;
 mod writing;
 
 pub use chain::{chain_text, one_chain_text, write_chain};
-pub use findings::{findings_text, write_findings};
+pub use findings::findings_text;
 pub use report::{report_text, write_report};
+pub use streaming::write_findings;
 pub use unsettled::{unsettled_text, write_unsettled};
 pub use writing::write_text;

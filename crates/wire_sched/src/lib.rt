@@ -14,5 +14,5 @@ pub use gate::{Gate, OpenGate};
 pub use law::deal_rises;
 pub use round::{Pass, Round, Take};
 pub use rule::Piece;
-pub use serve::{work, work_locked};
+pub use serve::{Serves, serve_pieces, work, work_locked};
 pub use wire_lanes::{Lane, Lanes};

@@ -52,9 +52,9 @@ pub fn work_locked<R: Wait, G: Gate>(
     serve_pieces(rt, locked, round, pass, gate)
 }
 
-/// What waits for a lock and then serves a process as far as it goes.
-trait Serves {
-    /// Answers how many events that were.
+/// What workers serve processes of: a core under one lock, or the lanes of a board, each under its own.
+pub trait Serves {
+    /// Waits for the lock, and then serves a process as far as it goes. Answers how many events that were.
     fn serve_far<R: Wait>(&self, rt: &R, proc: Proc) -> usize;
 }
 
@@ -70,8 +70,8 @@ impl<'a> Serves for LockedCore<'a> {
     }
 }
 
-// Serves pieces until the worker finds no more.
-fn serve_pieces<R: Wait, S: Serves, G: Gate>(
+/// What `work` and `work_locked` do, over whatever is served.
+pub fn serve_pieces<R: Wait, S: Serves, G: Gate>(
     rt: &R,
     serves: &S,
     round: &Round,

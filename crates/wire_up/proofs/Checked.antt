@@ -1,6 +1,8 @@
 -- From what the parts of a check tell to what it tells.
-use Rattle.std.proofs.Common.{◌≡◌, ◌∙◌, ◌↔◌, ap, subst, sym, refl, ℕ, List, [], ◌∷◌, length, false, Option, Result, Ok, Err, IfOk, Vec, Global}
+use Rattle.std.proofs.Common.{◌≡◌, ◌≢◌, ◌∙◌, ◌↔◌, ◌⊎◌, inl, inr, ap, sym, refl, ℕ, List, [], ◌∷◌, length, false, Option, Result, Ok, Err, IfOk, IfErr, OnOk}
+use Rattle.std.specs.Io.KnownBytes.{Appends}
 use Rattle.wire_types.specs.declared.Fault.{Fault}
+use Rattle.wire_types.specs.declared.Fault.TheVariants.{Memory, Read, Write}
 use Rattle.wire_types.specs.Front.{WritesFront}
 use Rattle.wire_rehearsal.specs.Scripts.{Scripts}
 use Rattle.wire_rehearsal.specs.Planned.{plan_of}
@@ -13,7 +15,7 @@ use Rattle.wire_report.specs.Findings.{findings_report}
 use Rattle.wire_up.specs.declared.checking.Ended.{Ended}
 use Rattle.wire_up.specs.declared.checking.Ended.TheVariants.{Clean, Found}
 use Rattle.wire_up.specs.Replay.{ReadAs}
-use Rattle.wire_up.specs.Check.{ended_with, IsJudged, IsVerdict, EndsInOneState, BreaksOffFindings}
+use Rattle.wire_up.specs.Check.{ended_with, IsJudged, IsVerdict, WritesVerdict, BreaksOffVerdict, WritesFindings, EndsInOneState, BreaksOffFindings, StopsBeforeFindings}
 
 -- it is clean exactly where nothing is found
 clean_exactly : (found : List Finding) → (ended_with found ≡ Clean) ↔ (found ≡ [])
@@ -49,15 +51,47 @@ judged_told s shown found seen counted ended text law those same is count told e
     let all : findings_report shown seen ≡ findings_report s found = λ i. findings_report (same i) (is i) in
     record { found = found; judged = judged_so s found counted ended law those count ends; tells = told ∙ all }
 
--- the verdict on the plan of scripts is that on the scripts
-pub verdict_too : (s plan : Scripts) (r : Result (Ended × Vec ℕ Global) Fault) → plan ≡ s → IfOk r (λ v. IsVerdict plan v.0 v.1.items) → IfOk r (λ v. IsVerdict s v.0 v.1.items)
-verdict_too s plan r is told = subst (λ t. IfOk r (λ v. IsVerdict t v.0 v.1.items)) is told
+-- all of it went out
+pub told : (s shown : Scripts) (found seen counted : List Finding) (ended : Ended) (old new : Option (List ℕ)) → ((found ≡ []) ↔ IsSettled (plan_of s)) → AreFindings (plan_of s) found → shown ≡ s → seen ≡ found → counted ≡ found
+    → ended ≡ ended_with counted → Appends old new (findings_report shown seen) → WritesVerdict s ended old new
+told s shown found seen counted ended old new law those same is count ends wrote =
+    record { text = findings_report shown seen; verdict = judged_told s shown found seen counted ended (findings_report shown seen) law those same is count refl ends; wrote = wrote }
 
 -- the front of it went out
-pub broken_off : (coming : Option (List ℕ)) (old new : Option (List ℕ)) (s : Scripts) (ended : Ended) (text shown : List ℕ) (e : Fault) → ReadAs coming s → IsVerdict s ended text → shown ≡ text
-    → WritesFront old new shown e → BreaksOffFindings coming old new e
-broken_off coming old new s ended text shown e read verdict is front =
-    record { scripts = s; read = read; ended = ended; text = text; verdict = verdict; wrote = subst (λ t. WritesFront old new t e) is front }
+pub told_front : (s shown : Scripts) (found seen counted : List Finding) (ended : Ended) (old new : Option (List ℕ)) (e : Fault) → ((found ≡ []) ↔ IsSettled (plan_of s)) → AreFindings (plan_of s) found → shown ≡ s → seen ≡ found → counted ≡ found
+    → ended ≡ ended_with counted → WritesFront old new (findings_report shown seen) e → BreaksOffVerdict s old new e
+told_front s shown found seen counted ended old new e law those same is count ends wrote =
+    record { ended = ended; text = findings_report shown seen; verdict = judged_told s shown found seen counted ended (findings_report shown seen) law those same is count refl ends; wrote = wrote }
+
+-- a fault of the writing is Memory, or it counts what went out
+pub front_or_none : (e : Fault) (old new : Option (List ℕ)) (text : List ℕ) (A B C : Type 0) → (e ≡ Memory) ⊎ WritesFront old new text e → (e ≡ Memory → A) → (e ≢ Memory → B) → (WritesFront old new text e → C) → ((e ≡ Memory) × A) ⊎ (C × B)
+front_or_none e old new text A B C (inl memory) none failed front = inl (memory, none memory)
+front_or_none e old new text A B C (inr wrote) none failed front = inr (front wrote, failed (λ is. let bad : Memory ≡ Write wrote.0 = sym is ∙ wrote.1 in cc))
+
+-- how a verdict is written, or isn't
+abbrev pub Ends : Scripts → Option (List ℕ) → Option (List ℕ) → Type 0 → Type 0 → Fault → Type 0
+Ends s old new A B e = ((e ≡ Memory) × A) ⊎ (BreaksOffVerdict s old new e × B)
+
+-- what went out of the findings of scripts that were read
+pub writes_findings : (coming old new : Option (List ℕ)) (s : Scripts) (r : Result Ended Fault) → ReadAs coming s → IfOk r (λ ended. WritesVerdict s ended old new) → IfOk r (λ ended. WritesFindings coming ended old new)
+writes_findings coming old new s (Ok ended) read wrote = record { scripts = s; read = read; text = wrote.text; verdict = wrote.verdict; wrote = wrote.wrote }
+writes_findings coming old new s (Err e) read wrote = tt
+
+pub breaks_off : (coming old new : Option (List ℕ)) (s : Scripts) (A B : Type 0) (r : Result Ended Fault) → ReadAs coming s → IfErr r (Ends s old new A B) → IfErr r (λ e. (StopsBeforeFindings coming e × A) ⊎ (BreaksOffFindings coming old new e × B))
+breaks_off coming old new s A B (Ok ended) read ends = tt
+breaks_off coming old new s A B (Err e) read (inl (memory, none)) = inl (inl memory, none)
+breaks_off coming old new s A B (Err e) read (inr (front, failed)) = inr (record { scripts = s; read = read; ended = front.ended; text = front.text; verdict = front.verdict; wrote = front.wrote }, failed)
+
+-- neither the reader nor the writer failed
+pub both_quiet : (P Q : Type 0) (r : Result Ended Fault) → P → OnOk r Q → OnOk r (P × Q)
+both_quiet P Q (Ok ended) p q = (p, q)
+both_quiet P Q (Err e) p q = tt
+
+-- the writing is no failed read
+pub no_failed_read : (old new : Option (List ℕ)) (s : Scripts) (A B : Type 0) (r : Result Ended Fault) → IfErr r (Ends s old new A B) → r ≡ Err Read → ⊥
+no_failed_read old new s A B (Ok ended) ends is = let bad : Ok ended ≡ Err Read = is in cc
+no_failed_read old new s A B (Err e) (inl (memory, none)) is = let bad : Memory ≡ Read = cc in cc
+no_failed_read old new s A B (Err e) (inr (front, failed)) is = let bad : Write front.wrote.0 ≡ Read = cc (front.wrote.1) in cc
 
 abbrev pub done : Ended → Result Ended Fault
 done ended = Ok ended
@@ -67,5 +101,6 @@ ended_of (Ok ended) = ended
 ended_of (Err fault) = Clean
 
 -- a check that is clean tells that every run that can't go on has one end
-pub clean_one_end : (coming : Option (List ℕ)) (s : Scripts) (ended : Ended) (text : List ℕ) → ReadAs coming s → IsVerdict s ended text → done ended ≡ done Clean → EndsInOneState coming
-clean_one_end coming s ended text read verdict clean = record { scripts = s; read = read; one_end = verdict.judged.one_end (ap ended_of clean) }
+pub clean_one_end : (coming old new : Option (List ℕ)) (s : Scripts) (r : Result Ended Fault) → ReadAs coming s → IfOk r (λ ended. WritesVerdict s ended old new) → r ≡ Ok Clean → EndsInOneState coming
+clean_one_end coming old new s (Ok ended) read wrote clean = let is : ended ≡ Clean = cc in record { scripts = s; read = read; one_end = wrote.verdict.judged.one_end is }
+clean_one_end coming old new s (Err e) read wrote clean = let bad : Err e ≡ Ok Clean = clean in absurd (cc)

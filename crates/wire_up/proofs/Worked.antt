@@ -1,5 +1,5 @@
 -- From what the parts of a rehearsal tell to what it tells.
-use Rattle.std.proofs.Common.{◌≡◌, ◌≢◌, ◌∙◌, ◌↔◌, ap, subst, sym, refl, Bool, ℕ, List, [], ◌∷◌, length, Option, Result, Ok, Err, IfOk, Vec, Global, IfErr, IsOk}
+use Rattle.std.proofs.Common.{◌≡◌, ◌≢◌, ◌∙◌, ◌↔◌, ap, subst, sym, refl, ℕ, List, [], ◌∷◌, length, Option, Result, Ok, Err, IfOk, Vec, Global, IfErr, IsOk}
 use Rattle.std.specs.Io.KnownBytes.{Appends}
 use Rattle.wire_types.specs.declared.Fault.{Fault}
 use Rattle.wire_types.specs.Front.{WritesFront}
@@ -16,7 +16,7 @@ use Rattle.wire_up.specs.declared.checking.Ended.{Ended}
 use Rattle.wire_up.specs.declared.checking.Ended.TheVariants.{Clean, Found}
 use Rattle.wire_up.specs.declared.rehearsing.Mode.{Mode}
 use Rattle.wire_up.specs.Replay.{ReadAs}
-use Rattle.wire_up.specs.Check.{ended_with, IsJudged}
+use Rattle.wire_up.specs.Check.{ended_with}
 use Rattle.wire_report.specs.Report.{report_form}
 use Rattle.wire_up.specs.Rehearse.{Tells, TellsFound, IsRehearsal, WritesOneEnd, BreaksOffRehearsal}
 use Rattle.wire_up.proofs.Checked.{judged_so, done, ended_of}

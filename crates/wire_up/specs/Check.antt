@@ -46,6 +46,19 @@ pub record IsVerdict (scripts : Scripts) (ended : Ended) (text : List ℕ) : Typ
   pub judged : IsJudged scripts found ended
   pub tells : text ≡ findings_report scripts found
 
+-- all of the findings of the scripts went out
+pub record WritesVerdict (scripts : Scripts) (ended : Ended) (old new : Option (List ℕ)) : Type 0 where
+  pub text : List ℕ
+  pub verdict : IsVerdict scripts ended text
+  pub wrote : Appends old new text
+
+-- exactly as many bytes of the findings of the scripts went out as the fault says, which aren't all of them
+pub record BreaksOffVerdict (scripts : Scripts) (old new : Option (List ℕ)) (fault : Fault) : Type 0 where
+  pub ended : Ended
+  pub text : List ℕ
+  pub verdict : IsVerdict scripts ended text
+  pub wrote : WritesFront old new text fault
+
 -- what was to come read as scripts, and every interleaving of their plan that can't go on ends in one state, the plain run's: the
 -- same reply to every call, and the same processes waiting
 pub record EndsInOneState (coming : Option (List ℕ)) : Type 0 where

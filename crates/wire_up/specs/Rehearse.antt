@@ -4,7 +4,7 @@ use Rattle.std.specs.Prelude.{◌≡◌, ◌⊎◌, ℕ, Bool, true, false, List
 use Rattle.std.specs.Io.KnownBytes.{Appends}
 use Rattle.wire_types.specs.Front.{WritesFront}
 use Rattle.wire_types.specs.declared.Fault.{Fault}
-use Rattle.wire_types.specs.declared.Fault.TheVariants.{Memory, Read, Workers}
+use Rattle.wire_types.specs.declared.Fault.TheVariants.{Workers}
 use Rattle.wire_types.specs.Outcome.{Ends}
 use Rattle.wire_rehearsal.specs.Scripts.{Scripts}
 use Rattle.wire_rehearsal.specs.Planned.{plan_of}
@@ -17,7 +17,6 @@ use Rattle.wire_report.specs.Findings.{findings_form}
 use Rattle.wire_report.specs.Unsettled.{unsettled_form}
 use Rattle.wire_up.specs.declared.rehearsing.Mode.{Mode}
 use Rattle.wire_up.specs.declared.checking.Ended.{Ended}
-use Rattle.wire_up.specs.declared.checking.Ended.TheVariants.{Clean}
 use Rattle.wire_up.specs.Check.{IsJudged, StopsBeforeFindings}
 use Rattle.wire_up.specs.Replay.{ReadAs}
 

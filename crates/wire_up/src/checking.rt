@@ -1,11 +1,12 @@
 //! The findings of a file of scripts.
 
-ghost use Rattle.std.specs.Prelude.{◌≡◌, ◌≢◌, ◌⊎◌, ℕ, Ok, Err, OnOk, IfOk, IfErr};
+ghost use Rattle.std.specs.Prelude.{List, length, ◌≡◌, ◌≢◌, ◌⊎◌, ℕ, Ok, Err, OnOk, IfOk, IfErr};
 ghost use Rattle.wire_types.specs.declared.Fault.TheVariants.{Memory, Read};
 ghost use Rattle.wire_types.specs.Counting.{one_more};
+ghost use Rattle.wire_races.specs.declared.finding.Finding.{Finding as Told};
 ghost use Rattle.wire_up.specs.declared.checking.Ended.TheVariants.{Clean};
 ghost use Rattle.wire_up.specs.Check as spec;
-ghost use Rattle.wire_up.specs.Check.{IsVerdict, WritesFindings, EndsInOneState, BreaksOffFindings, StopsBeforeFindings};
+ghost use Rattle.wire_up.specs.Check.{WritesVerdict, BreaksOffVerdict, WritesFindings, EndsInOneState, BreaksOffFindings, StopsBeforeFindings};
 
 use crate::replaying::read_scripts;
 use std::alloc::Global;
@@ -13,9 +14,9 @@ use std::thread::Threads;
 use wire_marks::Marks;
 use wire_plan::Plan;
 use wire_races::laws::settled_exactly;
-use wire_races::{Finding, findings};
+use wire_races::{Finding, finding_list};
 use wire_rehearsal::Scripts;
-use wire_report::{findings_text, write_text};
+use wire_report::write_findings;
 use wire_types::{Fault, Sink, Source};
 
 /// How a check or a rehearsal ended: without findings, or with so many.
@@ -40,38 +41,56 @@ impl Ended {
     pub(crate) fn with(findings: &[Finding]) -> Ended
         ensures { result ≡ spec.ended_with findings.now }
     {
-        match findings.len() {
+        Ended::counted(findings.len())
+    }
+
+    /// How a check ends that has so many findings.
+    fn counted(count: usize) -> Ended
+        ensures { (findings : List Told) → count ≡ length findings → result ≡ spec.ended_with findings }
+    {
+        match count {
             0 => Ended::Clean,
             count => Ended::Found(count as u64),
         }
     }
 }
 
-/// How a check of a plan ends, and the text of all findings.
-fn judged(rt: &(impl Threads + Sync), alloc: Global, plan: &Plan) -> Result<(Ended, Vec<u8>), Fault>
-    ensures ok { IfOk result (λ v. IsVerdict plan.now v.0 v.1.items) }
-    ensures err { IfErr result (λ e. e ≡ Memory) }
+/// Writes all findings of a plan, and says how its check ends.
+fn judged<W: Sink>(
+    rt: &(impl Threads + Sync),
+    alloc: Global,
+    plan: &Plan,
+    writer: &mut W,
+) -> Result<Ended, Fault>
+    ensures ok { IfOk result (λ ended. WritesVerdict plan.now ended (W.written writer.old) (W.written writer.new)) }
+    ensures quiet { OnOk result (W.failures writer.new ≡ W.failures writer.old) }
+    ensures err { IfErr result (λ e. ((e ≡ Memory) × (writer.new ≡ writer.old))
+        ⊎ (BreaksOffVerdict plan.now (W.written writer.old) (W.written writer.new) e × (W.failures writer.new ≡ one_more (W.failures writer.old)))) }
 {
     let marks = Marks::of(alloc, plan)?;
-    let found = findings(rt, alloc, plan, &marks)?;
-    let text = findings_text(alloc, plan.scripts(), found.as_slice(), false)?;
+    let found = finding_list(rt, alloc, plan, &marks)?;
     settled_exactly();
-    Ok((Ended::with(found.as_slice()), text))
+    let ended = Ended::counted(found.len());
+    write_findings(alloc, plan.scripts(), &found, false, writer)?;
+    Ok(ended)
 }
 
-/// How a check of scripts ends, and the text of all findings.
-fn verdict(
+/// Writes all findings of scripts, and says how their check ends.
+fn verdict<W: Sink>(
     rt: &(impl Threads + Sync),
     alloc: Global,
     scripts: Scripts,
-) -> Result<(Ended, Vec<u8>), Fault>
-    ensures ok { IfOk result (λ v. IsVerdict scripts v.0 v.1.items) }
-    ensures err { IfErr result (λ e. e ≡ Memory) }
+    writer: &mut W,
+) -> Result<Ended, Fault>
+    ensures ok { IfOk result (λ ended. WritesVerdict scripts ended (W.written writer.old) (W.written writer.new)) }
+    ensures quiet { OnOk result (W.failures writer.new ≡ W.failures writer.old) }
+    ensures err { IfErr result (λ e. ((e ≡ Memory) × (writer.new ≡ writer.old))
+        ⊎ (BreaksOffVerdict scripts (W.written writer.old) (W.written writer.new) e × (W.failures writer.new ≡ one_more (W.failures writer.old)))) }
 {
     let plan = Plan::build(alloc, scripts)?;
-    let judged = judged(rt, alloc, &plan);
+    let ended = judged(rt, alloc, &plan, writer);
     drop(plan);
-    judged
+    ended
 }
 
 /// Checks a file of scripts: reads it to its end, and writes every finding of its plan: each put of a key
@@ -104,7 +123,5 @@ pub fn check<R: Source, W: Sink>(
     ensures unfailed { IfErr result (λ e. e ≢ Memory → e ≢ Read → R.failures reader.new ≡ R.failures reader.old) }
 {
     let scripts = read_scripts(alloc, reader)?;
-    let (ended, text) = verdict(rt, alloc, scripts)?;
-    write_text(writer, text.as_slice())?;
-    Ok(ended)
+    verdict(rt, alloc, scripts, writer)
 }

@@ -1,38 +1,47 @@
 //! Calls and processes, and what they are called.
 
-ghost use Rattle.std.specs.Prelude.{◌≡◌, ◌++◌, decimal, OnOk, option_copied};
+ghost use Rattle.std.specs.Prelude.{◌≡◌, ◌+◌, ◌<◌, ◌≤◌, ◌++◌, decimal, length, OnOk, OnErr, option_copied, vec_capacity};
 ghost use Rattle.wire_rehearsal.specs.Scripts.{call_at};
 ghost use Rattle.wire_rehearsal.specs.Canonical.{process_text};
 ghost use Rattle.wire_words.specs.Words as spec;
 
 use itoa::Buffer;
 use std::alloc::AllocError;
-use wire_lines::write_proc;
 use wire_rehearsal::{Process, Scripts};
 use wire_types::{Call, CallAt, Proc};
 
-/// Appends a number in decimal.
+/// Appends a number in decimal. Fails only where there is no room for it.
 pub fn push_number(out: &mut Vec<u8>, number: u64) -> Result<(), AllocError>
-    ensures { OnOk result (out.new.items ≡ out.old.items ++ decimal number) }
+    ensures ok { OnOk result (out.new.items ≡ out.old.items ++ decimal number) }
+    ensures capacity { vec_capacity out.old ≤ vec_capacity out.new }
+    ensures full { OnErr result (vec_capacity out.old < length out.old.items + length (decimal number)) }
 {
     let mut buffer = Buffer::new();
     out.extend_from_slice(buffer.format(number).as_bytes())
 }
 
-/// Appends a process: the name of its job, a colon, and its rank.
+/// Appends a process: the name of its job, a colon, and its rank. Fails only where there is no room for
+/// them.
 pub fn push_process(
     out: &mut Vec<u8>,
     scripts: &Scripts,
     process: &Process,
 ) -> Result<(), AllocError>
-    ensures { OnOk result (out.new.items ≡ out.old.items ++ process_text scripts.now process.now) }
+    ensures ok { OnOk result (out.new.items ≡ out.old.items ++ process_text scripts.now process.now) }
+    ensures capacity { vec_capacity out.old ≤ vec_capacity out.new }
+    ensures full { OnErr result (vec_capacity out.old < length out.old.items + length (process_text scripts.now process.now)) }
 {
-    write_proc(out, scripts.jobs().text(process.job()), process.rank())
+    out.extend_from_slice(scripts.jobs().text(process.job()))?;
+    out.extend_from_slice(b":")?;
+    push_number(out, u64::from(process.rank()))
 }
 
-/// Appends a process by its number; nothing where it isn't there.
+/// Appends a process by its number; nothing where it isn't there. Fails only where there is no room for
+/// its words.
 pub fn push_proc(out: &mut Vec<u8>, scripts: &Scripts, proc: Proc) -> Result<(), AllocError>
-    ensures { OnOk result (out.new.items ≡ out.old.items ++ spec.name_of scripts.now proc.number) }
+    ensures ok { OnOk result (out.new.items ≡ out.old.items ++ spec.name_of scripts.now proc.number) }
+    ensures capacity { vec_capacity out.old ≤ vec_capacity out.new }
+    ensures full { OnErr result (vec_capacity out.old < length out.old.items + length (spec.name_of scripts.now proc.number)) }
 {
     match scripts.processes().get(proc.index()) {
         Some(process) => push_process(out, scripts, process),
@@ -40,9 +49,11 @@ pub fn push_proc(out: &mut Vec<u8>, scripts: &Scripts, proc: Proc) -> Result<(),
     }
 }
 
-/// Appends a call: its process, and its number from 1.
+/// Appends a call: its process, and its number from 1. Fails only where there is no room for its words.
 pub fn push_call(out: &mut Vec<u8>, scripts: &Scripts, call: CallAt) -> Result<(), AllocError>
-    ensures { OnOk result (out.new.items ≡ out.old.items ++ spec.call_text scripts.now call) }
+    ensures ok { OnOk result (out.new.items ≡ out.old.items ++ spec.call_text scripts.now call) }
+    ensures capacity { vec_capacity out.old ≤ vec_capacity out.new }
+    ensures full { OnErr result (vec_capacity out.old < length out.old.items + length (spec.call_text scripts.now call)) }
 {
     push_proc(out, scripts, call.proc)?;
     out.extend_from_slice(b" ")?;

@@ -6,4 +6,4 @@ use Rattle.wire_races.proofs.key_races.piece.Goals as goal
 pub returns : goal.returns
 returns c =
     let plan = plan_of c.args.plan.now in
-    piece_of plan (IsKeyRaceOf plan c.args.proc.number) c.new-found.result c.add_process.new.found c.into_piece.result c.new-found.ensures c.in_ok-add_process.ensures c.into_piece.ensures
+    piece_of plan (IsKeyRaceOf plan c.args.proc.number) c.new-found.result c.add_process.new.found c.new-found.ensures c.in_ok-add_process.ensures

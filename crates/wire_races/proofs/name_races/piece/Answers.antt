@@ -6,4 +6,4 @@ use Rattle.wire_races.proofs.name_races.piece.Goals as goal
 pub returns : goal.returns
 returns c =
     let plan = plan_of c.args.plan.now in
-    piece_of plan (IsRaceOn plan c.args.name) c.new-found.result c.add_races_on.new.found c.into_piece.result c.new-found.ensures c.in_ok-add_races_on.ensures c.into_piece.ensures
+    piece_of plan (IsRaceOn plan c.args.name) c.new-found.result c.add_races_on.new.found c.new-found.ensures c.in_ok-add_races_on.ensures

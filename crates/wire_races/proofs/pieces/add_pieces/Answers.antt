@@ -33,7 +33,7 @@ loop-piece-preserved c =
       λ plan found all.
           let before = at.invariant.2 plan found all in
           let here = all (length at.yielded + 0) x (subst (λ l. slice_get l (length at.yielded + 0) ≡ Some x) split (get_right at.yielded (x ∷ into_iter_items c.next.new.self) 0)) in
-          some_more plan at.yielded x c.args.found.now at.found c.append.new.self before (appended plan at.found c.append.new.self x.items c.in_ok-append.ensures before.found here),
+          some_more plan at.yielded x c.args.found.now at.found c.append.new.self before (appended plan at.found c.append.new.self x c.in_ok-append.ensures before.found here),
     )
 
 pub returns : goal.returns

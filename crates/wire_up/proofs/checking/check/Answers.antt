@@ -1,12 +1,22 @@
-use Rattle.std.proofs.Common.{inr}
-use Rattle.wire_up.proofs.Replayed.{handed_on}
-use Rattle.wire_up.proofs.Checked.{broken_off, clean_one_end}
+use Rattle.wire_up.proofs.Followed.{err_always}
+use Rattle.wire_up.proofs.Checked.{writes_findings, both_quiet, breaks_off, no_failed_read, clean_one_end}
 use Rattle.wire_up.proofs.checking.check.Goals as goal
 
-pub returns-in_err-write_text-clause-err : goal.returns-in_err-write_text-clause-err
-returns-in_err-write_text-clause-err g c =
-    let broken = broken_off _ (g.W.Sink.written c.args.writer.now) (g.W.Sink.written c.write_text.new.sink) c.in_ok-scripts.scripts c.in_ok-ended.ended c.in_ok-ended.text.items c.as_slice.result.now c.in_err-write_text.field-0.0 c.in_ok-scripts.ensures.ok c.in_ok-ended.ensures.ok c.as_slice.ensures.value c.in_err-write_text.ensures.front in
-    handed_on c.from_residual-in_err-write_text.result c.in_err-write_text.field-0.0 _ c.from_residual-in_err-write_text.ensures.1 (inr (broken, c.in_err-write_text.ensures.failed))
+pub returns-clause-ok : goal.returns-clause-ok
+returns-clause-ok g c = writes_findings _ _ _ c.in_ok-scripts.scripts c.verdict.result c.in_ok-scripts.ensures.ok c.verdict.ensures.ok
+
+pub returns-clause-quiet : goal.returns-clause-quiet
+returns-clause-quiet g c = both_quiet _ _ c.verdict.result c.in_ok-scripts.ensures.quiet c.verdict.ensures.quiet
 
 pub returns-clause-one_end : goal.returns-clause-one_end
-returns-clause-one_end g c = clean_one_end _ c.in_ok-scripts.scripts c.in_ok-ended.ended c.in_ok-ended.text.items c.in_ok-scripts.ensures.ok c.in_ok-ended.ensures.ok
+returns-clause-one_end g c = clean_one_end _ (g.W.Sink.written c.args.writer.now) (g.W.Sink.written c.verdict.new.writer) c.in_ok-scripts.scripts c.verdict.result c.in_ok-scripts.ensures.ok c.verdict.ensures.ok
+
+pub returns-clause-err : goal.returns-clause-err
+returns-clause-err g c = breaks_off _ _ _ c.in_ok-scripts.scripts _ _ c.verdict.result c.in_ok-scripts.ensures.ok c.verdict.ensures.err
+
+pub returns-clause-read_failed : goal.returns-clause-read_failed
+returns-clause-read_failed g c is =
+    absurd (no_failed_read (g.W.Sink.written c.args.writer.now) (g.W.Sink.written c.verdict.new.writer) c.in_ok-scripts.scripts _ _ c.verdict.result c.verdict.ensures.err is)
+
+pub returns-clause-unfailed : goal.returns-clause-unfailed
+returns-clause-unfailed g c = err_always c.verdict.result _ (λ e memory read. c.in_ok-scripts.ensures.quiet)

@@ -1,0 +1,72 @@
+-- A text that is written in chunks, from one line to the next.
+use Rattle.std.proofs.Common.{◌≡◌, ◌∙◌, ap, sym, refl, subst, ℕ, ◌+◌, ◌*◌, ◌^◌, ◌<◌, ◌≤◌, List, [], ◌++◌, take, length, Option, append_assoc, append-nil, length-append, arith, drop, Result, Ok, Err, OnOk, OnErr, suc, zero, ◌∷◌, Some, slice_get}
+use Rattle.std.proofs.lemmas.Option.{same_Some, slice_get_within}
+use Rattle.std.specs.Result.{IsOk}
+use Rattle.std.proofs.lemmas.List.{take-append-le, take-append-drop}
+use Rattle.std.proofs.lemmas.Grind.{flat_map-append}
+use Rattle.std.specs.List.{flat_map}
+use Rattle.std.specs.Io.KnownBytes.{Appends}
+use Rattle.wire_words.specs.declared.Chunk.{Chunk}
+use Rattle.wire_words.specs.Chunks.{IsOnItsWay, StaysOnItsWay, StopsAfter}
+
+-- nothing of a text without bytes went out
+pub starts : (now : Option (List ℕ)) (chunk : Chunk) → Appends now now [] → chunk.text.items ≡ [] → chunk.written ≡ 0 → IsOnItsWay now now chunk []
+starts now chunk none empty count = record { front = []; went = none; counted = count; whole = sym empty }
+
+-- more waits
+pub more_waits : (start now : Option (List ℕ)) (before after : Chunk) (text more : List ℕ) → IsOnItsWay start now before text → after.written ≡ before.written → after.text.items ≡ before.text.items ++ more → IsOnItsWay start now after (text ++ more)
+more_waits start now before after text more way same appended = record {
+  front = way.front;
+  went = way.went;
+  counted = same ∙ way.counted;
+  whole = ap (λ t. t ++ more) way.whole ∙ append_assoc way.front before.text.items more ∙ ap (λ t. way.front ++ t) (sym appended);
+}
+
+-- what is counted and what waits is as much as the text
+pub counts : (start now : Option (List ℕ)) (chunk : Chunk) (text : List ℕ) → IsOnItsWay start now chunk text → chunk.written + length chunk.text.items ≡ length text
+counts start now chunk text way = omega (arith, way.counted, ap length way.whole, length-append way.front chunk.text.items)
+
+-- where nothing waits, all of the text went out
+pub all_out : (start now : Option (List ℕ)) (chunk : Chunk) (text : List ℕ) → IsOnItsWay start now chunk text → chunk.text.items ≡ [] → Appends start now text
+all_out start now chunk text way empty =
+    subst (λ t. Appends start now t) (sym (way.whole ∙ ap (λ t. way.front ++ t) empty ∙ append-nil way.front)) way.went
+
+-- what stops within a text stops within a longer one
+pub stops_within : (start now : Option (List ℕ)) (text more : List ℕ) (n : ℕ) → StopsAfter start now text n → StopsAfter start now (text ++ more) n
+stops_within start now text more n stops =
+    let within : n ≤ length text = omega (arith, stops.0) in
+    let less : n < length (text ++ more) = omega (arith, stops.0, length-append text more) in
+    (less, subst (λ t. Appends start now t) (sym (take-append-le n text more within)) stops.1)
+
+-- what stops within the lines of the first stops within those of all
+pub stops_early : {X : Type 0} (start now : Option (List ℕ)) (f : X → List ℕ) (xs : List X) (i n : ℕ) → StopsAfter start now (flat_map f (take i xs)) n → StopsAfter start now (flat_map f xs) n
+stops_early start now f xs i n stops =
+    let all : flat_map f (take i xs) ++ flat_map f (drop i xs) ≡ flat_map f xs = sym (flat_map-append f (take i xs) (drop i xs)) ∙ (λ k. flat_map f (take-append-drop i xs k)) in
+    subst (λ t. StopsAfter start now t n) all (stops_within start now (flat_map f (take i xs)) (flat_map f (drop i xs)) n stops)
+
+-- the lines of one more
+next_line : {X : Type 0} (f : X → List ℕ) (xs : List X) (i : ℕ) (x : X) → slice_get xs i ≡ Some x → flat_map f (take (suc i) xs) ≡ flat_map f (take i xs) ++ f x
+next_line f [] i x is = let within = slice_get_within [] i x is in absurd (omega (arith, within))
+next_line f (y ∷ ys) zero x is = append-nil (f y) ∙ ap f (same_Some y x is)
+next_line f (y ∷ ys) (suc i) x is = ap (λ t. f y ++ t) (next_line f ys i x is) ∙ sym (append_assoc (f y) (flat_map f (take i ys)) (f x))
+
+pub one_more_line : {X : Type 0} (f : X → List ℕ) (xs : List X) (i : ℕ) (x : X) → slice_get xs i ≡ Some x → flat_map f (take (i + 1) xs) ≡ flat_map f (take i xs) ++ f x
+one_more_line f xs i x is = let next : i + 1 ≡ suc i = omega arith in ap (λ k. flat_map f (take k xs)) next ∙ next_line f xs i x is
+
+-- lines as short as there is room are so with one more
+pub one_more_short : (room count lines last : ℕ) → lines ≤ room * count → last ≤ room → lines + last ≤ room * (count + 1)
+one_more_short room count lines last short one = grind arith
+
+-- what fails only where there is no room doesn't fail where there is
+pub has_room : {A E : Type 0} (r : Result A E) (capacity there wanted room : ℕ) → OnErr r (capacity < there + wanted) → there + room ≤ capacity → wanted ≤ room → IsOk r
+has_room (Ok x) capacity there wanted room full free fits = refl
+has_room (Err e) capacity there wanted room full free fits = absurd (omega arith)
+
+-- one line more is counted
+pub still_counted : (room count lines last : ℕ) → room * (count + 1) < 2 ^ 64 → lines ≤ room * count → last ≤ room → lines + last < 2 ^ 64
+still_counted room count lines last fits short one = grind arith
+
+-- a text that was all there went out
+pub all_sent : {A E : Type 0} (r : Result A E) (start old new : Option (List ℕ)) (before after : Chunk) (text : List ℕ) → IsOnItsWay start old before text → OnOk r (StaysOnItsWay old new before after) → OnOk r (after.text.items ≡ []) → OnOk r (Appends start new text)
+all_sent (Ok x) start old new before after text way stays empty = all_out start new after text (stays start text way) empty
+all_sent (Err e) start old new before after text way stays empty = tt

@@ -1,0 +1,182 @@
+//! The text of what the checker finds, to a sink.
+
+ghost use Rattle.std.specs.Prelude.{◌≡◌, ◌≢◌, ◌⊎◌, ℕ, ◌+◌, ◌*◌, ◌<◌, ◌≤◌, ◌^◌, ◌++◌, [], true, Err, length, vec_capacity, IfSome, OnOk, OnErr, IfErr};
+ghost use Rattle.std.specs.Io.KnownBytes.{Appends};
+ghost use Rattle.std.specs.List.{flat_map};
+ghost use Rattle.wire_types.specs.declared.Fault.TheVariants.{Memory};
+ghost use Rattle.wire_types.specs.Counting.{one_more};
+ghost use Rattle.wire_types.specs.Front.{WritesFront};
+ghost use Rattle.wire_words.specs.Chunks.{IsOnItsWay, StopsAfter};
+ghost use Rattle.wire_words.specs.Words.{name_of};
+ghost use Rattle.wire_report.specs.Findings as spec;
+ghost use Rattle.wire_report.specs.Lines.{NoneIsLonger, HoldsAnyLine};
+
+use crate::findings::{findings_text, push_count, push_line};
+use crate::writing::write_text;
+use std::alloc::Global;
+use wire_races::{Finding, FindingList};
+use wire_rehearsal::{Scripts, Texts};
+use wire_types::{Fault, Sink};
+use wire_words::Chunk;
+
+/// The room of a chunk, unless a line may need more.
+const CHUNK: usize = 65_536;
+
+/// Writes the text of findings to the sink: lines in chunks, so that the whole text is never in memory, JSON
+/// once all of it is made. All memory is taken before the first byte is written: where it runs out,
+/// nothing is written. A text of lines that might have 2^64 bytes and more counts as memory that ran out.
+pub fn write_findings<S: Sink>(
+    alloc: Global,
+    scripts: &Scripts,
+    findings: &FindingList,
+    json: bool,
+    sink: &mut S,
+) -> Result<(), Fault>
+    ensures ok { OnOk result (Appends (S.written sink.old) (S.written sink.new) (spec.findings_form json scripts.now findings.now)) }
+    ensures quiet { OnOk result (S.failures sink.new ≡ S.failures sink.old) }
+    ensures memory { result ≡ Err Memory → sink.new ≡ sink.old }
+    ensures err { IfErr result (λ e. (e ≡ Memory) ⊎ WritesFront (S.written sink.old) (S.written sink.new) (spec.findings_form json scripts.now findings.now) e) }
+    ensures failed { IfErr result (λ e. e ≢ Memory → S.failures sink.new ≡ one_more (S.failures sink.old)) }
+{
+    if json {
+        return write_json(alloc, scripts, findings, sink);
+    }
+    let Some(room) = room_for_lines(scripts, findings.len()) else {
+        return Err(Fault::Memory);
+    };
+    let mut chunk = Chunk::new(alloc, room.max(CHUNK))?;
+    write_chunks(&mut chunk, scripts, findings, room, sink).map_err(Fault::Write)
+}
+
+/// Writes findings as JSON, once the whole text is made: where memory runs out, nothing is written.
+fn write_json<S: Sink>(
+    alloc: Global,
+    scripts: &Scripts,
+    findings: &FindingList,
+    sink: &mut S,
+) -> Result<(), Fault>
+    ensures ok { OnOk result (Appends (S.written sink.old) (S.written sink.new) (spec.findings_form true scripts.now findings.now)) }
+    ensures quiet { OnOk result (S.failures sink.new ≡ S.failures sink.old) }
+    ensures memory { result ≡ Err Memory → sink.new ≡ sink.old }
+    ensures err { IfErr result (λ e. (e ≡ Memory) ⊎ WritesFront (S.written sink.old) (S.written sink.new) (spec.findings_form true scripts.now findings.now) e) }
+    ensures failed { IfErr result (λ e. e ≢ Memory → S.failures sink.new ≡ one_more (S.failures sink.old)) }
+{
+    let findings = findings.to_vec(alloc)?;
+    let text = findings_text(alloc, scripts, findings.as_slice(), true)?;
+    write_text(sink, text.as_slice())
+}
+
+/// Writes the lines of findings and their number. An error says how many bytes went out.
+fn write_chunks<S: Sink>(
+    chunk: &mut Chunk,
+    scripts: &Scripts,
+    findings: &FindingList,
+    room: usize,
+    sink: &mut S,
+) -> Result<(), u64>
+    requires nothing { (chunk.old.text.items ≡ []) × (chunk.old.written ≡ 0) }
+    requires room { room ≤ vec_capacity chunk.old.text }
+    requires lines { HoldsAnyLine scripts.now room }
+    requires counted { room * (length findings.now + 1) < 2 ^ 64 }
+    ensures ok { OnOk result (Appends (S.written sink.old) (S.written sink.new) (spec.findings_report scripts.now findings.now)) }
+    ensures quiet { OnOk result (S.failures sink.new ≡ S.failures sink.old) }
+    ensures err { IfErr result (λ n. StopsAfter (S.written sink.old) (S.written sink.new) (spec.findings_report scripts.now findings.now) n) }
+    ensures failed { OnErr result (S.failures sink.new ≡ one_more (S.failures sink.old)) }
+{
+    if let Err(n) = write_lines(chunk, scripts, findings, room, sink) {
+        return Err(n);
+    }
+    if let Err(n) = chunk.make_room(room, sink) {
+        return Err(n);
+    }
+    push_count(&mut chunk.text, findings.len()).unwrap();
+    chunk.flush(sink)
+}
+
+/// Writes the lines of findings, of which the last may wait in the chunk. An error says how many bytes went
+/// out.
+fn write_lines<S: Sink>(
+    chunk: &mut Chunk,
+    scripts: &Scripts,
+    findings: &FindingList,
+    room: usize,
+    sink: &mut S,
+) -> Result<(), u64>
+    requires nothing { (chunk.old.text.items ≡ []) × (chunk.old.written ≡ 0) }
+    requires room { room ≤ vec_capacity chunk.old.text }
+    requires lines { HoldsAnyLine scripts.now room }
+    requires counted { room * (length findings.now + 1) < 2 ^ 64 }
+    ensures ok { OnOk result (IsOnItsWay (S.written sink.old) (S.written sink.new) chunk.new (flat_map (spec.finding_line scripts.now) findings.now)) }
+    ensures short { OnOk result (length (flat_map (spec.finding_line scripts.now) findings.now) ≤ room * length findings.now) }
+    ensures room { room ≤ vec_capacity chunk.new.text }
+    ensures quiet { OnOk result (S.failures sink.new ≡ S.failures sink.old) }
+    ensures err { IfErr result (λ n. StopsAfter (S.written sink.old) (S.written sink.new) (flat_map (spec.finding_line scripts.now) findings.now) n) }
+    ensures failed { OnErr result (S.failures sink.new ≡ one_more (S.failures sink.old)) }
+{
+    for number in 0..findings.len() {
+        let Some(finding) = findings.get(number) else {
+            unreachable!();
+        };
+        if let Err(n) = chunk.make_room(room, sink) {
+            return Err(n);
+        }
+        write_line(&mut chunk.text, scripts, finding, room);
+    }
+    Ok(())
+}
+
+/// Appends the line of a finding, where there is room for any.
+fn write_line(out: &mut Vec<u8>, scripts: &Scripts, finding: Finding, room: usize)
+    requires room { length out.old.items + room ≤ vec_capacity out.old }
+    requires lines { HoldsAnyLine scripts.now room }
+    ensures appended { out.new.items ≡ out.old.items ++ spec.finding_line scripts.now finding }
+    ensures capacity { vec_capacity out.old ≤ vec_capacity out.new }
+    ensures short { length (spec.finding_line scripts.now finding) ≤ room }
+{
+    push_line(out, scripts, finding).unwrap();
+}
+
+/// Room for any line of findings of these scripts, or nothing where the lines of so many, and the last one,
+/// may have 2^64 bytes and more.
+fn room_for_lines(scripts: &Scripts, findings: usize) -> Option<usize>
+    ensures holds { IfSome result (λ room. HoldsAnyLine scripts.now room) }
+    ensures counted { IfSome result (λ room. room * (findings + 1) < 2 ^ 64) }
+{
+    let subject = longest_text(scripts.keys()).max(longest_text(scripts.names()));
+    let longest = longest_process(scripts).max(subject);
+    let Some(words) = longest.checked_mul(4) else {
+        return None;
+    };
+    let Some(room) = words.checked_add(128) else {
+        return None;
+    };
+    let Some(lines) = findings.checked_add(1) else {
+        return None;
+    };
+    match room.checked_mul(lines) {
+        Some(_) => Some(room),
+        None => None,
+    }
+}
+
+/// A length that no text of the table exceeds.
+fn longest_text(texts: &Texts) -> usize
+    ensures { NoneIsLonger texts.now result }
+{
+    let mut longest = 0;
+    for number in 0..texts.len() {
+        longest = longest.max(texts.text(number).len());
+    }
+    longest
+}
+
+/// A length that the words of no process exceed.
+fn longest_process(scripts: &Scripts) -> usize
+    ensures { (p : ℕ) → length (name_of scripts.now p) ≤ result }
+{
+    let mut longest = 0;
+    for process in scripts.processes() {
+        longest = longest.max(scripts.jobs().text(process.job()).len() + 11);
+    }
+    longest
+}
