@@ -2,11 +2,16 @@
 show.
 
 The last line is 'N passed, M failed' for all of it, and the status is 1 where anything failed. A line tells how far it is; what
-`rt ci` prints goes to out/gate.log, and where something failed, what the log says of it is printed too.
+`rt ci` prints goes to out/gate.log, and where something failed, what the log says of it is printed too. `rt ci` wants each file as
+`rt fmt` lays it out, and says so only after the proofs of a crate: so that is looked at first, which takes half a minute.
 """
+import filecmp
 import os
 import re
+import shutil
+import subprocess
 import sys
+import tempfile
 
 sys.dont_write_bytecode = True
 import bench
@@ -18,7 +23,8 @@ import recording
 import refuse
 import soak
 
-BUILT = os.path.join(progress.TOP, "crates", "program", "out", "program")
+CRATES = os.path.join(progress.TOP, "crates")
+BUILT = os.path.join(CRATES, "program", "out", "program")
 # The lines of `rt ci` that tell how far it is.
 JUDGED = re.compile(r"rt: (\w+)(: its tests are)? (proved|NOT PROVED)\b")
 EDITS = re.compile(r"rt: (\w+): trying its must-fail edits \((\d+)\)")
@@ -71,6 +77,20 @@ def reasons(log):
     return "".join(told + block[-progress.TAIL :])
 
 
+def not_formatted():
+    """The files that `rt fmt` would lay out in another way, tried on a copy."""
+    found = []
+    with tempfile.TemporaryDirectory() as folder:
+        shutil.copy(os.path.join(progress.TOP, "crates.txt"), folder)
+        shutil.copytree(CRATES, os.path.join(folder, "crates"), ignore=shutil.ignore_patterns("out"))
+        for crate in progress.crates_below(None):
+            subprocess.run(["rt", "fmt"], cwd=os.path.join(folder, "crates", crate), stdout=subprocess.DEVNULL, check=False)
+        for path, _, names in os.walk(os.path.join(folder, "crates")):
+            here = os.path.relpath(path, folder)
+            found += [os.path.join(here, it) for it in names if not filecmp.cmp(os.path.join(path, it), os.path.join(progress.TOP, here, it), False)]
+    return sorted(found)
+
+
 def prove():
     """Runs `rt ci`, and answers its counts; where it ends without them, one failure."""
     log = progress.log_at("gate.log")
@@ -88,6 +108,11 @@ def prove():
 
 def main():
     progress.need_kit()
+    wrong = not_formatted()
+    if wrong:
+        print("\n".join(f"{it}: not as rt fmt lays it out" for it in wrong))
+        print(f"0 passed, {len(wrong)} failed")
+        return 1
     for path in (BUILT, bench.PARTS):
         if os.path.exists(path):
             os.remove(path)

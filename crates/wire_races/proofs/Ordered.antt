@@ -27,7 +27,7 @@ use Rattle.wire_races.proofs.OneList.{rising}
 call_total : IsTotalOrder call_cmp
 call_total = then_total (on_total (λ (v : CallAt). v.proc.number) nat_cmp_total) (on_total (λ (v : CallAt). v.call) nat_cmp_total)
 
-standing_total : IsTotalOrder standing_cmp
+pub standing_total : IsTotalOrder standing_cmp
 standing_total = then_total (on_total (λ (p : Standing). p.is_race) bool_cmp_total) (then_total (on_total (λ (p : Standing). p.by) call_total) (on_total (λ (p : Standing). p.then) call_total))
 
 equal_both : (r s : Ordering) → ordering_then r s ≡ Equal → (r ≡ Equal) × (s ≡ Equal)

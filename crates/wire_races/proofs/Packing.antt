@@ -1,10 +1,12 @@
 -- What entries stand for, beside a table that grows.
-use Rattle.std.proofs.Common.{◌≡◌, ◌∙◌, ap, sym, refl, ℕ, ◌+◌, ◌-◌, ◌≤◌, ◌==◌, Bool, true, false, not, cond, List, [], ◌∷◌, ◌++◌, Option, Some, None, length, map, ◌↔◌, arith}
-use Rattle.std.specs.Prelude.{slice_get}
-use Rattle.std.specs.List.{dedup, dedup_from}
+use Rattle.std.proofs.Common.{◌≡◌, ◌∙◌, ap, sym, refl, subst, ℕ, suc, ◌+◌, ◌-◌, ◌≤◌, ◌==◌, Bool, true, false, true≢false, not, cond, List, [], ◌∷◌, ◌++◌, Option, Some, None, length, map, ◌↔◌, arith}
+use Rattle.std.specs.Prelude.{slice_get, slice_index_or, IsTrue}
+use Rattle.std.specs.List.{dedup, dedup_from, IsAllAdjacentAnswer}
 use Rattle.std.specs.List.Sorted.{IsPermutation, IsSortedByKey}
 use Rattle.std.specs.List.Sorted as order
-use Rattle.std.specs.Ordering.{eq_by_cmp, is_eq, is_lt, on}
+use Rattle.std.specs.declared.cmp.Ordering.{Ordering}
+use Rattle.std.specs.declared.cmp.Ordering.TheVariants.{Less, Equal, Greater}
+use Rattle.std.specs.Ordering.{eq_by_cmp, is_eq, is_lt, on, ordering_reverse}
 use Rattle.std.proofs.lemmas.List.Sorted.{IsPermutation-map}
 use Rattle.std.proofs.lemmas.Bool.{eqb-false}
 use Rattle.std.proofs.lemmas.List.{map-append, length-append, length-map, get_or-map}
@@ -13,14 +15,14 @@ use Rattle.wire_races.specs.declared.finding.Finding.{Finding as Told}
 use Rattle.wire_races.specs.declared.packed.Subject.{Subject}
 use Rattle.wire_races.specs.declared.packed.Subject.TheVariants.{Key, Name}
 use Rattle.wire_races.specs.declared.packed.Packed.{Packed}
-use Rattle.wire_races.specs.Standings.{standing, entry_standing, standing_cmp}
+use Rattle.wire_races.specs.Standings.{standing, entry_standing, standing_cmp, AreInOrder}
 use Rattle.wire_races.specs.Packing.{race_on, told_of, told_by, all_told_by, AreWithin, HasMore}
 use Rattle.wire_runs.specs.Plan.{Plan}
 use Rattle.wire_runs.specs.Findings.{Finding, IsSorted}
 use Rattle.wire_races.specs.Findings.{all_shown}
 use Rattle.wire_races.specs.Collected.{Tells, AreFound}
 use Rattle.wire_races.proofs.Calls.{get_left}
-use Rattle.wire_races.proofs.Ordered.{same_standing, list_tells, list_sorted}
+use Rattle.wire_races.proofs.Ordered.{same_standing, standing_total, list_tells, list_sorted}
 
 of_same : (b : Bool) (o p : Option Subject) (v w : CallAt) → (b ≡ false → o ≡ p) → told_of b o v w ≡ told_of b p v w
 of_same true o p v w h = refl
@@ -120,3 +122,38 @@ module _ (plan : Plan) (subjects : List Subject) (met up list : List Packed) (p 
   -- in the order of findings
   pub entries_sorted : IsSortedByKey entry_standing standing_cmp up → (lower_name : ℕ → ℕ → Bool) → IsSorted lower_name (all_shown plan (all_told_by subjects list))
   entries_sorted rising = list_sorted plan (all_told_by subjects met) (all_told_by subjects up) (all_told_by subjects list) moved told_once found (sorted_told subjects up rising)
+
+is_less : (r : Ordering) → true ≡ is_lt r → r ≡ Less
+is_less Less e = refl
+is_less Equal e = absurd (true≢false e)
+is_less Greater e = absurd (true≢false e)
+
+-- what a look at all neighbours tells
+pub seen_in_order : (entries : List Packed) (r : Bool) → IsAllAdjacentAnswer (λ x y b. b ≡ is_lt (standing_cmp (entry_standing x) (entry_standing y))) entries r → IsTrue r → AreInOrder entries
+seen_in_order entries true up all = λ k d lt. is_less (standing_cmp (entry_standing (slice_index_or entries k d)) (entry_standing (slice_index_or entries (k + 1) d))) (up k d lt)
+seen_in_order entries false up all = absurd (true≢false (sym all))
+
+-- what stands before isn't the same, and nothing that stands later stands before it
+turned : (x y : Packed) → standing_cmp (entry_standing x) (entry_standing y) ≡ Less → standing_cmp (entry_standing y) (entry_standing x) ≡ ordering_reverse Less
+turned x y less = standing_total.antisymm (entry_standing y) (entry_standing x) ∙ ap ordering_reverse less
+
+rest_in_order : (first : Packed) (entries : List Packed) → AreInOrder (first ∷ entries) → AreInOrder entries
+rest_in_order first entries up = λ k d lt.
+    let next : suc k + 1 ≡ suc (k + 1) = omega arith in
+    subst (λ n. standing_cmp (entry_standing (slice_index_or entries k d)) (entry_standing (slice_index_or (first ∷ entries) n d)) ≡ Less) next (up (suc k) d (omega (arith, lt)))
+
+kept_from : (first : Packed) (entries : List Packed) → AreInOrder (first ∷ entries) → dedup_from same_entry first entries ≡ first ∷ entries
+kept_from first [] up = refl
+kept_from first (next ∷ entries) up =
+    let other : same_entry next first ≡ false = ap is_eq (turned first next (up 0 first (omega arith))) in
+    ap (λ b. cond b (dedup_from same_entry first entries) (first ∷ dedup_from same_entry next entries)) other
+    ∙ ap (λ l. first ∷ l) (kept_from next entries (rest_in_order first (next ∷ entries) up))
+
+-- of entries in order each is there once
+pub all_kept : (entries : List Packed) → AreInOrder entries → dedup same_entry entries ≡ entries
+all_kept [] up = refl
+all_kept (first ∷ entries) up = kept_from first entries up
+
+-- and they are sorted
+pub in_order_sorted : (entries : List Packed) → AreInOrder entries → IsSortedByKey entry_standing standing_cmp entries
+in_order_sorted entries up = λ k d low lt. ap is_lt (turned (slice_index_or entries k d) (slice_index_or entries (k + 1) d) (up k d lt))

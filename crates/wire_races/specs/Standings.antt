@@ -1,6 +1,8 @@
 -- Where a finding stands in the list: for the contracts of private functions.
-use Rattle.std.specs.Prelude.{true, false, not, ◌==◌}
+use Rattle.std.specs.Prelude.{◌≡◌, true, false, not, ◌==◌, List, length}
+use Rattle.std.specs.List.{AllAdjacentBelow}
 use Rattle.std.specs.declared.cmp.Ordering.{Ordering}
+use Rattle.std.specs.declared.cmp.Ordering.TheVariants.{Less}
 use Rattle.std.specs.Ordering.{ordering_then, nat_cmp, bool_cmp}
 use Rattle.wire_types.specs.declared.CallAt.{CallAt}
 use Rattle.wire_races.specs.declared.finding.Finding.{Finding as Told}
@@ -25,3 +27,7 @@ call_cmp v w = ordering_then (nat_cmp v.proc.number w.proc.number) (nat_cmp v.ca
 -- rewrites first
 abbrev pub standing_cmp : Standing → Standing → Ordering
 standing_cmp a b = ordering_then (bool_cmp a.is_race b.is_race) (ordering_then (call_cmp a.by b.by) (call_cmp a.then b.then))
+
+-- each entry stands before the next
+abbrev pub AreInOrder : List Packed → Type 0
+AreInOrder entries = AllAdjacentBelow (λ x y. standing_cmp (entry_standing x) (entry_standing y) ≡ Less) entries (length entries)

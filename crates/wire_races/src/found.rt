@@ -1,14 +1,14 @@
 //! The findings so far, and the list that they come to.
 
-ghost use Rattle.std.specs.Prelude.{◌≡◌, ◌↔◌, ◌++◌, ◌∷◌, ℕ, Bool, [], OnOk};
-ghost use Rattle.std.specs.Ordering.{eq_by_cmp};
+ghost use Rattle.std.specs.Prelude.{◌≡◌, ◌↔◌, ◌++◌, ◌∷◌, ℕ, Bool, [], IsTrue, OnOk};
+ghost use Rattle.std.specs.Ordering.{eq_by_cmp, is_lt};
 ghost use Rattle.wire_runs.specs.Plan as runs;
 ghost use Rattle.wire_runs.specs.Findings as told;
 ghost use Rattle.wire_runs.specs.Findings.{IsSorted};
 ghost use Rattle.wire_races.specs.Findings.{shown, all_shown};
 ghost use Rattle.wire_races.specs.Collected.{Tells, AreFound, IsAdded};
 ghost use Rattle.wire_races.specs.Packing.{all_told_by};
-ghost use Rattle.wire_races.specs.Standings.{entry_standing, standing_cmp};
+ghost use Rattle.wire_races.specs.Standings.{entry_standing, standing_cmp, AreInOrder};
 
 use crate::compact::FindingList;
 use crate::finding::Finding;
@@ -43,6 +43,20 @@ fn is_same_standing(x: &Packed, y: &Packed) -> bool
     ensures { result ≡ eq_by_cmp standing_cmp (entry_standing x.now) (entry_standing y.now) }
 {
     standing_of(x).cmp(&standing_of(y)) == Ordering::Equal
+}
+
+// Whether the finding of one entry stands before that of another.
+fn stands_before(x: &Packed, y: &Packed) -> bool
+    ensures { result ≡ is_lt (standing_cmp (entry_standing x.now) (entry_standing y.now)) }
+{
+    standing_of(x).cmp(&standing_of(y)).is_lt()
+}
+
+// Whether each entry's finding stands before that of the next, so that none is there twice.
+fn are_in_order(entries: &[Packed]) -> bool
+    ensures { IsTrue result → AreInOrder entries.now }
+{
+    entries.is_sorted_by(|x, y| stands_before(x, y))
 }
 
 /// Findings as they are met, in any order, in few bytes. One that is met twice stands there twice.
@@ -112,12 +126,15 @@ impl Found {
         self.push_all(piece.subjects.as_slice(), piece.entries.as_slice())
     }
 
-    /// The findings of a plan, each once, in their order.
+    /// The findings of a plan, each once, in their order. Where they were met so, nothing is moved.
     pub(crate) fn into_list(self) -> FindingList
         ensures those { (plan : runs.Plan) → AreFound plan self → (f : told.Finding) → Tells plan result f ↔ Tells plan self f }
         ensures sorted { (plan : runs.Plan) → AreFound plan self → (lower_name : ℕ → ℕ → Bool) → IsSorted lower_name (all_shown plan result) }
     {
         let mut entries = self.entries;
+        if are_in_order(entries.as_slice()) {
+            return FindingList::new(entries, self.subjects);
+        }
         entries.sort_unstable_by_key(|entry| standing_of(entry));
         entries.dedup_by(|x, y| is_same_standing(x, y));
         FindingList::new(entries, self.subjects)

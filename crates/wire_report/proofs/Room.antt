@@ -1,5 +1,5 @@
 -- How long the lines of findings are at most.
-use Rattle.std.proofs.Common.{◌≡◌, ◌∙◌, ap, ℕ, ◌+◌, ◌*◌, ◌<◌, ◌≤◌, ◌==◌, ◌^◌, ◌∷◌, take, length, Option, Some, None, decimal, slice_get, length-append, length-take, arith, ◌⊎◌, inl, inr}
+use Rattle.std.proofs.Common.{◌≡◌, ◌∙◌, ap, refl, codes, ◌++◌, ℕ, ◌+◌, ◌*◌, ◌<◌, ◌≤◌, ◌==◌, ◌^◌, ◌∷◌, take, length, Option, Some, None, decimal, slice_get, length-append, length-take, arith, ◌⊎◌, inl, inr}
 use Rattle.std.proofs.lemmas.Bool.{cases_lt}
 use Rattle.std.proofs.lemmas.Fmt.{length-decimal-le}
 use Rattle.std.proofs.lemmas.Option.{slice_get_past}
@@ -16,6 +16,14 @@ use Rattle.wire_races.specs.declared.finding.Finding.TheVariants.{Rewrite, KeyRa
 use Rattle.wire_words.specs.Words.{name_of, text_of_process}
 use Rattle.wire_report.specs.Findings.{put_key_text, finding_line, count_line}
 use Rattle.wire_report.specs.Lines.{NoneIsLonger, HoldsAnyLine, AreNumbered, IsNumbered}
+
+-- room for four words, none of which is longer than any process, key or name of the scripts, and for 128 bytes between them
+pub record FitsWords (scripts : Scripts) (room : ℕ) : Type 0 where
+  pub longest : ℕ
+  pub processes : (p : ℕ) → length (name_of scripts p) ≤ longest
+  pub keys : NoneIsLonger scripts.keys longest
+  pub names : NoneIsLonger scripts.names longest
+  pub enough : 4 * longest + 128 ≤ room
 
 -- a number of 64 bits has at most 20 digits
 pub few_digits : (n : ℕ) → n < 2 ^ 64 → length (decimal n) ≤ 20
@@ -50,33 +58,44 @@ put_key_short s longest (Some (Lookup name)) keys = omega arith
 put_key_short s longest (Some (LookupWait name)) keys = omega arith
 put_key_short s longest (Some (Unpublish name)) keys = omega arith
 
-rewrite_short : (s : Scripts) (room : ℕ) (first later : CallAt) → HoldsAnyLine s room → AreNumbered first later → length (finding_line s (Rewrite first later)) ≤ room
-rewrite_short s room first later holds small =
-    let key : length (put_key_text s (call_at s.processes later.proc.number later.call)) ≤ holds.longest = put_key_short s holds.longest (call_at s.processes later.proc.number later.call) holds.keys in
-    simp length-append (omega (arith, holds.enough, holds.processes first.proc.number, call_digits first small.0, call_digits later small.1))
+rewrite_short : (s : Scripts) (room : ℕ) (first later : CallAt) → FitsWords s room → AreNumbered first later → length (finding_line s (Rewrite first later)) ≤ room
+rewrite_short s room first later fits small =
+    let key : length (put_key_text s (call_at s.processes later.proc.number later.call)) ≤ fits.longest = put_key_short s fits.longest (call_at s.processes later.proc.number later.call) fits.keys in
+    simp length-append (omega (arith, fits.enough, fits.processes first.proc.number, call_digits first small.0, call_digits later small.1))
 
-key_race_short : (s : Scripts) (room : ℕ) (lower higher : CallAt) (owner : Proc) (key : ℕ) → HoldsAnyLine s room → AreNumbered lower higher → length (finding_line s (KeyRace lower higher owner key)) ≤ room
-key_race_short s room lower higher owner key holds small =
-    simp length-append (omega (arith, holds.enough, holds.processes lower.proc.number, call_digits lower small.0, holds.processes higher.proc.number, call_digits higher small.1, holds.processes owner.number, holds.keys key))
+key_race_short : (s : Scripts) (room : ℕ) (lower higher : CallAt) (owner : Proc) (key : ℕ) → FitsWords s room → AreNumbered lower higher → length (finding_line s (KeyRace lower higher owner key)) ≤ room
+key_race_short s room lower higher owner key fits small =
+    simp length-append (omega (arith, fits.enough, fits.processes lower.proc.number, call_digits lower small.0, fits.processes higher.proc.number, call_digits higher small.1, fits.processes owner.number, fits.keys key))
 
-name_race_short : (s : Scripts) (room : ℕ) (lower higher : CallAt) (name : ℕ) → HoldsAnyLine s room → AreNumbered lower higher → length (finding_line s (NameRace lower higher name)) ≤ room
-name_race_short s room lower higher name holds small =
-    simp length-append (omega (arith, holds.enough, holds.processes lower.proc.number, call_digits lower small.0, holds.processes higher.proc.number, call_digits higher small.1, holds.names name))
+name_race_short : (s : Scripts) (room : ℕ) (lower higher : CallAt) (name : ℕ) → FitsWords s room → AreNumbered lower higher → length (finding_line s (NameRace lower higher name)) ≤ room
+name_race_short s room lower higher name fits small =
+    simp length-append (omega (arith, fits.enough, fits.processes lower.proc.number, call_digits lower small.0, fits.processes higher.proc.number, call_digits higher small.1, fits.names name))
 
--- there is room for the line of any finding
-pub line_short : (s : Scripts) (room : ℕ) (f : Finding) → HoldsAnyLine s room → IsNumbered f → length (finding_line s f) ≤ room
-line_short s room (Rewrite first later) holds small = rewrite_short s room first later holds small
-line_short s room (KeyRace lower higher owner key) holds small = key_race_short s room lower higher owner key holds small
-line_short s room (NameRace lower higher name) holds small = name_race_short s room lower higher name holds small
+line_short : (s : Scripts) (room : ℕ) (f : Finding) → FitsWords s room → IsNumbered f → length (finding_line s f) ≤ room
+line_short s room (Rewrite first later) fits small = rewrite_short s room first later fits small
+line_short s room (KeyRace lower higher owner key) fits small = key_race_short s room lower higher owner key fits small
+line_short s room (NameRace lower higher name) fits small = name_race_short s room lower higher name fits small
+
+last_short : (s : Scripts) (room count : ℕ) → FitsWords s room → count < 2 ^ 64 → length (count_line count) ≤ room
+last_short s room count fits small = simp length-append (omega (arith, fits.enough, few_digits count small))
+
+-- there is room for the line of any finding, and for the last line
+pub holds_any : (s : Scripts) (room : ℕ) → FitsWords s room → HoldsAnyLine s room
+holds_any s room fits = record { lines = λ f small. line_short s room f fits small; last = λ count small. last_short s room count fits small }
 
 few_lines : (room count : ℕ) → 0 < room → room * (count + 1) < 2 ^ 64 → count < 2 ^ 64
 few_lines room count some fits = grind arith
 
--- and for the last line
+some_room : (s : Scripts) (room : ℕ) → HoldsAnyLine s room → 0 < room
+some_room s room holds =
+    let one : length (count_line 0) ≤ room = holds.last 0 (omega arith) in
+    let parts : length (count_line 0) ≡ length (codes "findings ") + length (decimal 0 ++ codes "\n") = length-append (codes "findings ") (decimal 0 ++ codes "\n") in
+    let nine : length (codes "findings ") ≡ 9 = refl in
+    omega (arith, one, parts, nine)
+
+-- and so for the line that counts them all
 pub count_short : (s : Scripts) (room count : ℕ) → HoldsAnyLine s room → room * (count + 1) < 2 ^ 64 → length (count_line count) ≤ room
-count_short s room count holds fits =
-    let digits : length (decimal count) ≤ 20 = few_digits count (few_lines room count (omega (arith, holds.enough)) fits) in
-    simp length-append (omega (arith, holds.enough))
+count_short s room count holds fits = holds.last count (few_lines room count (some_room s room holds) fits)
 
 -- the words of all processes before the next, and those of the next
 pub one_more_process : (s : Scripts) (i old new : ℕ) (process : Process) → IsSound s → slice_get s.processes i ≡ Some process → ((p : ℕ) → p < i → length (name_of s p) ≤ old) → old ≤ new → length (text_at s.jobs process.job) + 11 ≤ new

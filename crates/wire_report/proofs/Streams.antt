@@ -6,43 +6,44 @@ use Rattle.std.proofs.lemmas.List.{take-append-le, take-append-drop}
 use Rattle.std.proofs.lemmas.Grind.{flat_map-append}
 use Rattle.std.specs.List.{flat_map}
 use Rattle.std.specs.Io.KnownBytes.{Appends}
+use Rattle.wire_types.specs.Front.{BreaksAfter}
 use Rattle.wire_words.specs.declared.Chunk.{Chunk}
-use Rattle.wire_words.specs.Chunks.{IsOnItsWay, StaysOnItsWay, StopsAfter}
+use Rattle.wire_words.specs.Chunks.{IsOnItsWay, StaysOnItsWay}
 
 -- nothing of a text without bytes went out
-pub starts : (now : Option (List ℕ)) (chunk : Chunk) → Appends now now [] → chunk.text.items ≡ [] → chunk.written ≡ 0 → IsOnItsWay now now chunk []
+pub starts : (now : Option (List ℕ)) (chunk : Chunk) → Appends now now [] → chunk.waiting.items ≡ [] → chunk.gone ≡ 0 → IsOnItsWay now now chunk []
 starts now chunk none empty count = record { front = []; went = none; counted = count; whole = sym empty }
 
 -- more waits
-pub more_waits : (start now : Option (List ℕ)) (before after : Chunk) (text more : List ℕ) → IsOnItsWay start now before text → after.written ≡ before.written → after.text.items ≡ before.text.items ++ more → IsOnItsWay start now after (text ++ more)
+pub more_waits : (start now : Option (List ℕ)) (before after : Chunk) (text more : List ℕ) → IsOnItsWay start now before text → after.gone ≡ before.gone → after.waiting.items ≡ before.waiting.items ++ more → IsOnItsWay start now after (text ++ more)
 more_waits start now before after text more way same appended = record {
   front = way.front;
   went = way.went;
   counted = same ∙ way.counted;
-  whole = ap (λ t. t ++ more) way.whole ∙ append_assoc way.front before.text.items more ∙ ap (λ t. way.front ++ t) (sym appended);
+  whole = ap (λ t. t ++ more) way.whole ∙ append_assoc way.front before.waiting.items more ∙ ap (λ t. way.front ++ t) (sym appended);
 }
 
 -- what is counted and what waits is as much as the text
-pub counts : (start now : Option (List ℕ)) (chunk : Chunk) (text : List ℕ) → IsOnItsWay start now chunk text → chunk.written + length chunk.text.items ≡ length text
-counts start now chunk text way = omega (arith, way.counted, ap length way.whole, length-append way.front chunk.text.items)
+pub counts : (start now : Option (List ℕ)) (chunk : Chunk) (text : List ℕ) → IsOnItsWay start now chunk text → chunk.gone + length chunk.waiting.items ≡ length text
+counts start now chunk text way = omega (arith, way.counted, ap length way.whole, length-append way.front chunk.waiting.items)
 
 -- where nothing waits, all of the text went out
-pub all_out : (start now : Option (List ℕ)) (chunk : Chunk) (text : List ℕ) → IsOnItsWay start now chunk text → chunk.text.items ≡ [] → Appends start now text
+pub all_out : (start now : Option (List ℕ)) (chunk : Chunk) (text : List ℕ) → IsOnItsWay start now chunk text → chunk.waiting.items ≡ [] → Appends start now text
 all_out start now chunk text way empty =
     subst (λ t. Appends start now t) (sym (way.whole ∙ ap (λ t. way.front ++ t) empty ∙ append-nil way.front)) way.went
 
--- what stops within a text stops within a longer one
-pub stops_within : (start now : Option (List ℕ)) (text more : List ℕ) (n : ℕ) → StopsAfter start now text n → StopsAfter start now (text ++ more) n
-stops_within start now text more n stops =
-    let within : n ≤ length text = omega (arith, stops.0) in
-    let less : n < length (text ++ more) = omega (arith, stops.0, length-append text more) in
-    (less, subst (λ t. Appends start now t) (sym (take-append-le n text more within)) stops.1)
+-- what breaks off within a text breaks off within a longer one
+pub breaks_within : (start now : Option (List ℕ)) (text more : List ℕ) (n : ℕ) → BreaksAfter start now text n → BreaksAfter start now (text ++ more) n
+breaks_within start now text more n breaks =
+    let within : n ≤ length text = omega (arith, breaks.0) in
+    let less : n < length (text ++ more) = omega (arith, breaks.0, length-append text more) in
+    (less, subst (λ t. Appends start now t) (sym (take-append-le n text more within)) breaks.1)
 
--- what stops within the lines of the first stops within those of all
-pub stops_early : {X : Type 0} (start now : Option (List ℕ)) (f : X → List ℕ) (xs : List X) (i n : ℕ) → StopsAfter start now (flat_map f (take i xs)) n → StopsAfter start now (flat_map f xs) n
-stops_early start now f xs i n stops =
+-- what breaks off within the lines of the first breaks off within those of all
+pub breaks_early : {X : Type 0} (start now : Option (List ℕ)) (f : X → List ℕ) (xs : List X) (i n : ℕ) → BreaksAfter start now (flat_map f (take i xs)) n → BreaksAfter start now (flat_map f xs) n
+breaks_early start now f xs i n breaks =
     let all : flat_map f (take i xs) ++ flat_map f (drop i xs) ≡ flat_map f xs = sym (flat_map-append f (take i xs) (drop i xs)) ∙ (λ k. flat_map f (take-append-drop i xs k)) in
-    subst (λ t. StopsAfter start now t n) all (stops_within start now (flat_map f (take i xs)) (flat_map f (drop i xs)) n stops)
+    subst (λ t. BreaksAfter start now t n) all (breaks_within start now (flat_map f (take i xs)) (flat_map f (drop i xs)) n breaks)
 
 -- the lines of one more
 next_line : {X : Type 0} (f : X → List ℕ) (xs : List X) (i : ℕ) (x : X) → slice_get xs i ≡ Some x → flat_map f (take (suc i) xs) ≡ flat_map f (take i xs) ++ f x
@@ -67,6 +68,6 @@ pub still_counted : (room count lines last : ℕ) → room * (count + 1) < 2 ^ 6
 still_counted room count lines last fits short one = grind arith
 
 -- a text that was all there went out
-pub all_sent : {A E : Type 0} (r : Result A E) (start old new : Option (List ℕ)) (before after : Chunk) (text : List ℕ) → IsOnItsWay start old before text → OnOk r (StaysOnItsWay old new before after) → OnOk r (after.text.items ≡ []) → OnOk r (Appends start new text)
+pub all_sent : {A E : Type 0} (r : Result A E) (start old new : Option (List ℕ)) (before after : Chunk) (text : List ℕ) → IsOnItsWay start old before text → OnOk r (StaysOnItsWay old new before after) → OnOk r (after.waiting.items ≡ []) → OnOk r (Appends start new text)
 all_sent (Ok x) start old new before after text way stays empty = all_out start new after text (stays start text way) empty
 all_sent (Err e) start old new before after text way stays empty = tt

@@ -5,8 +5,8 @@ ghost use Rattle.std.specs.Io.KnownBytes.{Appends};
 ghost use Rattle.std.specs.List.{flat_map};
 ghost use Rattle.wire_types.specs.declared.Fault.TheVariants.{Memory};
 ghost use Rattle.wire_types.specs.Counting.{one_more};
-ghost use Rattle.wire_types.specs.Front.{WritesFront};
-ghost use Rattle.wire_words.specs.Chunks.{IsOnItsWay, StopsAfter};
+ghost use Rattle.wire_types.specs.Front.{BreaksAfter, WritesFront};
+ghost use Rattle.wire_words.specs.Chunks.{IsOnItsWay};
 ghost use Rattle.wire_words.specs.Words.{name_of};
 ghost use Rattle.wire_report.specs.Findings as spec;
 ghost use Rattle.wire_report.specs.Lines.{NoneIsLonger, HoldsAnyLine};
@@ -25,6 +25,7 @@ const CHUNK: usize = 65_536;
 /// Writes the text of findings to the sink: lines in chunks, so that the whole text is never in memory, JSON
 /// once all of it is made. All memory is taken before the first byte is written: where it runs out,
 /// nothing is written. A text of lines that might have 2^64 bytes and more counts as memory that ran out.
+/// The faults are `Fault::Memory`, and `Fault::Write` with the number of bytes that went out.
 pub fn write_findings<S: Sink>(
     alloc: Global,
     scripts: &Scripts,
@@ -74,13 +75,13 @@ fn write_chunks<S: Sink>(
     room: usize,
     sink: &mut S,
 ) -> Result<(), u64>
-    requires nothing { (chunk.old.text.items ≡ []) × (chunk.old.written ≡ 0) }
-    requires room { room ≤ vec_capacity chunk.old.text }
+    requires nothing { (chunk.old.waiting.items ≡ []) × (chunk.old.gone ≡ 0) }
+    requires room { room ≤ vec_capacity chunk.old.waiting }
     requires lines { HoldsAnyLine scripts.now room }
     requires counted { room * (length findings.now + 1) < 2 ^ 64 }
     ensures ok { OnOk result (Appends (S.written sink.old) (S.written sink.new) (spec.findings_report scripts.now findings.now)) }
     ensures quiet { OnOk result (S.failures sink.new ≡ S.failures sink.old) }
-    ensures err { IfErr result (λ n. StopsAfter (S.written sink.old) (S.written sink.new) (spec.findings_report scripts.now findings.now) n) }
+    ensures err { IfErr result (λ n. BreaksAfter (S.written sink.old) (S.written sink.new) (spec.findings_report scripts.now findings.now) n) }
     ensures failed { OnErr result (S.failures sink.new ≡ one_more (S.failures sink.old)) }
 {
     if let Err(n) = write_lines(chunk, scripts, findings, room, sink) {
@@ -89,7 +90,7 @@ fn write_chunks<S: Sink>(
     if let Err(n) = chunk.make_room(room, sink) {
         return Err(n);
     }
-    push_count(&mut chunk.text, findings.len()).unwrap();
+    push_count(&mut chunk.waiting, findings.len()).unwrap();
     chunk.flush(sink)
 }
 
@@ -102,15 +103,15 @@ fn write_lines<S: Sink>(
     room: usize,
     sink: &mut S,
 ) -> Result<(), u64>
-    requires nothing { (chunk.old.text.items ≡ []) × (chunk.old.written ≡ 0) }
-    requires room { room ≤ vec_capacity chunk.old.text }
+    requires nothing { (chunk.old.waiting.items ≡ []) × (chunk.old.gone ≡ 0) }
+    requires room { room ≤ vec_capacity chunk.old.waiting }
     requires lines { HoldsAnyLine scripts.now room }
     requires counted { room * (length findings.now + 1) < 2 ^ 64 }
     ensures ok { OnOk result (IsOnItsWay (S.written sink.old) (S.written sink.new) chunk.new (flat_map (spec.finding_line scripts.now) findings.now)) }
     ensures short { OnOk result (length (flat_map (spec.finding_line scripts.now) findings.now) ≤ room * length findings.now) }
-    ensures room { room ≤ vec_capacity chunk.new.text }
+    ensures room { room ≤ vec_capacity chunk.new.waiting }
     ensures quiet { OnOk result (S.failures sink.new ≡ S.failures sink.old) }
-    ensures err { IfErr result (λ n. StopsAfter (S.written sink.old) (S.written sink.new) (flat_map (spec.finding_line scripts.now) findings.now) n) }
+    ensures err { IfErr result (λ n. BreaksAfter (S.written sink.old) (S.written sink.new) (flat_map (spec.finding_line scripts.now) findings.now) n) }
     ensures failed { OnErr result (S.failures sink.new ≡ one_more (S.failures sink.old)) }
 {
     for number in 0..findings.len() {
@@ -120,7 +121,7 @@ fn write_lines<S: Sink>(
         if let Err(n) = chunk.make_room(room, sink) {
             return Err(n);
         }
-        write_line(&mut chunk.text, scripts, finding, room);
+        write_line(&mut chunk.waiting, scripts, finding, room);
     }
     Ok(())
 }

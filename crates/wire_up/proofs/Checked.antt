@@ -74,13 +74,13 @@ Ends s old new A B e = ((e ≡ Memory) × A) ⊎ (BreaksOffVerdict s old new e �
 
 -- what went out of the findings of scripts that were read
 pub writes_findings : (coming old new : Option (List ℕ)) (s : Scripts) (r : Result Ended Fault) → ReadAs coming s → IfOk r (λ ended. WritesVerdict s ended old new) → IfOk r (λ ended. WritesFindings coming ended old new)
-writes_findings coming old new s (Ok ended) read wrote = record { scripts = s; read = read; text = wrote.text; verdict = wrote.verdict; wrote = wrote.wrote }
+writes_findings coming old new s (Ok ended) read wrote = record { scripts = s; read = read; wrote = wrote }
 writes_findings coming old new s (Err e) read wrote = tt
 
 pub breaks_off : (coming old new : Option (List ℕ)) (s : Scripts) (A B : Type 0) (r : Result Ended Fault) → ReadAs coming s → IfErr r (Ends s old new A B) → IfErr r (λ e. (StopsBeforeFindings coming e × A) ⊎ (BreaksOffFindings coming old new e × B))
 breaks_off coming old new s A B (Ok ended) read ends = tt
 breaks_off coming old new s A B (Err e) read (inl (memory, none)) = inl (inl memory, none)
-breaks_off coming old new s A B (Err e) read (inr (front, failed)) = inr (record { scripts = s; read = read; ended = front.ended; text = front.text; verdict = front.verdict; wrote = front.wrote }, failed)
+breaks_off coming old new s A B (Err e) read (inr (front, failed)) = inr (record { scripts = s; read = read; broke = front }, failed)
 
 -- neither the reader nor the writer failed
 pub both_quiet : (P Q : Type 0) (r : Result Ended Fault) → P → OnOk r Q → OnOk r (P × Q)

@@ -70,18 +70,13 @@ pub record EndsInOneState (coming : Option (List ℕ)) : Type 0 where
 pub record WritesFindings (coming : Option (List ℕ)) (ended : Ended) (old new : Option (List ℕ)) : Type 0 where
   pub scripts : Scripts
   pub read : ReadAs coming scripts
-  pub text : List ℕ
-  pub verdict : IsVerdict scripts ended text
-  pub wrote : Appends old new text
+  pub wrote : WritesVerdict scripts ended old new
 
 -- exactly as many bytes of the findings went out as the fault says, which aren't all of them
 pub record BreaksOffFindings (coming old new : Option (List ℕ)) (fault : Fault) : Type 0 where
   pub scripts : Scripts
   pub read : ReadAs coming scripts
-  pub ended : Ended
-  pub text : List ℕ
-  pub verdict : IsVerdict scripts ended text
-  pub wrote : WritesFront old new text fault
+  pub broke : BreaksOffVerdict scripts old new fault
 
 -- why nothing is written: memory ran out, a read failed, or the file is refused
 abbrev pub StopsBeforeFindings : Option (List ℕ) → Fault → Type 0

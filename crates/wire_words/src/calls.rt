@@ -10,7 +10,8 @@ use std::alloc::AllocError;
 use wire_rehearsal::{Process, Scripts};
 use wire_types::{Call, CallAt, Proc};
 
-/// Appends a number in decimal. Fails only where there is no room for it.
+/// Appends a number in decimal. It takes memory only where there is no room for it; the one error is that this
+/// ran out.
 pub fn push_number(out: &mut Vec<u8>, number: u64) -> Result<(), AllocError>
     ensures ok { OnOk result (out.new.items ≡ out.old.items ++ decimal number) }
     ensures capacity { vec_capacity out.old ≤ vec_capacity out.new }
@@ -20,8 +21,8 @@ pub fn push_number(out: &mut Vec<u8>, number: u64) -> Result<(), AllocError>
     out.extend_from_slice(buffer.format(number).as_bytes())
 }
 
-/// Appends a process: the name of its job, a colon, and its rank. Fails only where there is no room for
-/// them.
+/// Appends a process: the name of its job, a colon, and its rank. It takes memory only where there is no room
+/// for them; the one error is that this ran out, and a part of them may then be there.
 pub fn push_process(
     out: &mut Vec<u8>,
     scripts: &Scripts,
@@ -36,8 +37,8 @@ pub fn push_process(
     push_number(out, u64::from(process.rank()))
 }
 
-/// Appends a process by its number; nothing where it isn't there. Fails only where there is no room for
-/// its words.
+/// Appends a process by its number; nothing where it isn't there. It takes memory only where there is no room
+/// for its words; the one error is that this ran out, and a part of them may then be there.
 pub fn push_proc(out: &mut Vec<u8>, scripts: &Scripts, proc: Proc) -> Result<(), AllocError>
     ensures ok { OnOk result (out.new.items ≡ out.old.items ++ spec.name_of scripts.now proc.number) }
     ensures capacity { vec_capacity out.old ≤ vec_capacity out.new }
@@ -49,7 +50,8 @@ pub fn push_proc(out: &mut Vec<u8>, scripts: &Scripts, proc: Proc) -> Result<(),
     }
 }
 
-/// Appends a call: its process, and its number from 1. Fails only where there is no room for its words.
+/// Appends a call: its process, and its number from 1. It takes memory only where there is no room for its
+/// words; the one error is that this ran out, and a part of them may then be there.
 pub fn push_call(out: &mut Vec<u8>, scripts: &Scripts, call: CallAt) -> Result<(), AllocError>
     ensures ok { OnOk result (out.new.items ≡ out.old.items ++ spec.call_text scripts.now call) }
     ensures capacity { vec_capacity out.old ≤ vec_capacity out.new }

@@ -3,12 +3,12 @@ use Rattle.std.specs.List.{flat_map}
 use Rattle.wire_words.specs.Chunks.{IsOnItsWay}
 use Rattle.wire_words.specs.declared.Chunk.{Chunk}
 use Rattle.wire_report.specs.Findings.{finding_line}
-use Rattle.wire_report.proofs.Streams.{more_waits, stops_early, one_more_line, one_more_short}
+use Rattle.wire_report.proofs.Streams.{more_waits, breaks_early, one_more_line, one_more_short}
 use Rattle.wire_report.proofs.streaming.write_lines.Goals as goal
 
 pub returns-in-Err-clause-err : goal.returns-in-Err-clause-err
 returns-in-Err-clause-err g c =
-    stops_early _ _ (finding_line c.args.scripts.now) c.args.findings.now c.loop-number.number c.in-Err.n (c.in-Err.ensures.err _ _ c.loop-number.invariant.way)
+    breaks_early _ _ (finding_line c.args.scripts.now) c.args.findings.now c.loop-number.number c.in-Err.n (c.in-Err.ensures.err _ _ c.loop-number.invariant.way)
 
 pub loop-number-preserved : goal.loop-number-preserved
 loop-number-preserved g c =
@@ -16,7 +16,7 @@ loop-number-preserved g c =
     let before = flat_map line (take c.loop-number.number c.args.findings.now) in
     let there : slice_get c.args.findings.now c.loop-number.number ≡ Some c.in-Some.finding = sym c.get.ensures ∙ c.in-Some.is in
     let more = one_more_line line c.args.findings.now c.loop-number.number c.in-Some.finding there in
-    let after : Chunk = record { text = c.write_line.new.out; written = c.make_room.new.self.written } in
+    let after : Chunk = record { waiting = c.write_line.new.out; gone = c.make_room.new.self.gone } in
     let way : IsOnItsWay (g.S.Sink.written c.args.sink.now) (g.S.Sink.written c.make_room.new.sink) after (before ++ line c.in-Some.finding) =
     more_waits _ _ c.make_room.new.self after before (line c.in-Some.finding) (c.in_default-make_room.ensures.ok _ _ c.loop-number.invariant.way) refl c.write_line.ensures.appended in
     let short = one_more_short c.args.room c.loop-number.number (length before) (length (line c.in-Some.finding)) c.loop-number.invariant.short c.write_line.ensures.short in

@@ -9,6 +9,6 @@ abbrev pub invariant-loop-number : goal.invariant-loop-number
 invariant-loop-number g l = record {
   way : IsOnItsWay (g.S.Sink.written l.initial.sink) (g.S.Sink.written l.sink) l.chunk (flat_map (finding_line l.scripts) (take l.number l.findings));
   short : length (flat_map (finding_line l.scripts) (take l.number l.findings)) ≤ l.room * l.number;
-  room : l.room ≤ vec_capacity l.chunk.text;
+  room : l.room ≤ vec_capacity l.chunk.waiting;
   quiet : g.S.Sink.failures l.sink ≡ g.S.Sink.failures l.initial.sink;
 }
