@@ -58,7 +58,7 @@ writes_report coming old new s text (Err e) read is wrote = tt
 -- a fault of the writing counts what went out
 pub breaks_off : (coming old new : Option (List ℕ)) (s : Scripts) (text : List ℕ) (r : Result (Unit {0}) Fault) (n : ℕ) → ReadAs coming s → text ≡ plain_report s → IfErr r (WritesFront old new text) → r ≡ Err (Write n) → BreaksOff coming old new n
 breaks_off coming old new s text (Ok x) n read is front at = let bad : Ok x ≡ Err (Write n) = at in cc
-breaks_off coming old new s text (Err e) n read is (m, carries, short, front) at =
+breaks_off coming old new s text (Err e) n read is (m, carries, (short, front)) at =
     let same : m ≡ n = cc in
     record {
       scripts = s;
@@ -70,17 +70,17 @@ breaks_off coming old new s text (Err e) n read is (m, carries, short, front) at
 -- the writing is no failed read
 pub no_read_writing : (old new : Option (List ℕ)) (text : List ℕ) (r : Result (Unit {0}) Fault) → IfErr r (WritesFront old new text) → r ≡ Err Read → ⊥
 no_read_writing old new text (Ok x) front is = let bad : Ok x ≡ Err Read = is in cc
-no_read_writing old new text (Err e) (m, carries, short, front) is = let bad : Write m ≡ Read = cc in cc
+no_read_writing old new text (Err e) (m, carries, (short, front)) is = let bad : Write m ≡ Read = cc in cc
 
 -- the writing refuses no file
 pub not_refused : (coming old new : Option (List ℕ)) (text : List ℕ) (r : Result (Unit {0}) Fault) → IfErr r (WritesFront old new text) → IfErr r (λ e. e ≢ Memory → e ≢ Read → ((n : ℕ) → e ≢ Write n) → Refuses coming e)
 not_refused coming old new text (Ok x) front = tt
-not_refused coming old new text (Err e) (m, carries, short, front) = λ memory read not_write. absurd (not_write m carries)
+not_refused coming old new text (Err e) (m, carries, (short, front)) = λ memory read not_write. absurd (not_write m carries)
 
 -- a fault that isn't of writing comes before it
 pub untouched : {W : Type 0} (old new : W) (written later : Option (List ℕ)) (text : List ℕ) (r : Result (Unit {0}) Fault) → IfErr r (WritesFront written later text) → OnErr r (((n : ℕ) → r ≢ Err (Write n)) → new ≡ old)
 untouched old new written later text (Ok x) front = tt
-untouched old new written later text (Err e) (m, carries, short, front) = λ none. absurd (none m (ap Err carries))
+untouched old new written later text (Err e) (m, carries, (short, front)) = λ none. absurd (none m (ap Err carries))
 
 -- what holds at every fault holds at this one
 pub at_error : (r : Result (Unit {0}) Fault) (e : Fault) (P : Type 0) → IfErr r (λ _. P) → r ≡ Err e → P
