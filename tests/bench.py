@@ -3,9 +3,10 @@
 Usage: python3 tests/bench.py [PROGRAM] [--beside OTHER] [--only WORD] [--runs N] [--small]
 Prints the tables of docs/performance.md: for each file its bytes, calls and findings; for each command the least time of N runs,
 with the start of the process in it and the output thrown away, how that grows from a quarter of the calls, and the greatest
-resident size. With OTHER, its time and size in the same runs, and the ratio. The last table has two runs that judge no findings, and
-`replay` by 1, 2 and 4 workers beside them: the plain run by one thread, and one worker over a core under a lock (both of crates/parts,
-which is built where it isn't there). --small takes files of a few calls, each once: it only shows that all of it still works.
+resident size. With OTHER, its time and size in the same runs, and the ratio. The last two tables have runs that judge no findings (of
+crates/parts, which is built where it isn't there): the plain run by one thread, beside OTHER's `replay` where that has no workers and
+so is such a run; and the same with one worker over a core under a lock, and `replay` by 1, 2 and 4 workers, beside it.
+--small takes files of a few calls, each once: it only shows that all of it still works.
 """
 import argparse
 import collections
@@ -150,9 +151,9 @@ def run(words, given=os.devnull):
     return seconds, used.ru_maxrss
 
 
-def best_of(runs, programs, words):
-    """The least seconds and the greatest size of each program, run by turns."""
-    took = [[run([program, *words]) for program in programs] for _ in range(runs)]
+def best_of(runs, commands):
+    """The least seconds and the greatest size of each command (its words and its standard input), run by turns."""
+    took = [[run(*command) for command in commands] for _ in range(runs)]
     return [(min(it[0] for it in each), max(it[1] for it in each)) for each in zip(*took)]
 
 
@@ -174,6 +175,16 @@ def takes(program, words):
     """Whether a program has the options among these words. (An earlier one has no `--workers`.)"""
     told = subprocess.run([program, words[0], "--help"], stdin=subprocess.DEVNULL, capture_output=True, text=True, check=False).stdout
     return all(it in told for it in words if it.startswith("--"))
+
+
+def command_of(program, words):
+    """A command over a file, as `Bench.tell_times` takes it."""
+    return lambda path: ([program, *words, path], os.devnull)
+
+
+def plain_run(path):
+    """The run by one thread that always serves the lowest ready rank, without a check before it."""
+    return [PARTS, "plain"], path
 
 
 class Bench:
@@ -198,15 +209,23 @@ class Bench:
         found = findings_in(self.programs[0], path)
         print(f"| {kind.name} | {kind.what} | {len(text):,} | {calls_in(text):,} | {found:,} |", flush=True)
 
-    def tell_command(self, kind, programs, words):
-        """A row of the table of times."""
-        small, large = (best_of(self.runs, programs, [*words, self.file_of(kind, it)[0]]) for it in (QUARTER, WHOLE))
+    def tell_times(self, kind, commands):
+        """A row of a table of times. Each command is a function from a file's path to words and standard input."""
+        paths = [self.file_of(kind, it)[0] for it in (QUARTER, WHOLE)]
+        small, large = (best_of(self.runs, [command(path) for command in commands]) for path in paths)
         floor = run(["true"])[1]
         cells = [kind.name, f"{1000 * small[0][0]:.1f}", f"{1000 * large[0][0]:.1f}", f"{large[0][0] / small[0][0]:.1f}"]
         cells.append(mebibytes(large[0][1], floor))
         for other in large[1:]:
             cells += [f"{1000 * other[0]:.1f}", mebibytes(other[1], floor), f"{other[0] / large[0][0]:.1f}"]
         print(f"| {' | '.join(cells)} |", flush=True)
+
+    def tell_table(self, title, kinds, commands):
+        """A table of times: of the first command, and of the others beside it."""
+        heads = ["file", "a quarter, ms", "ms", "growth", "MiB"] + ["other, ms", "other, MiB", "times as fast"][: 3 * (len(commands) - 1)]
+        print(f"\n{title}:\n\n| {' | '.join(heads)} |\n|{'---|' * len(heads)}")
+        for kind in kinds:
+            self.tell_times(kind, commands)
 
     def tell_plain(self, kind):
         """A row of the table of runs that judge no findings. With findings, `replay` runs nothing, and there is no row."""
@@ -228,10 +247,9 @@ class Bench:
         for words in (*COMMANDS, question):
             its = [it for it in kinds if words[0] in it.commands or (words is question and it.name in WHY)]
             programs = [it for it in self.programs if takes(it, words)]
-            heads = ["file", "a quarter, ms", "ms", "growth", "MiB"] + ["other, ms", "other, MiB", "times as fast"][: 3 * (len(programs) - 1)]
-            print(f"\n`{' '.join(words)}`:\n\n| {' | '.join(heads)} |\n|{'---|' * len(heads)}")
-            for kind in its:
-                self.tell_command(kind, programs, words)
+            self.tell_table(f"`{' '.join(words)}`", its, [command_of(it, words) for it in programs])
+        others = [command_of(it, ["replay"]) for it in self.programs[1:] if not takes(it, ["replay", "--workers"])]
+        self.tell_table("A plain run, which an earlier program has as `replay`", kinds, [plain_run, *others])
         heads = ["file", "plain", "locked core", "1 worker", "2 workers", "4 workers", "1 worker / plain"]
         print("\nA plain run, one worker over a locked core, and `replay` by workers, in milliseconds:\n")
         print(f"| {' | '.join(heads)} |\n|{'---|' * len(heads)}")
@@ -251,7 +269,7 @@ def works(program):
     """Times the program on files of a few calls. Answers how many such runs passed and failed, of one."""
     words = [sys.executable, os.path.abspath(__file__), program, "--small", "--beside", program]
     ran = subprocess.run(words, stdin=subprocess.DEVNULL, capture_output=True, text=True, check=False)
-    is_well = ran.returncode == 0 and ran.stdout.count("\n| ") >= (1 + len(COMMANDS)) * (len(KINDS) + 1) + len(WHY) + 1
+    is_well = ran.returncode == 0 and ran.stdout.count("\n| ") >= (2 + len(COMMANDS)) * (len(KINDS) + 1) + len(WHY) + 1
     if not is_well:
         print(f"tests/bench.py: {ran.stdout}{ran.stderr}", end="")
     print(f"tests/bench.py: {int(is_well)} passed, {int(not is_well)} failed", flush=True)
