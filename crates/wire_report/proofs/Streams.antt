@@ -1,5 +1,5 @@
 -- A text that is written in chunks, from one line to the next.
-use Rattle.std.proofs.Common.{◌≡◌, ◌∙◌, ap, sym, refl, subst, ℕ, ◌+◌, ◌*◌, ◌^◌, ◌<◌, ◌≤◌, List, [], ◌++◌, take, length, Option, append_assoc, append-nil, length-append, arith, drop, Result, Ok, Err, OnOk, OnErr, suc, zero, ◌∷◌, Some, slice_get}
+use Rattle.std.proofs.Common.{◌≡◌, ◌∙◌, ap, sym, refl, subst, ℕ, ◌+◌, ◌*◌, ◌^◌, ◌<◌, ◌≤◌, List, [], ◌++◌, take, length, ◌⊎◌, inl, inr, Option, append_assoc, append-nil, length-append, arith, drop, Result, Ok, Err, OnOk, OnErr, suc, zero, ◌∷◌, Some, slice_get}
 use Rattle.std.proofs.lemmas.Option.{same_Some, slice_get_within}
 use Rattle.std.specs.Result.{IsOk}
 use Rattle.std.proofs.lemmas.List.{take-append-le, take-append-drop}
@@ -62,6 +62,11 @@ one_more_short room count lines last short one = grind arith
 pub has_room : {A E : Type 0} (r : Result A E) (capacity there wanted room : ℕ) → OnErr r (capacity < there + wanted) → there + room ≤ capacity → wanted ≤ room → IsOk r
 has_room (Ok x) capacity there wanted room full free fits = refl
 has_room (Err e) capacity there wanted room full free fits = absurd (omega arith)
+
+-- and what fails only where one of two has none
+pub has_both_rooms : {A E : Type 0} (r : Result A E) (capacity there kept wanted room : ℕ) → OnErr r ((capacity < there + wanted) ⊎ (kept < wanted)) → there + room ≤ capacity → room ≤ kept → wanted ≤ room → IsOk r
+has_both_rooms (Ok x) capacity there kept wanted room full free too fits = refl
+has_both_rooms (Err e) capacity there kept wanted room full free too fits = elim full [ inl here ↦ absurd (omega arith) | inr there ↦ absurd (omega arith) ]
 
 -- one line more is counted
 pub still_counted : (room count lines last : ℕ) → room * (count + 1) < 2 ^ 64 → lines ≤ room * count → last ≤ room → lines + last < 2 ^ 64

@@ -1,9 +1,10 @@
 -- How much room the lines of findings take (only private contracts cite this).
-use Rattle.std.specs.Prelude.{ℕ, ◌^◌, ◌<◌, ◌≤◌, List, length}
+use Rattle.std.specs.Prelude.{◌≡◌, ℕ, ◌^◌, ◌<◌, ◌≤◌, List, ◌++◌, Option, IfSome, codes, length}
 use Rattle.wire_rehearsal.specs.Scripts.{Scripts, text_at}
 use Rattle.wire_types.specs.declared.CallAt.{CallAt}
 use Rattle.wire_races.specs.declared.finding.Finding.{Finding}
 use Rattle.wire_races.specs.declared.finding.Finding.TheVariants.{Rewrite, KeyRace, NameRace}
+use Rattle.wire_words.specs.Words.{name_of, call_text}
 use Rattle.wire_report.specs.Findings.{finding_line, count_line}
 
 -- no text of a table is longer
@@ -24,3 +25,19 @@ IsNumbered (NameRace lower higher name) = AreNumbered lower higher
 pub record HoldsAnyLine (scripts : Scripts) (room : ℕ) : Type 0 where
   pub lines : (finding : Finding) → IsNumbered finding → length (finding_line scripts finding) ≤ room
   pub last : (count : ℕ) → count < 2 ^ 64 → length (count_line count) ≤ room
+
+-- the words of a race up to its lower call
+abbrev pub race_start : Scripts → CallAt → List ℕ
+race_start scripts lower = codes "race " ++ call_text scripts lower
+
+-- where there is such a call, these are the words up to it
+abbrev pub AreWordsOf : Scripts → Option CallAt → List ℕ → Type 0
+AreWordsOf scripts call words = IfSome call (λ lower. words ≡ race_start scripts lower)
+
+-- the rest of the line of a race on a key
+abbrev pub key_race_rest : Scripts → CallAt → ℕ → ℕ → List ℕ
+key_race_rest scripts higher owner key = codes " " ++ call_text scripts higher ++ codes " key " ++ name_of scripts owner ++ codes " " ++ text_at scripts.keys key ++ codes "\n"
+
+-- the rest of the line of a race on a name
+abbrev pub name_race_rest : Scripts → CallAt → ℕ → List ℕ
+name_race_rest scripts higher name = codes " " ++ call_text scripts higher ++ codes " name " ++ text_at scripts.names name ++ codes "\n"

@@ -1,17 +1,18 @@
 //! The text of what the checker finds.
 
-ghost use Rattle.std.specs.Prelude.{◌≡◌, ◌+◌, ◌<◌, ◌≤◌, ◌++◌, codes, length, map, vec_capacity, OnOk, OnErr, IfOk, IfErr};
+ghost use Rattle.std.specs.Prelude.{◌≡◌, ◌⊎◌, ◌+◌, ◌<◌, ◌≤◌, ◌++◌, codes, length, map, vec_capacity, OnOk, OnErr, IfOk, IfErr};
 ghost use Rattle.std.specs.List.{flat_map};
 ghost use Rattle.wire_types.specs.declared.Fault.TheVariants.{Memory};
 ghost use Rattle.wire_rehearsal.specs.Scripts.{call_at};
 ghost use Rattle.wire_report.specs.Findings as spec;
-ghost use Rattle.wire_report.specs.Lines.{AreNumbered, IsNumbered};
+ghost use Rattle.wire_report.specs.Lines.{AreNumbered, IsNumbered, AreWordsOf, key_race_rest, name_race_rest};
 
+use crate::lower_call::LowerCall;
 use std::alloc::{AllocError, Global};
 use wire_json::findings_json;
 use wire_races::Finding;
 use wire_rehearsal::Scripts;
-use wire_types::{Call, CallAt, Fault};
+use wire_types::{Call, CallAt, Fault, Proc};
 use wire_words::{find_call, push_call, push_number, push_proc};
 
 /// The text of findings: a line for each, and last how many they are, or the lines as JSON. A rewrite
@@ -91,6 +92,74 @@ pub(crate) fn push_line(
     ensures numbered { IsNumbered finding }
 {
     push_finding(out, scripts, finding)?;
+    out.extend_from_slice(b"\n")
+}
+
+/// The same, with the words of a race up to its lower call from those that were told before, where it is the
+/// same call. Fails only where there is no room for the line, or for those words where they are kept.
+pub(crate) fn push_line_after(
+    out: &mut Vec<u8>,
+    told: &mut LowerCall,
+    scripts: &Scripts,
+    finding: Finding,
+) -> Result<(), AllocError>
+    requires { AreWordsOf scripts.now told.old.call told.old.words.items }
+    ensures ok { OnOk result (out.new.items ≡ out.old.items ++ spec.finding_line scripts.now finding) }
+    ensures told { AreWordsOf scripts.now told.new.call told.new.words.items }
+    ensures capacity { vec_capacity out.old ≤ vec_capacity out.new }
+    ensures words { vec_capacity told.old.words ≤ vec_capacity told.new.words }
+    ensures full { OnErr result ((vec_capacity out.old < length out.old.items + length (spec.finding_line scripts.now finding)) ⊎ (vec_capacity told.old.words < length (spec.finding_line scripts.now finding))) }
+    ensures numbered { IsNumbered finding }
+{
+    match finding {
+        Finding::Rewrite(_, _) => push_line(out, scripts, finding),
+        Finding::KeyRace(lower, higher, owner, key) => {
+            told.push(out, scripts, lower)?;
+            push_key_race(out, scripts, higher, owner, key)
+        }
+        Finding::NameRace(lower, higher, name) => {
+            told.push(out, scripts, lower)?;
+            push_name_race(out, scripts, higher, name)
+        }
+    }
+}
+
+/// Appends what follows the lower call in the line of a race on a key. Fails only where there is no room for it.
+fn push_key_race(
+    out: &mut Vec<u8>,
+    scripts: &Scripts,
+    higher: CallAt,
+    owner: Proc,
+    key: u32,
+) -> Result<(), AllocError>
+    ensures ok { OnOk result (out.new.items ≡ out.old.items ++ key_race_rest scripts.now higher owner.number key) }
+    ensures capacity { vec_capacity out.old ≤ vec_capacity out.new }
+    ensures full { OnErr result (vec_capacity out.old < length out.old.items + length (key_race_rest scripts.now higher owner.number key)) }
+{
+    out.extend_from_slice(b" ")?;
+    push_call(out, scripts, higher)?;
+    out.extend_from_slice(b" key ")?;
+    push_proc(out, scripts, owner)?;
+    out.extend_from_slice(b" ")?;
+    out.extend_from_slice(scripts.keys().text(key))?;
+    out.extend_from_slice(b"\n")
+}
+
+/// Appends what follows the lower call in the line of a race on a name. Fails only where there is no room for it.
+fn push_name_race(
+    out: &mut Vec<u8>,
+    scripts: &Scripts,
+    higher: CallAt,
+    name: u32,
+) -> Result<(), AllocError>
+    ensures ok { OnOk result (out.new.items ≡ out.old.items ++ name_race_rest scripts.now higher name) }
+    ensures capacity { vec_capacity out.old ≤ vec_capacity out.new }
+    ensures full { OnErr result (vec_capacity out.old < length out.old.items + length (name_race_rest scripts.now higher name)) }
+{
+    out.extend_from_slice(b" ")?;
+    push_call(out, scripts, higher)?;
+    out.extend_from_slice(b" name ")?;
+    out.extend_from_slice(scripts.names().text(name))?;
     out.extend_from_slice(b"\n")
 }
 

@@ -4,6 +4,7 @@
 mod chain;
 mod findings;
 mod lines;
+mod lower_call;
 mod report;
 mod steps;
 mod streaming;

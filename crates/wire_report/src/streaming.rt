@@ -1,6 +1,6 @@
 //! The text of what the checker finds, to a sink.
 
-ghost use Rattle.std.specs.Prelude.{◌≡◌, ◌≢◌, ◌⊎◌, ℕ, ◌+◌, ◌*◌, ◌<◌, ◌≤◌, ◌^◌, ◌++◌, [], true, Err, length, vec_capacity, IfSome, OnOk, OnErr, IfErr};
+ghost use Rattle.std.specs.Prelude.{◌≡◌, ◌≢◌, ◌⊎◌, ℕ, ◌+◌, ◌*◌, ◌<◌, ◌≤◌, ◌^◌, ◌++◌, [], true, None, Err, length, vec_capacity, IfSome, OnOk, OnErr, IfErr};
 ghost use Rattle.std.specs.Io.KnownBytes.{Appends};
 ghost use Rattle.std.specs.List.{flat_map};
 ghost use Rattle.wire_types.specs.declared.Fault.TheVariants.{Memory};
@@ -9,9 +9,10 @@ ghost use Rattle.wire_types.specs.Front.{BreaksAfter, WritesFront};
 ghost use Rattle.wire_words.specs.Chunks.{IsOnItsWay};
 ghost use Rattle.wire_words.specs.Words.{name_of};
 ghost use Rattle.wire_report.specs.Findings as spec;
-ghost use Rattle.wire_report.specs.Lines.{NoneIsLonger, HoldsAnyLine};
+ghost use Rattle.wire_report.specs.Lines.{NoneIsLonger, HoldsAnyLine, AreWordsOf};
 
-use crate::findings::{findings_text, push_count, push_line};
+use crate::findings::{findings_text, push_count, push_line_after};
+use crate::lower_call::LowerCall;
 use crate::writing::write_text;
 use std::alloc::Global;
 use wire_races::{Finding, FindingList};
@@ -21,6 +22,14 @@ use wire_words::Chunk;
 
 /// The room of a chunk, unless a line may need more.
 const CHUNK: usize = 65_536;
+
+/// What lines tell: findings of scripts, and how much room there is for each line.
+#[derive(Clone, Copy)]
+struct Lines<'a> {
+    scripts: &'a Scripts,
+    findings: &'a FindingList,
+    room: usize,
+}
 
 /// Writes the text of findings to the sink: lines in chunks, so that the whole text is never in memory, JSON
 /// once all of it is made. All memory is taken before the first byte is written: where it runs out,
@@ -46,7 +55,13 @@ pub fn write_findings<S: Sink>(
         return Err(Fault::Memory);
     };
     let mut chunk = Chunk::new(alloc, room.max(CHUNK))?;
-    write_chunks(&mut chunk, scripts, findings, room, sink).map_err(Fault::Write)
+    let mut told = LowerCall::new(alloc, room)?;
+    let lines = Lines {
+        scripts,
+        findings,
+        room,
+    };
+    write_chunks(&mut chunk, &mut told, lines, sink).map_err(Fault::Write)
 }
 
 /// Writes findings as JSON, once the whole text is made: where memory runs out, nothing is written.
@@ -70,27 +85,27 @@ fn write_json<S: Sink>(
 /// Writes the lines of findings and their number. An error says how many bytes went out.
 fn write_chunks<S: Sink>(
     chunk: &mut Chunk,
-    scripts: &Scripts,
-    findings: &FindingList,
-    room: usize,
+    told: &mut LowerCall,
+    lines: Lines<'_>,
     sink: &mut S,
 ) -> Result<(), u64>
     requires nothing { (chunk.old.waiting.items ≡ []) × (chunk.old.gone ≡ 0) }
-    requires room { room ≤ vec_capacity chunk.old.waiting }
-    requires lines { HoldsAnyLine scripts.now room }
-    requires counted { room * (length findings.now + 1) < 2 ^ 64 }
-    ensures ok { OnOk result (Appends (S.written sink.old) (S.written sink.new) (spec.findings_report scripts.now findings.now)) }
+    requires room { lines.room ≤ vec_capacity chunk.old.waiting }
+    requires told { (told.old.call ≡ None) × (lines.room ≤ vec_capacity told.old.words) }
+    requires lines { HoldsAnyLine lines.scripts.now lines.room }
+    requires counted { lines.room * (length lines.findings.now + 1) < 2 ^ 64 }
+    ensures ok { OnOk result (Appends (S.written sink.old) (S.written sink.new) (spec.findings_report lines.entry.scripts.now lines.entry.findings.now)) }
     ensures quiet { OnOk result (S.failures sink.new ≡ S.failures sink.old) }
-    ensures err { IfErr result (λ n. BreaksAfter (S.written sink.old) (S.written sink.new) (spec.findings_report scripts.now findings.now) n) }
+    ensures err { IfErr result (λ n. BreaksAfter (S.written sink.old) (S.written sink.new) (spec.findings_report lines.entry.scripts.now lines.entry.findings.now) n) }
     ensures failed { OnErr result (S.failures sink.new ≡ one_more (S.failures sink.old)) }
 {
-    if let Err(n) = write_lines(chunk, scripts, findings, room, sink) {
+    if let Err(n) = write_lines(chunk, told, lines, sink) {
         return Err(n);
     }
-    if let Err(n) = chunk.make_room(room, sink) {
+    if let Err(n) = chunk.make_room(lines.room, sink) {
         return Err(n);
     }
-    push_count(&mut chunk.waiting, findings.len()).unwrap();
+    push_count(&mut chunk.waiting, lines.findings.len()).unwrap();
     chunk.flush(sink)
 }
 
@@ -98,43 +113,45 @@ fn write_chunks<S: Sink>(
 /// out.
 fn write_lines<S: Sink>(
     chunk: &mut Chunk,
-    scripts: &Scripts,
-    findings: &FindingList,
-    room: usize,
+    told: &mut LowerCall,
+    lines: Lines<'_>,
     sink: &mut S,
 ) -> Result<(), u64>
     requires nothing { (chunk.old.waiting.items ≡ []) × (chunk.old.gone ≡ 0) }
-    requires room { room ≤ vec_capacity chunk.old.waiting }
-    requires lines { HoldsAnyLine scripts.now room }
-    requires counted { room * (length findings.now + 1) < 2 ^ 64 }
-    ensures ok { OnOk result (IsOnItsWay (S.written sink.old) (S.written sink.new) chunk.new (flat_map (spec.finding_line scripts.now) findings.now)) }
-    ensures short { OnOk result (length (flat_map (spec.finding_line scripts.now) findings.now) ≤ room * length findings.now) }
-    ensures room { room ≤ vec_capacity chunk.new.waiting }
+    requires room { lines.room ≤ vec_capacity chunk.old.waiting }
+    requires told { (told.old.call ≡ None) × (lines.room ≤ vec_capacity told.old.words) }
+    requires lines { HoldsAnyLine lines.scripts.now lines.room }
+    requires counted { lines.room * (length lines.findings.now + 1) < 2 ^ 64 }
+    ensures ok { OnOk result (IsOnItsWay (S.written sink.old) (S.written sink.new) chunk.new (flat_map (spec.finding_line lines.entry.scripts.now) lines.entry.findings.now)) }
+    ensures short { OnOk result (length (flat_map (spec.finding_line lines.entry.scripts.now) lines.entry.findings.now) ≤ lines.entry.room * length lines.entry.findings.now) }
+    ensures room { lines.entry.room ≤ vec_capacity chunk.new.waiting }
     ensures quiet { OnOk result (S.failures sink.new ≡ S.failures sink.old) }
-    ensures err { IfErr result (λ n. BreaksAfter (S.written sink.old) (S.written sink.new) (flat_map (spec.finding_line scripts.now) findings.now) n) }
+    ensures err { IfErr result (λ n. BreaksAfter (S.written sink.old) (S.written sink.new) (flat_map (spec.finding_line lines.entry.scripts.now) lines.entry.findings.now) n) }
     ensures failed { OnErr result (S.failures sink.new ≡ one_more (S.failures sink.old)) }
 {
-    for number in 0..findings.len() {
-        let Some(finding) = findings.get(number) else {
+    for number in 0..lines.findings.len() {
+        let Some(finding) = lines.findings.get(number) else {
             unreachable!();
         };
-        if let Err(n) = chunk.make_room(room, sink) {
+        if let Err(n) = chunk.make_room(lines.room, sink) {
             return Err(n);
         }
-        write_line(&mut chunk.waiting, scripts, finding, room);
+        write_line(&mut chunk.waiting, told, lines, finding);
     }
     Ok(())
 }
 
 /// Appends the line of a finding, where there is room for any.
-fn write_line(out: &mut Vec<u8>, scripts: &Scripts, finding: Finding, room: usize)
-    requires room { length out.old.items + room ≤ vec_capacity out.old }
-    requires lines { HoldsAnyLine scripts.now room }
-    ensures appended { out.new.items ≡ out.old.items ++ spec.finding_line scripts.now finding }
+fn write_line(out: &mut Vec<u8>, told: &mut LowerCall, lines: Lines<'_>, finding: Finding)
+    requires room { length out.old.items + lines.room ≤ vec_capacity out.old }
+    requires told { AreWordsOf lines.scripts.now told.old.call told.old.words.items × (lines.room ≤ vec_capacity told.old.words) }
+    requires lines { HoldsAnyLine lines.scripts.now lines.room }
+    ensures appended { out.new.items ≡ out.old.items ++ spec.finding_line lines.entry.scripts.now finding }
     ensures capacity { vec_capacity out.old ≤ vec_capacity out.new }
-    ensures short { length (spec.finding_line scripts.now finding) ≤ room }
+    ensures told { AreWordsOf lines.entry.scripts.now told.new.call told.new.words.items × (lines.entry.room ≤ vec_capacity told.new.words) }
+    ensures short { length (spec.finding_line lines.entry.scripts.now finding) ≤ lines.entry.room }
 {
-    push_line(out, scripts, finding).unwrap();
+    push_line_after(out, told, lines.scripts, finding).unwrap();
 }
 
 /// Room for any line of findings of these scripts, or nothing where the lines of so many, and the last one,

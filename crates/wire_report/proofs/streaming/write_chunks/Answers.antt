@@ -8,22 +8,22 @@ use Rattle.wire_report.proofs.streaming.write_chunks.Goals as goal
 
 pub unwrap-requires : goal.unwrap-requires
 unwrap-requires g c =
-    has_room c.push_count.result (vec_capacity c.make_room.new.self.waiting) (length c.make_room.new.self.waiting.items) (length (count_line (length c.args.findings.now))) c.args.room (rw c.len.ensures at c.push_count.ensures.full) c.in_default-make_room.ensures.room
-    (count_short c.args.scripts.now c.args.room (length c.args.findings.now) c.requires.lines c.requires.counted)
+    has_room c.push_count.result (vec_capacity c.make_room.new.self.waiting) (length c.make_room.new.self.waiting.items) (length (count_line (length c.args.lines.findings.now))) c.args.lines.room (rw c.len.ensures at c.push_count.ensures.full) c.in_default-make_room.ensures.room
+    (count_short c.args.lines.scripts.now c.args.lines.room (length c.args.lines.findings.now) c.requires.lines c.requires.counted)
 
 pub flush-requires : goal.flush-requires
 flush-requires g c =
-    let lines = flat_map (finding_line c.args.scripts.now) c.args.findings.now in
-    let last = count_line (length c.args.findings.now) in
+    let lines = flat_map (finding_line c.args.lines.scripts.now) c.args.lines.findings.now in
+    let last = count_line (length c.args.lines.findings.now) in
     let way : IsOnItsWay (g.S.Sink.written c.args.sink.now) (g.S.Sink.written c.make_room.new.sink) (record { waiting = c.push_count.new.out; gone = c.make_room.new.self.gone }) (lines ++ last) =
     more_waits _ _ c.make_room.new.self _ lines last (c.in_default-make_room.ensures.ok _ _ c.in_default.ensures.ok) refl (rw (c.unwrap.ensures, c.len.ensures) at c.push_count.ensures.ok) in
-    let fits = still_counted c.args.room (length c.args.findings.now) (length lines) (length last) c.requires.counted c.in_default.ensures.short (count_short c.args.scripts.now c.args.room (length c.args.findings.now) c.requires.lines c.requires.counted) in
+    let fits = still_counted c.args.lines.room (length c.args.lines.findings.now) (length lines) (length last) c.requires.counted c.in_default.ensures.short (count_short c.args.lines.scripts.now c.args.lines.room (length c.args.lines.findings.now) c.requires.lines c.requires.counted) in
     omega (arith, fits, counts _ _ _ _ way, length-append lines last)
 
 pub returns-clause-ok : goal.returns-clause-ok
 returns-clause-ok g c =
-    let lines = flat_map (finding_line c.args.scripts.now) c.args.findings.now in
-    let last = count_line (length c.args.findings.now) in
+    let lines = flat_map (finding_line c.args.lines.scripts.now) c.args.lines.findings.now in
+    let last = count_line (length c.args.lines.findings.now) in
     let way : IsOnItsWay (g.S.Sink.written c.args.sink.now) (g.S.Sink.written c.make_room.new.sink) (record { waiting = c.push_count.new.out; gone = c.make_room.new.self.gone }) (lines ++ last) =
     more_waits _ _ c.make_room.new.self _ lines last (c.in_default-make_room.ensures.ok _ _ c.in_default.ensures.ok) refl (rw (c.unwrap.ensures, c.len.ensures) at c.push_count.ensures.ok) in
     all_sent c.flush.result _ _ _ _ c.flush.new.self (lines ++ last) way c.flush.ensures.ok c.flush.ensures.nothing

@@ -8,22 +8,24 @@ use Rattle.wire_report.proofs.streaming.write_lines.Goals as goal
 
 pub returns-in-Err-clause-err : goal.returns-in-Err-clause-err
 returns-in-Err-clause-err g c =
-    breaks_early _ _ (finding_line c.args.scripts.now) c.args.findings.now c.loop-number.number c.in-Err.n (c.in-Err.ensures.err _ _ c.loop-number.invariant.way)
+    breaks_early _ _ (finding_line c.args.lines.scripts.now) c.args.lines.findings.now c.loop-number.number c.in-Err.n (c.in-Err.ensures.err _ _ c.loop-number.invariant.way)
 
 pub loop-number-preserved : goal.loop-number-preserved
 loop-number-preserved g c =
-    let line = finding_line c.args.scripts.now in
-    let before = flat_map line (take c.loop-number.number c.args.findings.now) in
-    let there : slice_get c.args.findings.now c.loop-number.number ≡ Some c.in-Some.finding = sym c.get.ensures ∙ c.in-Some.is in
-    let more = one_more_line line c.args.findings.now c.loop-number.number c.in-Some.finding there in
+    let line = finding_line c.args.lines.scripts.now in
+    let before = flat_map line (take c.loop-number.number c.args.lines.findings.now) in
+    let there : slice_get c.args.lines.findings.now c.loop-number.number ≡ Some c.in-Some.finding = sym c.get.ensures ∙ c.in-Some.is in
+    let more = one_more_line line c.args.lines.findings.now c.loop-number.number c.in-Some.finding there in
     let after : Chunk = record { waiting = c.write_line.new.out; gone = c.make_room.new.self.gone } in
     let way : IsOnItsWay (g.S.Sink.written c.args.sink.now) (g.S.Sink.written c.make_room.new.sink) after (before ++ line c.in-Some.finding) =
     more_waits _ _ c.make_room.new.self after before (line c.in-Some.finding) (c.in_default-make_room.ensures.ok _ _ c.loop-number.invariant.way) refl c.write_line.ensures.appended in
-    let short = one_more_short c.args.room c.loop-number.number (length before) (length (line c.in-Some.finding)) c.loop-number.invariant.short c.write_line.ensures.short in
-    let lengths : length (flat_map line (take (c.loop-number.number + 1) c.args.findings.now)) ≡ length (before ++ line c.in-Some.finding) = ap length more in
+    let short = one_more_short c.args.lines.room c.loop-number.number (length before) (length (line c.in-Some.finding)) c.loop-number.invariant.short c.write_line.ensures.short in
+    let lengths : length (flat_map line (take (c.loop-number.number + 1) c.args.lines.findings.now)) ≡ length (before ++ line c.in-Some.finding) = ap length more in
     record {
       way = subst (λ text. IsOnItsWay (g.S.Sink.written c.args.sink.now) (g.S.Sink.written c.make_room.new.sink) after text) (sym more) way;
       short = omega (arith, short, length-append before (line c.in-Some.finding), lengths);
       room = omega (arith, c.loop-number.invariant.room, c.make_room.ensures.capacity, c.write_line.ensures.capacity);
+      told = c.write_line.ensures.told.0;
+      told_room = c.write_line.ensures.told.1;
       quiet = c.in_default-make_room.ensures.quiet ∙ c.loop-number.invariant.quiet;
     }
