@@ -1,4 +1,4 @@
--- Findings in few bytes, and what they stand for: for the contracts of private functions.
+-- Findings in few bytes, and what they stand for: for private functions, and for what a `FindingList` stands for.
 use Rattle.std.specs.Prelude.{◌≡◌, ◌++◌, ◌<◌, ◌≤◌, ◌-◌, ◌==◌, ⊤, ℕ, Bool, true, false, List, [], ◌∷◌, Option, Some, None, length, map, slice_get}
 use Rattle.wire_types.specs.declared.CallAt.{CallAt}
 use Rattle.wire_races.specs.declared.finding.Finding.{Finding as Told}
@@ -7,7 +7,7 @@ use Rattle.wire_races.specs.declared.packed.Subject.{Subject}
 use Rattle.wire_races.specs.declared.packed.Subject.TheVariants as subject
 use Rattle.wire_races.specs.declared.packed.Packed.{Packed}
 
--- two calls that race on this
+-- two calls that race on this (on the name of number 0, where there is no such subject, which isn't met)
 abbrev pub race_on : Option Subject → CallAt → CallAt → Told
 race_on (Some (subject.Key owner key)) lower higher = told.KeyRace lower higher owner key
 race_on (Some (subject.Name name)) lower higher = told.NameRace lower higher name

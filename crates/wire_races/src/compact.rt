@@ -1,4 +1,4 @@
-//! The list of a plan's findings, in 20 bytes each.
+//! The list of a plan's findings, in few bytes.
 
 ghost use Rattle.std.specs.Prelude.{◌≡◌, ◌==◌, IfOk, length, slice_get};
 ghost use Rattle.wire_races.specs.Packing.{all_told_by};
@@ -8,8 +8,8 @@ use crate::packed::{Packed, Subject, unpack, unpack_all};
 use std::alloc::{AllocError, Global};
 use std::marker::Model;
 
-/// A list of findings that takes 20 bytes for each, and besides little more than a table of the keys and
-/// names that they race on. A `Finding` by itself takes 28.
+/// A list of findings that takes 20 bytes for each, and 12 more each time the key or the name that they race
+/// on changes from one to the next. A `Finding` by itself takes 28.
 #[derive(Drop)]
 pub struct FindingList {
     entries: Vec<Packed>,
@@ -48,7 +48,7 @@ impl FindingList {
         self.entries.is_empty()
     }
 
-    /// The finding of this number, from 0. Takes no memory.
+    /// The finding of this number, from 0, if there is one. It takes no memory.
     pub fn get(&self, index: usize) -> Option<Finding>
         ensures { result ≡ slice_get self.now index }
     {

@@ -54,7 +54,9 @@ fn vec_of_findings(
 /// pieces they take. The caller ensures that the marks are those of the plan. The one fault is
 /// `Fault::Memory`.
 ///
-/// The list takes 20 bytes for each finding. [`findings`] gives the same ones as a `Vec`.
+/// The list takes 20 bytes for each finding, and 12 more each time the key or the name changes from one to the
+/// next. More than 2^32 - 1 such changes count as memory that ran out. [`findings`] gives the same findings as
+/// a `Vec`.
 pub fn finding_list(
     rt: &(impl Threads + Sync),
     alloc: Global,
@@ -74,7 +76,8 @@ pub fn finding_list(
 /// pieces they take. The caller ensures that the marks are those of the plan. The one fault is
 /// `Fault::Memory`.
 ///
-/// The `Vec` is made from the list that [`finding_list`] gives, and while it is made there are both.
+/// The `Vec` is made from the list that [`finding_list`] gives, and while it is made there are both. What
+/// counts as memory that ran out there does so here.
 pub fn findings(
     rt: &(impl Threads + Sync),
     alloc: Global,

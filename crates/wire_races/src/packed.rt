@@ -16,8 +16,8 @@ pub(crate) enum Subject {
     Name(u32),
 }
 
-/// A finding in 20 bytes, beside a table of subjects. Findings that are met one after another mostly race on
-/// the same key or name, so the table is short.
+/// A finding in 20 bytes, beside a table of subjects. Findings that are met one after another and race on the
+/// same key or name share its entry there.
 #[derive(Clone, Copy)]
 pub(crate) struct Packed {
     /// The later put of a rewrite, or the lower call of a race.

@@ -1,4 +1,4 @@
--- How much room the lines of findings take (only private contracts cite this).
+-- How much room the lines of findings take, and the parts of a race's line (only private contracts cite this).
 use Rattle.std.specs.Prelude.{◌≡◌, ℕ, ◌^◌, ◌<◌, ◌≤◌, List, ◌++◌, Option, IfSome, codes, length}
 use Rattle.wire_rehearsal.specs.Scripts.{Scripts, text_at}
 use Rattle.wire_types.specs.declared.CallAt.{CallAt}
@@ -11,7 +11,7 @@ use Rattle.wire_report.specs.Findings.{finding_line, count_line}
 abbrev pub NoneIsLonger : List (List ℕ) → ℕ → Type 0
 NoneIsLonger texts n = (k : ℕ) → length (text_at texts k) ≤ n
 
--- the numbers of two calls have 32 bits
+-- the numbers of two calls fit in 32 bits
 abbrev pub AreNumbered : CallAt → CallAt → Type 0
 AreNumbered first second = (first.call < 2 ^ 32) × (second.call < 2 ^ 32)
 
@@ -30,7 +30,7 @@ pub record HoldsAnyLine (scripts : Scripts) (room : ℕ) : Type 0 where
 abbrev pub race_start : Scripts → CallAt → List ℕ
 race_start scripts lower = codes "race " ++ call_text scripts lower
 
--- where there is such a call, these are the words up to it
+-- the words of a race up to this call, where there is one
 abbrev pub AreWordsOf : Scripts → Option CallAt → List ℕ → Type 0
 AreWordsOf scripts call words = IfSome call (λ lower. words ≡ race_start scripts lower)
 

@@ -4,7 +4,7 @@ use Rattle.std.specs.Io.KnownBytes.{Appends}
 use Rattle.wire_types.specs.Front.{BreaksAfter}
 use Rattle.wire_words.specs.declared.chunks.Chunk.{Chunk}
 
--- since the start, the front of the text went out, so many bytes as the chunk counts, and the chunk has all the rest
+-- since the start, the front of the text went out, as many bytes as the chunk counts, and the chunk has all the rest
 pub record IsOnItsWay (start now : Option (List ℕ)) (chunk : Chunk) (text : List ℕ) : Type 0 where
   pub front : List ℕ
   pub went : Appends start now front

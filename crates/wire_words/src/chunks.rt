@@ -7,8 +7,8 @@ ghost use Rattle.wire_words.specs.Chunks.{StaysOnItsWay, IsCutOff};
 use std::alloc::{AllocError, Global};
 use wire_types::{Sink, write_out};
 
-/// The end of a text that is written in chunks: what waits to be written, and how many bytes of the text
-/// were written before.
+/// The last part so far of a text that is written in chunks: what waits to be written, and how many bytes of
+/// the text were written before.
 #[derive(Drop)]
 pub struct Chunk {
     /// The bytes that wait.
@@ -31,7 +31,8 @@ impl Chunk {
     }
 
     /// Writes what waits. An error says how many bytes of the whole text went out. The chunk is then as it was,
-    /// and since a part of what waits may have gone out, it isn't to be written again.
+    /// and since a part of what waits may have gone out, it isn't to be written again. The caller ensures that the
+    /// text so far has fewer than 2^64 bytes.
     pub fn flush<S: Sink>(&mut self, sink: &mut S) -> Result<(), u64>
         requires { self.old.gone + length self.old.waiting.items < 2 ^ 64 }
         ensures ok { OnOk result (StaysOnItsWay (S.written sink.old) (S.written sink.new) self.old self.new) }
@@ -53,7 +54,8 @@ impl Chunk {
     }
 
     /// Makes room for so many bytes: where they have none, it writes what waits. An error says how many bytes
-    /// of the whole text went out. The chunk is then as it was, and isn't to be written again.
+    /// of the whole text went out. The chunk is then as it was, and isn't to be written again. The caller ensures
+    /// that the chunk was made with room for so many, and that the text so far has fewer than 2^64 bytes.
     pub fn make_room<S: Sink>(&mut self, wanted: usize, sink: &mut S) -> Result<(), u64>
         requires fits { wanted ≤ vec_capacity self.old.waiting }
         requires counted { self.old.gone + length self.old.waiting.items < 2 ^ 64 }
