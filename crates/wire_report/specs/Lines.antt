@@ -15,7 +15,7 @@ NoneIsLonger texts n = (k : ℕ) → length (text_at texts k) ≤ n
 abbrev pub AreNumbered : CallAt → CallAt → Type 0
 AreNumbered first second = (first.call < 2 ^ 32) × (second.call < 2 ^ 32)
 
--- and so have those of the calls of a finding
+-- and so do those of the calls of a finding
 abbrev pub IsNumbered : Finding → Type 0
 IsNumbered (Rewrite first later) = AreNumbered first later
 IsNumbered (KeyRace lower higher owner key) = AreNumbered lower higher
