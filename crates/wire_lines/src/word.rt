@@ -1,7 +1,7 @@
 //! Words, and what they may be: names, keys, scopes, ranks and processes.
 
 ghost use Rattle.std.specs.List.{list_all};
-ghost use Rattle.std.specs.Prelude.{not, true, position, ◌==◌, ◌≡◌, ◌≢◌, ℕ, ◌+◌, ◌^◌, ◌<◌, ◌↔◌, List, ◌∷◌, ◌++◌, IsTrue, decimal, codes, IfSome, IfNone, IfOk, OnOk};
+ghost use Rattle.std.specs.Prelude.{not, true, position, ◌==◌, ◌≡◌, ◌≢◌, ℕ, ◌+◌, ◌^◌, ◌<◌, ◌↔◌, List, ◌∷◌, ◌++◌, IsTrue, decimal, codes, get_or, length, IfSome, IfNone, IfOk, OnOk};
 ghost use Rattle.wire_types.specs.declared.Scope.{Scope};
 ghost use Rattle.wire_lines.specs.Said as spec;
 ghost use Rattle.wire_lines.specs.Said.{spelled_proc, spelled_scope};
@@ -84,23 +84,33 @@ pub fn scope_of(word: &[u8]) -> Option<Scope>
     }
 }
 
+/// Whether a word that says a number begins as its decimal digits do: without a sign, and with a zero
+/// only if that is all of it.
+fn begins_as_digits(word: &[u8]) -> bool
+    ensures { IsTrue result ↔ ((get_or word.now 0 0 ≢ 43) × (get_or word.now 0 0 ≡ 48 → length word.now ≡ 1)) }
+{
+    match word.first() {
+        Some(b'+') => false,
+        Some(b'0') => word.len() == 1,
+        _ => true,
+    }
+}
+
 /// The number that the word is the decimal digits of, one to nine of them.
 pub fn number_of(word: &[u8]) -> Option<u32>
     ensures found { IfSome result (λ n. (word.now ≡ decimal n) × (n < 10 ^ 9)) }
     ensures none { IfNone result ((n : ℕ) → n < 10 ^ 9 → word.now ≢ decimal n) }
 {
+    if !begins_as_digits(word) {
+        return None;
+    }
     let Ok(text) = str::from_utf8(word) else {
         return None;
     };
-    let Ok(number) = text.parse::<u32>() else {
-        return None;
-    };
-    if number >= 1_000_000_000 {
-        return None;
+    match text.parse::<u32>() {
+        Ok(number) if number < 1_000_000_000 => Some(number),
+        _ => None,
     }
-    let mut buffer = Buffer::new();
-    let digits = buffer.format(number);
-    if digits == text { Some(number) } else { None }
 }
 
 /// The process that the word names.

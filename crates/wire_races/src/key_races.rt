@@ -1,7 +1,7 @@
 //! Races on keys: a get that is answered at once, and the commit or the fence that brings the key.
 
-ghost use Rattle.std.specs.Prelude.{◌≡◌, ◌<◌, ℕ, List, suc, Some, OnOk, IsTrue, MatchOption, IfOk, ◌↔◌, true, false, map};
-ghost use Rattle.wire_runs.specs.Plan.{GetNow, Leave, event_of, process_count, event_count, kind, node_of, same_node};
+ghost use Rattle.std.specs.Prelude.{◌≡◌, ◌<◌, ◌*◌, ◌/◌, max, ℕ, List, suc, Some, OnOk, IsTrue, MatchOption, IfOk, ◌↔◌, true, false, map};
+ghost use Rattle.wire_runs.specs.Plan.{GetNow, Leave, event_of, process_count, event_count, event_total, kind, node_of, same_node};
 ghost use Rattle.wire_runs.specs.Plan as runs;
 ghost use Rattle.wire_rehearsal.specs.Planned.{plan_of};
 ghost use Rattle.wire_runs.specs.EventLists.{IsLower};
@@ -384,6 +384,14 @@ fn piece(alloc: Global, plan: &Plan, marks: &Marks, proc: Proc) -> Result<Found,
     Ok(found)
 }
 
+/// How many processes a thread has to look at, at least: those with some 4,096 events. The start of a
+/// thread takes as long as to look at several hundred gets.
+fn least_processes(plan: &Plan) -> usize
+    ensures { result ≡ process_count (plan_of plan.now) * 4096 / max (event_total (plan_of plan.now)) 1 }
+{
+    plan.process_count() as usize * 4096 / plan.event_total().max(1)
+}
+
 /// A piece for each process, in their order, made by several threads.
 fn pieces(
     rt: &(impl Threads + Sync),
@@ -396,7 +404,7 @@ fn pieces(
 {
     (0..plan.process_count())
         .into_par_iter()
-        .with_min_len(1)
+        .with_min_len(least_processes(plan))
         .map(
             |number: u32| -> Result<Found, AllocError>
                 requires { AreMarks (plan_of plan.now) marks.now }
