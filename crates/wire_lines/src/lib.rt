@@ -10,5 +10,5 @@ mod word;
 pub use call::{CallLine, Verb};
 pub use line::{Line, is_header, read_line, says_once};
 pub use sets::{Item, Set};
-pub use text::{cut_piece, line_past, trim_return, words};
+pub use text::{cut_piece, cut_words, line_past, trim_return};
 pub use word::{ProcName, is_reserved, number_of, proc_word, write_proc};

@@ -1,10 +1,10 @@
 //! Lines and words.
 
-ghost use Rattle.std.specs.Prelude.{◌≡◌, ◌+◌, ◌<◌, ◌≤◌, ◌==◌, ◌⊎◌, ◌++◌, ◌∷◌, [], count_by, length, map, position, take, IfOk};
+ghost use Rattle.std.specs.Prelude.{◌≡◌, ◌+◌, ◌<◌, ◌≤◌, ◌==◌, ◌⊎◌, ◌++◌, ◌∷◌, [], count_by, length, map, position, take, OnOk};
 ghost use Rattle.std.specs.Str.Lines.{strip_carriage_return};
 ghost use Rattle.wire_lines.specs.Text.{pieces_of, words_of, is_blank};
 
-use std::alloc::{AllocError, Global};
+use std::alloc::AllocError;
 
 /// The first piece of a text, without its line feed, and what comes after it.
 pub fn cut_piece(bytes: &[u8]) -> (&[u8], &[u8])
@@ -47,15 +47,18 @@ pub fn trim_return(line: &[u8]) -> &[u8]
     }
 }
 
-/// The words of a line.
-pub fn words(alloc: Global, line: &[u8]) -> Result<Vec<&[u8]>, AllocError>
-    ensures { IfOk result (λ v. map (λ w. w.now) v.items ≡ words_of line.now) }
+/// Puts the words of a line in the place of what the list held, and so takes memory only where the line has
+/// more words than any before it.
+pub fn cut_words<'a>(words: &mut Vec<&'a [u8]>, line: &'a [u8]) -> Result<(), AllocError>
+    ensures { OnOk result (map (λ w. w.now) words.new.items ≡ words_of line.now) }
 {
-    line.split(
-        |b| -> bool
-            ensures { result ≡ is_blank b.now }
-        { *b == b' ' || *b == b'\t' },
+    words.clear();
+    words.extend(
+        line.split(
+            |b| -> bool
+                ensures { result ≡ is_blank b.now }
+            { *b == b' ' || *b == b'\t' },
+        )
+        .filter(|w| !w.is_empty()),
     )
-    .filter(|w| !w.is_empty())
-    .collect(alloc)
 }

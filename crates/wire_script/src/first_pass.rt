@@ -235,8 +235,9 @@ fn declare_all<'a>(alloc: Global, cursor: &mut Cursor<'a>) -> Result<Draft<'a>, 
     ensures err { IfErr result (λ e. (e ≡ Fault.Memory) ⊎ JudgesAll nothing (statements_left cursor.old) (Err e)) }
 {
     let mut draft = new_draft(alloc);
-    'statements: while let Some(statement) = cursor.next_line(alloc)? {
-        if let Err(fault) = take(&mut draft, alloc, statement.number, &statement.words) {
+    let mut words = Vec::new(alloc);
+    'statements: while let Some(line) = cursor.next_words(&mut words)? {
+        if let Err(fault) = take(&mut draft, alloc, line, &words) {
             return Err(fault);
         }
     }

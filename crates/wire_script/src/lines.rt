@@ -5,7 +5,7 @@ ghost use Rattle.wire_script.specs.Statements.{is_skipped, statements};
 ghost use Rattle.wire_script.specs.Left.{statements_left, end_of, stated};
 
 use std::alloc::{AllocError, Global};
-use wire_lines::{cut_piece, trim_return, words};
+use wire_lines::{cut_piece, cut_words, trim_return};
 
 /// A line that isn't skipped: its number and its words.
 #[derive(Drop)]
@@ -42,6 +42,37 @@ impl<'a> Cursor<'a> {
         }
     }
 
+    /// The number of the next line that isn't skipped. Its words take the place of what the list held. Where
+    /// memory runs out, the cursor is as it was.
+    pub fn next_words(&mut self, words: &mut Vec<&'a [u8]>) -> Result<Option<u64>, AllocError>
+        requires { self.old.line + length self.old.rest.now < 2 ^ 64 }
+        ensures left { IfOk result (λ next. MatchOption next (statements_left self.old ≡ []) (λ number. statements_left self.old
+            ≡ (number, map (λ w. w.now) words.new.items) ∷ statements_left self.new)) }
+        ensures end { OnOk result (end_of self.new ≡ end_of self.old) }
+        ensures last { IfOk result (λ next. MatchOption next (self.new.line
+            ≡ end_of self.new) (λ number. number < self.new.line)) }
+        ensures room { self.new.line + length self.new.rest.now ≤ self.old.line + length self.old.rest.now }
+        ensures err { OnErr result (self.new ≡ self.old) }
+    {
+        let mut at = Cursor {
+            rest: self.rest,
+            line: self.line,
+        };
+        'lines: while !at.rest.is_empty() {
+            let (piece, rest) = cut_piece(at.rest);
+            cut_words(words, trim_return(piece))?;
+            let number = at.line;
+            at.rest = rest;
+            at.line += 1;
+            if !is_skipped_line(words) {
+                *self = at;
+                return Ok(Some(number));
+            }
+        }
+        *self = at;
+        Ok(None)
+    }
+
     /// The next line that isn't skipped. Where memory runs out, the cursor is as it was.
     pub fn next_line(&mut self, alloc: Global) -> Result<Option<Statement<'a>>, AllocError>
         requires { self.old.line + length self.old.rest.now < 2 ^ 64 }
@@ -53,22 +84,10 @@ impl<'a> Cursor<'a> {
         ensures room { self.new.line + length self.new.rest.now ≤ self.old.line + length self.old.rest.now }
         ensures err { OnErr result (self.new ≡ self.old) }
     {
-        let mut at = Cursor {
-            rest: self.rest,
-            line: self.line,
-        };
-        'lines: while !at.rest.is_empty() {
-            let (piece, rest) = cut_piece(at.rest);
-            let words = words(alloc, trim_return(piece))?;
-            let number = at.line;
-            at.rest = rest;
-            at.line += 1;
-            if !is_skipped_line(&words) {
-                *self = at;
-                return Ok(Some(Statement { number, words }));
-            }
+        let mut words = Vec::new(alloc);
+        match self.next_words(&mut words)? {
+            Some(number) => Ok(Some(Statement { number, words })),
+            None => Ok(None),
         }
-        *self = at;
-        Ok(None)
     }
 }

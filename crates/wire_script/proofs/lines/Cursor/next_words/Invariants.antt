@@ -1,6 +1,6 @@
 use Rattle.std.proofs.Common.{◌≡◌, ◌≤◌, ◌+◌, length}
 use Rattle.wire_script.specs.Left.{statements_left, end_of}
-use Rattle.wire_script.proofs.lines.Cursor.next_line.Given as goal
+use Rattle.wire_script.proofs.lines.Cursor.next_words.Given as goal
 
 abbrev pub invariant-lines : goal.invariant-lines
 invariant-lines l = record {
