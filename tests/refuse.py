@@ -41,6 +41,11 @@ REFUSED = (
     ("a fence of others", b"rehearsal 1\nnode n0\nnode n1\njob app\nrank n0\nrank n1\nfence app:0\n", b"7 NotMember 7"),
 )
 
+ONE_NODE = b"rehearsal 1\nnode n0\njob app\n"
+# Plans that are large enough for the search for races to start a thread: for the calls on names, and for the gets.
+NAMES = ONE_NODE + (b"rank n0\n" + b"".join(b"publish x%d 1\n" % it for it in range(32))) * 2
+GETS = ONE_NODE + b"rank n0\nput global k v\ncommit\n" + (b"rank n0\n" + b"get-now app:0 k\n" * 4_100) * 2
+
 # The clock of each event of the cards: how many events of each rank are it or before it.
 CLOCKS = "100 200 300 400 531 631 310 320 330 441 001 432 433 634"
 # A command or a function, with its words and what standard input gives, whether its order is free, how it must end without a refusal, where
@@ -96,6 +101,8 @@ def forms(room):
         yield Form(f"replay a race anyway, {workers} workers", [*words, racy], is_free=True)
         yield Form(f"replay a race anyway, {workers} workers, JSON", [*words, "--json", racy], is_free=True)
     yield Form("replay cards, 7 workers", ["replay", "--workers", "7", cards])
+    yield Form("check many names", ["check", program.written(room, "names.plan", NAMES)])
+    yield Form("check many gets", ["check", program.written(room, "gets.plan", GETS)])
     yield Form("check standard input", ["check"], given=program.CARDS)
     yield Form("help", ["--help"])
     yield Form("help on replay", ["replay", "--help"])

@@ -8,10 +8,10 @@ use std::thread::Threads;
 use wire_core::Core;
 use wire_marks::Marks;
 use wire_plan::Plan;
-use wire_races::findings;
-use wire_report::{findings_text, report_text, unsettled_text};
+use wire_races::finding_list;
+use wire_report::{write_findings, write_report, write_unsettled};
 use wire_script::read;
-use wire_types::{Fault, Proc};
+use wire_types::{Fault, MemorySink, Proc};
 
 /// A plan with a race.
 const RACE: &[u8] = b"\
@@ -79,14 +79,18 @@ fn report_of(alloc: Global, plan: &Plan) -> Result<Vec<u8>, Fault> {
     let mut core = Core::new(alloc, plan)?;
     core.run_lowest();
     let outcome = core.outcome(alloc)?;
-    report_text(alloc, plan.scripts(), &outcome, true)
+    let mut sink = MemorySink::new(Vec::new(alloc));
+    write_report(alloc, plan.scripts(), &outcome, true, &mut sink)?;
+    Ok(sink.bytes)
 }
 
 /// The findings of a plan, as JSON.
 fn findings_of(rt: &(impl Threads + Sync), alloc: Global, plan: &Plan) -> Result<Vec<u8>, Fault> {
     let marks = Marks::of(alloc, plan)?;
-    let found = findings(rt, alloc, plan, &marks)?;
-    findings_text(alloc, plan.scripts(), found.as_slice(), true)
+    let found = finding_list(rt, alloc, plan, &marks)?;
+    let mut sink = MemorySink::new(Vec::new(alloc));
+    write_findings(alloc, plan.scripts(), &found, true, &mut sink)?;
+    Ok(sink.bytes)
 }
 
 /// An unsettled replay of a plan by these steps.
@@ -94,7 +98,16 @@ fn unsettled_of(alloc: Global, plan: &Plan, order: &[Proc], json: bool) -> Resul
     let mut core = Core::new(alloc, plan)?;
     core.follow(order)?;
     let outcome = core.outcome(alloc)?;
-    unsettled_text(alloc, plan.scripts(), &outcome, core.history(), json)
+    let mut sink = MemorySink::new(Vec::new(alloc));
+    write_unsettled(
+        alloc,
+        plan.scripts(),
+        &outcome,
+        core.history(),
+        json,
+        &mut sink,
+    )?;
+    Ok(sink.bytes)
 }
 
 /// Asserts that two texts are the same.

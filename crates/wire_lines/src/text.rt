@@ -47,8 +47,8 @@ pub fn trim_return(line: &[u8]) -> &[u8]
     }
 }
 
-/// Puts the words of a line in the place of what the list held, and so takes memory only where the line has
-/// more words than any before it.
+/// Puts the words of a line in the place of what the list held. It takes memory only where the line has
+/// more words than the list has room for. If memory runs out, some of them may stand there.
 pub fn cut_words<'a>(words: &mut Vec<&'a [u8]>, line: &'a [u8]) -> Result<(), AllocError>
     ensures { OnOk result (map (λ w. w.now) words.new.items ≡ words_of line.now) }
 {

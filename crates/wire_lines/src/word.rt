@@ -84,8 +84,8 @@ pub fn scope_of(word: &[u8]) -> Option<Scope>
     }
 }
 
-/// Whether a word that says a number begins as its decimal digits do: without a sign, and with a zero
-/// only if that is all of it.
+/// Whether a word begins without a plus, and with a zero only if that is all of it. A word that can be
+/// parsed as a number has just its decimal digits if this holds.
 fn begins_as_digits(word: &[u8]) -> bool
     ensures { IsTrue result ↔ ((get_or word.now 0 0 ≢ 43) × (get_or word.now 0 0 ≡ 48 → length word.now ≡ 1)) }
 {

@@ -384,7 +384,7 @@ fn piece(alloc: Global, plan: &Plan, marks: &Marks, proc: Proc) -> Result<Found,
     Ok(found)
 }
 
-/// How many processes a thread has to look at, at least: those with some 4,096 events. The start of a
+/// The least number of processes for a thread: as many as have some 4,096 events on average. To start a
 /// thread takes as long as to look at several hundred gets.
 fn least_processes(plan: &Plan) -> usize
     ensures { result ≡ process_count (plan_of plan.now) * 4096 / max (event_total (plan_of plan.now)) 1 }

@@ -42,8 +42,9 @@ impl<'a> Cursor<'a> {
         }
     }
 
-    /// The number of the next line that isn't skipped. Its words take the place of what the list held. Where
-    /// memory runs out, the cursor is as it was.
+    /// The number of the next line that isn't skipped. Its words take the place of what the list held. If
+    /// memory runs out, the cursor is as it was. Then, and where no such line is left, the list may hold
+    /// anything.
     pub fn next_words(&mut self, words: &mut Vec<&'a [u8]>) -> Result<Option<u64>, AllocError>
         requires { self.old.line + length self.old.rest.now < 2 ^ 64 }
         ensures left { IfOk result (λ next. MatchOption next (statements_left self.old ≡ []) (λ number. statements_left self.old
