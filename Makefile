@@ -3,7 +3,7 @@
 
 PREFIX ?= /usr/local
 
-.PHONY: run try test soak bench record record-mpi install
+.PHONY: run try test edits soak bench record record-mpi install
 
 MPICC ?= mpicc
 CFLAGS ?= -O2 -Wall -Wextra
@@ -21,6 +21,10 @@ try:
 # The gate: every proof from nothing, every test, and the program as a user calls it.
 test:
 	@python3 tests/gate.py
+
+# The edits that the prover must refuse: all of them, or `make edits EDITS=wire_core`, or one by its file. What is below them is proved first.
+edits:
+	@python3 tests/edits.py $(EDITS)
 
 # Random and damaged files, for so many minutes: `make soak MINUTES=60`, and `SEED=1` for the same files again.
 soak:

@@ -12,6 +12,7 @@ import sys
 import tempfile
 
 sys.dont_write_bytecode = True
+import kit
 import progress
 
 EXAMPLE = "examples/business-card.plan"
@@ -67,18 +68,31 @@ def try_it(file):
     return 0
 
 
+def expected(crates):
+    """About how many minutes the proofs of crates take: as long as the longest chain of them, or as all of them by all processors."""
+    minutes, chain = progress.minutes_of(), {}
+    left = {it.name: minutes[it.name] for it in crates if it.is_program or not it.is_built()}
+    for crate in crates:
+        chain[crate.name] = left.get(crate.name, 0) + max((chain[it.name] for it in crate.deps), default=0)
+    return max(*chain.values(), sum(left.values()) / kit.rt.processors())
+
+
 def prove(log):
-    """Proves each crate below the program and then the program, lowest first, and builds it. Says what failed, if anything did."""
-    crates, minutes = progress.crates_below("program"), progress.minutes_of()
-    expected = sum(minutes.get(it, 1) for it in crates)
-    with progress.Progress("proving", expected) as line:
-        for n, crate in enumerate(crates, 1):
-            line.now(f"crate {n} of {len(crates)}, {crate}")
-            words = ["rt", "run", "--", "--version"] if crate == "program" else ["rt", "lib"]
-            status = progress.keep(words, os.path.join(CRATES, crate), log)
-            if status:
-                return f"{crate} was not proved: rt ended with status {status}" + (" (it was stopped)" if status > 128 else "")
-    return None
+    """Proves the crates below the program side by side and then the program, and builds it. Says what failed, if anything did."""
+    wanted = progress.crates_below("program")
+    crates = [it for it in kit.crates_at(progress.TOP) if it.name in wanted]
+    with progress.Progress("proving", expected(crates)) as line, open(log, "a", encoding="utf-8") as to:
+        ended = []
+
+        def tell(name):
+            ended.append(name)
+            line.now(f"{len(ended)} of {len(crates)} crates proved, last {name}")
+
+        failed = kit.build([it for it in crates if not it.is_program], to, tell)
+        if failed:
+            return f"not proved: {' '.join(failed)}"
+        status = progress.keep(["rt", "run", "--", "--version"], os.path.join(CRATES, "program"), log)
+    return f"the program was not proved: rt ended with status {status}" if status else None
 
 
 def show():
@@ -106,7 +120,6 @@ def run():
 
 
 def main(words):
-    progress.need_kit()
     if words == ["run"]:
         return run()
     if len(words) == 2 and words[0] == "try":

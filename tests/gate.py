@@ -1,9 +1,11 @@
-"""The gate: `rt ci`, then the program that it proved and built, run as a user would, the recorder, and the commands that the documents
-show.
+"""The gate: `rt ci`, the edits that the prover must refuse, then the program that was proved and built, run as a user would, the
+recorder, and the commands that the documents show.
 
-The last line is 'N passed, M failed' for all of it, and the status is 1 where anything failed. A line tells how far it is; what
-`rt ci` prints goes to out/gate.log, and where something failed, what the log says of it is printed too. `rt ci` wants each file as
-`rt fmt` lays it out, and says so only after the proofs of a crate: so that is looked at first, which takes half a minute.
+It works on a copy of the repository, so nothing that earlier checks kept counts, and nothing of it is lost. The last line is
+'N passed, M failed' for all of it, and the status is 1 where anything failed. A line tells how far it is; what `rt ci` prints goes to
+out/gate.log, and where something failed, what the log says of it is printed too. What it cost, crate by crate, is printed and goes to
+out/gate-costs.md. `rt ci` wants each file as `rt fmt` lays it out, and says so only after the proofs of a crate: so that is looked at
+first, which takes half a minute. So is whether each edit can be applied.
 """
 import filecmp
 import os
@@ -15,7 +17,11 @@ import tempfile
 
 sys.dont_write_bytecode = True
 import bench
+import costs
+import edits
+import edits_test
 import hostile
+import kit
 import program
 import progress
 import readme
@@ -23,13 +29,15 @@ import recording
 import refuse
 import soak
 
-CRATES = os.path.join(progress.TOP, "crates")
-BUILT = os.path.join(CRATES, "program", "out", "program")
+BUILT = os.path.join(progress.TOP, "crates", "program", "out", "program")
+# What users and tests run, of what `rt ci` builds in the copy.
+KEPT = (BUILT, bench.PARTS)
+# What is made in any folder, and isn't copied.
+MADE = shutil.ignore_patterns("out", "*.so", "__pycache__")
+BUDGET = 110
 # The lines of `rt ci` that tell how far it is.
 JUDGED = re.compile(r"rt: (\w+)(: its tests are)? (proved|NOT PROVED)\b")
-EDITS = re.compile(r"rt: (\w+): trying its must-fail edits \((\d+)\)")
 COUNTS = re.compile(r"(\d+) passed, (\d+) failed")
-REFUSED = ": refused, as it must be"
 
 
 class Course:
@@ -37,32 +45,21 @@ class Course:
 
     def __init__(self, line):
         self.line, self.crates = line, len(progress.crates_below(None))
-        self.proved, self.last, self.edits, self.counts = 0, "", [], None
+        self.proved, self.counts = 0, None
 
     def take(self, said):
         """Takes the next line."""
-        judged, edits = JUDGED.match(said), EDITS.match(said)
+        judged = JUDGED.match(said)
         self.counts = COUNTS.fullmatch(said)
         if judged and judged[3] != "proved":
             self.line.note(said)
         elif judged and not judged[2]:
-            self.proved, self.last = self.proved + 1, judged[1]
-            self.tell()
-        elif edits:
-            self.edits.append(edits[1])
-            self.tell()
-
-    def tell(self):
-        """Shows how far it is."""
-        state = f"{self.proved} of {self.crates} crates proved, last {self.last}"
-        if self.edits:
-            state += f"; edits begun in {len(self.edits)}, last {self.edits[-1]}"
-        self.line.now(state)
+            self.proved += 1
+            self.line.now(f"{self.proved} of {self.crates} crates proved, last {judged[1]}")
 
 
 def reasons(log):
-    """What a log of `rt ci` says of what failed: all about each crate that isn't proved, and the last lines but for edits that were
-    refused."""
+    """What a log of `rt ci` says of what failed: all about each crate that isn't proved, and the last lines."""
     block, told = [], []
     with open(log, encoding="utf-8", errors="replace") as it:
         for line in it:
@@ -72,31 +69,44 @@ def reasons(log):
             elif judged:
                 told += [*block[-progress.TAIL :], line]
                 block = []
-            elif REFUSED not in line and not progress.is_routine(line):
+            elif not progress.is_routine(line):
                 block.append(line)
     return "".join(told + block[-progress.TAIL :])
 
 
-def not_formatted():
-    """The files that `rt fmt` would lay out in another way, tried on a copy."""
+def copy_to(room):
+    """Copies the repository, without what was made in it and without its history."""
+    for name in os.listdir(progress.TOP):
+        path = os.path.join(progress.TOP, name)
+        if os.path.isfile(path) and name != "wire_up":
+            shutil.copy(path, room)
+        elif os.path.isdir(path) and name not in (".git", "out"):
+            shutil.copytree(path, os.path.join(room, name), ignore=MADE)
+
+
+def not_formatted(room):
+    """What `rt fmt` would lay out in another way: it does so in the copy."""
     found = []
-    with tempfile.TemporaryDirectory() as folder:
-        shutil.copy(os.path.join(progress.TOP, "crates.txt"), folder)
-        shutil.copytree(CRATES, os.path.join(folder, "crates"), ignore=shutil.ignore_patterns("out"))
-        for crate in progress.crates_below(None):
-            subprocess.run(["rt", "fmt"], cwd=os.path.join(folder, "crates", crate), stdout=subprocess.DEVNULL, check=False)
-        for path, _, names in os.walk(os.path.join(folder, "crates")):
-            here = os.path.relpath(path, folder)
-            found += [os.path.join(here, it) for it in names if not filecmp.cmp(os.path.join(path, it), os.path.join(progress.TOP, here, it), False)]
-    return sorted(found)
+    for crate in progress.crates_below(None):
+        subprocess.run(["rt", "fmt"], cwd=os.path.join(room, "crates", crate), stdout=subprocess.DEVNULL, check=False)
+    for path, _, names in os.walk(os.path.join(room, "crates")):
+        here = os.path.relpath(path, room)
+        found += [os.path.join(here, it) for it in names if not filecmp.cmp(os.path.join(path, it), os.path.join(progress.TOP, here, it), False)]
+    return [f"{it}: not as rt fmt lays it out" for it in sorted(found)]
 
 
-def prove():
-    """Runs `rt ci`, and answers its counts; where it ends without them, one failure."""
+def not_applied(files):
+    """Which edits can't be applied, and why."""
+    tried = [(path, edits.read(crate, path)[1]) for crate, path in files]
+    return [f"{os.path.relpath(path, progress.TOP)}: BAD EDIT: {why}" for path, why in tried if why]
+
+
+def prove(room):
+    """Runs `rt ci` in the copy, and answers its counts; where it ends without them, one failure."""
     log = progress.log_at("gate.log")
     with progress.Progress("rt ci", progress.minutes_of()["gate"]) as line:
         course = Course(line)
-        status = progress.keep(["rt", "ci"], progress.TOP, log, course.take)
+        status = progress.keep(["rt", "ci"], room, log, course.take)
     passed, failed = (int(course.counts[1]), int(course.counts[2])) if course.counts else (0, 1)
     if status or failed:
         print(reasons(log), end="")
@@ -106,23 +116,88 @@ def prove():
     return passed, failed
 
 
-def main():
-    progress.need_kit()
-    wrong = not_formatted()
-    if wrong:
-        print("\n".join(f"{it}: not as rt fmt lays it out" for it in wrong))
-        print(f"0 passed, {len(wrong)} failed")
-        return 1
-    for path in (BUILT, bench.PARTS):
+def refuse_edits(files):
+    """Tries all edits over the libraries that `rt ci` built in the copy, and answers how many were refused and how many weren't."""
+    with progress.Progress("edits", progress.minutes_of()["edits"]) as line:
+        found = list(edits.try_all(files, line.now).values())
+    with open(os.path.join(progress.LOGS, "gate.log"), "a", encoding="utf-8") as it:
+        it.writelines(f"{outcome.text}\n" for outcome in found)
+    for outcome in found:
+        if not outcome.is_refused or edits.ONLY_A_NAME in outcome.text:
+            print(outcome.text)
+    refused = sum(it.is_refused for it in found)
+    print(f"edits: {refused} passed, {len(found) - refused} failed", flush=True)
+    return refused, len(found) - refused
+
+
+def run_program():
+    """Runs what was built as its users would. Gives the counts of each part, and its seconds of processor time, by name."""
+    parts = {
+        "program": program.all_runs,
+        "hostile": hostile.all_hostile,
+        "refuse": refuse.all_refusals,
+        "recording": recording.all_runs,
+        "readme": readme.all_commands,
+        "soak": soak.works,
+        "bench": bench.works,
+    }
+    counts, seconds = [], {}
+    for name, part in parts.items():
+        before = costs.used()
+        counts.append(part(BUILT))
+        seconds[f"tests/{name}.py"] = costs.used() - before
+    return counts, seconds
+
+
+def keep_built(room):
+    """Puts what `rt ci` built in the copy where users and tests look for it. Answers whether the program is there."""
+    for path in KEPT:
+        made = os.path.join(room, os.path.relpath(path, progress.TOP))
         if os.path.exists(path):
             os.remove(path)
-    counts = [prove()]
-    if os.path.exists(BUILT):
-        counts += [program.all_runs(BUILT), hostile.all_hostile(BUILT), refuse.all_refusals(BUILT), recording.all_runs(BUILT)]
-        counts += [readme.all_commands(BUILT), soak.works(BUILT), bench.works(BUILT)]
-    else:
+        if os.path.exists(made):
+            os.makedirs(os.path.dirname(path), exist_ok=True)
+            shutil.copy(made, path)
+    return os.path.exists(BUILT)
+
+
+def judge(room, files, watch):
+    """The counts of each part of the gate, and the seconds of processor time of what follows the proofs, by name."""
+    counts, seconds = [prove(room)], {}
+    if not keep_built(room):
         print("the program was not built, and so it was not run")
-        counts.append((0, 1))
+        return [*counts, (0, 1)], seconds
+    if counts[0][1]:
+        print("the edits were not tried, as rt ci failed")
+    else:
+        watch.phase = "edits"
+        counts.append(refuse_edits(files))
+        watch.phase, before = None, costs.used()
+        counts.append(edits_test.all_cases())
+        seconds["tests/edits_test.py"] = costs.used() - before
+    ran, of_each = run_program()
+    return counts + ran, {**seconds, **of_each}
+
+
+def tell_costs(watch, seconds):
+    """Prints what the gate cost, and keeps it in a file."""
+    told = watch.report(progress.crates_below(None), seconds)
+    with open(os.path.join(progress.LOGS, "gate-costs.md"), "w", encoding="utf-8") as it:
+        it.write(f"{told}\n")
+    print(f"{told} The budget is {BUDGET}.", flush=True)
+
+
+def main():
+    with tempfile.TemporaryDirectory(prefix="wire-up-gate-") as room, costs.Costs() as watch:
+        copy_to(room)
+        files = edits.asked_for([], kit.crates_at(room))
+        wrong = not_formatted(room) + not_applied(files)
+        if wrong:
+            print("\n".join(wrong))
+            print(f"0 passed, {len(wrong)} failed")
+            return 1
+        counts, seconds = judge(room, files, watch)
+        tell_costs(watch, seconds)
     passed, failed = (sum(it) for it in zip(*counts))
     print(f"{passed} passed, {failed} failed")
     return 1 if failed else 0

@@ -11,12 +11,6 @@ LOGS = os.path.join(TOP, "out")
 TAIL = 60
 
 
-def need_kit():
-    """Ends where the kit's command isn't there."""
-    if not shutil.which("rt"):
-        sys.exit("The command `rt` of the Rattle kit isn't on the path.")
-
-
 def minutes_of():
     """How many minutes things took when they were measured, by name (`minutes.txt`)."""
     with open(os.path.join(TOP, "tests", "minutes.txt"), encoding="utf-8") as it:

@@ -8,10 +8,10 @@ use std::thread::Threads;
 use wire_core::Core;
 use wire_marks::Marks;
 use wire_plan::Plan;
-use wire_races::finding_list;
+use wire_races::{FindingList, finding_list};
 use wire_report::{write_findings, write_report, write_unsettled};
 use wire_script::read;
-use wire_types::{Fault, MemorySink, Proc};
+use wire_types::{Fault, MemorySink, Outcome, Proc};
 
 /// A plan with a race.
 const RACE: &[u8] = b"\
@@ -74,40 +74,74 @@ commit
     },
 ];
 
-/// The report of the plain run of a plan, as JSON.
-fn report_of(alloc: Global, plan: &Plan) -> Result<Vec<u8>, Fault> {
+/// What became of every call in the plain run of a plan.
+fn plain_outcome(alloc: Global, plan: &Plan) -> Result<Outcome, Fault> {
     let mut core = Core::new(alloc, plan)?;
     core.run_lowest();
-    let outcome = core.outcome(alloc)?;
+    let outcome = core.outcome(alloc);
+    drop(core);
+    outcome
+}
+
+/// The report of the plain run of a plan, as JSON.
+fn report_of(alloc: Global, plan: &Plan) -> Result<Vec<u8>, Fault> {
+    let outcome = plain_outcome(alloc, plan)?;
     let mut sink = MemorySink::new(Vec::new(alloc));
-    write_report(alloc, plan.scripts(), &outcome, true, &mut sink)?;
+    let wrote = write_report(alloc, plan.scripts(), &outcome, true, &mut sink);
+    drop(outcome);
+    wrote?;
     Ok(sink.bytes)
+}
+
+/// All findings of a plan.
+fn list_of(rt: &(impl Threads + Sync), alloc: Global, plan: &Plan) -> Result<FindingList, Fault> {
+    let marks = Marks::of(alloc, plan)?;
+    let found = finding_list(rt, alloc, plan, &marks);
+    drop(marks);
+    found
 }
 
 /// The findings of a plan, as JSON.
 fn findings_of(rt: &(impl Threads + Sync), alloc: Global, plan: &Plan) -> Result<Vec<u8>, Fault> {
-    let marks = Marks::of(alloc, plan)?;
-    let found = finding_list(rt, alloc, plan, &marks)?;
+    let found = list_of(rt, alloc, plan)?;
     let mut sink = MemorySink::new(Vec::new(alloc));
-    write_findings(alloc, plan.scripts(), &found, true, &mut sink)?;
+    let wrote = write_findings(alloc, plan.scripts(), &found, true, &mut sink);
+    drop(found);
+    wrote?;
     Ok(sink.bytes)
 }
 
-/// An unsettled replay of a plan by these steps.
-fn unsettled_of(alloc: Global, plan: &Plan, order: &[Proc], json: bool) -> Result<Vec<u8>, Fault> {
-    let mut core = Core::new(alloc, plan)?;
-    core.follow(order)?;
+/// The text of an unsettled replay, whose core this is.
+fn unsettled_text(
+    alloc: Global,
+    plan: &Plan,
+    core: &Core<'_>,
+    json: bool,
+) -> Result<Vec<u8>, Fault> {
     let outcome = core.outcome(alloc)?;
     let mut sink = MemorySink::new(Vec::new(alloc));
-    write_unsettled(
+    let wrote = write_unsettled(
         alloc,
         plan.scripts(),
         &outcome,
         core.history(),
         json,
         &mut sink,
-    )?;
+    );
+    drop(outcome);
+    wrote?;
     Ok(sink.bytes)
+}
+
+/// An unsettled replay of a plan by these steps.
+fn unsettled_of(alloc: Global, plan: &Plan, order: &[Proc], json: bool) -> Result<Vec<u8>, Fault> {
+    let mut core = Core::new(alloc, plan)?;
+    let text = match core.follow(order) {
+        Ok(()) => unsettled_text(alloc, plan, &core, json),
+        Err(fault) => Err(fault),
+    };
+    drop(core);
+    text
 }
 
 /// Asserts that two texts are the same.

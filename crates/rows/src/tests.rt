@@ -166,13 +166,18 @@ fn check_refusal(rt: &impl Abort, alloc: Global, row: &Refusal, per_call: usize)
     assert_refused(rt, row.name, answer, &to, row.fault);
 }
 
+/// Asserts that plans are refused, whatever a read gives.
+fn check_refusals(rt: &impl Abort, alloc: Global, rows: &[Refusal]) {
+    for row in rows {
+        check_refusal(rt, alloc, row, 1);
+        check_refusal(rt, alloc, row, usize::MAX);
+    }
+}
+
 #[test]
 fn refusals(rt: HostRuntime) -> Result<(), Fail> {
-    let alloc = rt.alloc();
-    for row in crate::refusals::all() {
-        check_refusal(&rt, alloc, row, 1);
-        check_refusal(&rt, alloc, row, usize::MAX);
-    }
+    check_refusals(&rt, rt.alloc(), crate::refusals::all());
+    check_refusals(&rt, rt.alloc(), crate::refusals::later());
     Ok(())
 }
 
@@ -379,6 +384,7 @@ publish x 2
     let marks = marks_of(alloc, fenced.as_slice())?;
     assert_eq!(rt; marks.clock(at(1, 2), Proc::new(0)), 2);
     assert_eq!(rt; marks.clock(at(1, 2), Proc::new(1)), 3);
+    drop(marks);
     let stuck = b"\
 rehearsal 1
 node n0
@@ -399,6 +405,7 @@ commit
             assert_eq!(rt; marks.clock(at(number / 3, number % 3), Proc::new(proc)), 0);
         }
     }
+    drop(marks);
     Ok(())
 }
 
@@ -476,6 +483,9 @@ fn findings(rt: HostRuntime) -> Result<(), Fail> {
         check_found(&rt, alloc, row, usize::MAX);
     }
     for row in crate::refusals::all() {
+        check_unfound(&rt, alloc, row);
+    }
+    for row in crate::refusals::later() {
         check_unfound(&rt, alloc, row);
     }
     Ok(())

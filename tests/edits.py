@@ -1,0 +1,280 @@
+"""Tries the edits that the prover must refuse, those of many functions in one check.
+
+Usage: python3 tests/edits.py              all edits
+       python3 tests/edits.py CRATE..      the edits of some crates
+       python3 tests/edits.py FILE..       some edits, such as crates/wire_store/edits/put_is_stored.edit
+
+An edit is a wrong body: `crates/NAME/edits/MISTAKE.edit` has lines 'file: src/FILE.rt', 'old: TEXT' and 'new: TEXT', where TEXT is one line.
+The proof of a function depends only on the contracts of the functions that it calls, so wrong bodies of several functions don't disturb each
+other. A batch has at most one edit of each function, and one check of these functions (`rattle check --only`), from nothing, gives a verdict
+for each. An edit is refused if its own function has no proof for a reason of its own, and not only because it calls another that isn't proved.
+
+What a batch doesn't show refused is tried alone: first its function by itself, and where that doesn't show it either, the whole crate, as
+`rt must-fail` tries an edit. So is an edit that changes more than one function, or none.
+Prints a line for each edit, and last 'N passed, M failed'.
+"""
+import collections
+import itertools
+import os
+import re
+import sys
+
+sys.dont_write_bytecode = True
+import progress
+from kit import build, crates_at, rt
+
+HEADER = re.compile(r"^( *)(?:pub(?:\([a-z]+\))? )?(?:const )?(?:unsafe )?fn (\w+)", re.M)
+TYPE = re.compile(r"^(?:pub(?:\([a-z]+\))? )?(?:struct|enum) (\w+)", re.M)
+IMPL = re.compile(r"^impl\b(.*) \{$", re.M)
+VERDICT = re.compile(r"^fn (\S+): (.*)$", re.M)
+# A line of the prover about a place in a file.
+PLACED = re.compile(r"(?:note: )?(?:\./)?((?:src|proofs)/\S+?):(\d+):\d+:")
+# A proof file that names what an edit took away, or that rests on such a proof: it says little of the contract.
+NAMES = re.compile(r"(\./)?proofs/.*(has no field|is not in scope|has no `|was not admitted)")
+CALLS = re.compile(r"no proof: it calls `[^;]*")
+
+ONLY_A_NAME = " (only because a proof file names what the edit took away, so this says little of the contract: change a value and keep the names)"
+
+# A function of a source file: its path below the crate, and where its text begins and ends.
+Function = collections.namedtuple("Function", "path begin end")
+# An edit that can be applied: the texts of the files that it changes, and its function, with the file, if it changes one alone.
+Edit = collections.namedtuple("Edit", "crate path texts file function")
+# What became of an edit, the words that say so, and whether it was tried alone.
+Outcome = collections.namedtuple("Outcome", "is_refused text is_alone", defaults=[False])
+
+
+def label_of(crate, path):
+    """The words by which an edit is named in what is printed."""
+    return f"must-fail {crate.name}/{os.path.basename(path)}"
+
+
+def without_parameters(text):
+    """A type or a trait without what stands in its angle brackets."""
+    was = None
+    while was != text:
+        was, text = text, re.sub(r"<[^<>]*>", "", text)
+    return text
+
+
+def owner_of(words):
+    """The name that the prover gives the methods of an `impl`: its type's, and then its trait's where it has one."""
+    words = re.sub(r"^<[^<>]*(?:<[^<>]*>[^<>]*)*>", "", words.strip()).partition(" where ")[0]
+    trait, is_of_trait, of = words.partition(" for ")
+    plain = re.sub(r"\W", "", without_parameters(of if is_of_trait else trait).rpartition("::")[2])
+    argument = re.search(r"<(\w+)>", trait) if is_of_trait else None
+    return plain + (re.sub(r"\W", "", without_parameters(trait)) + (argument[1] if argument else "") if is_of_trait else "")
+
+
+def end_of(text, at, indent):
+    """Where the block ends whose first line begins here: with the brace that stands as far right as it."""
+    first = text.find("\n", at)
+    if text[at:first].endswith("}"):
+        return first
+    closed = re.compile(rf"^{indent}(?:\}}|\{{\}})$", re.M).search(text, first)
+    return closed.end() if closed else len(text)
+
+
+def module_of(file):
+    """The path of the module that a source file holds."""
+    return [it for it in file[len("src/") : -len(".rt")].split("/") if it not in ("lib", "main")]
+
+
+def homes_of(crate):
+    """The module of each type of a crate: the prover names a method after the place of its type, wherever the `impl` stands."""
+    found = {}
+    for path in rt.rtlib.files_of(crate.folder):
+        file = os.path.relpath(path, crate.folder)
+        if file.startswith("src/"):
+            found.update((name, module_of(file)) for name in TYPE.findall(rt.rtlib.text_of(path)))
+    return found
+
+
+def functions_of(crate, file, text):
+    """The functions of a source file, as `rt fmt` lays it out."""
+    homes, impls, found = homes_of(crate), [], []
+    for it in IMPL.finditer(text):
+        owner = owner_of(it[1])
+        impls.append((it.start(), end_of(text, it.start(), ""), [*homes.get(owner, module_of(file)), owner]))
+    for it in HEADER.finditer(text):
+        around = next((path for begin, end, path in impls if begin <= it.start() < end), module_of(file))
+        found.append(Function("::".join([*around, it[2]]), it.start(), end_of(text, it.start(), it[1])))
+    return found
+
+
+def changed_part(old, new):
+    """Where the part of a text begins and ends that another text doesn't share."""
+    begin = len(os.path.commonprefix([old, new]))
+    same = len(os.path.commonprefix([old[begin:][::-1], new[begin:][::-1]]))
+    return begin, len(old) - same
+
+
+def read(crate, path):
+    """The edit of a file, or why it can't be applied."""
+    texts, why = rt.read_edit(path, crate.folder)
+    if why:
+        return None, why
+    file, function = next(iter(texts)), None
+    if len(texts) == 1 and file.startswith("src/"):
+        was = rt.rtlib.text_of(os.path.join(crate.folder, file))
+        begin, end = changed_part(was, texts[file])
+        inside = [it for it in functions_of(crate, file, was) if it.begin <= begin and end <= it.end]
+        function = max(inside, key=lambda it: it.begin, default=None)
+    return Edit(crate, path, texts, file, function), None
+
+
+def paths_of(crate):
+    """The paths of the edits of a crate."""
+    folder = os.path.join(crate.folder, "edits")
+    return [os.path.join(folder, it) for it in sorted(os.listdir(folder))] if os.path.isdir(folder) else []
+
+
+def batches_of(edits):
+    """Edits of a crate in batches, each with at most one edit of a function."""
+    batches = []
+    for edit in edits:
+        place = edit.file, edit.function
+        free = next((it for it in batches if place not in it), None)
+        if free is None:
+            free = {}
+            batches.append(free)
+        free[place] = edit
+    return [list(it.values()) for it in batches]
+
+
+def texts_of(batch):
+    """The texts of the files that a batch changes, with the function of each edit in its place."""
+    texts = {}
+    for edit in sorted(batch, key=lambda it: -it.function.begin):
+        was = rt.rtlib.text_of(os.path.join(edit.crate.folder, edit.file))
+        text = texts.get(edit.file, was)
+        wrong = edit.texts[edit.file][edit.function.begin : len(edit.texts[edit.file]) - (len(was) - edit.function.end)]
+        texts[edit.file] = text[: edit.function.begin] + wrong + text[edit.function.end :]
+    return texts
+
+
+def belongs_to(function, path):
+    """Whether a path of the prover's names a function or a closure in it: of a closure in `a::f` it begins with `a::fn::f`."""
+    own = function.path.split("::")
+    return [it for it in path if it != "fn"][: len(own)] == own
+
+
+def is_about(edit, line):
+    """Whether a line of the prover is about a place in the function of an edit. The texts of an edit are lines, so no other line moves."""
+    at = PLACED.match(line)
+    if not at:
+        return False
+    if at[1].startswith("proofs/"):
+        return belongs_to(edit.function, at[1].split("/")[1:])
+    text = edit.texts[edit.file]
+    begin = text.count("\n", 0, edit.function.begin) + 1
+    return at[1] == edit.file and begin <= int(at[2]) <= text.count("\n", 0, edit.function.end) + 1
+
+
+def is_own(verdict):
+    """Whether a verdict says that a function has no proof, and not only because of those that it calls."""
+    return verdict.startswith(("not proved", "no proof")) and not CALLS.fullmatch(verdict)
+
+
+def judged(edit, said):
+    """What a check says of an edit's own function: the outcome, or nothing where it doesn't show that the edit is refused."""
+    verdicts = [words for path, words in VERDICT.findall(said) if belongs_to(edit.function, path.split("::")[1:]) and is_own(words)]
+    if not verdicts:
+        return None
+    told = [line for line in said.splitlines() if is_about(edit, line) and (": error" in line or line.startswith("note: "))]
+    reason = next((line for line in told if not NAMES.match(line)), "")
+    only_a_name = ONLY_A_NAME if told and not reason else ""
+    return Outcome(True, f"{label_of(edit.crate, edit.path)}: refused, as it must be{only_a_name}: {(reason or (told or verdicts)[0])[:160]}")
+
+
+def check(batch):
+    """Checks the functions of a batch, and answers what became of each of its edits, by its path, as far as that shows it."""
+    texts = texts_of(batch)
+    only = [word for it in batch for word in ("--only", it.function.path)]
+    said = rt.checked(batch[0].crate, texts, ["--jobs", "1", *only], None).stdout
+    if any(rt.unread(line, texts) for line in said.splitlines()):
+        return {}
+    found = {it.path: judged(it, said) for it in batch}
+    return {path: outcome for path, outcome in found.items() if outcome}
+
+
+def try_alone(edit):
+    """Tries one edit: its function by itself, and the whole crate where that doesn't show that it is refused."""
+    found = check([edit]) if edit.function else {}
+    outcome = found.get(edit.path) or Outcome(*rt.must_fail(edit.crate, edit.path, ["--jobs", "1"]))
+    return outcome._replace(is_alone=True)
+
+
+def side_by_side(work, ended):
+    """What calls give, by the key of each, one to a processor. Work is a crate and a call, by key. `ended` is called after each."""
+
+    def run(call):
+        given = call()
+        ended()
+        return given
+
+    tasks = {(key, "edits"): ([], it.count(rb"\n"), rt.need(it), lambda given, jobs, call=call: run(call)) for key, (it, call) in work.items()}
+    return {key: it for (key, _), it in rt.in_lanes(tasks).items()}
+
+
+def read_all(files):
+    """The edits that can be applied, and what became of the others, by path."""
+    found, edits = {}, []
+    for crate, path in files:
+        edit, why = read(crate, path)
+        if edit:
+            edits.append(edit)
+        else:
+            found[path] = Outcome(False, f"{label_of(crate, path)}: BAD EDIT: {why}")
+    return edits, found
+
+
+def try_all(files, tell=lambda state: None):
+    """What became of each edit, by its path, from pairs of a crate and a path. The libraries below the crates are built. `tell` is told how far
+    it is."""
+    edits, found = read_all(files)
+    by_crate = collections.defaultdict(list)
+    for edit in edits:
+        if edit.function:
+            by_crate[edit.crate].append(edit)
+    batches = [batch for it in by_crate.values() for batch in batches_of(it)]
+    count = itertools.count(1)
+    work = {n: (it[0].crate, lambda it=it: check(it)) for n, it in enumerate(batches)}
+    for shown in side_by_side(work, lambda: tell(f"batch {next(count)} of {len(batches)}")).values():
+        found.update(shown)
+    left = [it for it in edits if it.path not in found]
+    alone = itertools.count(1)
+    work = {it.path: (it.crate, lambda it=it: try_alone(it)) for it in left}
+    found.update(side_by_side(work, lambda: tell(f"{next(alone)} of {len(left)} that are tried alone")))
+    return {path: found[path] for _, path in files}
+
+
+def asked_for(words, crates):
+    """The edits that the words name, each with its crate: all of them where there are no words."""
+    files = [(crate, path) for crate in crates for path in paths_of(crate)]
+    found = []
+    for word in words:
+        these = [(crate, path) for crate, path in files if crate.name == word or os.path.exists(word) and os.path.samefile(path, word)]
+        if not these:
+            sys.exit(f"{word}: no edit and no crate with edits")
+        found += [it for it in these if it not in found]
+    return found if words else files
+
+
+def main(words):
+    crates = crates_at(progress.TOP)
+    files = asked_for(words, crates)
+    below = {it.name for crate, _ in files for it in crate.below()}
+    with open(progress.log_at("edits.log"), "w", encoding="utf-8") as log:
+        failed = build([it for it in crates if it.name in below], log)
+    if failed:
+        sys.exit(f"not proved, so no edit was tried: {' '.join(failed)}. The whole output is in {progress.shown(log.name)}")
+    found = try_all(files)
+    for outcome in found.values():
+        print(f"rt: {outcome.text}")
+    refused = sum(it.is_refused for it in found.values())
+    print(f"{refused} passed, {len(found) - refused} failed")
+    return 0 if refused == len(found) else 1
+
+
+if __name__ == "__main__":
+    sys.exit(main(sys.argv[1:]))

@@ -1,0 +1,151 @@
+"""Tests of how edits are tried: a small crate with wrong bodies of each sort, and what must become of each.
+
+Usage: python3 tests/edits_test.py
+Prints a line for each edit that was judged in another way, and last 'N passed, M failed'.
+"""
+import os
+import sys
+import tempfile
+
+sys.dont_write_bytecode = True
+import edits
+from kit import crates_at
+
+CODE = """\
+//! Functions with wrong bodies of each sort.
+#![tactic(auto)]
+
+ghost use Rattle.std.specs.Prelude.{◌≡◌, ◌≤◌};
+
+/// The most that is picked.
+const MOST: u8 = 9;
+
+/// The number.
+pub fn exact(a: u8) -> u8
+    ensures { result ≡ a }
+{
+    a // the number
+}
+
+/// The number, by another function.
+pub fn caller(a: u8) -> u8
+    ensures { result ≡ a }
+{
+    exact(a)
+}
+
+/// A number that isn't greater.
+pub fn loose(a: u8) -> u8
+    ensures { result ≤ a }
+{
+    a // not greater
+}
+
+/// The number, or 9 if it is greater.
+pub fn picked(a: u8) -> u8
+    ensures { result ≤ 9 }
+{
+    if a < 9 { a } else { 9 }
+}
+
+/// The number 9.
+pub fn most() -> u8
+    ensures { result ≡ 9 }
+{
+    MOST
+}
+
+/// A pair of numbers.
+pub struct Pair {
+    pub first: u8,
+    pub second: u8,
+}
+
+impl Pair {
+    /// A number twice.
+    pub fn twice(a: u8) -> Pair
+        ensures { result.second ≡ a }
+    {
+        Pair { first: a, second: a }
+    }
+}
+"""
+# A proof that names both goals of `picked`.
+ANSWERS = """\
+use Rattle.std.proofs.Common.{rules}
+use Rattle.tiny.proofs.picked.Goals as goal
+
+pub returns-then-a-lt9 : goal.returns-then-a-lt9
+returns-then-a-lt9 c = search rules
+"""
+REFUSED, NOT_REFUSED, BAD = ": refused, as it must be: ", ": NOT REFUSED", ": BAD EDIT: "
+# The lines of each edit, what must be said of it, and whether it must be tried alone to say so.
+EDITS = {
+    "another_number": (["    a // the number", "    0"], REFUSED, False),
+    # It calls a function with an edit in the same batch.
+    "another_argument": (["    exact(a)", "    exact(0)"], REFUSED, None),
+    "method_of_a_type": (["second: a }", "second: 0 }"], REFUSED, False),
+    # In the function of another edit, so in another batch.
+    "number_and_one": (["    a // the number", "    a.saturating_add(1)"], REFUSED, False),
+    "name_of_a_goal": (["    if a < 9 { a } else { 9 }", "    a.min(9)"], edits.ONLY_A_NAME, False),
+    "outside_of_functions": (["MOST: u8 = 9", "MOST: u8 = 8"], REFUSED, True),
+    "two_functions": (["    exact(a)", "    exact(1)", "    a // the number", "    1"], REFUSED, True),
+    "allowed_by_the_contract": (["    a // not greater", "    0"], NOT_REFUSED, True),
+    "text_that_is_not_there": (["exact(b)", "exact(0)"], BAD, False),
+    "text_that_is_there_twice": (["result ≡ a", "result ≡ 0"], BAD, False),
+}
+# Edits in a batch of their own, which the prover can't read because of one of them.
+UNREAD = {
+    "another_type": (["    MOST", "    true"], BAD, True),
+    "beside_another_type": (["    a // the number", "    0"], REFUSED, True),
+}
+
+
+def write(top, path, text):
+    """Writes a file, in a folder that is made where it isn't there."""
+    path = os.path.join(top, path)
+    os.makedirs(os.path.dirname(path), exist_ok=True)
+    with open(path, "w", encoding="utf-8") as it:
+        it.write(text)
+
+
+def text_of(lines):
+    """The text of an edit with these lines, each old one in front of its new one."""
+    words = ("old", "new") * (len(lines) // 2)
+    return "".join(["file: src/lib.rt\n", *(f"{word}: {line}\n" for word, line in zip(words, lines))])
+
+
+def make(top, wrong_bodies):
+    """Makes a repository of one crate with the edits."""
+    write(top, "crates.txt", "tiny:\n")
+    write(top, "crates/tiny/src/lib.rt", CODE)
+    write(top, "crates/tiny/proofs/picked/Answers.antt", ANSWERS)
+    for name, (lines, _, _) in wrong_bodies.items():
+        write(top, f"crates/tiny/edits/{name}.edit", text_of(lines))
+
+
+def judged_wrong(wrong_bodies):
+    """Tries the edits, and prints and counts those that were judged in another way than they must be."""
+    with tempfile.TemporaryDirectory(prefix="wire-up-") as top:
+        make(top, wrong_bodies)
+        found = edits.try_all(edits.asked_for([], crates_at(top)))
+    told = {os.path.basename(path).removesuffix(".edit"): it for path, it in found.items()}
+    count = 0
+    for name, (_, wanted, is_alone) in wrong_bodies.items():
+        it = told[name]
+        if wanted not in it.text or it.is_refused == (wanted in (NOT_REFUSED, BAD)) or is_alone not in (None, it.is_alone):
+            print(f"tests/edits_test.py: wanted{wanted}{'alone' if is_alone else ''}, and not {it}")
+            count += 1
+    return count
+
+
+def all_cases():
+    """Tries all edits, and answers how many were judged as they must be, and how many weren't."""
+    failed = judged_wrong(EDITS) + judged_wrong(UNREAD)
+    passed = len(EDITS) + len(UNREAD) - failed
+    print(f"tests/edits_test.py: {passed} passed, {failed} failed", flush=True)
+    return passed, failed
+
+
+if __name__ == "__main__":
+    sys.exit(1 if all_cases()[1] else 0)

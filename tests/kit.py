@@ -1,0 +1,73 @@
+"""The kit's command `rt` as a module. It is a Python program, and what it knows of crates, of edits and of how much fits side by side is
+used here as it stands, so that a check here is the check that `rt ci` makes."""
+import importlib.machinery
+import importlib.util
+import os
+import shutil
+import sys
+import tempfile
+
+sys.dont_write_bytecode = True
+
+
+def command():
+    """The command `rt` as a module."""
+    path = shutil.which("rt")
+    if not path:
+        sys.exit("The command `rt` of the Rattle kit isn't on the path.")
+    loader = importlib.machinery.SourceFileLoader("rt", os.path.realpath(path))
+    made = importlib.util.module_from_spec(importlib.util.spec_from_loader("rt", loader))
+    sys.modules["rt"] = made
+    loader.exec_module(made)
+    return made
+
+
+rt = command()
+# `rt` starts a guard, which ends all that was started here when this program ends. Only the main thread may start it.
+rt.rtlib.guarded()
+
+
+def crates_at(top):
+    """The crates of a repository, each after those that it uses."""
+    return sorted(rt.rtlib.crates_below(top), key=lambda it: len(it.below()))
+
+
+def build(crates, log=sys.stdout, tell=lambda name: None):
+    """Proves and builds libraries side by side, each once those below it are built, over what earlier checks kept. A library whose text
+    and libraries are as they were isn't checked again. What a check prints goes to the log, that of those that failed last, and `tell`
+    is called after each. Answers the names of those that failed."""
+    held, failed = rt.rtlib.lock(crates), {}
+    tasks = {(it.name, "proof"): (waits_of(it), it.count(rb"\n"), rt.need(it), proof_of(it, log, tell, failed)) for it in crates}
+    rt.in_lanes(tasks)
+    for it in held:
+        os.close(it)
+    for name, said in failed.items():
+        log.write(f"$ rt lib, in crates/{name}\n{said}")
+    log.flush()
+    return list(failed)
+
+
+def waits_of(crate):
+    """The proofs for which that of a crate waits."""
+    return [(it.name, "proof") for it in crate.below()]
+
+
+def proof_of(crate, log, tell, failed):
+    """What proves and builds one library. It gives whether that went well."""
+
+    def prove(given, jobs):
+        if not all(given[it] for it in waits_of(crate)):
+            return False
+        os.makedirs(os.path.join(crate.folder, "out"), exist_ok=True)
+        with tempfile.TemporaryFile("w+", errors="replace") as crate.out:
+            status = crate.build_rlib(["--jobs", str(jobs)], anew=False)
+            crate.out.seek(0)
+            said = crate.out.read()
+        if status:
+            failed[crate.name] = f"{said}(exit status {status})\n"
+        else:
+            log.write(f"== {crate.name}\n{said}")
+        tell(crate.name)
+        return not status
+
+    return prove
