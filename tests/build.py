@@ -71,7 +71,7 @@ def try_it(file):
 def expected(crates):
     """About how many minutes the proofs of crates take: as long as the longest chain of them, or as all of them by all processors."""
     minutes, chain = progress.minutes_of(), {}
-    left = {it.name: minutes[it.name] for it in crates if it.is_program or not it.is_built()}
+    left = {it.name: minutes.get(it.name, 1) for it in crates if it.is_program or not it.is_built()}
     for crate in crates:
         chain[crate.name] = left.get(crate.name, 0) + max((chain[it.name] for it in crate.deps), default=0)
     return max(*chain.values(), sum(left.values()) / kit.rt.processors())
