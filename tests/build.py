@@ -88,7 +88,8 @@ def prove(log):
             ended.append(name)
             line.now(f"{len(ended)} of {len(crates)} crates proved, last {name}")
 
-        failed = kit.build([it for it in crates if not it.is_program], to, tell)
+        with kit.locked(crates):
+            failed = kit.build([it for it in crates if not it.is_program], to, tell)
         if failed:
             return f"not proved: {' '.join(failed)}"
         status = progress.keep(["rt", "run", "--", "--version"], os.path.join(CRATES, "program"), log)

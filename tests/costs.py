@@ -18,8 +18,12 @@ def used():
     return spent.ru_utime + spent.ru_stime
 
 
+# A process: its parent, its words, when it began, and the seconds of processor time that it and its children that ended have used.
+Seen = collections.namedtuple("Seen", "parent words began seconds")
+
+
 def seen(process):
-    """The parent of a process, its words, and the processor time that it and its children that ended have used; nothing where it has ended."""
+    """What the system knows of a process; nothing where it has ended."""
     try:
         with open(f"/proc/{process}/stat", encoding="utf-8", errors="replace") as it:
             fields = it.read().rpartition(")")[2].split()
@@ -27,7 +31,7 @@ def seen(process):
             words = it.read().split("\0")
     except OSError:
         return None
-    return fields[1], words, sum(int(it) for it in fields[11:15]) / TICKS
+    return Seen(fields[1], words, fields[19], sum(int(it) for it in fields[11:15]) / TICKS)
 
 
 def kind_of(words):
@@ -35,6 +39,19 @@ def kind_of(words):
     if "--test" in words:
         return "tests"
     return "program" if "--crate-checked" in words else "proof"
+
+
+def is_copy(found, process):
+    """Whether a process is a copy that its parent made of itself."""
+    parent = found.get(process.parent)
+    return bool(parent) and parent.words == process.words
+
+
+def is_below(found, process):
+    """Whether a process was started by this one, or by one that was."""
+    while process and process.parent != str(os.getpid()):
+        process = found.get(process.parent)
+    return bool(process)
 
 
 class Costs:
@@ -57,22 +74,17 @@ class Costs:
             self.look()
 
     def look(self):
-        """Notes what each process of the prover has used. Its copies have its words; their time is its own once they have ended."""
+        """Notes what each process of the prover that was started here has used. Copies that one makes of itself are part of it."""
         found = {it: seen(it) for it in os.listdir("/proc") if it.isdigit()}
-        for process, it in found.items():
-            if it and "--crate-name" in it[1] and not self.is_copy(found.get(it[0]), it[1]):
-                crate = it[1][it[1].index("--crate-name") + 1]
-                self.spent[process, crate, self.phase or kind_of(it[1])] = it[2]
-
-    @staticmethod
-    def is_copy(parent, words):
-        """Whether a process is a copy that the process of these words made of itself."""
-        return bool(parent) and parent[1] == words
+        for number, it in found.items():
+            if it and "--crate-name" in it.words and is_below(found, it) and not is_copy(found, it):
+                crate = it.words[it.words.index("--crate-name") + 1]
+                self.spent[number, it.began, crate, self.phase or kind_of(it.words)] = it.seconds
 
     def rows(self, crates):
         """The seconds of each crate, by kind."""
         table = {it: collections.Counter() for it in crates}
-        for (_, crate, kind), seconds in self.spent.items():
+        for (_, _, crate, kind), seconds in self.spent.items():
             if crate in table:
                 table[crate][kind] += seconds
         return table
@@ -88,5 +100,5 @@ class Costs:
         whole = used() - self.began
         lines += ["", "| what else | seconds |", "|---|---|"]
         lines += [f"| {name} | {seconds:.0f} |" for name, seconds in others.items()]
-        lines.append(f"| the rest | {max(whole - sum(sums) - sum(others.values()), 0):.0f} |")
+        lines.append(f"| the rest | {whole - sum(sums) - sum(others.values()):.0f} |")
         return "\n".join([*lines, "", f"Together {whole / 60:.0f} minutes of processor time."])

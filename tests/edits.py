@@ -8,37 +8,44 @@ An edit is a wrong body: `crates/NAME/edits/MISTAKE.edit` has lines 'file: src/F
 The proof of a function depends only on the contracts of the functions that it calls, so wrong bodies of several functions don't disturb each
 other. A batch has at most one edit of each function, and one check of these functions (`rattle check --only`), from nothing, gives a verdict
 for each. An edit is refused if its own function has no proof for a reason of its own, and not only because it calls another that isn't proved.
+A batch shows nothing if it isn't checked to its end, or if a function without an edit has no proof for a reason of its own.
 
 What a batch doesn't show refused is tried alone: first its function by itself, and where that doesn't show it either, the whole crate, as
-`rt must-fail` tries an edit. So is an edit that changes more than one function, or none.
-Prints a line for each edit, and last 'N passed, M failed'.
+`rt must-fail` tries an edit. So is an edit of more than one body, or of none.
+The crates themselves are proved first. Prints a line for each edit, and last 'N passed, M failed'.
 """
 import collections
+import functools
 import itertools
 import os
 import re
+import signal
 import sys
 
 sys.dont_write_bytecode = True
 import progress
-from kit import build, crates_at, rt
+from kit import build, crates_at, locked, rt
 
 HEADER = re.compile(r"^( *)(?:pub(?:\([a-z]+\))? )?(?:const )?(?:unsafe )?fn (\w+)", re.M)
 TYPE = re.compile(r"^(?:pub(?:\([a-z]+\))? )?(?:struct|enum) (\w+)", re.M)
 IMPL = re.compile(r"^impl\b(.*) \{$", re.M)
 VERDICT = re.compile(r"^fn (\S+): (.*)$", re.M)
+# The last line of a check of some functions that came to its end.
+LAST = re.compile(r"^only=\d+ proved=\d+\n*\Z", re.M)
 # A line of the prover about a place in a file.
 PLACED = re.compile(r"(?:note: )?(?:\./)?((?:src|proofs)/\S+?):(\d+):\d+:")
 # A proof file that names what an edit took away, or that rests on such a proof: it says little of the contract.
 NAMES = re.compile(r"(\./)?proofs/.*(has no field|is not in scope|has no `|was not admitted)")
-CALLS = re.compile(r"no proof: it calls `[^;]*")
-
+# A part of a verdict that blames other functions.
+OTHERS = re.compile(r"it (?:calls|passes the block) .*, which (?:is|are) not (?:proved|assumed)")
+# A verdict on a body that the prover has no rules for: no contract was tried, and a right body would fare the same.
+UNCOVERED = "the borrow checker does not cover this function"
 ONLY_A_NAME = " (only because a proof file names what the edit took away, so this says little of the contract: change a value and keep the names)"
 
-# A function of a source file: its path below the crate, and where its text begins and ends.
-Function = collections.namedtuple("Function", "path begin end")
-# An edit that can be applied: the texts of the files that it changes, and its function, with the file, if it changes one alone.
-Edit = collections.namedtuple("Edit", "crate path texts file function")
+# A function of a source file: its path below the crate, and where its text, and in that its body, begins and ends.
+Function = collections.namedtuple("Function", "path begin body end")
+# An edit that can be applied: the texts of the files that it changes, and if it changes one body alone, its file, the file's text, its function.
+Edit = collections.namedtuple("Edit", "crate path texts file was function")
 # What became of an edit, the words that say so, and whether it was tried alone.
 Outcome = collections.namedtuple("Outcome", "is_refused text is_alone", defaults=[False])
 
@@ -60,9 +67,11 @@ def owner_of(words):
     """The name that the prover gives the methods of an `impl`: its type's, and then its trait's where it has one."""
     words = re.sub(r"^<[^<>]*(?:<[^<>]*>[^<>]*)*>", "", words.strip()).partition(" where ")[0]
     trait, is_of_trait, of = words.partition(" for ")
-    plain = re.sub(r"\W", "", without_parameters(of if is_of_trait else trait).rpartition("::")[2])
-    argument = re.search(r"<(\w+)>", trait) if is_of_trait else None
-    return plain + (re.sub(r"\W", "", without_parameters(trait)) + (argument[1] if argument else "") if is_of_trait else "")
+    if not is_of_trait:
+        return re.sub(r"\W", "", without_parameters(trait).rpartition("::")[2])
+    argument = re.search(r"<(\w+)>", trait)
+    parts = without_parameters(of).rpartition("::")[2], without_parameters(trait), argument[1] if argument else ""
+    return re.sub(r"\W", "", "".join(parts))
 
 
 def end_of(text, at, indent):
@@ -74,11 +83,18 @@ def end_of(text, at, indent):
     return closed.end() if closed else len(text)
 
 
+def body_of(text, begin, end, indent):
+    """Where the body of a function begins: behind its clauses, if it has any."""
+    opened = re.compile(rf"^{indent}\{{$", re.M).search(text, begin, end)
+    return opened.start() if opened else begin
+
+
 def module_of(file):
     """The path of the module that a source file holds."""
     return [it for it in file[len("src/") : -len(".rt")].split("/") if it not in ("lib", "main")]
 
 
+@functools.cache
 def homes_of(crate):
     """The module of each type of a crate: the prover names a method after the place of its type, wherever the `impl` stands."""
     found = {}
@@ -90,14 +106,17 @@ def homes_of(crate):
 
 
 def functions_of(crate, file, text):
-    """The functions of a source file, as `rt fmt` lays it out."""
-    homes, impls, found = homes_of(crate), [], []
+    """The functions of a source file, as `rt fmt` lays it out, but for those of a trait that have no body."""
+    homes, impls, found = {**homes_of(crate), **{it: module_of(file) for it in TYPE.findall(text)}}, [], []
     for it in IMPL.finditer(text):
         owner = owner_of(it[1])
         impls.append((it.start(), end_of(text, it.start(), ""), [*homes.get(owner, module_of(file)), owner]))
-    for it in HEADER.finditer(text):
-        around = next((path for begin, end, path in impls if begin <= it.start() < end), module_of(file))
-        found.append(Function("::".join([*around, it[2]]), it.start(), end_of(text, it.start(), it[1])))
+    headers = list(HEADER.finditer(text))
+    for it, later in zip(headers, [*headers[1:], None]):
+        end = end_of(text, it.start(), it[1])
+        if later is None or later.start() > end:
+            around = next((path for begin, close, path in impls if begin <= it.start() < close), module_of(file))
+            found.append(Function("::".join([*around, it[2]]), it.start(), body_of(text, it.start(), end, it[1]), end))
     return found
 
 
@@ -113,13 +132,12 @@ def read(crate, path):
     texts, why = rt.read_edit(path, crate.folder)
     if why:
         return None, why
-    file, function = next(iter(texts)), None
+    file, was, function = next(iter(texts)), "", None
     if len(texts) == 1 and file.startswith("src/"):
         was = rt.rtlib.text_of(os.path.join(crate.folder, file))
         begin, end = changed_part(was, texts[file])
-        inside = [it for it in functions_of(crate, file, was) if it.begin <= begin and end <= it.end]
-        function = max(inside, key=lambda it: it.begin, default=None)
-    return Edit(crate, path, texts, file, function), None
+        function = next((it for it in functions_of(crate, file, was) if it.body <= begin and end <= it.end), None)
+    return Edit(crate, path, texts, file, was, function), None
 
 
 def paths_of(crate):
@@ -145,9 +163,8 @@ def texts_of(batch):
     """The texts of the files that a batch changes, with the function of each edit in its place."""
     texts = {}
     for edit in sorted(batch, key=lambda it: -it.function.begin):
-        was = rt.rtlib.text_of(os.path.join(edit.crate.folder, edit.file))
-        text = texts.get(edit.file, was)
-        wrong = edit.texts[edit.file][edit.function.begin : len(edit.texts[edit.file]) - (len(was) - edit.function.end)]
+        text, new = texts.get(edit.file, edit.was), edit.texts[edit.file]
+        wrong = new[edit.function.begin : len(new) - (len(edit.was) - edit.function.end)]
         texts[edit.file] = text[: edit.function.begin] + wrong + text[edit.function.end :]
     return texts
 
@@ -165,35 +182,53 @@ def is_about(edit, line):
         return False
     if at[1].startswith("proofs/"):
         return belongs_to(edit.function, at[1].split("/")[1:])
-    text = edit.texts[edit.file]
-    begin = text.count("\n", 0, edit.function.begin) + 1
-    return at[1] == edit.file and begin <= int(at[2]) <= text.count("\n", 0, edit.function.end) + 1
+    begin = edit.was.count("\n", 0, edit.function.begin) + 1
+    return at[1] == edit.file and begin <= int(at[2]) <= edit.was.count("\n", 0, edit.function.end) + 1
 
 
 def is_own(verdict):
-    """Whether a verdict says that a function has no proof, and not only because of those that it calls."""
-    return verdict.startswith(("not proved", "no proof")) and not CALLS.fullmatch(verdict)
+    """Whether a verdict says that a function has no proof, and not only because of others."""
+    if verdict.startswith("not proved"):
+        return True
+    reasons = verdict.removeprefix("no proof: ").split("; ")
+    return verdict.startswith("no proof") and not all(OTHERS.fullmatch(it) for it in reasons)
+
+
+def own_failures(said):
+    """The functions that have no proof for a reason of their own: the parts of their paths below the crate, and the verdict on each."""
+    return [(path.split("::")[1:], words) for path, words in VERDICT.findall(said) if is_own(words)]
 
 
 def judged(edit, said):
     """What a check says of an edit's own function: the outcome, or nothing where it doesn't show that the edit is refused."""
-    verdicts = [words for path, words in VERDICT.findall(said) if belongs_to(edit.function, path.split("::")[1:]) and is_own(words)]
+    verdicts = [words for path, words in own_failures(said) if belongs_to(edit.function, path)]
     if not verdicts:
         return None
+    if any(UNCOVERED in it for it in verdicts):
+        return Outcome(False, f"{label_of(edit.crate, edit.path)}: BAD EDIT: no contract was tried: {verdicts[0]}")
     told = [line for line in said.splitlines() if is_about(edit, line) and (": error" in line or line.startswith("note: "))]
     reason = next((line for line in told if not NAMES.match(line)), "")
     only_a_name = ONLY_A_NAME if told and not reason else ""
     return Outcome(True, f"{label_of(edit.crate, edit.path)}: refused, as it must be{only_a_name}: {(reason or (told or verdicts)[0])[:160]}")
 
 
+def is_judged(ran, texts, batch):
+    """Whether a check of a batch came to its end, and blames no function that has no edit."""
+    if ran.returncode != 1 or not LAST.search(ran.stdout) or rt.rtlib.STALE.search(ran.stdout):
+        return False
+    if any(rt.unread(line, texts) for line in ran.stdout.splitlines()):
+        return False
+    return all(any(belongs_to(it.function, path) for it in batch) for path, _ in own_failures(ran.stdout))
+
+
 def check(batch):
     """Checks the functions of a batch, and answers what became of each of its edits, by its path, as far as that shows it."""
     texts = texts_of(batch)
     only = [word for it in batch for word in ("--only", it.function.path)]
-    said = rt.checked(batch[0].crate, texts, ["--jobs", "1", *only], None).stdout
-    if any(rt.unread(line, texts) for line in said.splitlines()):
+    ran = rt.checked(batch[0].crate, texts, ["--jobs", "1", *only], None)
+    if not is_judged(ran, texts, batch):
         return {}
-    found = {it.path: judged(it, said) for it in batch}
+    found = {it.path: judged(it, ran.stdout) for it in batch}
     return {path: outcome for path, outcome in found.items() if outcome}
 
 
@@ -207,12 +242,15 @@ def try_alone(edit):
 def side_by_side(work, ended):
     """What calls give, by the key of each, one to a processor. Work is a crate and a call, by key. `ended` is called after each."""
 
-    def run(call):
-        given = call()
-        ended()
-        return given
+    def task_of(crate, call):
+        def run(_given, _jobs):
+            found = call()
+            ended()
+            return found
 
-    tasks = {(key, "edits"): ([], it.count(rb"\n"), rt.need(it), lambda given, jobs, call=call: run(call)) for key, (it, call) in work.items()}
+        return [], crate.count(rb"\n"), rt.need(crate), run
+
+    tasks = {(key, "edits"): task_of(*it) for key, it in work.items()}
     return {key: it for (key, _), it in rt.in_lanes(tasks).items()}
 
 
@@ -229,20 +267,19 @@ def read_all(files):
 
 
 def try_all(files, tell=lambda state: None):
-    """What became of each edit, by its path, from pairs of a crate and a path. The libraries below the crates are built. `tell` is told how far
-    it is."""
+    """What became of each edit, by its path, from pairs of a crate and a path. The libraries below the crates are built, and the crates
+    proved. `tell` is told how far it is."""
     edits, found = read_all(files)
     by_crate = collections.defaultdict(list)
     for edit in edits:
         if edit.function:
             by_crate[edit.crate].append(edit)
     batches = [batch for it in by_crate.values() for batch in batches_of(it)]
-    count = itertools.count(1)
+    count, alone = itertools.count(1), itertools.count(1)
     work = {n: (it[0].crate, lambda it=it: check(it)) for n, it in enumerate(batches)}
     for shown in side_by_side(work, lambda: tell(f"batch {next(count)} of {len(batches)}")).values():
         found.update(shown)
     left = [it for it in edits if it.path not in found]
-    alone = itertools.count(1)
     work = {it.path: (it.crate, lambda it=it: try_alone(it)) for it in left}
     found.update(side_by_side(work, lambda: tell(f"{next(alone)} of {len(left)} that are tried alone")))
     return {path: found[path] for _, path in files}
@@ -253,22 +290,31 @@ def asked_for(words, crates):
     files = [(crate, path) for crate in crates for path in paths_of(crate)]
     found = []
     for word in words:
-        these = [(crate, path) for crate, path in files if crate.name == word or os.path.exists(word) and os.path.samefile(path, word)]
+        is_file = os.path.exists(word)
+        these = [(crate, path) for crate, path in files if crate.name == word or (is_file and os.path.samefile(path, word))]
         if not these:
             sys.exit(f"{word}: no edit and no crate with edits")
         found += [it for it in these if it not in found]
     return found if words else files
 
 
+def prove_and_try(files, crates):
+    """Proves the crates of the edits and all below them, and then tries the edits."""
+    needed = {it.name for crate, _ in files for it in [*crate.below(), crate]}
+    log = progress.log_at("edits.log")
+    with locked(crates), open(log, "w", encoding="utf-8") as to:
+        failed = build([it for it in crates if it.name in needed], to)
+        if failed:
+            sys.exit(f"not proved, so no edit was tried: {' '.join(failed)}. The whole output is in {progress.shown(log)}")
+        with progress.Progress("edits", progress.minutes_of()["edits"]) as line:
+            return try_all(files, line.now)
+
+
 def main(words):
+    # As `rt` does: Python would wait for the threads' checks.
+    signal.signal(signal.SIGINT, signal.SIG_DFL)
     crates = crates_at(progress.TOP)
-    files = asked_for(words, crates)
-    below = {it.name for crate, _ in files for it in crate.below()}
-    with open(progress.log_at("edits.log"), "w", encoding="utf-8") as log:
-        failed = build([it for it in crates if it.name in below], log)
-    if failed:
-        sys.exit(f"not proved, so no edit was tried: {' '.join(failed)}. The whole output is in {progress.shown(log.name)}")
-    found = try_all(files)
+    found = prove_and_try(asked_for(words, crates), crates)
     for outcome in found.values():
         print(f"rt: {outcome.text}")
     refused = sum(it.is_refused for it in found.values())

@@ -6,6 +6,7 @@ Prints a line for each edit that was judged in another way, and last 'N passed, 
 import os
 import sys
 import tempfile
+import types
 
 sys.dont_write_bytecode = True
 import edits
@@ -31,7 +32,14 @@ pub fn exact(a: u8) -> u8
 pub fn caller(a: u8) -> u8
     ensures { result ≡ a }
 {
-    exact(a)
+    exact(a) // the same
+}
+
+/// A number that isn't greater, by another function.
+pub fn lower(a: u8) -> u8
+    ensures { result ≤ a }
+{
+    exact(a) // not greater either
 }
 
 /// A number that isn't greater.
@@ -83,13 +91,14 @@ REFUSED, NOT_REFUSED, BAD = ": refused, as it must be: ", ": NOT REFUSED", ": BA
 EDITS = {
     "another_number": (["    a // the number", "    0"], REFUSED, False),
     # It calls a function with an edit in the same batch.
-    "another_argument": (["    exact(a)", "    exact(0)"], REFUSED, None),
+    "another_argument": (["exact(a) // the same", "exact(0)"], REFUSED, None),
+    "right_in_another_way": (["exact(a) // not greater either", "exact(a).min(3)"], NOT_REFUSED, True),
     "method_of_a_type": (["second: a }", "second: 0 }"], REFUSED, False),
     # In the function of another edit, so in another batch.
     "number_and_one": (["    a // the number", "    a.saturating_add(1)"], REFUSED, False),
     "name_of_a_goal": (["    if a < 9 { a } else { 9 }", "    a.min(9)"], edits.ONLY_A_NAME, False),
     "outside_of_functions": (["MOST: u8 = 9", "MOST: u8 = 8"], REFUSED, True),
-    "two_functions": (["    exact(a)", "    exact(1)", "    a // the number", "    1"], REFUSED, True),
+    "two_functions": (["exact(a) // the same", "exact(1)", "    a // the number", "    1"], REFUSED, True),
     "allowed_by_the_contract": (["    a // not greater", "    0"], NOT_REFUSED, True),
     "text_that_is_not_there": (["exact(b)", "exact(0)"], BAD, False),
     "text_that_is_there_twice": (["result ≡ a", "result ≡ 0"], BAD, False),
@@ -98,6 +107,17 @@ EDITS = {
 UNREAD = {
     "another_type": (["    MOST", "    true"], BAD, True),
     "beside_another_type": (["    a // the number", "    0"], REFUSED, True),
+}
+# Verdicts on a function `most`, and what they show of an edit of it: that it is refused, that it isn't, or nothing.
+VERDICTS = {
+    "proved": None,
+    "not proved": True,
+    "not proved; it calls `tiny::exact`, which is not proved": True,
+    "no proof: expected answers in ./proofs/most/Answers.antt; `search` did not prove `returns`": True,
+    "no proof: it calls `tiny::exact`, which is not proved": None,
+    "no proof: it calls `tiny::exact` and `tiny::loose`, which are not proved; it passes the block `tiny::fn::a`, which is not proved": None,
+    "no proof: expected `most_spec` in ./proofs/most/Proof.antt; the borrow checker does not cover this function yet: src/lib.rt:9:1": False,
+    "could not tell": None,
 }
 
 
@@ -133,16 +153,29 @@ def judged_wrong(wrong_bodies):
     count = 0
     for name, (_, wanted, is_alone) in wrong_bodies.items():
         it = told[name]
-        if wanted not in it.text or it.is_refused == (wanted in (NOT_REFUSED, BAD)) or is_alone not in (None, it.is_alone):
-            print(f"tests/edits_test.py: wanted{wanted}{'alone' if is_alone else ''}, and not {it}")
+        is_refused = wanted in (REFUSED, edits.ONLY_A_NAME)
+        if wanted not in it.text or it.is_refused != is_refused or is_alone not in (None, it.is_alone):
+            print(f"tests/edits_test.py: {name}: wanted{wanted}{', alone' if is_alone else ''}, and not {it}")
+            count += 1
+    return count
+
+
+def misread_verdicts():
+    """Counts the verdicts that are read in another way than they must be, and prints them."""
+    edit = edits.Edit(types.SimpleNamespace(name="tiny"), "most.edit", {}, "src/lib.rt", "", edits.Function("most", 0, 0, 0))
+    count = 0
+    for words, wanted in VERDICTS.items():
+        found = edits.judged(edit, f"fn tiny::exact: not proved\nfn tiny::most: {words}\n")
+        if (found and found.is_refused) is not wanted:
+            print(f"tests/edits_test.py: {words}: wanted {wanted}, and not {found}")
             count += 1
     return count
 
 
 def all_cases():
-    """Tries all edits, and answers how many were judged as they must be, and how many weren't."""
-    failed = judged_wrong(EDITS) + judged_wrong(UNREAD)
-    passed = len(EDITS) + len(UNREAD) - failed
+    """Tries all edits, and answers how many cases were judged as they must be, and how many weren't."""
+    failed = misread_verdicts() + judged_wrong(EDITS) + judged_wrong(UNREAD)
+    passed = len(VERDICTS) + len(EDITS) + len(UNREAD) - failed
     print(f"tests/edits_test.py: {passed} passed, {failed} failed", flush=True)
     return passed, failed
 

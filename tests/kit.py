@@ -1,5 +1,6 @@
 """The kit's command `rt` as a module. It is a Python program, and what it knows of crates, of edits and of how much fits side by side is
-used here as it stands, so that a check here is the check that `rt ci` makes."""
+used here as it stands."""
+import contextlib
 import importlib.machinery
 import importlib.util
 import os
@@ -32,15 +33,46 @@ def crates_at(top):
     return sorted(rt.rtlib.crates_below(top), key=lambda it: len(it.below()))
 
 
+# How many processes share the proof of a crate on the longest chain.
+ON_THE_CHAIN = 3
+
+
+def longest_chain(crates):
+    """The names of the crates on the longest chain, by the lines of their code: no proof of all can take less time than theirs."""
+    chains = {}
+    for crate in crates:
+        below = [chains[it] for it in crate.deps if it in chains]
+        chains[crate] = max(below, key=lines_of, default=[]) + [crate]
+    return {it.name for it in max(chains.values(), key=lines_of, default=[])}
+
+
+def lines_of(crates):
+    """How many lines of code crates have."""
+    return sum(it.count(rb"\n") for it in crates)
+
+
+@contextlib.contextmanager
+def locked(crates):
+    """Keeps every other `rt` out of the folders of crates. Waits until none works there."""
+    held = rt.rtlib.lock(crates)
+    try:
+        yield
+    finally:
+        for it in held:
+            os.close(it)
+
+
 def build(crates, log=sys.stdout, tell=lambda name: None):
     """Proves and builds libraries side by side, each once those below it are built, over what earlier checks kept. A library whose text
     and libraries are as they were isn't checked again. What a check prints goes to the log, that of those that failed last, and `tell`
-    is called after each. Answers the names of those that failed."""
-    held, failed = rt.rtlib.lock(crates), {}
-    tasks = {(it.name, "proof"): (waits_of(it), it.count(rb"\n"), rt.need(it), proof_of(it, log, tell, failed)) for it in crates}
+    is called after each that is proved. Answers the names of those that failed."""
+    chain, failed, tasks = longest_chain(crates), {}, {}
+    for it in crates:
+        least = min(ON_THE_CHAIN, rt.processors()) if it.name in chain else 1
+        # Each process more takes some of the memory once more.
+        needs = rt.need(it) * (1 + 0.6 * (least - 1))
+        tasks[it.name, "proof"] = (waits_of(it), lines_of([it]), needs, proof_of(it, least, log, tell, failed))
     rt.in_lanes(tasks)
-    for it in held:
-        os.close(it)
     for name, said in failed.items():
         log.write(f"$ rt lib, in crates/{name}\n{said}")
     log.flush()
@@ -52,22 +84,22 @@ def waits_of(crate):
     return [(it.name, "proof") for it in crate.below()]
 
 
-def proof_of(crate, log, tell, failed):
-    """What proves and builds one library. It gives whether that went well."""
+def proof_of(crate, least, log, tell, failed):
+    """What proves and builds one library by at least so many processes. It gives whether that went well."""
 
     def prove(given, jobs):
         if not all(given[it] for it in waits_of(crate)):
             return False
         os.makedirs(os.path.join(crate.folder, "out"), exist_ok=True)
         with tempfile.TemporaryFile("w+", errors="replace") as crate.out:
-            status = crate.build_rlib(["--jobs", str(jobs)], anew=False)
+            status = crate.build_rlib(["--jobs", str(max(jobs, least))], anew=False)
             crate.out.seek(0)
             said = crate.out.read()
         if status:
             failed[crate.name] = f"{said}(exit status {status})\n"
-        else:
-            log.write(f"== {crate.name}\n{said}")
+            return False
+        log.write(f"== {crate.name}\n{said}")
         tell(crate.name)
-        return not status
+        return True
 
     return prove
