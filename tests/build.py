@@ -1,7 +1,7 @@
 """What `make try` and `make run` do.
 
 Usage: python3 tests/build.py try FILE     checks and replays FILE, by a build without proofs
-       python3 tests/build.py run          does that for an example, then proves the program, builds it as ./wire_up, and does it again
+       python3 tests/build.py run          does that for an example, while it proves the program, builds it as ./wire_up, and does it again
                                            (only the latter where there is a ./wire_up already)
 """
 import os
@@ -10,6 +10,7 @@ import shutil
 import subprocess
 import sys
 import tempfile
+import threading
 
 sys.dont_write_bytecode = True
 import kit
@@ -17,16 +18,15 @@ import progress
 
 EXAMPLE = "examples/business-card.plan"
 COMMANDS = ("check", "replay")
-CRATES = os.path.join(progress.TOP, "crates")
-BUILT = os.path.join(CRATES, "program", "out", "program")
+PROGRAM = os.path.join("crates", "program")
+BUILT = os.path.join(progress.TOP, PROGRAM, "out", "program")
 PLACE = os.path.join(progress.TOP, "wire_up")
 
 
 def fail(what, log):
     """Says what failed and where to read more, and ends."""
     print(progress.tail_of(log), end="")
-    print(f"{what}. The whole output is in {progress.shown(log)}")
-    sys.exit(1)
+    sys.exit(f"{what}. The whole output is in {progress.shown(log)}")
 
 
 def cases_of(room, file):
@@ -38,11 +38,11 @@ def cases_of(room, file):
     return room
 
 
-def tried(file, log):
-    """What each command wrote about the file and to standard error, by a build without proofs."""
+def tried(file, top, log):
+    """What each command wrote about the file and to standard error, by a build without proofs of the repository at `top`."""
     with tempfile.TemporaryDirectory(prefix="wire-up-") as room, open(log, "a", encoding="utf-8") as to:
         words = ["rt", "try", "--cases", cases_of(room, file)]
-        how = {"cwd": os.path.join(CRATES, "program"), "text": True, "errors": "replace", "capture_output": True}
+        how = {"cwd": os.path.join(top, PROGRAM), "text": True, "errors": "replace", "capture_output": True}
         ran = subprocess.run(words, stdin=subprocess.DEVNULL, **how)
         to.write(f"$ rt try\n{ran.stdout}{ran.stderr}")
     wrote = dict(re.findall(r"^== (\w+)\n((?:(?!== ).*\n)*)", ran.stdout, re.M))
@@ -51,13 +51,13 @@ def tried(file, log):
     return (wrote, ended, said) if set(COMMANDS) <= ended.keys() else None
 
 
-def try_it(file):
-    """Checks and replays a file by a build without proofs."""
+def try_it(file, top=progress.TOP):
+    """Checks and replays a file by a build without proofs of the repository at `top`."""
     log = progress.log_at("try.log")
     open(file, "rb").close()
     print("This answer isn't proved: its build has run-time checks in place of proofs.", flush=True)
     with progress.Progress("building without proofs", progress.minutes_of()["try"]):
-        outcome = tried(file, log)
+        outcome = tried(file, top, log)
     if not outcome:
         fail("rt try failed", log)
     wrote, ended, said = outcome
@@ -77,23 +77,37 @@ def expected(crates):
     return max(*chain.values(), sum(left.values()) / kit.rt.processors())
 
 
-def prove(log):
-    """Proves the crates below the program side by side and then the program, and builds it. Says what failed, if anything did."""
-    wanted = progress.crates_below("program")
-    crates = [it for it in kit.crates_at(progress.TOP) if it.name in wanted]
-    with progress.Progress("proving", expected(crates)) as line, open(log, "a", encoding="utf-8") as to:
-        ended = []
+class Proof(threading.Thread):
+    """The proof of the program and of all crates that it uses, as far as they changed, and the build of the program. It begins at once."""
 
-        def tell(name):
-            ended.append(name)
-            line.now(f"{len(ended)} of {len(crates)} crates proved, last {name}")
+    def __init__(self, log):
+        super().__init__(daemon=True)
+        wanted = progress.crates_below("program")
+        self.crates = [it for it in kit.crates_at(progress.TOP) if it.name in wanted]
+        self.line, self.log = progress.Progress("proving", expected(self.crates)), log
+        self.proved, self.failed = 0, "the proof was broken off"
+        self.start()
 
-        with kit.locked(crates):
-            failed = kit.build([it for it in crates if not it.is_program], to, tell)
-        if failed:
-            return f"not proved: {' '.join(failed)}"
-        status = progress.keep(["rt", "run", "--", "--version"], os.path.join(CRATES, "program"), log)
-    return f"the program was not proved: rt ended with status {status}" if status else None
+    def run(self):
+        with open(self.log, "a", encoding="utf-8") as to, kit.locked(self.crates):
+            failed = kit.build([it for it in self.crates if not it.is_program], to, self.tell)
+        self.failed = f"not proved: {' '.join(failed)}" if failed else self.program_failed()
+
+    def program_failed(self):
+        """Proves and builds the program. Says how that failed, if it did."""
+        status = progress.keep(["rt", "run", "--", "--version"], os.path.join(progress.TOP, PROGRAM), self.log)
+        return f"the program was not proved: rt ended with status {status}" if status else None
+
+    def tell(self, name):
+        """Says that a library is proved."""
+        self.proved += 1
+        self.line.now(f"{self.proved} of {len(self.crates)} crates proved, last {name}")
+
+    def end(self):
+        """Waits for the end. Says what failed, if anything did."""
+        with self.line:
+            self.join()
+        return self.failed
 
 
 def show():
@@ -106,11 +120,14 @@ def show():
 
 
 def run():
-    """The answer without proofs where there is no other yet, the proof, and the same answer."""
-    if not os.path.exists(PLACE):
-        try_it(EXAMPLE)
+    """The answer without proofs where there is no other yet, and meanwhile the proof; then the same answer."""
     log = progress.log_at("run.log")
-    failed = prove(log)
+    proof = Proof(log)
+    if not os.path.exists(PLACE):
+        with tempfile.TemporaryDirectory(prefix="wire-up-") as room:
+            kit.copy_to(room, progress.TOP)
+            try_it(EXAMPLE, room)
+    failed = proof.end()
     if failed:
         fail(f"{failed}. ./wire_up is as it was", log)
     made = os.path.join(progress.LOGS, "wire_up")
@@ -118,6 +135,15 @@ def run():
     os.replace(made, PLACE)
     print("Proved, and built as ./wire_up:", flush=True)
     show()
+
+
+def leave(status):
+    """Ends at once, and with it a proof that is under way: the guard of `rt` ends all that was started here."""
+    if isinstance(status, str):
+        print(status, file=sys.stderr)
+    sys.stdout.flush()
+    sys.stderr.flush()
+    os._exit(1 if isinstance(status, str) else status or 0)
 
 
 def main(words):
@@ -130,8 +156,10 @@ def main(words):
 
 if __name__ == "__main__":
     try:
-        sys.exit(main(sys.argv[1:]))
+        leave(main(sys.argv[1:]))
+    except SystemExit as why:
+        leave(why.code)
     except OSError as why:
-        sys.exit(f"{why.filename or 'rt'}: {why.strerror}")
+        leave(f"{why.filename or 'rt'}: {why.strerror}")
     except KeyboardInterrupt:
-        sys.exit("\nstopped")
+        leave("\nstopped")

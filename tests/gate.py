@@ -32,8 +32,6 @@ import soak
 BUILT = os.path.join(progress.TOP, "crates", "program", "out", "program")
 # What users and tests run, of what `rt ci` builds in the copy.
 KEPT = (BUILT, bench.PARTS)
-# What is made in any folder, and isn't copied.
-MADE = shutil.ignore_patterns("out", "*.so", "__pycache__")
 BUDGET = 110
 # The lines of `rt ci` that tell how far it is.
 JUDGED = re.compile(r"rt: (\w+)(: its tests are)? (proved|NOT PROVED)\b")
@@ -72,16 +70,6 @@ def reasons(log):
             elif not progress.is_routine(line):
                 block.append(line)
     return "".join(told + block[-progress.TAIL :])
-
-
-def copy_to(room):
-    """Copies the repository, without what was made in it and without its history."""
-    for name in os.listdir(progress.TOP):
-        path = os.path.join(progress.TOP, name)
-        if os.path.isfile(path) and name != "wire_up":
-            shutil.copy(path, room)
-        elif os.path.isdir(path) and name not in (".git", "out"):
-            shutil.copytree(path, os.path.join(room, name), ignore=MADE)
 
 
 def not_formatted(room):
@@ -189,7 +177,7 @@ def tell_costs(watch, seconds):
 
 def main():
     with tempfile.TemporaryDirectory(prefix="wire-up-gate-") as room, costs.Costs() as watch:
-        copy_to(room)
+        kit.copy_to(room, progress.TOP)
         files = edits.asked_for([], kit.crates_at(room))
         wrong = not_formatted(room) + not_applied(files)
         if wrong:

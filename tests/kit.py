@@ -33,22 +33,18 @@ def crates_at(top):
     return sorted(rt.rtlib.crates_below(top), key=lambda it: len(it.below()))
 
 
-# How many processes share the proof of a crate on the longest chain.
-ON_THE_CHAIN = 3
+# What is made in any folder, and isn't copied.
+MADE = shutil.ignore_patterns("out", "*.so", "__pycache__")
 
 
-def longest_chain(crates):
-    """The names of the crates on the longest chain, by the lines of their code: no proof of all can take less time than theirs."""
-    chains = {}
-    for crate in crates:
-        below = [chains[it] for it in crate.deps if it in chains]
-        chains[crate] = max(below, key=lines_of, default=[]) + [crate]
-    return {it.name for it in max(chains.values(), key=lines_of, default=[])}
-
-
-def lines_of(crates):
-    """How many lines of code crates have."""
-    return sum(it.count(rb"\n") for it in crates)
+def copy_to(room, top):
+    """Copies a repository, without what was made in it and without its history."""
+    for name in os.listdir(top):
+        path = os.path.join(top, name)
+        if os.path.isfile(path) and name != "wire_up":
+            shutil.copy(path, room)
+        elif os.path.isdir(path) and name not in (".git", "out"):
+            shutil.copytree(path, os.path.join(room, name), ignore=MADE)
 
 
 @contextlib.contextmanager
@@ -66,12 +62,10 @@ def build(crates, log=sys.stdout, tell=lambda name: None):
     """Proves and builds libraries side by side, each once those below it are built, over what earlier checks kept. A library whose text
     and libraries are as they were isn't checked again. What a check prints goes to the log, that of those that failed last, and `tell`
     is called after each that is proved. Answers the names of those that failed."""
-    chain, failed, tasks = longest_chain(crates), {}, {}
+    failed, tasks = {}, {}
     for it in crates:
-        least = min(ON_THE_CHAIN, rt.processors()) if it.name in chain else 1
-        # Each process more takes some of the memory once more.
-        needs = rt.need(it) * (1 + 0.6 * (least - 1))
-        tasks[it.name, "proof"] = (waits_of(it), lines_of([it]), needs, proof_of(it, least, log, tell, failed))
+        lines = it.count(rb"\n")
+        tasks[it.name, "proof"] = (waits_of(it), lines, rt.need(it), proof_of(it, log, tell, failed))
     rt.in_lanes(tasks)
     for name, said in failed.items():
         log.write(f"$ rt lib, in crates/{name}\n{said}")
@@ -84,15 +78,16 @@ def waits_of(crate):
     return [(it.name, "proof") for it in crate.below()]
 
 
-def proof_of(crate, least, log, tell, failed):
-    """What proves and builds one library by at least so many processes. It gives whether that went well."""
+def proof_of(crate, log, tell, failed):
+    """What proves and builds one library. It gives whether that went well. One process does it, whatever processors are idle: two or more
+    that share a proof each load all that is below it, and took longer."""
 
-    def prove(given, jobs):
+    def prove(given, _):
         if not all(given[it] for it in waits_of(crate)):
             return False
         os.makedirs(os.path.join(crate.folder, "out"), exist_ok=True)
         with tempfile.TemporaryFile("w+", errors="replace") as crate.out:
-            status = crate.build_rlib(["--jobs", str(max(jobs, least))], anew=False)
+            status = crate.build_rlib(["--jobs", "1"], anew=False)
             crate.out.seek(0)
             said = crate.out.read()
         if status:

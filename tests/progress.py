@@ -50,16 +50,17 @@ def shown(path):
 
 
 class Progress:
-    """Tells how far something is. A terminal has one line, which is written anew each second; elsewhere each new state is a
-    line of its own, and each minute."""
+    """Tells how far something is, which begins when this is made. A terminal has one line, which is written anew each second; elsewhere
+    each new state is a line of its own, and each minute. Nothing is shown before the `with` that it is used in."""
 
     def __init__(self, what, expected):
         self.what, self.expected, self.state = what, expected, ""
         self.began, self.told = time.monotonic(), None
-        self.is_terminal, self.is_over = sys.stdout.isatty(), threading.Event()
+        self.is_terminal, self.is_shown, self.is_over = sys.stdout.isatty(), False, threading.Event()
         self.lock, self.ticker = threading.Lock(), threading.Thread(target=self.tick, daemon=True)
 
     def __enter__(self):
+        self.is_shown = True
         self.tell()
         self.ticker.start()
         return self
@@ -73,7 +74,8 @@ class Progress:
     def now(self, state):
         """Says how far it is now."""
         self.state = state
-        self.tell()
+        if self.is_shown:
+            self.tell()
 
     def note(self, text):
         """Prints a line that stays."""
