@@ -95,7 +95,7 @@ class Proof(threading.Thread):
 
     def program_failed(self):
         """Proves and builds the program. Says how that failed, if it did."""
-        status = progress.keep(["rt", "run", "--", "--version"], os.path.join(progress.TOP, PROGRAM), self.log)
+        status = progress.keep(["rt", "run", "--jobs", "1", "--", "--version"], os.path.join(progress.TOP, PROGRAM), self.log)
         return f"the program was not proved: rt ended with status {status}" if status else None
 
     def tell(self, name):
