@@ -20,7 +20,7 @@ import tempfile
 TOP = os.path.dirname(os.path.dirname(os.path.abspath(__file__)))
 SECONDS = 60
 # These show commands for certain. Of the others, those that they show are run.
-SHOWN_IN = ("README.md", "docs/races.md", "docs/plan-format.md", "docs/recording.md")
+SHOWN_IN = ("README.md", "docs/commands.md", "docs/races.md", "docs/plan-format.md", "docs/recording.md")
 
 
 def documents():
