@@ -6,3 +6,4 @@ pub mod Looks
 pub mod Waiting
 pub mod Ranks
 pub mod Following
+pub mod Core

@@ -46,20 +46,16 @@ pub struct Core<'a> {
 }
 
 impl<'a> Model for Core<'a> {
-    ghost use Rattle.std.specs.Prelude.{◌≤◌, map, vec_capacity};
-    ghost use Rattle.wire_rehearsal.specs.Planned.{plan_of};
-    ghost use Rattle.wire_runs.specs.Plan.{event_total};
+    ghost use Rattle.std.specs.Prelude.{map, vec_capacity};
     ghost use Rattle.wire_core.specs.Course.{Course};
-    ghost use Rattle.wire_runs.specs.Step.{run};
-    ghost use Rattle.wire_core.specs.Ranks.{IsCourse, IsShared};
-    ghost use Rattle.wire_core.specs.Waiting.{AreNoted};
-    ghost use Rattle.wire_core.specs.Looks.{AreLooks};
+    ghost use Rattle.wire_core.specs.Core.{IsCore};
 
     ghost Value = { Course };
 
     ghost view = { λ c. record { scripts = c.plan.now; history = map (λ p. p.number) c.history.items } };
 
-    ghost invariant = { λ c. IsCourse c.plan.now (map (λ p. p.number) c.history.items) c.ranks.items × (event_total (plan_of c.plan.now) ≤ vec_capacity c.history) × IsShared c.plan.now (run (plan_of c.plan.now) (map (λ p. p.number) c.history.items)) c.fences.now c.arrivals c.names × AreNoted c.plan.now c.fences.now (run (plan_of c.plan.now) (map (λ p. p.number) c.history.items)) c.waits × AreLooks (plan_of c.plan.now) c.looks };
+    ghost invariant = { λ c. IsCore c.plan.now c.fences.now (map (λ p. p.number) c.history.items) (vec_capacity c.history) c.ranks.items
+        c.arrivals c.names c.waits c.looks };
 }
 
 /// The ranks of processes that haven't begun.

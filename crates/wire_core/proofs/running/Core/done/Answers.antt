@@ -9,11 +9,11 @@ pub returns-in-Some : goal.returns-in-Some
 returns-in-Some c =
     let ranks = c.self.inside.ranks.items in
     let lookup = rw (c.deref.ensures.value, c.index.ensures) at c.in-Some.ensures.lookup in
-    rw (← c.self.view_is) (c.self.invariant.0.told.each c.args.proc.number c.in-Some.rank.now (slice_get_read ranks (length ranks) c.args.proc.number c.in-Some.rank.now refl lookup.3.0 lookup.1)).done
+    rw (← c.self.view_is) (c.self.invariant.course.told.each c.args.proc.number c.in-Some.rank.now (slice_get_read ranks (length ranks) c.args.proc.number c.in-Some.rank.now refl lookup.3.0 lookup.1)).done
 
 pub returns-in-None : goal.returns-in-None
 returns-in-None c =
     let lookup = rw (c.deref.ensures.value, c.index.ensures) at c.in-None.ensures.lookup in
-    let count = c.self.invariant.0.told.count in
+    let count = c.self.invariant.course.told.count in
     let past : process_count (plan_of c.self.inside.plan.now) ≤ c.args.proc.number = omega (arith, lookup.3, count) in
-    rw (← c.self.view_is) (sym (done_past (plan_of c.self.inside.plan.now) (map (λ p. p.number) c.self.inside.history.items) c.args.proc.number c.self.invariant.0.legal past))
+    rw (← c.self.view_is) (sym (done_past (plan_of c.self.inside.plan.now) (map (λ p. p.number) c.self.inside.history.items) c.args.proc.number c.self.invariant.course.legal past))

@@ -19,4 +19,4 @@ returns-in-Some-Leave c =
     let place = rw (← c.self.view_is) at c.next_event.ensures in
     let is : next_kind plan s c.args.proc.number ≡ Some (kind_of c.self.inside.plan.now.sets (code.Leave c.in-Some-Leave.field-0-0)) =
     subst (λ course. next_kind (plan_of course.scripts) (state_of course) c.args.proc.number ≡ Some (kind_of course.scripts.sets (code.Leave c.in-Some-Leave.field-0-0))) (sym c.self.view_is) (sym c.in-Some-Leave.ensures.kind ∙ ap (λ k. Some (kind_of c.args.self.now.scripts.sets k)) c.in-Some-Leave.field-0-is) in
-    rw (← c.self.view_is) (c.is_complete.ensures s.done c.self.invariant.2.arrived ∙ ap (complete_at plan s.done) place ∙ leave_enabled plan s c.args.proc.number _ is)
+    rw (← c.self.view_is) (c.is_complete.ensures s.done c.self.invariant.shared.arrived ∙ ap (complete_at plan s.done) place ∙ leave_enabled plan s c.args.proc.number _ is)

@@ -11,16 +11,16 @@ invariant_of-result c =
     let scripts = c.args.plan.now in
     let table = c.fences-fences.result.now in
     let none = c.in_ok-history.ensures.items in
-    let count : c.len.result ≡ length scripts.names = c.len.ensures ∙ ap length (c.names.ensures ∙ ap (λ s. s.names) c.scripts.ensures.scripts) in (
-      search rules,
-      subst (λ n. n ≤ vec_capacity c.in_ok-history.history) c.event_total.ensures.total c.in_ok-history.ensures.capacity,
-      rw none
+    let count : c.len.result ≡ length scripts.names = c.len.ensures ∙ ap length (c.names.ensures ∙ ap (λ s. s.names) c.scripts.ensures.scripts) in record {
+      course = search rules;
+      room = subst (λ n. n ≤ vec_capacity c.in_ok-history.history) c.event_total.ensures.total c.in_ok-history.ensures.capacity;
+      shared = rw none
           record {
             sound = c.fences-fences.ensures.sound;
             fences = c.fences-fences.ensures;
             arrived = c.in_ok-arrivals.ensures.nobody scripts c.fences-fences.ensures;
             named = new_names scripts c.in_ok-names.names (c.in_ok-names.ensures.ok ∙ ap (λ n. replicate n None) count);
-          },
-      rw none (subst (AreNoted scripts table start) (sym c.in_ok-waits.ensures.ok) (noted_first scripts table start c.process_count.result c.process_count.ensures)),
-      c.in_ok-looks.ensures.ok _,
-    )
+          };
+      noted = rw none (subst (AreNoted scripts table start) (sym c.in_ok-waits.ensures.ok) (noted_first scripts table start c.process_count.result c.process_count.ensures));
+      looked = c.in_ok-looks.ensures.ok _;
+    }

@@ -28,10 +28,10 @@ pub loop-number-init : goal.loop-number-init
 loop-number-init c =
     let scripts = c.self.inside.plan.now in
     let s = run (plan_of scripts) (map (λ p. p.number) c.self.inside.history.items) in
-    let le = first_within scripts c.self.inside.fences.now s c.self.inside.waits c.lowest-number.result c.self.invariant.3 c.lowest-number.ensures in
+    let le = first_within scripts c.self.inside.fences.now s c.self.inside.waits c.lowest-number.result c.self.invariant.noted c.lowest-number.ensures in
     let count = c.process_count-number-end.ensures in
     record {
       same = refl;
       within = omega (arith, le, count);
-      none = rw (← c.self.view_is) (none_before scripts c.self.inside.fences.now s c.self.inside.waits c.lowest-number.result c.self.invariant.3 c.lowest-number.ensures);
+      none = rw (← c.self.view_is) (none_before scripts c.self.inside.fences.now s c.self.inside.waits c.lowest-number.result c.self.invariant.noted c.lowest-number.ensures);
     }

@@ -24,10 +24,10 @@ invariant_of-self c =
       | in-None w ↦
           let none : None ≡ next_kind plan s p = rw (← c.self.view_is) at w.in-None.ensures.kind in
           subst (λ a. Awaits scripts table (next_event s p) a) (sym w.awaited-is) (λ state other. ap (may_do plan state (next_event s p)) (sym none) ∙ ap (may_do plan other (next_event s p)) none)
-    ] in (
-      c.self.invariant.0,
-      c.self.invariant.1,
-      c.self.invariant.2,
-      rw c.note.ensures (noted_more scripts table s c.self.inside.waits p c.match-next_kind.awaited c.self.invariant.3 within off awaits),
-      c.self.invariant.4,
-    )
+    ] in record {
+      course = c.self.invariant.course;
+      room = c.self.invariant.room;
+      shared = c.self.invariant.shared;
+      noted = rw c.note.ensures (noted_more scripts table s c.self.inside.waits p c.match-next_kind.awaited c.self.invariant.noted within off awaits);
+      looked = c.self.invariant.looked;
+    }

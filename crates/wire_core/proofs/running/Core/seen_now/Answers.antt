@@ -9,10 +9,10 @@ pub returns-then-index-len : goal.returns-then-index-len
 returns-then-index-len c =
     let plan = plan_of c.self.inside.plan.now in
     let w = map (λ p. p.number) c.self.inside.history.items in
-    let count = c.self.invariant.0.told.count in
+    let count = c.self.invariant.course.told.count in
     let index = c.index.ensures in
     let len = c.len.ensures in
     let items = c.self.inside.ranks.ok.0 in
     let over = c.if-index-len.true in
     let past : process_count plan ≤ c.args.owner.number = omega (arith, count, index, len, items, over) in
-    rw (← c.self.view_is) (now_past plan w c.args.reader.number ((run plan w).done c.args.reader.number) c.args.owner.number c.args.key c.self.invariant.0.legal past (sym c.if-eq.ensures))
+    rw (← c.self.view_is) (now_past plan w c.args.reader.number ((run plan w).done c.args.reader.number) c.args.owner.number c.args.key c.self.invariant.course.legal past (sym c.if-eq.ensures))

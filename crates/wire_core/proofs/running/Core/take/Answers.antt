@@ -38,7 +38,7 @@ index_mut-rank-requires c =
     let s = run plan (map (λ p. p.number) c.self.inside.history.items) in
     let is = sym (rw (← c.self.view_is) at c.in-Some.ensures.kind) in
     let within = process_within plan c.args.proc.number (s.done c.args.proc.number) (kind_of c.self.inside.plan.now.sets c.in-Some.kind) is in
-    let count = c.self.invariant.0.told.count in
+    let count = c.self.invariant.course.told.count in
     let len = c.self.inside.ranks.ok.0 in
     let index = c.index.ensures in
     omega (arith, within, count, len, index)
@@ -51,10 +51,10 @@ advance-requires-clause-number c =
     let ranks = c.self.inside.ranks.items in
     let old = c.index_mut-rank.result.now in
     let within = process_within plan c.args.proc.number (s.done c.args.proc.number) (kind_of c.self.inside.plan.now.sets c.in-Some.kind) is in
-    let count = c.self.invariant.0.told.count in
+    let count = c.self.invariant.course.told.count in
     let there : c.args.proc.number < length ranks = omega (arith, within, count) in
     let read = rw c.index.ensures at c.index_mut-rank.ensures.value in
-    let told = c.self.invariant.0.told.each c.args.proc.number old (slice_get_read ranks (length ranks) c.args.proc.number old refl there read) in
+    let told = c.self.invariant.course.told.each c.args.proc.number old (slice_get_read ranks (length ranks) c.args.proc.number old refl there read) in
     let fits = rw (← c.self.view_is) at c.in-Some.ensures.fits in
     rw told.done fits
 
@@ -66,10 +66,10 @@ advance-requires-clause-room c =
     let ranks = c.self.inside.ranks.items in
     let old = c.index_mut-rank.result.now in
     let within = process_within plan c.args.proc.number (s.done c.args.proc.number) (kind_of c.self.inside.plan.now.sets c.in-Some.kind) is in
-    let count = c.self.invariant.0.told.count in
+    let count = c.self.invariant.course.told.count in
     let there : c.args.proc.number < length ranks = omega (arith, within, count) in
     let read = rw c.index.ensures at c.index_mut-rank.ensures.value in
-    let told = c.self.invariant.0.told.each c.args.proc.number old (slice_get_read ranks (length ranks) c.args.proc.number old refl there read) in
+    let told = c.self.invariant.course.told.each c.args.proc.number old (slice_get_read ranks (length ranks) c.args.proc.number old refl there read) in
     λ sets put. step_room plan s c.args.proc.number old (kind_of c.self.inside.plan.now.sets c.in-Some.kind) told is (put_anyway c.self.inside.plan.now.sets sets c.in-Some.kind ∙ put)
 
 pub advance-requires-clause-space : goal.advance-requires-clause-space
@@ -80,10 +80,10 @@ advance-requires-clause-space c =
     let ranks = c.self.inside.ranks.items in
     let old = c.index_mut-rank.result.now in
     let within = process_within plan c.args.proc.number (s.done c.args.proc.number) (kind_of c.self.inside.plan.now.sets c.in-Some.kind) is in
-    let count = c.self.invariant.0.told.count in
+    let count = c.self.invariant.course.told.count in
     let there : c.args.proc.number < length ranks = omega (arith, within, count) in
     let read = rw c.index.ensures at c.index_mut-rank.ensures.value in
-    let told = c.self.invariant.0.told.each c.args.proc.number old (slice_get_read ranks (length ranks) c.args.proc.number old refl there read) in
+    let told = c.self.invariant.course.told.each c.args.proc.number old (slice_get_read ranks (length ranks) c.args.proc.number old refl there read) in
     let space = step_space plan s c.args.proc.number old (kind_of c.self.inside.plan.now.sets c.in-Some.kind) told is in
     let len = old.replies.ok.0 in
     omega (arith, space, len)
@@ -93,10 +93,10 @@ push_reserved-requires c =
     let plan = plan_of c.self.inside.plan.now in
     let w = map (λ p. p.number) c.self.inside.history.items in
     let on = rw (← c.self.view_is) at c.requires in
-    let room = step_history plan w c.args.proc.number c.self.invariant.0.legal on in
+    let room = step_history plan w c.args.proc.number c.self.invariant.course.legal on in
     let steps : length w ≡ length c.self.inside.history.items = length-map c.self.inside.history.items (λ p. p.number) in
     let len = c.self.inside.history.ok.0 in
-    let space = c.self.invariant.1 in
+    let space = c.self.invariant.room in
     omega (arith, room, steps, len, space)
 
 pub invariant_of-self : goal.invariant_of-self
@@ -107,10 +107,10 @@ invariant_of-self c =
     let ranks = c.self.inside.ranks.items in
     let old = c.index_mut-rank.result.now in
     let within = process_within plan c.args.proc.number (s.done c.args.proc.number) (kind_of c.self.inside.plan.now.sets c.in-Some.kind) is in
-    let count = c.self.invariant.0.told.count in
+    let count = c.self.invariant.course.told.count in
     let there : c.args.proc.number < length ranks = omega (arith, within, count) in
     let read = rw c.index.ensures at c.index_mut-rank.ensures.value in
-    let told = c.self.invariant.0.told.each c.args.proc.number old (slice_get_read ranks (length ranks) c.args.proc.number old refl there read) in
+    let told = c.self.invariant.course.told.each c.args.proc.number old (slice_get_read ranks (length ranks) c.args.proc.number old refl there read) in
     let w = map (λ p. p.number) c.self.inside.history.items in
     let on = rw (← c.self.view_is) at c.requires in
     let place = rw (← c.self.view_is) at c.next_event-event.ensures in
@@ -126,22 +126,22 @@ invariant_of-self c =
       space = c.advance.ensures.space;
     } in
     let now = rank_step plan s c.args.proc.number old c.advance.new.self (kind_of c.self.inside.plan.now.sets c.in-Some.kind) c.reply-reply.result told is answered after in
-    let course = course_step c.self.inside.plan.now w ranks c.args.proc.number c.advance.new.self c.self.invariant.0 on now in
+    let course = course_step c.self.inside.plan.now w ranks c.args.proc.number c.advance.new.self c.self.invariant.course on now in
     let pushed : map (λ p. p.number) c.push_reserved.new.self.items ≡ w ++ c.args.proc.number ∷ [] =
     ap (map (λ p. p.number)) c.push_reserved.ensures.items ∙ map-append (λ p. p.number) c.self.inside.history.items (c.args.proc ∷ []) in
     let sets = c.self.inside.plan.now.sets in
     let arriving = subst (λ x. ArrivesAt c.self.inside.plan.now c.self.inside.fences.now x (option_map (λ f. f.number) c.arrived_at-fence.result)) place c.arrived_at-fence.ensures in
-    let shared = shared_step c.self.inside.plan.now s c.self.inside.fences.now c.self.inside.arrivals c.self.inside.names c.args.proc.number (option_map (λ f. f.number) c.arrived_at-fence.result) (kind_of sets c.in-Some.kind) c.self.invariant.2 is arriving in
+    let shared = shared_step c.self.inside.plan.now s c.self.inside.fences.now c.self.inside.arrivals c.self.inside.names c.args.proc.number (option_map (λ f. f.number) c.arrived_at-fence.result) (kind_of sets c.in-Some.kind) c.self.invariant.shared is arriving in
     let noted : c.note_name.new.names ≡ names_after (calls_at plan c.args.proc.number (s.done c.args.proc.number)) (Some (kind_of sets c.in-Some.kind)) c.self.inside.names =
     c.note_name.ensures sets ∙ ap (λ a. names_after a (Some (kind_of sets c.in-Some.kind)) c.self.inside.names) call in
     let comes = c.what_comes.ensures sets ∙ ap (λ missing. coming c.args.proc c.arrived_at-fence.result missing (kind_of sets c.in-Some.kind)) c.note_arrival.ensures in
-    let waits = noted_step c.self.inside.plan.now c.self.inside.fences.now s c.self.inside.arrivals c.args.proc c.arrived_at-fence.result (kind_of sets c.in-Some.kind) c.self.inside.waits is arriving c.self.invariant.2.arrived shared.arrived within c.self.invariant.3 in (
-      rw (pushed, c.index.ensures) course,
-      rw c.push_reserved.ensures.capacity c.self.invariant.1,
-      rw (pushed, c.note_arrival.ensures, noted) (subst (λ st. IsShared c.self.inside.plan.now st c.self.inside.fences.now (after_arrival (option_map (λ f. f.number) c.arrived_at-fence.result) c.self.inside.arrivals) (names_after (calls_at plan c.args.proc.number (s.done c.args.proc.number)) (Some (kind_of sets c.in-Some.kind)) c.self.inside.names)) (sym (run_push plan start w c.args.proc.number)) shared),
-      rw (pushed, c.note.ensures, c.wake.ensures, comes) (subst (λ st. AreNoted c.self.inside.plan.now c.self.inside.fences.now st (slice_set (map (known_after (coming c.args.proc c.arrived_at-fence.result (after_arrival (option_map (λ f. f.number) c.arrived_at-fence.result) c.self.inside.arrivals) (kind_of sets c.in-Some.kind))) c.self.inside.waits) c.args.proc.number Unknown)) (sym (run_push plan start w c.args.proc.number)) waits),
-      c.self.invariant.4,
-    )
+    let waits = noted_step c.self.inside.plan.now c.self.inside.fences.now s c.self.inside.arrivals c.args.proc c.arrived_at-fence.result (kind_of sets c.in-Some.kind) c.self.inside.waits is arriving c.self.invariant.shared.arrived shared.arrived within c.self.invariant.noted in record {
+      course = rw (pushed, c.index.ensures) course;
+      room = rw c.push_reserved.ensures.capacity c.self.invariant.room;
+      shared = rw (pushed, c.note_arrival.ensures, noted) (subst (λ st. IsShared c.self.inside.plan.now st c.self.inside.fences.now (after_arrival (option_map (λ f. f.number) c.arrived_at-fence.result) c.self.inside.arrivals) (names_after (calls_at plan c.args.proc.number (s.done c.args.proc.number)) (Some (kind_of sets c.in-Some.kind)) c.self.inside.names)) (sym (run_push plan start w c.args.proc.number)) shared);
+      noted = rw (pushed, c.note.ensures, c.wake.ensures, comes) (subst (λ st. AreNoted c.self.inside.plan.now c.self.inside.fences.now st (slice_set (map (known_after (coming c.args.proc c.arrived_at-fence.result (after_arrival (option_map (λ f. f.number) c.arrived_at-fence.result) c.self.inside.arrivals) (kind_of sets c.in-Some.kind))) c.self.inside.waits) c.args.proc.number Unknown)) (sym (run_push plan start w c.args.proc.number)) waits);
+      looked = c.self.invariant.looked;
+    }
 
 pub note-requires : goal.note-requires
 note-requires c =
@@ -149,7 +149,7 @@ note-requires c =
     let s = run plan (map (λ p. p.number) c.self.inside.history.items) in
     let is = sym (rw (← c.self.view_is) at c.in-Some.ensures.kind) in
     let within = process_within plan c.args.proc.number (s.done c.args.proc.number) (kind_of c.self.inside.plan.now.sets c.in-Some.kind) is in
-    let count = c.self.invariant.3.count in
+    let count = c.self.invariant.noted.count in
     let woken : length c.wake.new.self ≡ length c.self.inside.waits = ap length c.wake.ensures ∙ length-map c.self.inside.waits (known_after c.what_comes.result) in
     omega (arith, within, count, woken)
 
@@ -159,13 +159,13 @@ note_arrival-requires c =
     let s = run plan (map (λ p. p.number) c.self.inside.history.items) in
     let place = rw (← c.self.view_is) at c.next_event-event.ensures in
     let arriving = subst (λ x. ArrivesAt c.self.inside.plan.now c.self.inside.fences.now x (option_map (λ f. f.number) c.arrived_at-fence.result)) place c.arrived_at-fence.ensures in
-    missing_if c.self.inside.plan.now s c.self.inside.fences.now c.self.inside.arrivals c.args.proc.number c.arrived_at-fence.result arriving c.self.invariant.2.arrived
+    missing_if c.self.inside.plan.now s c.self.inside.fences.now c.self.inside.arrivals c.args.proc.number c.arrived_at-fence.result arriving c.self.invariant.shared.arrived
 
 pub note_name-requires : goal.note_name-requires
 note_name-requires c sets =
     let plan = plan_of c.self.inside.plan.now in
     let s = run plan (map (λ p. p.number) c.self.inside.history.items) in
     let is = sym (rw (← c.self.view_is) at c.in-Some.ensures.kind) in
-    let shared = c.self.invariant.2 in
+    let shared = c.self.invariant.shared in
     name_anyway c.self.inside.plan.now.sets sets c.in-Some.kind c.self.inside.names
     (has_name c.self.inside.plan.now c.args.proc.number (s.done c.args.proc.number) (kind_of c.self.inside.plan.now.sets c.in-Some.kind) c.self.inside.names shared.sound shared.named.count is)
