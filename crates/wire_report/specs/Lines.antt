@@ -34,10 +34,10 @@ race_start scripts lower = codes "race " ++ call_text scripts lower
 abbrev pub AreWordsOf : Scripts → Option CallAt → List ℕ → Type 0
 AreWordsOf scripts call words = IfSome call (λ lower. words ≡ race_start scripts lower)
 
--- the rest of the line of a race on a key
+-- the words of a race on a key that follow its lower call
 abbrev pub key_race_rest : Scripts → CallAt → ℕ → ℕ → List ℕ
-key_race_rest scripts higher owner key = codes " " ++ call_text scripts higher ++ codes " key " ++ name_of scripts owner ++ codes " " ++ text_at scripts.keys key ++ codes "\n"
+key_race_rest scripts higher owner key = codes " " ++ call_text scripts higher ++ codes " key " ++ name_of scripts owner ++ codes " " ++ text_at scripts.keys key
 
--- the rest of the line of a race on a name
+-- the words of a race on a name that follow its lower call
 abbrev pub name_race_rest : Scripts → CallAt → ℕ → List ℕ
-name_race_rest scripts higher name = codes " " ++ call_text scripts higher ++ codes " name " ++ text_at scripts.names name ++ codes "\n"
+name_race_rest scripts higher name = codes " " ++ call_text scripts higher ++ codes " name " ++ text_at scripts.names name

@@ -5,7 +5,7 @@ ghost use Rattle.std.specs.List.{flat_map};
 ghost use Rattle.wire_types.specs.declared.Fault.TheVariants.{Memory};
 ghost use Rattle.wire_rehearsal.specs.Scripts.{call_at};
 ghost use Rattle.wire_report.specs.Findings as spec;
-ghost use Rattle.wire_report.specs.Lines.{AreNumbered, IsNumbered, AreWordsOf, key_race_rest, name_race_rest};
+ghost use Rattle.wire_report.specs.Lines.{AreNumbered, IsNumbered, AreWordsOf, race_start, key_race_rest, name_race_rest};
 
 use crate::lower_call::LowerCall;
 use std::alloc::{AllocError, Global};
@@ -108,11 +108,32 @@ pub(crate) fn push_line_after(
     ensures told { AreWordsOf scripts.now told.new.call told.new.words.items }
     ensures capacity { vec_capacity out.old ≤ vec_capacity out.new }
     ensures words { vec_capacity told.old.words ≤ vec_capacity told.new.words }
-    ensures full { OnErr result ((vec_capacity out.old < length out.old.items + length (spec.finding_line scripts.now finding)) ⊎ (vec_capacity told.old.words < length (spec.finding_line scripts.now finding))) }
+    ensures full { OnErr result ((vec_capacity out.old < length out.old.items + length (spec.finding_line scripts.now finding))
+        ⊎ (vec_capacity told.old.words < length (spec.finding_line scripts.now finding))) }
+    ensures numbered { IsNumbered finding }
+{
+    push_finding_after(out, told, scripts, finding)?;
+    out.extend_from_slice(b"\n")
+}
+
+/// The words of such a line.
+fn push_finding_after(
+    out: &mut Vec<u8>,
+    told: &mut LowerCall,
+    scripts: &Scripts,
+    finding: Finding,
+) -> Result<(), AllocError>
+    requires { AreWordsOf scripts.now told.old.call told.old.words.items }
+    ensures ok { OnOk result (out.new.items ≡ out.old.items ++ spec.finding_words scripts.now finding) }
+    ensures told { AreWordsOf scripts.now told.new.call told.new.words.items }
+    ensures capacity { vec_capacity out.old ≤ vec_capacity out.new }
+    ensures words { vec_capacity told.old.words ≤ vec_capacity told.new.words }
+    ensures full { OnErr result ((vec_capacity out.old < length out.old.items + length (spec.finding_words scripts.now finding))
+        ⊎ (vec_capacity told.old.words < length (spec.finding_words scripts.now finding))) }
     ensures numbered { IsNumbered finding }
 {
     match finding {
-        Finding::Rewrite(_, _) => push_line(out, scripts, finding),
+        Finding::Rewrite(first, later) => push_rewrite(out, scripts, first, later),
         Finding::KeyRace(lower, higher, owner, key) => {
             told.push(out, scripts, lower)?;
             push_key_race(out, scripts, higher, owner, key)
@@ -124,7 +145,7 @@ pub(crate) fn push_line_after(
     }
 }
 
-/// Appends what follows the lower call in the line of a race on a key. Fails only where there is no room for it.
+/// Appends the words of a race on a key that follow its lower call. Fails only where there is no room for them.
 fn push_key_race(
     out: &mut Vec<u8>,
     scripts: &Scripts,
@@ -141,11 +162,10 @@ fn push_key_race(
     out.extend_from_slice(b" key ")?;
     push_proc(out, scripts, owner)?;
     out.extend_from_slice(b" ")?;
-    out.extend_from_slice(scripts.keys().text(key))?;
-    out.extend_from_slice(b"\n")
+    out.extend_from_slice(scripts.keys().text(key))
 }
 
-/// Appends what follows the lower call in the line of a race on a name. Fails only where there is no room for it.
+/// Appends the words of a race on a name that follow its lower call. Fails only where there is no room for them.
 fn push_name_race(
     out: &mut Vec<u8>,
     scripts: &Scripts,
@@ -159,8 +179,7 @@ fn push_name_race(
     out.extend_from_slice(b" ")?;
     push_call(out, scripts, higher)?;
     out.extend_from_slice(b" name ")?;
-    out.extend_from_slice(scripts.names().text(name))?;
-    out.extend_from_slice(b"\n")
+    out.extend_from_slice(scripts.names().text(name))
 }
 
 /// Appends the words of a finding. Fails only where there is no room for them.
@@ -173,16 +192,12 @@ fn push_finding(out: &mut Vec<u8>, scripts: &Scripts, finding: Finding) -> Resul
     match finding {
         Finding::Rewrite(first, later) => push_rewrite(out, scripts, first, later),
         Finding::KeyRace(lower, higher, owner, key) => {
-            push_race(out, scripts, lower, higher)?;
-            out.extend_from_slice(b" key ")?;
-            push_proc(out, scripts, owner)?;
-            out.extend_from_slice(b" ")?;
-            out.extend_from_slice(scripts.keys().text(key))
+            push_race_start(out, scripts, lower)?;
+            push_key_race(out, scripts, higher, owner, key)
         }
         Finding::NameRace(lower, higher, name) => {
-            push_race(out, scripts, lower, higher)?;
-            out.extend_from_slice(b" name ")?;
-            out.extend_from_slice(scripts.names().text(name))
+            push_race_start(out, scripts, lower)?;
+            push_name_race(out, scripts, higher, name)
         }
     }
 }
@@ -207,22 +222,18 @@ fn push_rewrite(
     out.extend_from_slice(put_key(scripts, later))
 }
 
-/// Appends the calls of a race, the lower place first. Fails only where there is no room for their words.
-fn push_race(
+/// Appends the words of a race up to its lower call. Fails only where there is no room for them.
+pub(crate) fn push_race_start(
     out: &mut Vec<u8>,
     scripts: &Scripts,
     lower: CallAt,
-    higher: CallAt,
 ) -> Result<(), AllocError>
-    ensures ok { OnOk result (out.new.items ≡ out.old.items ++ codes "race " ++ spec.pair_text scripts.now lower higher) }
+    ensures ok { OnOk result (out.new.items ≡ out.old.items ++ race_start scripts.now lower) }
     ensures capacity { vec_capacity out.old ≤ vec_capacity out.new }
-    ensures full { OnErr result (vec_capacity out.old < length (out.old.items ++ codes "race " ++ spec.pair_text scripts.now lower higher)) }
-    ensures numbered { AreNumbered lower higher }
+    ensures full { OnErr result (vec_capacity out.old < length out.old.items + length (race_start scripts.now lower)) }
 {
     out.extend_from_slice(b"race ")?;
-    push_call(out, scripts, lower)?;
-    out.extend_from_slice(b" ")?;
-    push_call(out, scripts, higher)
+    push_call(out, scripts, lower)
 }
 
 /// The key that the call at a place puts, empty where it puts none.

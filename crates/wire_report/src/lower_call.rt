@@ -3,10 +3,10 @@
 ghost use Rattle.std.specs.Prelude.{◌≡◌, ◌⊎◌, ◌+◌, ◌<◌, ◌≤◌, ◌++◌, None, length, vec_capacity, IfOk, OnOk, OnErr};
 ghost use Rattle.wire_report.specs.Lines.{race_start, AreWordsOf};
 
+use crate::findings::push_race_start;
 use std::alloc::{AllocError, Global};
 use wire_rehearsal::Scripts;
 use wire_types::CallAt;
-use wire_words::push_call;
 
 /// The words of a race up to its lower call: of the race that was told last, if there was one.
 #[derive(Drop)]
@@ -36,8 +36,7 @@ impl LowerCall {
     {
         self.call = None;
         self.words.clear();
-        self.words.extend_from_slice(b"race ")?;
-        push_call(&mut self.words, scripts, call)?;
+        push_race_start(&mut self.words, scripts, call)?;
         self.call = Some(call);
         Ok(())
     }
