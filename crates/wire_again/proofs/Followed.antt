@@ -12,8 +12,8 @@ use Rattle.wire_rehearsal.specs.Planned.{plan_of}
 use Rattle.wire_script.specs.Reads.{Reads}
 use Rattle.wire_script.proofs.Once.{reads_once}
 use Rattle.wire_order.specs.Order.{order_read}
-use Rattle.wire_up.specs.Replay.{ReadAs, Refuses}
-use Rattle.wire_up.specs.Follow.{OrdersAs, RefusesOrder, StopsInOrder, WritesFollowed, StopsBefore, report_after}
+use Rattle.wire_commands.specs.Replay.{ReadAs, Refuses}
+use Rattle.wire_commands.specs.Follow.{OrdersAs, RefusesOrder, StopsInOrder, WritesFollowed, StopsBefore, report_after}
 use Rattle.wire_again.specs.Again.{steps_text, ReadsAsOrder}
 use Rattle.wire_again.specs.Following.{OrderIsFollowed}
 use Rattle.wire_again.proofs.Steps.{order_reads_back}

@@ -8,7 +8,7 @@ use Rattle.wire_rehearsal.specs.Planned.{plan_of}
 use Rattle.wire_runs.specs.State.{start}
 use Rattle.wire_runs.specs.Step.{IsInterleaving}
 use Rattle.wire_script.specs.Reads.{Reads}
-use Rattle.wire_up.specs.Follow.{WritesFollowed, StopsBefore, report_after}
+use Rattle.wire_commands.specs.Follow.{WritesFollowed, StopsBefore, report_after}
 use Rattle.wire_again.specs.Again.{steps_text}
 
 -- the file and the lines of these steps, followed: what is written is the report of the run of these steps, and nothing that

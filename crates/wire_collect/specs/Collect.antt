@@ -5,7 +5,7 @@ use Rattle.wire_rehearsal.specs.Scripts.{Scripts}
 use Rattle.wire_rehearsal.specs.Planned.{plan_of}
 use Rattle.wire_runs.specs.State.{start}
 use Rattle.wire_runs.specs.Step.{IsInterleaving, IsEnd, run}
-use Rattle.wire_trails.specs.EndsAfter.{ends_after}
+use Rattle.wire_core.specs.EndsAfter.{ends_after}
 
 -- so many workers a run may have
 abbrev pub MayWork : ℕ → Type 0

@@ -5,16 +5,15 @@ ghost use Rattle.wire_types.specs.declared.Fault.TheVariants.{Memory, Workers};
 ghost use Rattle.wire_types.specs.Outcome.{ends_of};
 ghost use Rattle.wire_runs.specs.Step.{IsEnd};
 ghost use Rattle.wire_core.specs.Course.{plan_in, state_of};
-ghost use Rattle.wire_trails.specs.EndsAfter.{plain_ends};
+ghost use Rattle.wire_core.specs.EndsAfter.{plain_ends};
 ghost use Rattle.wire_collect.specs.Collect.{MayWork, IsCompleteRun};
 
 use crate::over_core::run_core;
 use crate::over_lanes::{Settings, board_outcome};
-use crate::plain::plain_outcome;
 use std::alloc::Global;
 use std::sync::Wait;
 use std::thread::Threads;
-use wire_core::Core;
+use wire_core::{Core, plain_outcome};
 use wire_plan::Plan;
 use wire_races::Settled;
 use wire_sched::Gate;

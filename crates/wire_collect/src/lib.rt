@@ -6,9 +6,7 @@ mod collect;
 mod crew;
 mod over_core;
 mod over_lanes;
-mod plain;
 mod rounds;
 mod threads;
 
 pub use collect::{MOST_WORKERS, run_any, run_workers};
-pub use plain::plain_outcome;

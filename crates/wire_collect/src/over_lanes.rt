@@ -6,7 +6,7 @@ ghost use Rattle.wire_rehearsal.specs.Planned.{plan_of};
 ghost use Rattle.wire_board.specs.Seats.{opening_seats};
 ghost use Rattle.wire_lanes.specs.Lanes.{AreTrails};
 ghost use Rattle.wire_sched.specs.Rounds.{ArePassesOf};
-ghost use Rattle.wire_trails.specs.EndsAfter.{plain_ends};
+ghost use Rattle.wire_core.specs.EndsAfter.{plain_ends};
 
 use crate::rounds::{Dealt, serve_round, wanted_after};
 use std::alloc::Global;

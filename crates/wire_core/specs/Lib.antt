@@ -7,3 +7,4 @@ pub mod Waiting
 pub mod Ranks
 pub mod Following
 pub mod Core
+pub mod EndsAfter

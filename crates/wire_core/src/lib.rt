@@ -6,6 +6,7 @@ mod looks;
 mod lowest;
 mod met;
 mod names;
+mod plain;
 mod plan;
 mod rank;
 mod replies;
@@ -14,4 +15,5 @@ mod sight;
 mod waits;
 
 pub use ends::add_unanswered;
+pub use plain::plain_outcome;
 pub use running::Core;

@@ -19,7 +19,7 @@ use Rattle.wire_races.specs.Fates.{answer_told, fate_told}
 use Rattle.wire_board.specs.Cuts.{IsReachedCut}
 use Rattle.wire_lanes.specs.Lanes.{AreFates, AreTrails}
 use Rattle.wire_lanes.proofs.Trails.{fates_none}
-use Rattle.wire_trails.specs.EndsAfter.{plain_ends}
+use Rattle.wire_core.specs.EndsAfter.{plain_ends}
 use Rattle.wire_trails.specs.Trails.{said_by, said_in, items_in, trail_of, told_row, told_rows, told_waiting, told_outcome, AreAtRest}
 use Rattle.wire_trails.proofs.AtRest.{end_if_none_shown, is_plain_end}
 

@@ -6,7 +6,7 @@ ghost use Rattle.wire_types.specs.Outcome.{ends_of};
 ghost use Rattle.wire_rehearsal.specs.Planned.{plan_of};
 ghost use Rattle.wire_board.specs.Cuts.{IsReachedCut};
 ghost use Rattle.wire_lanes.specs.Lanes.{AreTrails};
-ghost use Rattle.wire_trails.specs.EndsAfter.{plain_ends};
+ghost use Rattle.wire_core.specs.EndsAfter.{plain_ends};
 ghost use Rattle.wire_trails.specs.Trails.{AreAtRest};
 
 use crate::rest::all_at_rest;

@@ -11,15 +11,15 @@ use Rattle.wire_races.specs.declared.finding.Finding.{Finding}
 use Rattle.wire_races.specs.Findings.{AreFindings}
 use Rattle.wire_races.specs.declared.settled.Unsettled.{Unsettled}
 use Rattle.wire_marks.specs.Clocks.{Clocks}
-use Rattle.wire_trails.specs.EndsAfter.{plain_ends}
-use Rattle.wire_up.specs.declared.checking.Ended.{Ended}
-use Rattle.wire_up.specs.declared.checking.Ended.TheVariants.{Clean, Found}
+use Rattle.wire_core.specs.EndsAfter.{plain_ends}
+use Rattle.wire_commands.specs.declared.checking.Ended.{Ended}
+use Rattle.wire_commands.specs.declared.checking.Ended.TheVariants.{Clean, Found}
 use Rattle.wire_up.specs.declared.rehearsing.Mode.{Mode}
-use Rattle.wire_up.specs.Replay.{ReadAs}
-use Rattle.wire_up.specs.Check.{ended_with}
+use Rattle.wire_commands.specs.Replay.{ReadAs}
+use Rattle.wire_commands.specs.Check.{ended_with}
 use Rattle.wire_report.specs.Report.{report_form}
 use Rattle.wire_up.specs.Rehearse.{Tells, TellsFound, IsRehearsal, WritesOneEnd, BreaksOffRehearsal}
-use Rattle.wire_up.proofs.Checked.{judged_so, done, ended_of}
+use Rattle.wire_commands.proofs.Checked.{judged_so, done, ended_of}
 
 -- of a settled plan
 pub settled_told : (mode : Mode) (s shown : Scripts) (none : List Finding) (ends : Ends) (text : List ℕ) → none ≡ [] → ((none ≡ []) ↔ IsSettled (plan_of s)) → AreFindings (plan_of s) none → shown ≡ s → ends ≡ plain_ends s → text ≡ report_form mode.json shown ends → IsRehearsal mode s Clean text

@@ -1,5 +1,1 @@
-pub mod Replay
-pub mod Follow
-pub mod Why
-pub mod Check
 pub mod Rehearse

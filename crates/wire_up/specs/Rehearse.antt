@@ -10,15 +10,15 @@ use Rattle.wire_rehearsal.specs.Scripts.{Scripts}
 use Rattle.wire_rehearsal.specs.Planned.{plan_of}
 use Rattle.wire_runs.specs.Laws.{HasOneEnd}
 use Rattle.wire_races.specs.declared.finding.Finding.{Finding}
-use Rattle.wire_trails.specs.EndsAfter.{plain_ends}
+use Rattle.wire_core.specs.EndsAfter.{plain_ends}
 use Rattle.wire_collect.specs.Collect.{MayWork, IsCompleteRun}
 use Rattle.wire_report.specs.Report.{report_form}
 use Rattle.wire_report.specs.Findings.{findings_form}
 use Rattle.wire_report.specs.Unsettled.{unsettled_form}
 use Rattle.wire_up.specs.declared.rehearsing.Mode.{Mode}
-use Rattle.wire_up.specs.declared.checking.Ended.{Ended}
-use Rattle.wire_up.specs.Check.{IsJudged, StopsBeforeFindings}
-use Rattle.wire_up.specs.Replay.{ReadAs}
+use Rattle.wire_commands.specs.declared.checking.Ended.{Ended}
+use Rattle.wire_commands.specs.Check.{IsJudged, StopsBeforeFindings}
+use Rattle.wire_commands.specs.Replay.{ReadAs}
 
 -- the text tells an interleaving of the scripts that can't go on: its steps, and what became of every call after them
 pub record TellsRun (json : Bool) (scripts : Scripts) (text : List ℕ) : Type 0 where

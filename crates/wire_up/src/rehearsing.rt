@@ -7,15 +7,14 @@ ghost use Rattle.wire_rehearsal.specs.Planned.{plan_of};
 ghost use Rattle.wire_marks.specs.Clocks.{AreMarks};
 ghost use Rattle.wire_races.specs.Findings.{AreFindings};
 ghost use Rattle.wire_collect.specs.Collect.{MayWork};
-ghost use Rattle.wire_up.specs.declared.checking.Ended.TheVariants.{Clean};
+ghost use Rattle.wire_commands.specs.declared.checking.Ended.TheVariants.{Clean};
 ghost use Rattle.wire_up.specs.Rehearse.{TellsRun, TellsFound, IsRehearsal, WritesOneEnd, WritesRehearsal, BreaksOffRehearsal, StopsBeforeRehearsal};
 
-use crate::checking::Ended;
-use crate::replaying::read_scripts;
 use std::alloc::Global;
 use std::sync::Wait;
 use std::thread::Threads;
 use wire_collect::{MOST_WORKERS, run_any, run_workers};
+use wire_commands::{Ended, read_scripts};
 use wire_marks::Marks;
 use wire_plan::Plan;
 use wire_races::laws::settled_exactly;

@@ -1,5 +1,5 @@
 use Rattle.std.proofs.Common.{inr}
-use Rattle.wire_up.proofs.Replayed.{handed_on}
+use Rattle.wire_commands.proofs.Replayed.{handed_on}
 use Rattle.wire_up.proofs.Worked.{rehearsal_broken, clean_writes}
 use Rattle.wire_up.proofs.rehearsing.rehearse.Goals as goal
 

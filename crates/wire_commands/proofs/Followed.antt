@@ -1,0 +1,160 @@
+-- From what the parts of following an order answer to what it answers.
+use Rattle.std.proofs.Common.{[], ◌∷◌, ◌+◌, ◌==◌, Bool, true, false, length, count_by, if◌then◌else◌, Vec, Global, ◌≡◌, ◌≢◌, ◌∙◌, ap, subst, sym, refl, ℕ, suc, List, take, ◌⊎◌, inl, inr, Option, Some, None, Result, Ok, Err, IfSome, IfOk, IfErr, OnOk}
+use Rattle.std.specs.Prelude.{nat_lt}
+use Rattle.std.specs.Io.KnownBytes.{Appends}
+use Rattle.wire_types.specs.declared.Fault.{Fault}
+use Rattle.wire_types.specs.declared.Fault.TheVariants.{Memory, Read, NotReady, BadOrder}
+use Rattle.wire_types.specs.Front.{WritesFront}
+use Rattle.wire_types.specs.declared.Proc.{Proc}
+use Rattle.wire_rehearsal.specs.Scripts.{Scripts, numbers_of}
+use Rattle.wire_script.specs.Statements.{Statement, statements}
+use Rattle.wire_order.specs.Order.{order_read, order_within, order_of, step_of, with_step}
+use Rattle.wire_order.proofs.Limited.{order_limited}
+use Rattle.wire_runs.specs.Step.{is_enabled}
+use Rattle.wire_core.specs.Course.{Course, plan_in, state_of}
+use Rattle.wire_core.specs.Following.{StopsAt}
+use Rattle.wire_commands.specs.Replay.{ReadAs, Refuses}
+use Rattle.wire_commands.proofs.Texts.{LeadsTo}
+use Rattle.wire_commands.specs.Follow.{OrdersAs, RefusesSteps, StopsAfter, StopsBefore, OrderedAs, WritesFollowed, BreaksOffFollowed}
+
+-- what came of an order, all that was to come reads as
+pub orders_as : (coming : Option (List ℕ)) (bytes shown : List ℕ) (s : Scripts) (steps : List ℕ) → shown ≡ bytes → IfSome coming (λ all. bytes ≡ take 8388609 all) → order_read s shown ≡ Ok steps → OrdersAs coming s steps
+orders_as None bytes shown s steps same front reads = record { bytes = shown; came = tt; reads = reads }
+orders_as (Some all) bytes shown s steps same front reads =
+    record { bytes = all; came = refl; reads = sym (order_limited s all) ∙ ap (order_read s) (sym (same ∙ front)) ∙ reads }
+
+pub refuses_steps : (coming : Option (List ℕ)) (bytes shown : List ℕ) (s : Scripts) (e : Fault) → shown ≡ bytes → IfSome coming (λ all. bytes ≡ take 8388609 all) → order_read s shown ≡ Err e → RefusesSteps coming s e
+refuses_steps None bytes shown s e same front reads = record { bytes = shown; came = tt; reads = reads }
+refuses_steps (Some all) bytes shown s e same front reads =
+    record { bytes = all; came = refl; reads = sym (order_limited s all) ∙ ap (order_read s) (sym (same ∙ front)) ∙ reads }
+
+pub ok_too : {A : Type 0} (r : Result A Fault) (P Q : A → Type 0) → ((x : A) → P x → Q x) → IfOk r P → IfOk r Q
+ok_too (Ok x) P Q f p = f x p
+ok_too (Err e) P Q f p = tt
+
+pub err_too : {A : Type 0} (r : Result A Fault) (P Q : Fault → Type 0) → ((e : Fault) → P e → Q e) → IfErr r P → IfErr r Q
+err_too (Ok x) P Q f p = tt
+err_too (Err e) P Q f p = f e p
+
+-- a read of the order failed, or the order is refused
+pub order_fault : (coming : Option (List ℕ)) (s : Scripts) (e : Fault) (bytes shown : List ℕ) → shown ≡ bytes → IfSome coming (λ all. bytes ≡ take 8388609 all) → (e ≡ Memory) ⊎ (order_read s shown ≡ Err e) → (e ≡ Memory) ⊎ ((e ≡ Read) ⊎ RefusesSteps coming s e)
+order_fault coming s e bytes shown same front (inl memory) = inl memory
+order_fault coming s e bytes shown same front (inr reads) = inr (inr (refuses_steps coming bytes shown s e same front reads))
+
+-- of an order that is read, and of one that isn't
+pub steps_ok : (coming : Option (List ℕ)) (bytes shown : List ℕ) (s : Scripts) (r : Result (Vec Proc Global) Fault) → shown ≡ bytes → IfSome coming (λ all. bytes ≡ take 8388609 all) → IfOk r (λ order. order_read s shown ≡ Ok (numbers_of order.items)) → IfOk r (λ order. OrdersAs coming s (numbers_of order.items))
+steps_ok coming bytes shown s (Ok order) same front reads = orders_as coming bytes shown s (numbers_of order.items) same front reads
+steps_ok coming bytes shown s (Err e) same front reads = tt
+
+pub steps_err : (coming : Option (List ℕ)) (bytes shown : List ℕ) (s : Scripts) (r : Result (Vec Proc Global) Fault) → shown ≡ bytes → IfSome coming (λ all. bytes ≡ take 8388609 all) → IfErr r (λ e. (e ≡ Memory) ⊎ (order_read s shown ≡ Err e)) → IfErr r (λ e. (e ≡ Memory) ⊎ ((e ≡ Read) ⊎ RefusesSteps coming s e))
+steps_err coming bytes shown s (Ok order) same front reads = tt
+steps_err coming bytes shown s (Err e) same front reads = order_fault coming s e bytes shown same front reads
+
+pub on_ok_too : {A : Type 0} (r : Result A Fault) (P Q : Type 0) → (P → Q) → OnOk r P → OnOk r Q
+on_ok_too (Ok x) P Q f p = f p
+on_ok_too (Err e) P Q f p = tt
+
+-- the faults of the file
+pub of_file : (coming order_coming : Option (List ℕ)) (e : Fault) → (e ≡ Memory) ⊎ ((e ≡ Read) ⊎ Refuses coming e) → StopsBefore coming order_coming e
+of_file coming order_coming e (inl memory) = inl memory
+of_file coming order_coming e (inr (inl read)) = inr (inl read)
+of_file coming order_coming e (inr (inr refuses)) = inr (inr (inl refuses))
+
+-- of the order
+pub of_order : (coming order_coming : Option (List ℕ)) (s : Scripts) (e : Fault) → ReadAs coming s → (e ≡ Memory) ⊎ ((e ≡ Read) ⊎ RefusesSteps order_coming s e) → StopsBefore coming order_coming e
+of_order coming order_coming s e read (inl memory) = inl memory
+of_order coming order_coming s e read (inr (inl failed)) = inr (inl failed)
+of_order coming order_coming s e read (inr (inr refuses)) = inr (inr (inr (inl (record { scripts = s; read = read; refuses = refuses }))))
+
+-- the steps of an order that is read, as they are shown
+ordered_as : (coming order_coming : Option (List ℕ)) (s : Scripts) (order shown : List Proc) → shown ≡ order → ReadAs coming s → OrdersAs order_coming s (numbers_of order) → OrderedAs coming order_coming s (numbers_of shown)
+ordered_as coming order_coming s order shown same read orders =
+    record { read = read; order = subst (λ ps. OrdersAs order_coming s (numbers_of ps)) (sym same) orders }
+
+-- and of the steps
+pub of_steps : (coming order_coming : Option (List ℕ)) (s : Scripts) (order shown : List Proc) (e : Fault) → shown ≡ order → ReadAs coming s → OrdersAs order_coming s (numbers_of order) → (e ≡ Memory) ⊎ StopsAfter s (numbers_of shown) e → StopsBefore coming order_coming e
+of_steps coming order_coming s order shown e same read orders (inl memory) = inl memory
+of_steps coming order_coming s order shown e same read orders (inr stops) =
+    inr (inr (inr (inr (record { scripts = s; steps = numbers_of shown; ordered = ordered_as coming order_coming s order shown same read orders; stops = stops }))))
+
+-- which are no failed read
+pub no_read_of_steps : (s : Scripts) (steps : List ℕ) (e : Fault) → (e ≡ Memory) ⊎ StopsAfter s steps e → e ≢ Read
+no_read_of_steps s steps e (inl memory) is = let bad : Memory ≡ Read = sym memory ∙ is in cc
+no_read_of_steps s steps e (inr stops) is = let bad : NotReady (suc stops.n) ≡ Read = sym stops.is ∙ is in cc
+
+pub followed_ok : (coming order_coming old new : Option (List ℕ)) (s : Scripts) (order shown : List Proc) (text out : List ℕ) (r : Result (Unit {0}) Fault) → shown ≡ order → ReadAs coming s → OrdersAs order_coming s (numbers_of order) → LeadsTo s (numbers_of shown) text → out ≡ text → OnOk r (Appends old new out) → OnOk r (WritesFollowed coming order_coming old new)
+followed_ok coming order_coming old new s order shown text out (Ok x) same read orders (enabled, is) at wrote =
+    record {
+      scripts = s;
+      steps = numbers_of shown;
+      ordered = ordered_as coming order_coming s order shown same read orders;
+      enabled = enabled;
+      wrote = subst (λ t. Appends old new t) (at ∙ is) wrote;
+    }
+followed_ok coming order_coming old new s order shown text out (Err e) same read orders leads at wrote = tt
+
+pub followed_err : (coming order_coming old new : Option (List ℕ)) (s : Scripts) (order shown : List Proc) (text out : List ℕ) (kept failed : Type 0) (r : Result (Unit {0}) Fault) → shown ≡ order → ReadAs coming s → OrdersAs order_coming s (numbers_of order) → LeadsTo s (numbers_of shown) text → out ≡ text → IfErr r (WritesFront old new out) → IfErr r (λ _. failed)
+    → IfErr r (λ e. (StopsBefore coming order_coming e × kept) ⊎ (BreaksOffFollowed coming order_coming old new e × failed))
+followed_err coming order_coming old new s order shown text out kept failed (Ok x) same read orders leads at front count = tt
+followed_err coming order_coming old new s order shown text out kept failed (Err e) same read orders (enabled, is) at front count =
+    inr (
+      record {
+        scripts = s;
+        steps = numbers_of shown;
+        ordered = ordered_as coming order_coming s order shown same read orders;
+        enabled = enabled;
+        wrote = subst (λ t. WritesFront old new t e) (at ∙ is) front;
+      },
+      count,
+    )
+
+-- an order has no fault but a bad line
+abbrev IsBad : Result (List ℕ) Fault → Type 0
+IsBad r = IfErr r (λ e. (n : ℕ) × (e ≡ BadOrder n))
+
+with_bad : (line : ℕ) (step : Option ℕ) (later : Result (List ℕ) Fault) → IsBad later → IsBad (with_step line step later)
+with_bad line None later bad = (line, refl)
+with_bad line (Some step) (Ok steps) bad = tt
+with_bad line (Some step) (Err fault) bad = bad
+
+all_bad : (s : Scripts) (lines : List Statement) → IsBad (order_of s lines)
+all_bad s [] = tt
+all_bad s (line ∷ later) = with_bad line.0 (step_of s line.1) (order_of s later) (all_bad s later)
+
+either_bad : (b : Bool) (n : ℕ) (r : Result (List ℕ) Fault) → IsBad r → IsBad (if b then Err (BadOrder n) else r)
+either_bad true n r bad = (n, refl)
+either_bad false n r bad = bad
+
+within_bad : (limit : ℕ) (s : Scripts) (bytes : List ℕ) → IsBad (order_within limit s bytes)
+within_bad limit s bytes = either_bad (nat_lt limit (length bytes)) (count_by (λ b. b == 10) (take limit bytes) + 1) (order_of s (statements bytes)) (all_bad s (statements bytes))
+
+read_bad : (s : Scripts) (bytes : List ℕ) → IsBad (order_read s bytes)
+read_bad s bytes = within_bad 8388608 s bytes
+
+pub no_read_of_order : (s : Scripts) (bytes : List ℕ) (r : Result (Vec Proc Global) Fault) → IfErr r (λ e. (e ≡ Memory) ⊎ (order_read s bytes ≡ Err e)) → r ≡ Err Read → ⊥
+no_read_of_order s bytes (Ok order) told is = let bad : Ok order ≡ Err Read = is in cc
+no_read_of_order s bytes (Err e) (inl memory) is = let bad : Memory ≡ Read = cc in cc
+no_read_of_order s bytes (Err e) (inr reads) is =
+    let found : (n : ℕ) × (e ≡ BadOrder n) = subst IsBad reads (read_bad s bytes) in
+    let its = found.1 in
+    let bad : BadOrder found.0 ≡ Read = cc in
+    cc
+
+-- what holds of every fault holds of the one that is answered
+pub err_always : {A : Type 0} (r : Result A Fault) (P : Fault → Type 0) → ((e : Fault) → P e) → IfErr r P
+err_always (Ok x) P f = tt
+err_always (Err e) P f = f e
+
+-- a run from the start that stops in an order stops after the steps before
+pub stopped_first : (s : Scripts) (new : Course) (steps : List ℕ) (e : Fault) → StopsAt (record { scripts = s; history = [] }) steps new e → StopsAfter s steps e
+stopped_first s new steps e stops = record {
+  n = stops.n;
+  is = stops.is;
+  enabled = stops.before.enabled;
+  p = stops.p;
+  next = stops.next;
+  not_enabled = subst (λ c. is_enabled (plan_in c) (state_of c) stops.p ≡ false) stops.before.taken stops.not_enabled;
+}
+
+pub stopped : (s : Scripts) (old new : Course) (steps : List ℕ) (e : Fault) → old ≡ record { scripts = s; history = [] } → StopsAt old steps new e → StopsAfter s steps e
+stopped s old new steps e is stops = stopped_first s new steps e (subst (λ o. StopsAt o steps new e) is stops)

@@ -1,0 +1,98 @@
+-- From what the parts of answering a question answer to what it answers.
+use Rattle.std.proofs.Common.{◌≡◌, ◌≢◌, ◌∙◌, ap, subst, sym, refl, ℕ, ◌<◌, List, length, ◌⊎◌, inl, inr, Option, Some, None, Result, Ok, Err, IfErr, IfOk, OnOk, Vec, Global}
+use Rattle.std.specs.Prelude.{slice_get, option_map}
+use Rattle.std.proofs.lemmas.List.{length-map}
+use Rattle.std.proofs.lemmas.Option.{slice_get-map}
+use Rattle.std.specs.Io.KnownBytes.{Appends}
+use Rattle.wire_types.specs.declared.CallAt.{CallAt}
+use Rattle.wire_types.specs.declared.Fault.{Fault}
+use Rattle.wire_types.specs.declared.Fault.TheVariants.{Memory, Read, BadOrder}
+use Rattle.wire_types.specs.Front.{WritesFront}
+use Rattle.wire_rehearsal.specs.Scripts.{Scripts, Process, calls_in}
+use Rattle.wire_rehearsal.specs.Planned.{plan_of, planned_call, planned_process}
+use Rattle.wire_order.specs.Question.{QuestionReads, Asks as AsksBoth, First, Second, Third, Fourth, IsCallNamed, calls_made}
+use Rattle.wire_runs.specs.Ends.{calls_of, process_calls}
+use Rattle.wire_report.specs.Chain.{IsChainText}
+use Rattle.wire_commands.specs.Replay.{ReadAs, Refuses}
+use Rattle.wire_commands.specs.Why.{Asks, Answers, WritesAnswer, BreaksOffAnswer, StopsBeforeAnswer}
+
+-- the calls that are named are the plan's
+made_in : (s : Scripts) (o : Option Process) → length (calls_in o) ≡ length (process_calls (option_map (planned_process s) o))
+made_in s None = refl
+made_in s (Some p) = sym (length-map p.calls (planned_call s))
+
+made : (s : Scripts) (p : ℕ) → calls_made s p ≡ length (calls_of (plan_of s) p)
+made s p = made_in s (slice_get s.processes p) ∙ ap (λ o. length (process_calls o)) (sym (slice_get-map (planned_process s) s.processes p))
+
+named_there : (s : Scripts) (proc number : List ℕ) (x : CallAt) → IsCallNamed s proc number x → x.call < length (calls_of (plan_of s) x.proc.number)
+named_there s proc number x named = subst (λ n. x.call < n) (made s x.proc.number) named.numbered.there
+
+both_there : (s : Scripts) (p n q m : List ℕ) (calls : CallAt × CallAt) → QuestionReads s p n q m (Ok calls)
+    → (calls.0.call < length (calls_of (plan_of s) calls.0.proc.number)) × (calls.1.call < length (calls_of (plan_of s) calls.1.proc.number))
+both_there s p n q m calls (AsksBoth x y first second is) =
+    let same : calls ≡ (x, y) = cc in
+    subst (λ (c : CallAt × CallAt). (c.0.call < length (calls_of (plan_of s) c.0.proc.number)) × (c.1.call < length (calls_of (plan_of s) c.1.proc.number))) (sym same) (named_there s p n x first, named_there s q m y second)
+both_there s p n q m calls (First wrong is) = let bad : Ok calls ≡ Err (BadOrder 1) = is in absurd (cc)
+both_there s p n q m calls (Second wrong is) = let bad : Ok calls ≡ Err (BadOrder 2) = is in absurd (cc)
+both_there s p n q m calls (Third x first wrong is) = let bad : Ok calls ≡ Err (BadOrder 3) = is in absurd (cc)
+both_there s p n q m calls (Fourth x first wrong is) = let bad : Ok calls ≡ Err (BadOrder 4) = is in absurd (cc)
+
+-- a wrong word is no failed read
+word_no_read : (s : Scripts) (p n q m : List ℕ) (e : Fault) → QuestionReads s p n q m (Err e) → e ≢ Read
+word_no_read s p n q m e (AsksBoth x y first second is) at = let bad : Err e ≡ Ok (x, y) = is in cc
+word_no_read s p n q m e (First wrong is) at = let bad : Err Read ≡ Err (BadOrder 1) = sym (ap Err at) ∙ is in cc
+word_no_read s p n q m e (Second wrong is) at = let bad : Err Read ≡ Err (BadOrder 2) = sym (ap Err at) ∙ is in cc
+word_no_read s p n q m e (Third x first wrong is) at = let bad : Err Read ≡ Err (BadOrder 3) = sym (ap Err at) ∙ is in cc
+word_no_read s p n q m e (Fourth x first wrong is) at = let bad : Err Read ≡ Err (BadOrder 4) = sym (ap Err at) ∙ is in cc
+
+pub all_there : (s : Scripts) (words : List (List ℕ)) (r : Result (CallAt × CallAt) Fault) → IfOk r (λ calls. Asks s words (Ok calls))
+    → IfOk r (λ calls. (calls.0.call < length (calls_of (plan_of s) calls.0.proc.number)) × (calls.1.call < length (calls_of (plan_of s) calls.1.proc.number)))
+all_there s words (Ok calls) asks = both_there s _ _ _ _ calls asks
+all_there s words (Err e) asks = tt
+
+-- a text that tells the order of the calls that the words name answers them
+pub answered : (s : Scripts) (words : List (List ℕ)) (x y : CallAt) (r : Result (Vec ℕ Global) Fault) → Asks s words (Ok (x, y)) → IfOk r (λ text. IsChainText s x y text.items) → IfOk r (λ text. Answers s words text.items)
+answered s words x y (Ok text) asks tells = record { x = x; y = y; asks = asks; tells = tells }
+answered s words x y (Err e) asks tells = tt
+
+-- the plan of scripts is asked what they are asked, and answers the same
+pub asked_too : (shown s : Scripts) (words : List (List ℕ)) (calls : CallAt × CallAt) → shown ≡ s → Asks shown words (Ok calls) → Asks s words (Ok calls)
+asked_too shown s words calls is asks = subst (λ t. Asks t words (Ok calls)) is asks
+
+pub refused_too : (shown s : Scripts) (words : List (List ℕ)) (e : Fault) → shown ≡ s → (e ≡ Memory) ⊎ Asks shown words (Err e) → (e ≡ Memory) ⊎ Asks s words (Err e)
+refused_too shown s words e is refuses = subst (λ t. (e ≡ Memory) ⊎ Asks t words (Err e)) is refuses
+
+pub answers_too : (s plan : Scripts) (words : List (List ℕ)) (r : Result (Vec ℕ Global) Fault) → plan ≡ s → IfOk r (λ text. Answers plan words text.items) → IfOk r (λ text. Answers s words text.items)
+answers_too s plan words r is answers = subst (λ t. IfOk r (λ text. Answers t words text.items)) is answers
+
+pub refuses_too : (s plan : Scripts) (words : List (List ℕ)) (r : Result (Vec ℕ Global) Fault) → plan ≡ s → IfErr r (λ e. (e ≡ Memory) ⊎ Asks plan words (Err e)) → IfErr r (λ e. (e ≡ Memory) ⊎ Asks s words (Err e))
+refuses_too s plan words r is refuses = subst (λ t. IfErr r (λ e. (e ≡ Memory) ⊎ Asks t words (Err e))) is refuses
+
+-- all of the answer goes out
+pub answer_ok : (coming : Option (List ℕ)) (words : List (List ℕ)) (old new : Option (List ℕ)) (s : Scripts) (text out : List ℕ) (r : Result (Unit {0}) Fault) → ReadAs coming s → Answers s words text → out ≡ text → OnOk r (Appends old new out) → OnOk r (WritesAnswer coming words old new)
+answer_ok coming words old new s text out (Ok u) read answers at wrote =
+    record { scripts = s; read = read; text = text; answers = answers; wrote = subst (λ t. Appends old new t) at wrote }
+answer_ok coming words old new s text out (Err e) read answers at wrote = tt
+
+-- or the front of it that the fault counts
+pub answer_err : (coming : Option (List ℕ)) (words : List (List ℕ)) (old new : Option (List ℕ)) (s : Scripts) (text out : List ℕ) (kept failed : Type 0) (r : Result (Unit {0}) Fault) → ReadAs coming s → Answers s words text → out ≡ text → IfErr r (WritesFront old new out) → IfErr r (λ _. failed)
+    → IfErr r (λ e. (StopsBeforeAnswer coming words e × kept) ⊎ (BreaksOffAnswer coming words old new e × failed))
+answer_err coming words old new s text out kept failed (Ok u) read answers at front count = tt
+answer_err coming words old new s text out kept failed (Err e) read answers at front count =
+    inr (record { scripts = s; read = read; text = text; answers = answers; wrote = subst (λ t. WritesFront old new t e) at front }, count)
+
+-- a fault of the file comes before the writing
+pub file_stops : (coming : Option (List ℕ)) (words : List (List ℕ)) (e : Fault) → (e ≡ Memory) ⊎ ((e ≡ Read) ⊎ Refuses coming e) → StopsBeforeAnswer coming words e
+file_stops coming words e (inl memory) = inl memory
+file_stops coming words e (inr (inl read)) = inr (inl read)
+file_stops coming words e (inr (inr refuses)) = inr (inr (inl refuses))
+
+-- and so does a wrong word
+pub word_stops : (coming : Option (List ℕ)) (words : List (List ℕ)) (s : Scripts) (e : Fault) → ReadAs coming s → (e ≡ Memory) ⊎ Asks s words (Err e) → StopsBeforeAnswer coming words e
+word_stops coming words s e read (inl memory) = inl memory
+word_stops coming words s e read (inr refuses) = inr (inr (inr (record { scripts = s; read = read; refuses = refuses })))
+
+-- which is no failed read
+pub no_read_of_words : (s : Scripts) (words : List (List ℕ)) (e : Fault) → (e ≡ Memory) ⊎ Asks s words (Err e) → e ≢ Read
+no_read_of_words s words e (inl memory) is = let bad : Memory ≡ Read = sym memory ∙ is in cc
+no_read_of_words s words e (inr refuses) is = word_no_read s _ _ _ _ e refuses is

@@ -1,0 +1,4 @@
+pub mod Replay
+pub mod Follow
+pub mod Why
+pub mod Check

@@ -1,0 +1,101 @@
+//! A question about two calls of a file of scripts: whether one is before the other.
+
+ghost use Rattle.std.specs.Prelude.{◌≡◌, ◌≢◌, ◌<◌, ◌⊎◌, ℕ, List, Ok, Err, length, map, OnOk, IfOk, IfErr};
+ghost use Rattle.wire_types.specs.declared.Fault.TheVariants.{Memory, Read};
+ghost use Rattle.wire_types.specs.Counting.{one_more};
+ghost use Rattle.wire_rehearsal.specs.Planned.{plan_of};
+ghost use Rattle.wire_runs.specs.Ends.{calls_of};
+ghost use Rattle.wire_report.specs.Chain.{IsChainText};
+ghost use Rattle.wire_commands.specs.Why.{Asks, Answers, WritesAnswer, BreaksOffAnswer, StopsBeforeAnswer};
+
+use crate::replaying::read_scripts;
+use std::alloc::Global;
+use wire_marks::Marks;
+use wire_order::{Question, calls_asked};
+use wire_plan::Plan;
+use wire_rehearsal::Scripts;
+use wire_report::{chain_text, write_text};
+use wire_types::{CallAt, Fault, Sink, Source};
+
+/// The two calls that the words of a question name.
+fn calls_named(
+    alloc: Global,
+    scripts: &Scripts,
+    words: [&str; 4],
+) -> Result<(CallAt, CallAt), Fault>
+    ensures ok { IfOk result (λ calls. Asks scripts.now (map (λ w. w.now) words.entry) (Ok calls)) }
+    ensures x_there { IfOk result (λ calls. calls.0.call < length (calls_of (plan_of scripts.now) calls.0.proc.number)) }
+    ensures y_there { IfOk result (λ calls. calls.1.call < length (calls_of (plan_of scripts.now) calls.1.proc.number)) }
+    ensures err { IfErr result (λ e. (e ≡ Memory) ⊎ Asks scripts.now (map (λ w. w.now) words.entry) (Err e)) }
+{
+    let question = Question {
+        proc: words[0],
+        number: words[1],
+        other_proc: words[2],
+        other_number: words[3],
+    };
+    calls_asked(alloc, scripts, question)
+}
+
+/// The text of the order of two calls of a plan.
+fn text_between(alloc: Global, plan: &Plan, x: CallAt, y: CallAt) -> Result<Vec<u8>, Fault>
+    requires x_there { x.call < length (calls_of (plan_of plan.now) x.proc.number) }
+    requires y_there { y.call < length (calls_of (plan_of plan.now) y.proc.number) }
+    ensures ok { IfOk result (λ text. IsChainText plan.now x y text.items) }
+    ensures err { IfErr result (λ e. e ≡ Memory) }
+{
+    let marks = Marks::of(alloc, plan)?;
+    chain_text(alloc, plan, &marks, x, y)
+}
+
+/// The text of the answer to a question about a plan.
+fn answer_of(alloc: Global, plan: &Plan, words: [&str; 4]) -> Result<Vec<u8>, Fault>
+    ensures ok { IfOk result (λ text. Answers plan.now (map (λ w. w.now) words.entry) text.items) }
+    ensures err { IfErr result (λ e. (e ≡ Memory) ⊎ Asks plan.now (map (λ w. w.now) words.entry) (Err e)) }
+{
+    let (x, y) = calls_named(alloc, plan.scripts(), words)?;
+    text_between(alloc, plan, x, y)
+}
+
+/// The text of the answer to a question about scripts.
+fn answer_text(alloc: Global, scripts: Scripts, words: [&str; 4]) -> Result<Vec<u8>, Fault>
+    ensures ok { IfOk result (λ text. Answers scripts (map (λ w. w.now) words.entry) text.items) }
+    ensures err { IfErr result (λ e. (e ≡ Memory) ⊎ Asks scripts (map (λ w. w.now) words.entry) (Err e)) }
+{
+    let plan = Plan::build(alloc, scripts)?;
+    let text = answer_of(alloc, &plan, words);
+    drop(plan);
+    text
+}
+
+/// Answers whether a chain of events leads from one call of a file of scripts to another: reads the file to
+/// its end, and writes `before` and the events of the chain, else `after` and those of the chain the other
+/// way round, else `unordered` and which of the two calls isn't live. Where a chain leads from one event to
+/// another, the first has happened in every run in which the second does.
+///
+/// The words are a process, as in an order, and the number of a call of it, from 1, twice. The faults of
+/// the file come first, then `BadOrder` with the number of the lowest wrong word, from 1. After the fault
+/// `Write` the front of the answer that it counts is written, after any other fault nothing. `Memory` may
+/// come in place of any other answer. What is said of bytes is said where the reader and the writer tell
+/// theirs.
+pub fn why<R: Source, W: Sink>(
+    alloc: Global,
+    reader: &mut R,
+    writer: &mut W,
+    words: [&str; 4],
+) -> Result<(), Fault>
+    ensures ok { OnOk result (WritesAnswer (R.coming reader.old) (map (λ w. w.now) words.entry) (W.written writer.old) (W.written writer.new)) }
+    ensures quiet { OnOk result ((R.failures reader.new ≡ R.failures reader.old) × (W.failures writer.new ≡ W.failures writer.old)) }
+
+    // Either nothing was written, or the front of the answer that the fault counts.
+    ensures err { IfErr result (λ e. (StopsBeforeAnswer (R.coming reader.old) (map (λ w. w.now) words.entry) e × (writer.new ≡ writer.old))
+        ⊎ (BreaksOffAnswer (R.coming reader.old) (map (λ w. w.now) words.entry) (W.written writer.old) (W.written writer.new) e × (W.failures writer.new ≡ one_more (W.failures writer.old)))) }
+
+    // A failed read is answered only where the reader failed.
+    ensures read_failed { result ≡ Err Read → R.failures reader.new ≡ one_more (R.failures reader.old) }
+    ensures unfailed { IfErr result (λ e. e ≢ Memory → e ≢ Read → R.failures reader.new ≡ R.failures reader.old) }
+{
+    let scripts = read_scripts(alloc, reader)?;
+    let text = answer_text(alloc, scripts, words)?;
+    write_text(writer, text.as_slice())
+}

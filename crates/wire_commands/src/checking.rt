@@ -1,0 +1,127 @@
+//! The findings of a file of scripts.
+
+ghost use Rattle.std.specs.Prelude.{List, length, ◌≡◌, ◌≢◌, ◌⊎◌, ℕ, Ok, Err, OnOk, IfOk, IfErr};
+ghost use Rattle.wire_types.specs.declared.Fault.TheVariants.{Memory, Read};
+ghost use Rattle.wire_types.specs.Counting.{one_more};
+ghost use Rattle.wire_races.specs.declared.finding.Finding.{Finding as Told};
+ghost use Rattle.wire_commands.specs.declared.checking.Ended.TheVariants.{Clean};
+ghost use Rattle.wire_commands.specs.Check as spec;
+ghost use Rattle.wire_commands.specs.Check.{WritesVerdict, BreaksOffVerdict, WritesFindings, EndsInOneState, BreaksOffFindings, StopsBeforeFindings};
+
+use crate::replaying::read_scripts;
+use std::alloc::Global;
+use std::thread::Threads;
+use wire_marks::Marks;
+use wire_plan::Plan;
+use wire_races::laws::settled_exactly;
+use wire_races::{Finding, finding_list};
+use wire_rehearsal::Scripts;
+use wire_report::write_findings;
+use wire_types::{Fault, Sink, Source};
+
+/// How a check or a rehearsal ended: without findings, or with so many.
+#[derive(Clone, Copy, Debug, PartialEq, Eq)]
+pub enum Ended {
+    Clean,
+    Found(u64),
+}
+
+impl Ended {
+    /// The exit status: 0 without findings, 1 with findings.
+    pub fn status(self) -> u8
+        ensures { result ≡ spec.status_of self }
+    {
+        match self {
+            Ended::Clean => 0,
+            Ended::Found(_) => 1,
+        }
+    }
+
+    /// How a check ends that has these findings.
+    pub fn with(findings: &[Finding]) -> Ended
+        ensures { result ≡ spec.ended_with findings.now }
+    {
+        Ended::counted(findings.len())
+    }
+
+    /// How a check ends that has so many findings.
+    fn counted(count: usize) -> Ended
+        ensures { (findings : List Told) → count ≡ length findings → result ≡ spec.ended_with findings }
+    {
+        match count {
+            0 => Ended::Clean,
+            count => Ended::Found(count as u64),
+        }
+    }
+}
+
+/// Writes all findings of a plan, and says how its check ends.
+fn judged<W: Sink>(
+    rt: &(impl Threads + Sync),
+    alloc: Global,
+    plan: &Plan,
+    writer: &mut W,
+) -> Result<Ended, Fault>
+    ensures ok { IfOk result (λ ended. WritesVerdict plan.now ended (W.written writer.old) (W.written writer.new)) }
+    ensures quiet { OnOk result (W.failures writer.new ≡ W.failures writer.old) }
+    ensures err { IfErr result (λ e. ((e ≡ Memory) × (writer.new ≡ writer.old))
+        ⊎ (BreaksOffVerdict plan.now (W.written writer.old) (W.written writer.new) e × (W.failures writer.new ≡ one_more (W.failures writer.old)))) }
+{
+    let marks = Marks::of(alloc, plan)?;
+    let found = finding_list(rt, alloc, plan, &marks)?;
+    settled_exactly();
+    let ended = Ended::counted(found.len());
+    write_findings(alloc, plan.scripts(), &found, false, writer)?;
+    Ok(ended)
+}
+
+/// Writes all findings of scripts, and says how their check ends.
+fn verdict<W: Sink>(
+    rt: &(impl Threads + Sync),
+    alloc: Global,
+    scripts: Scripts,
+    writer: &mut W,
+) -> Result<Ended, Fault>
+    ensures ok { IfOk result (λ ended. WritesVerdict scripts ended (W.written writer.old) (W.written writer.new)) }
+    ensures quiet { OnOk result (W.failures writer.new ≡ W.failures writer.old) }
+    ensures err { IfErr result (λ e. ((e ≡ Memory) × (writer.new ≡ writer.old))
+        ⊎ (BreaksOffVerdict scripts (W.written writer.old) (W.written writer.new) e × (W.failures writer.new ≡ one_more (W.failures writer.old)))) }
+{
+    let plan = Plan::build(alloc, scripts)?;
+    let ended = judged(rt, alloc, &plan, writer);
+    drop(plan);
+    ended
+}
+
+/// Checks a file of scripts: reads it to its end, and writes every finding of its plan: each put of a key
+/// that its process has put before, and each pair of calls that race, on a key or on a name.
+///
+/// It answers `Clean` exactly where there is nothing to find. Then every interleaving that can't go on
+/// ends with the same reply to every call and the same processes waiting.
+///
+/// The fault of a file is the first that it has. After the fault `Write` the front of the text that it
+/// counts is written, after any other fault nothing. `Memory` may come in place of any other answer. What is
+/// said of bytes is said where the reader and the writer tell theirs.
+pub fn check<R: Source, W: Sink>(
+    rt: &(impl Threads + Sync),
+    alloc: Global,
+    reader: &mut R,
+    writer: &mut W,
+) -> Result<Ended, Fault>
+    ensures ok { IfOk result (λ ended. WritesFindings (R.coming reader.old) ended (W.written writer.old) (W.written writer.new)) }
+    ensures quiet { OnOk result ((R.failures reader.new ≡ R.failures reader.old) × (W.failures writer.new ≡ W.failures writer.old)) }
+
+    // The headline: where it finds nothing, every interleaving that can't go on ends in one state, the plain run's.
+    ensures one_end { result ≡ Ok Clean → EndsInOneState (R.coming reader.old) }
+
+    // Either nothing was written, or the front of the findings that the fault counts.
+    ensures err { IfErr result (λ e. (StopsBeforeFindings (R.coming reader.old) e × (writer.new ≡ writer.old))
+        ⊎ (BreaksOffFindings (R.coming reader.old) (W.written writer.old) (W.written writer.new) e × (W.failures writer.new ≡ one_more (W.failures writer.old)))) }
+
+    // A failed read is answered only where the reader failed.
+    ensures read_failed { result ≡ Err Read → R.failures reader.new ≡ one_more (R.failures reader.old) }
+    ensures unfailed { IfErr result (λ e. e ≢ Memory → e ≢ Read → R.failures reader.new ≡ R.failures reader.old) }
+{
+    let scripts = read_scripts(alloc, reader)?;
+    verdict(rt, alloc, scripts, writer)
+}

@@ -1,0 +1,14 @@
+//! The commands that start no workers, from bytes to bytes: what races in a plan, its plain run, a run that takes the steps of an order, and
+//! which of two calls comes first.
+#![tactic(auto)]
+
+mod asking;
+mod checking;
+mod following;
+mod reading;
+mod replaying;
+
+pub use asking::why;
+pub use checking::{Ended, check};
+pub use following::follow;
+pub use replaying::{plain, read_scripts};
