@@ -8,7 +8,7 @@ use Rattle.wire_runs.specs.Step.{may_do, is_enabled, step, IsInterleaving, run_f
 use Rattle.wire_runs.specs.Order.{Edge, Announces, Live, Before, edge}
 use Rattle.wire_runs.specs.Races.{IsSettled}
 use Rattle.wire_runs.specs.Fate.{IsIn, left_by, HasFate}
-use Rattle.wire_runs.specs.Laws.{plain_end, IsCutOf, one_more, next_after, StepsMoveCuts, CutsTellSteps, OneState, OneEventBetween}
+use Rattle.wire_runs.specs.Laws.{plain_end, one_more, next_after, StepsMoveCuts, CutsTellSteps, OneState, OneEventBetween}
 use Rattle.wire_runs.proofs.Basics.{update_same, update_other}
 use Rattle.wire_runs.proofs.Due.{Sound, reachable_sound, closed_cut, chain_done, due, done_same, done_other, place_path}
 use Rattle.wire_runs.proofs.Diamond.{writes_calls, writes_no_lookup, state_path}
