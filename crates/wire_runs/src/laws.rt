@@ -91,13 +91,13 @@ pub fn steps_move_cuts()
     ensures { StepsMoveCuts }
 {}
 
-/// In a settled plan the cut of a state tells that one event more of a process is its step: the sources of
-/// its next event are done, and the fate of that event isn't to wait.
+/// In a settled plan, where all sources of a process's next event are done by the cut of a state, and the
+/// fate of that event isn't to wait, the process is enabled, and its step leads to the cut with that event.
 pub fn cuts_tell_steps()
     ensures { CutsTellSteps }
 {}
 
-/// In a settled plan a cut that a run can reach has one state.
+/// In a settled plan a cut that a run can reach has one state: it tells the names and the replies.
 pub fn one_state()
     ensures { OneState }
 {}
