@@ -148,7 +148,7 @@ names_swap plan settled s p q k ne hp hq n =
       ]
     ]
 
-state_path : (s t : State) → ((p : ℕ) → s.done p ≡ t.done p) → ((n : ℕ) → s.names n ≡ t.names n) → ((p : ℕ) → s.replies p ≡ t.replies p) → s ≡ t
+pub state_path : (s t : State) → ((p : ℕ) → s.done p ≡ t.done p) → ((n : ℕ) → s.names n ≡ t.names n) → ((p : ℕ) → s.replies p ≡ t.replies p) → s ≡ t
 state_path s t d n r = λ i. record { done = fun_ext d i; names = fun_ext n i; replies = fun_ext r i }
 
 same_end : (plan : Plan) (settled : IsSettled plan) (s : State) (p q : ℕ) → Known plan s → (q ≡ p → ⊥) → is_enabled plan s p ≡ true → is_enabled plan s q ≡ true → step plan (step plan s p) q ≡ step plan (step plan s q) p

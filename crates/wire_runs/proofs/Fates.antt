@@ -29,7 +29,7 @@ module _ (plan : Plan) (settled : IsSettled plan) (s r : State) (y : Event) (up 
       complete_if_arrived plan cut members (arrivals plan y.proc members y.at) (rw is at (live_may live_y))
       (λ z a. let e : Edge plan z y = Meets members is a in all z (edge (live_source live_y e) e live_y))
 
-  may_same : (o : Option Kind) → kind plan y ≡ o → may_do plan r y o ≡ may_do plan s y o
+  pub may_same : (o : Option Kind) → kind plan y ≡ o → may_do plan r y o ≡ may_do plan s y o
   may_same None e = refl
   may_same (Some (Get t key)) e = ap is_seen (get_same plan settled s.done r.done y up known closed not_yet live_y t key e)
   may_same (Some (Leave members)) e = fence_done members r.done e known_later ∙ sym (fence_done members s.done e known)
@@ -148,7 +148,7 @@ kept_run : (plan : Plan) → IsSettled plan → (w : List ℕ) (s : State) → K
 kept_run plan settled [] s k h = k
 kept_run plan settled (p ∷ w) s k h = kept_run plan settled w (step plan s p) (kept_step plan settled s p k h.0) h.1
 
-reachable_kept : (plan : Plan) → IsSettled plan → (s : State) → IsReachable plan s → Kept plan s
+pub reachable_kept : (plan : Plan) → IsSettled plan → (s : State) → IsReachable plan s → Kept plan s
 reachable_kept plan settled s r = subst (λ t. Kept plan t) r.2 (kept_run plan settled r.0 start (kept_start plan) r.1)
 
 pub says_not_waits : (a : Answer) → Says a ≡ Waits → ⊥

@@ -17,6 +17,9 @@ pub mod Findings
 pub mod Marks
 pub mod HaveFates
 pub mod Reached
+pub mod Onward
+pub mod SoFar
+pub mod OneMore
 pub mod Ends
 pub mod Rows
 pub mod SettledRow

@@ -50,7 +50,7 @@ lowest_stays plan s n (suc m) p le h = elim (cases_eq n (suc m)) [
   | inr ne ↦ rw (lowest_stays plan s n m p (omega (arith, le, ne)) h) refl
 ]
 
-plain_is_run : (plan : Plan) (fuel : ℕ) (s : State) → IsInterleaving plan s (plain_from plan fuel s)
+pub plain_is_run : (plan : Plan) (fuel : ℕ) (s : State) → IsInterleaving plan s (plain_from plan fuel s)
 plain_is_run plan zero s = tt
 plain_is_run plan (suc fuel) s = go (lowest plan s (process_count plan)) refl (λ p. plain_is_run plan fuel (step plan s p))
   where
@@ -58,7 +58,7 @@ plain_is_run plan (suc fuel) s = go (lowest plan s (process_count plan)) refl (�
     go None e rest = tt
     go (Some p) e rest = (lowest_enabled plan s (process_count plan) p e, rest p)
 
-plain_ends : (plan : Plan) (fuel : ℕ) (s : State) → left_from plan.processes s.done 0 ≤ fuel → IsEnd plan (run_from plan s (plain_from plan fuel s))
+pub plain_ends : (plan : Plan) (fuel : ℕ) (s : State) → left_from plan.processes s.done 0 ≤ fuel → IsEnd plan (run_from plan s (plain_from plan fuel s))
 plain_ends plan zero s le = λ p. false_from_ne_true _ (λ h. let f = left_falls plan s p h in omega (arith, f, le))
 plain_ends plan (suc fuel) s le = go (lowest plan s (process_count plan)) refl (λ p. plain_ends plan fuel (step plan s p))
   where

@@ -1,5 +1,5 @@
 -- Small plans, played through: the definitions compute.
-use Rattle.std.proofs.Common.{◌≡◌, ℕ, List, [], ◌∷◌, true, false, refl}
+use Rattle.std.proofs.Common.{◌≡◌, ℕ, List, [], ◌∷◌, true, false, refl, ap}
 use Rattle.wire_runs.specs.Plan.{Plan, CallPut, CallCommit, CallFence, CallGet, CallGetNow, CallPublish, CallLookup, CallLookupWait, CallUnpublish, kind, kinds, node_of, kind_at, event_count}
 use Rattle.wire_types.specs.declared.Scope.TheVariants.{Local, Remote, Global}
 use Rattle.wire_types.specs.declared.CallEnd.TheVariants.{Replied, Waiting, Ready}
@@ -7,8 +7,9 @@ use Rattle.wire_types.specs.declared.Status.TheVariants as status
 use Rattle.wire_runs.specs.Order.{may_come, PublishesOnce}
 use Rattle.wire_types.specs.Replies.{bare}
 use Rattle.wire_runs.specs.Ends.{outcome}
-use Rattle.wire_runs.specs.State.{start, Silent, Duplicate, Success, NotFound, ExistsOutside, Published, Value}
+use Rattle.wire_runs.specs.State.{State, start, Silent, Duplicate, Success, NotFound, ExistsOutside, Published, Value}
 use Rattle.wire_runs.specs.Step.{is_enabled, IsInterleaving, run}
+use Rattle.wire_runs.specs.Laws.{IsPlainSoFar}
 
 -- two nodes; a put, a commit and a collecting fence; the other one fences, gets now and gets
 row : Plan
@@ -45,6 +46,15 @@ racy_first = refl
 racy_second : (run racy (1 ∷ (0 ∷ []))).replies 1 ≡ Success ∷ []
 unfolding racy kinds kind_at
 racy_second = refl
+
+-- so one cut has two states here, and a reply on the way isn't the plain run's: the laws say this of settled plans alone
+two_states : run racy (0 ∷ (1 ∷ [])) ≡ run racy (1 ∷ (0 ∷ [])) → ⊥
+unfolding racy kinds kind_at
+two_states e = let differ : Duplicate ∷ [] ≡ Success ∷ [] = ap (λ (s : State). s.replies 1) e in cc
+
+not_plain : IsPlainSoFar racy (run racy (1 ∷ [])) → ⊥
+unfolding racy kinds kind_at
+not_plain so_far = let differ : Success ∷ [] ≡ Duplicate ∷ [] = so_far.replies 1 in cc
 
 -- a key that is put twice: the last put counts, also for a get that waits
 rewritten : Plan

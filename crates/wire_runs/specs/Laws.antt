@@ -1,6 +1,6 @@
 -- The laws of runs: what the definitions before this file entail, for every plan. Each is the contract of a function of src/laws.rt.
-use Rattle.std.specs.Prelude.{slice_get, ◌↔◌, Some, ◌≡◌, ◌≢◌, ℕ, ◌≤◌, ◌<◌, List, [], Bool, true, false, length, take}
-use Rattle.wire_runs.specs.Plan.{Plan, Event, event_total}
+use Rattle.std.specs.Prelude.{slice_get, ◌↔◌, Some, ◌≡◌, ◌≢◌, ℕ, suc, ◌≤◌, ◌<◌, List, [], Bool, true, false, length, take}
+use Rattle.wire_runs.specs.Plan.{Plan, Event, event_total, update}
 use Rattle.wire_runs.specs.State.{Answer, State, start, next_event, IsDone}
 use Rattle.wire_runs.specs.Step.{is_enabled, step, IsInterleaving, run, IsEnd, IsReachable}
 use Rattle.wire_runs.specs.PlainRun.{plain_run}
@@ -104,3 +104,67 @@ HaveFates = (plan : Plan) → IsSettled plan → Marks plan → (y : Event) → 
 -- a sound cut of a settled plan is what some run has come to
 abbrev pub SoundIsReached : Type 0
 SoundIsReached = (plan : Plan) (cut : ℕ → ℕ) → IsSettled plan → Marks plan → IsSoundCut plan cut → (s : State) × IsReachable plan s × ((p : ℕ) → s.done p ≡ cut p)
+
+-- p's next event where so many events of each process are done
+abbrev pub next_after : (ℕ → ℕ) → ℕ → Event
+next_after cut p = record { proc = p; at = cut p }
+
+-- the cut with one event of p more
+abbrev pub one_more : (ℕ → ℕ) → ℕ → ℕ → ℕ
+one_more cut p = update cut p (suc (cut p))
+
+-- a run can reach the state, and this is its cut: how many events of each process are done there
+pub record IsCutOf (plan : Plan) (cut : ℕ → ℕ) (s : State) : Type 0 where
+  pub reached : IsReachable plan s
+  pub done : (p : ℕ) → s.done p ≡ cut p
+
+-- where a process is enabled, a run can reach the state after its step, and the cut of that state has one event of it more
+abbrev pub StepsMoveCuts : Type 0
+StepsMoveCuts =
+    (plan : Plan) (cut : ℕ → ℕ) (s : State) (p : ℕ) → IsCutOf plan cut s → is_enabled plan s p ≡ true
+    → IsCutOf plan (one_more cut p) (step plan s p)
+
+-- by the cut p's next event can happen: all its sources are done, and its fate isn't to wait
+pub record CanHappen (plan : Plan) (cut : ℕ → ℕ) (p : ℕ) (fate : Fate) : Type 0 where
+  pub sources_done : (x : Event) → Edge plan x (next_after cut p) → x.at < cut x.proc
+  pub has_fate : HasFate plan (next_after cut p) fate
+  pub comes : fate ≢ Waits
+
+-- one event of p more is a step of p
+pub record IsStep (plan : Plan) (cut : ℕ → ℕ) (s : State) (p : ℕ) : Type 0 where
+  pub enabled : is_enabled plan s p ≡ true
+  pub moved : IsCutOf plan (one_more cut p) (step plan s p)
+
+-- in a settled plan, where by the cut p's next event can happen, one event of p more is a step of p
+abbrev pub CutsTellSteps : Type 0
+CutsTellSteps =
+    (plan : Plan) (cut : ℕ → ℕ) (s : State) (p : ℕ) (fate : Fate) → IsSettled plan → IsCutOf plan cut s → CanHappen plan cut p fate
+    → IsStep plan cut s p
+
+-- in a settled plan a cut has one state: how many events of each process are done tells the names and the replies too
+abbrev pub OneState : Type 0
+OneState = (plan : Plan) (cut : ℕ → ℕ) (s t : State) → IsSettled plan → IsCutOf plan cut s → IsCutOf plan cut t → s ≡ t
+
+-- if a run of a settled plan can reach a cut, and also that with one event of p more, then p is enabled at the first, and its step
+-- leads from the state of the first to that of the second
+abbrev pub OneEventBetween : Type 0
+OneEventBetween =
+    (plan : Plan) (cut : ℕ → ℕ) (p : ℕ) (s t : State) → IsSettled plan → IsCutOf plan cut s → IsCutOf plan (one_more cut p) t
+    → (is_enabled plan s p ≡ true) × (step plan s p ≡ t)
+
+-- the state in which the plain run ends
+abbrev pub plain_end : Plan → State
+plain_end plan = run plan (plain_run plan)
+
+-- what is done so far is done in the plain run, with the same replies: of each process no more events are done than there, its replies
+-- are the first of those there, one for each event that is done, and the fate of such an event is the reply that it gets there
+pub record IsPlainSoFar (plan : Plan) (s : State) : Type 0 where
+  pub done : (p : ℕ) → s.done p ≤ (plain_end plan).done p
+  pub count : (p : ℕ) → length (s.replies p) ≡ s.done p
+  pub replies : (p : ℕ) → s.replies p ≡ take (s.done p) ((plain_end plan).replies p)
+  pub fates : (z : Event) (fate : Fate) → IsDone s z → HasFate plan z fate
+      → (a : Answer) × (slice_get ((plain_end plan).replies z.proc) z.at ≡ Some a) × (fate ≡ Says a)
+
+-- so it is in each state of a settled plan that a run can reach
+abbrev pub RepliesArePlain : Type 0
+RepliesArePlain = (plan : Plan) (s : State) → IsSettled plan → IsReachable plan s → IsPlainSoFar plan s

@@ -2,6 +2,7 @@
 
 ghost use Rattle.wire_runs.specs.Plan.{Plan};
 ghost use Rattle.wire_runs.specs.Laws.{PlainRuns, RacesAreUnordered, RowsAreWhole, RunsEnd, EnabledIsDue, EnabledCommute, OneEnd, FatesTell, OneFate, RunsAreSound, NoFindings, OneList, HaveFates, SoundIsReached};
+ghost use Rattle.wire_runs.specs.Laws.{StepsMoveCuts, CutsTellSteps, OneState, OneEventBetween, RepliesArePlain};
 
 /// No run is longer than the number of events.
 pub fn runs_end()
@@ -82,4 +83,34 @@ pub fn have_fates()
 /// A run of a settled plan can reach each sound cut, given such marks.
 pub fn sound_is_reached()
     ensures { SoundIsReached }
+{}
+
+/// Where a process is enabled, a run can reach the state after its step, and the cut of that state has one
+/// event of that process more.
+pub fn steps_move_cuts()
+    ensures { StepsMoveCuts }
+{}
+
+/// In a settled plan, where all sources of a process's next event are done by the cut of a state, and the
+/// fate of that event isn't to wait, the process is enabled, and its step leads to the cut with that event.
+pub fn cuts_tell_steps()
+    ensures { CutsTellSteps }
+{}
+
+/// In a settled plan a cut that a run can reach has one state: it tells the names and the replies.
+pub fn one_state()
+    ensures { OneState }
+{}
+
+/// Of two cuts that a run of a settled plan can reach, the second with one event of a process more: that
+/// process is enabled at the first, and its step leads to the state of the second.
+pub fn one_event_between()
+    ensures { OneEventBetween }
+{}
+
+/// In a settled plan, in a state that a run can reach, what is done is done in the plain run, and each reply
+/// is the one that its event gets there.
+#[tactic(auto, using(crate::proofs::SoFar::replies_are_plain))]
+pub fn replies_are_plain()
+    ensures { RepliesArePlain }
 {}
