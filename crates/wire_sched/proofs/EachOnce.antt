@@ -67,7 +67,7 @@ same_weights (x ∷ xs) ys same =
     (IsPermutation-trans (x ∷ xs) (x ∷ (at.0 ++ at.1)) (at.0 ++ x ∷ at.1) (IsPermutation-cons x xs (at.0 ++ at.1) rest) (IsPermutation-sym (at.0 ++ x ∷ at.1) (x ∷ (at.0 ++ at.1)) (IsPermutation-middle at.0 x at.1)))
 
 -- f 0, .. f (n - 1), added up
-abbrev sum_to : (ℕ → ℕ) → ℕ → ℕ
+abbrev pub sum_to : (ℕ → ℕ) → ℕ → ℕ
 sum_to f zero = 0
 sum_to f (suc n) = sum_to f n + f n
 
@@ -88,7 +88,7 @@ sum_nothing f zero none = refl
 sum_nothing f (suc n) none = omega (arith, sum_nothing f n none, none n)
 
 -- what the views have, place by place, is what they have in all
-by_place : (h : Piece → ℕ) (vs : List Hand) → sum_to (λ k. weigh h (taken_at k vs)) (length vs) ≡ weigh h (all_of vs)
+pub by_place : (h : Piece → ℕ) (vs : List Hand) → sum_to (λ k. weigh h (taken_at k vs)) (length vs) ≡ weigh h (all_of vs)
 by_place h [] = refl
 by_place h (v ∷ vs) = omega (arith, sum_first (λ k. weigh h (taken_at k (v ∷ vs))) (length vs), by_place h vs, weigh-append h v.taken (all_of vs))
 

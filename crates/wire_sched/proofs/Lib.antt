@@ -9,4 +9,5 @@ pub mod Rising
 pub mod Joins
 pub mod Members
 pub mod EachOnce
+pub mod Bounds
 pub mod Turns

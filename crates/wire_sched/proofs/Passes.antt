@@ -11,21 +11,22 @@ use Rattle.wire_sched.specs.declared.round.Round.{Round}
 use Rattle.wire_sched.specs.declared.round.Pass.{Pass}
 use Rattle.wire_sched.specs.declared.round.Take.{Take}
 use Rattle.wire_sched.specs.declared.round.Take.TheVariants.{Got, Empty, Again}
-use Rattle.wire_sched.specs.Hands.{Takes, IsRising, TookRising}
+use Rattle.wire_sched.specs.Hands.{Takes, IsRising, TookRising, TookWithin}
 use Rattle.wire_sched.specs.Rules.{Finds}
 use Rattle.wire_sched.specs.Rounds.{Owner, Token, IsPassOf, IsToken, workers_of, worker_of, own_hand, MatchTake, TookAt, TookNone}
 use Rattle.wire_sched.specs.Deques.{SameDeque}
 use Rattle.wire_sched.proofs.Rising.{share_rises, rises_more}
+use Rattle.wire_sched.proofs.Bounds.{within_more}
 
--- the same parts of the same deal, and what was taken rises as before
+-- the same parts of the same deal, and what was taken rises and is bounded as before
 abbrev SameShare : Hand → Hand → Type 0
-SameShare v w = (w.parts ≡ v.parts) × (w.dealt ≡ v.dealt) × (IsRising v.dealt → TookRising v → TookRising w)
+SameShare v w = (w.parts ≡ v.parts) × (w.dealt ≡ v.dealt) × (IsRising v.dealt → TookRising v → TookRising w) × (TookWithin v → TookWithin w)
 
 share_of_take : (v w : Hand) (x : Piece) → Takes v (x ∷ []) w → SameShare v w
-share_of_take v w x h = (ap (λ (y : Hand). y.parts) h.5, ap (λ (y : Hand). y.dealt) h.5, rises_more v w x h)
+share_of_take v w x h = (ap (λ (y : Hand). y.parts) h.5, ap (λ (y : Hand). y.dealt) h.5, rises_more v w x h, within_more v w x h)
 
 share_of_same : (v w : Hand) → w ≡ v → SameShare v w
-share_of_same v w h = (ap (λ (y : Hand). y.parts) h, ap (λ (y : Hand). y.dealt) h, λ _ rises. subst TookRising (sym h) rises)
+share_of_same v w h = (ap (λ (y : Hand). y.parts) h, ap (λ (y : Hand). y.dealt) h, λ _ rises. subst TookRising (sym h) rises, subst TookWithin (sym h))
 
 pub own_share : (r : Option Piece) (v w : Hand) → MatchOption r ((w ≡ v) × Finds v) (λ x. Takes v (x ∷ []) w) → SameShare v w
 own_share None v w h = share_of_same v w h.0
@@ -46,14 +47,16 @@ with_own r p o is same share = record {
   parts = ap (λ n. n + workers_of r) share.0 ∙ is.parts;
   dealt = share.1 ∙ is.dealt;
   rising = share.2 (subst IsRising (sym is.dealt) (share_rises (worker_of p) (workers_of r) r.round r.ranks)) is.rising;
+  bounded = share.3 is.bounded;
   count = is.count;
   tokens = is.tokens;
+  unused = is.unused;
   fifos = is.fifos;
 }
 
-pub with_token : (r : Round) (p : Pass) (k : ℕ) (t u : Token) → IsPassOf r p → get_elem? p.tokens.items k ≡ some t → deque.SamePass t u → SameShare (deque.view t) (deque.view u)
+pub with_token : (r : Round) (p : Pass) (k : ℕ) (t u : Token) → IsPassOf r p → k ≢ worker_of p → get_elem? p.tokens.items k ≡ some t → deque.SamePass t u → SameShare (deque.view t) (deque.view u)
     → IsPassOf r (record { worker = p.worker; own = p.own; tokens = with_item p.tokens k u })
-with_token r p k t u is at same share = record {
+with_token r p k t u is other at same share = record {
   within = is.within;
   few = is.few;
   own = is.own;
@@ -61,12 +64,22 @@ with_token r p k t u is at same share = record {
   parts = is.parts;
   dealt = is.dealt;
   rising = is.rising;
+  bounded = is.bounded;
   count = length-set p.tokens.items k u ∙ is.count;
   tokens = λ j s y thief here.
       ⊎_elim (λ (x : (j ≡ k) × (u ≡ y)).
       let old : IsToken r j s t = is.tokens j s t thief (subst (λ i. get_elem? p.tokens.items i ≡ some t) (sym x.0) at) in
-      subst (IsToken r j s) x.1 ((same.0 ∙ old.0.0, same.1 ∙ old.0.1, same.3, same.4), share.0 ∙ old.1, share.1 ∙ old.2, share.2 (subst IsRising (sym old.2) (share_rises j (workers_of r) r.round r.ranks)) old.3))
+      subst (IsToken r j s) x.1 (
+        (same.0 ∙ old.0.0, same.1 ∙ old.0.1, same.3, same.4),
+        share.0 ∙ old.1,
+        share.1 ∙ old.2,
+        share.2 (subst IsRising (sym old.2) (share_rises j (workers_of r) r.round r.ranks)) old.3,
+        share.3 old.4,
+      ))
       (λ (x : (j ≢ k) × (get_elem? p.tokens.items j ≡ some y)). is.tokens j s y thief x.1) (at_set p.tokens.items k j u y here);
+  unused = λ y here.
+      ⊎_elim (λ (x : (worker_of p ≡ k) × (u ≡ y)). absurd (other (sym x.0)))
+      (λ (x : (worker_of p ≢ k) × (get_elem? p.tokens.items (worker_of p) ≡ some y)). is.unused y x.1) (at_set p.tokens.items k (worker_of p) u y here);
   fifos = is.fifos;
 }
 

@@ -9,11 +9,12 @@ use Rattle.wire_sched.specs.declared.round.Round.{Round}
 use Rattle.wire_sched.specs.declared.round.Pass.{Pass}
 use Rattle.wire_sched.specs.Hands.{hand, all_parts}
 use Rattle.wire_sched.specs.Shares.{share_of}
-use Rattle.wire_sched.specs.Rounds.{Thief, Token, ArePassesOf, workers_of, own_hand, token_hands}
+use Rattle.wire_sched.specs.Rounds.{Thief, Token, ArePassesOf, workers_of, worker_of, own_hand, token_hands}
 use Rattle.wire_sched.specs.Taken.{all_of, taken_by, taken_by_all}
 use Rattle.wire_sched.specs.Deques.{EachPair, SameDeque, IsCut, IsTokenOf, IsStart}
 use Rattle.wire_sched.proofs.Rows.{get_snoc, get_within, get_there, get_same}
 use Rattle.wire_sched.proofs.Rising.{rises_nothing}
+use Rattle.wire_sched.proofs.Bounds.{within_nothing}
 
 pub record Made (round ranks workers : ℕ) (passes : List Pass) (thieves : List Thief) (n : ℕ) : Type 0 where
   pub passes_so_far : length passes ≡ n
@@ -173,6 +174,7 @@ dealt_passes r first now n made h all few = (
           dealt = ap (λ (u : Hand). u.dealt) v ∙ (dealt ∙ ap (λ j. share_of j (workers_of r) r.round r.ranks) (sym k_is));
           count = sym row.0 ∙ (made.passes_so_far ∙ all);
           rising = rises_nothing (own_hand p) (ap (λ (u : Hand). u.taken) v);
+          bounded = within_nothing (own_hand p) (ap (λ (u : Hand). u.taken) v) (ap (λ (u : Hand). u.below) v);
           tokens = λ j t u thief here.
               let w' = get_within p.tokens.items j u here in
               let b = get_there first j (omega (arith, row.0)) in
@@ -182,7 +184,9 @@ dealt_passes r first now n made h all few = (
                 ap (λ (y : Hand). y.parts) is.1,
                 ap (λ (y : Hand). y.dealt) is.1 ∙ ap (λ (y : Hand). y.dealt) from.1.1,
                 rises_nothing (deque.view u) (ap (λ (y : Hand). y.taken) is.1),
+                within_nothing (deque.view u) (ap (λ (y : Hand). y.taken) is.1) (ap (λ (y : Hand). y.below) is.1),
               );
+          unused = (dealt_nothing first now n h (sym made.passes_so_far) k p at).1 (worker_of p);
           fifos = λ j t thief.
               let w' = get_within r.thieves.items j t thief in
               let b = get_there first j (omega (arith, made.passes_so_far, made.thieves_so_far)) in

@@ -30,6 +30,10 @@ AllBelow n xs = (i : ℕ) (x : Piece) → get_elem? xs i ≡ some x → x.rank.n
 abbrev pub IsRising : List Piece → Type 0
 IsRising xs = (i j : ℕ) (x y : Piece) → i < j → get_elem? xs i ≡ some x → get_elem? xs j ≡ some y → x.rank.number < y.rank.number
 
+-- the pass took no more pieces than left the deque until its last take, and these are no more than were dealt
+abbrev pub TookWithin : Hand → Type 0
+TookWithin v = (length v.taken ≤ v.below) × (v.below ≤ length v.dealt)
+
 -- what the pass took rises, and is below all that it may still take
 abbrev pub TookRising : Hand → Type 0
 TookRising v =

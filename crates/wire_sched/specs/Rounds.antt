@@ -13,7 +13,7 @@ use Rattle.wire_sched.specs.declared.round.Round.{Round}
 use Rattle.wire_sched.specs.declared.round.Pass.{Pass}
 use Rattle.wire_sched.specs.declared.round.Take.{Take}
 use Rattle.wire_sched.specs.declared.round.Take.TheVariants.{Got, Empty, Again}
-use Rattle.wire_sched.specs.Hands.{all_parts, Takes, TookRising}
+use Rattle.wire_sched.specs.Hands.{all_parts, Takes, TookRising, TookWithin}
 use Rattle.wire_sched.specs.Shares.{deal_of, share_of}
 
 -- the end of a deque at which its own worker pushes and pops
@@ -64,15 +64,16 @@ own_hand p = deque.worker_view p.own
 abbrev pub token_hands : Pass → List Hand
 token_hands p = map (λ (t : Token). deque.view t) p.tokens.items
 
--- a token of deque k of the round. What was taken with it rises
+-- a token of deque k of the round. What was taken with it rises, and is no more than was dealt
 abbrev pub IsToken : Round → ℕ → Thief → Token → Type 0
 IsToken r k s t =
     deque.IsPassOf (deque.stealer_deque s) t × ((deque.view t).parts ≡ 1)
     × ((deque.view t).dealt ≡ share_at r k)
-    × TookRising (deque.view t)
+    × TookRising (deque.view t) × TookWithin (deque.view t)
 
 -- A pass of the round. It has the deque of its worker, with all parts that the tokens of that deque don't have, and a
--- token for each deque. Each of these knows what was dealt to its deque, and what the pass took of it rises.
+-- token for each deque. Each of these knows what was dealt to its deque, and what the pass took of it rises and is no
+-- more than that. With the token of its own deque it took nothing.
 pub record IsPassOf (r : Round) (p : Pass) : Type 0 where
   pub within : worker_of p < workers_of r
   pub few : workers_of r < 2 ^ 64
@@ -81,8 +82,10 @@ pub record IsPassOf (r : Round) (p : Pass) : Type 0 where
   pub parts : (own_hand p).parts + workers_of r ≡ all_parts
   pub dealt : (own_hand p).dealt ≡ share_at r (worker_of p)
   pub rising : TookRising (own_hand p)
+  pub bounded : TookWithin (own_hand p)
   pub count : length p.tokens.items ≡ workers_of r
   pub tokens : (k : ℕ) (s : Thief) (t : Token) → get_elem? r.thieves.items k ≡ some s → get_elem? p.tokens.items k ≡ some t → IsToken r k s t
+  pub unused : (t : Token) → get_elem? p.tokens.items (worker_of p) ≡ some t → (deque.view t).taken ≡ []
   pub fifos : (k : ℕ) (s : Thief) → get_elem? r.thieves.items k ≡ some s → deque.stealer_flavor s ≡ 0
 
 -- all passes of the round, in the order of their workers

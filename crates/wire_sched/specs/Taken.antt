@@ -1,10 +1,10 @@
 -- What the passes of a round took, and what is left of it.
-use Rattle.std.specs.Prelude.{ℕ, zero, suc, List, [], ◌∷◌, ◌++◌, length, map, drop}
+use Rattle.std.specs.Prelude.{◌≡◌, ℕ, zero, suc, ◌+◌, ◌≤◌, List, [], ◌∷◌, ◌++◌, length, map, drop}
 use Rattle.wire_sched.specs.declared.rule.Piece.{Piece}
 use Rattle.wire_sched.specs.declared.rule.Hand.{Hand}
 use Rattle.wire_sched.specs.declared.round.Round.{Round}
 use Rattle.wire_sched.specs.declared.round.Pass.{Pass}
-use Rattle.wire_sched.specs.Rounds.{workers_of, share_at, own_hand, token_hands}
+use Rattle.wire_sched.specs.Rounds.{ranks_of, workers_of, share_at, own_hand, token_hands, IsPassOf}
 
 -- what was taken of all deques
 abbrev pub all_of : List Hand → List Piece
@@ -14,6 +14,18 @@ all_of (v ∷ vs) = v.taken ++ all_of vs
 -- all that one pass took: of its own deque, and then of each deque as a thief
 abbrev pub taken_by : Pass → List Piece
 taken_by p = (own_hand p).taken ++ all_of (token_hands p)
+
+-- it has taken as many pieces as before
+abbrev pub TookNoMore : Pass → Pass → Type 0
+TookNoMore old new = length (taken_by new) ≡ length (taken_by old)
+
+-- it has taken one piece more than before
+abbrev pub TookOneMore : Pass → Pass → Type 0
+TookOneMore old new = length (taken_by new) ≡ length (taken_by old) + 1
+
+-- no pass of a round has taken more pieces than the round has
+abbrev pub TakesAreBounded : Type 0
+TakesAreBounded = (r : Round) (p : Pass) → IsPassOf r p → length (taken_by p) ≤ ranks_of r
 
 -- all that the passes took, pass by pass
 abbrev pub taken_by_all : List Pass → List Piece

@@ -11,7 +11,7 @@ mod rule;
 mod serve;
 
 pub use gate::{Gate, OpenGate};
-pub use law::deal_rises;
+pub use law::{deal_rises, takes_are_bounded};
 pub use round::{Pass, Round, Take};
 pub use rule::Piece;
 pub use serve::{Serves, serve_pieces, work, work_locked};

@@ -1,7 +1,8 @@
 //! What one worker does in a round.
 
-ghost use Rattle.std.specs.Prelude.{◌≡◌, IfSome};
+ghost use Rattle.std.specs.Prelude.{◌≡◌, IfSome, OnSome};
 ghost use Rattle.wire_sched.specs.Rounds.{IsPassOf, IsPieceOf, worker_of};
+ghost use Rattle.wire_sched.specs.Taken.{TookOneMore};
 
 use crate::gate::Gate;
 use crate::round::{Pass, Round, Take};
@@ -86,10 +87,7 @@ pub fn serve_pieces<R: Wait, S: Serves, G: Gate>(
         tries: MOST_AGAIN,
     };
     let mut steps = 0usize;
-    'pieces: for _ in rt.forever() {
-        let Some(piece) = next_piece(round, pass, &mut victim) else {
-            break;
-        };
+    'pieces: while let Some(piece) = next_piece(round, pass, &mut victim) {
         gate.pass(pass.worker(), piece.rank);
         steps = steps.saturating_add(serves.serve_far(rt, piece.rank));
     }
@@ -101,6 +99,7 @@ fn next_piece(round: &Round, pass: &mut Pass, victim: &mut Victim) -> Option<Pie
     requires { IsPassOf round.now pass.old }
     ensures kept { IsPassOf round.now pass.new × (worker_of pass.new ≡ worker_of pass.old) }
     ensures piece { IfSome result (IsPieceOf round.now) }
+    ensures more { OnSome result (TookOneMore pass.old pass.new) }
 {
     match round.own_take(pass) {
         Some(piece) => Some(piece),
@@ -113,6 +112,7 @@ fn steal_next(round: &Round, pass: &mut Pass, victim: &mut Victim) -> Option<Pie
     requires { IsPassOf round.now pass.old }
     ensures kept { IsPassOf round.now pass.new × (worker_of pass.new ≡ worker_of pass.old) }
     ensures piece { IfSome result (IsPieceOf round.now) }
+    ensures more { OnSome result (TookOneMore pass.old pass.new) }
 {
     'deques: while victim.deque < round.workers() {
         if victim.deque == pass.worker() || victim.tries == 0 {

@@ -31,7 +31,7 @@ steal_from-requires-clause-part c = omega (arith, (the_token c).1)
 pub returns-clause-kept : goal.returns-clause-kept
 returns-clause-kept c =
     let k : c.args.victim < length c.args.pass.now.tokens.items = omega (arith, c.requires.pass.count, c.requires.victim.0) in
-    (with_token _ c.args.pass.now _ _ _ c.requires.pass (at_index _ _ _ k c.index_mut.ensures.value) c.steal_from.ensures.same (token_share _ _ _ c.steal_from.ensures.took), refl)
+    (with_token _ c.args.pass.now _ _ _ c.requires.pass c.requires.victim.1 (at_index _ _ _ k c.index_mut.ensures.value) c.steal_from.ensures.same (token_share _ _ _ c.steal_from.ensures.took), refl)
 
 pub returns-clause-took : goal.returns-clause-took
 returns-clause-took c =
