@@ -1,5 +1,5 @@
 -- What clauses see of a lane, and what its type keeps.
-use Rattle.std.specs.Prelude.{◌≡◌, ◌≢◌, ℕ, ◌++◌, ◌≤◌, List, Option, Some, IfSome, Vec, length, slice_get, slice_index}
+use Rattle.std.specs.Prelude.{◌≡◌, ◌≢◌, ◌↔◌, ℕ, ◌++◌, ◌≤◌, List, [], Option, Some, None, IfSome, Vec, length, slice_get, slice_index}
 use Rattle.std.specs.declared.alloc.Global.{Global}
 use Rattle.wire_types.specs.declared.Event.{Event as CodeEvent}
 use Rattle.wire_runs.specs.Plan.{Plan, event_of, event_count, process_count}
@@ -67,6 +67,39 @@ IsMissing settled seat noted = IfSome noted (λ x. Edge (plan_of settled) (event
 -- how many lanes there are
 pub record LanesAre : Type 0 where
   pub count : ℕ
+
+-- a lane with this seat, of whose rank nothing is done
+abbrev pub new_lane : SeatIs → LaneIs
+new_lane seat = record { seat = seat; trail = [] }
+
+-- the lane is of this rank, and its entries are fates of this plan
+pub record IsLaneOf (plan : Plan) (rank : ℕ) (lane : LaneIs) : Type 0 where
+  pub rank_is : lane.seat.rank ≡ rank
+  pub fates : AreFates plan rank lane.trail
+
+-- such a lane for each rank of the plan, in process order
+pub record AreLanesOf (plan : Plan) (lanes : List LaneIs) : Type 0 where
+  pub count : length lanes ≡ process_count plan
+  pub each : (r : ℕ) (lane : LaneIs) → slice_get lanes r ≡ Some lane → IsLaneOf plan r lane
+
+-- the lane's trail: as many entries as its seat's place says
+pub record IsTrailOf (lane : LaneIs) (trail : List Fate) : Type 0 where
+  pub is : trail ≡ lane.trail
+  pub as_long : length trail ≡ place_of lane.seat
+
+-- the trail of each of these lanes, in their order
+pub record AreTrailsOf (lanes : List LaneIs) (trails : List (Vec Fate Global)) : Type 0 where
+  pub count : length trails ≡ length lanes
+  pub each : (r : ℕ) (lane : LaneIs) (trail : Vec Fate Global) → slice_get lanes r ≡ Some lane → slice_get trails r ≡ Some trail → IsTrailOf lane trail.items
+
+-- what these lanes tell: their trails, exactly where they are the lanes of the plan
+pub record Tell (plan : Plan) (lanes : List LaneIs) (told : Option (Vec (Vec Fate Global) Global)) : Type 0 where
+  pub some : (told ≢ None) ↔ AreLanesOf plan lanes
+  pub trails : IfSome told (λ trails. AreTrailsOf lanes trails.items)
+
+-- it is what so many lanes tell
+abbrev pub IsToldBy : Plan → ℕ → Option (Vec (Vec Fate Global) Global) → Type 0
+IsToldBy plan count told = (lanes : List LaneIs) × (length lanes ≡ count) × Tell plan lanes told
 
 -- a trail for each rank of the plan, in process order
 pub record AreTrails (plan : Plan) (trails : List (Vec Fate Global)) : Type 0 where

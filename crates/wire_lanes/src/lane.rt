@@ -9,7 +9,7 @@ ghost use Rattle.wire_races.specs.Fates.{IsFateOf};
 ghost use Rattle.wire_plan.specs.Index.{source_list};
 ghost use Rattle.wire_board.specs.Cuts.{shows_event};
 ghost use Rattle.wire_board.specs.Seats.{place_of, next_of, ShowsNext};
-ghost use Rattle.wire_lanes.specs.Lanes.{AreFates, IsTrail, Grows, HasRead, IsSource, AreSourcesOf, SameLane};
+ghost use Rattle.wire_lanes.specs.Lanes.{AreFates, IsTrail, IsLaneOf, IsTrailOf, Grows, HasRead, IsSource, AreSourcesOf, SameLane};
 
 use std::alloc::Global;
 use std::marker::Model;
@@ -137,7 +137,8 @@ impl<'a> Lane<'a> {
         requires awaited { IfSome sources.awaited (IsSource self.old) }
         requires arrivals { AreSourcesOf self.old sources.arrivals.now }
         ensures read { HasRead self.old self.new }
-        ensures found { result ≡ list_all (shows_event self.new.seat.known) (source_list sources.entry.previous sources.entry.awaited sources.entry.arrivals.now) }
+        ensures found { result ≡ list_all (shows_event self.new.seat.known)
+            (source_list sources.entry.previous sources.entry.awaited sources.entry.arrivals.now) }
     {
         if !self.finds_awaited(sources.previous) {
             return false;
@@ -238,11 +239,11 @@ impl<'a> Lane<'a> {
         self.next_fate().is_some()
     }
 
-    /// Its trail, where it is a lane of this rank and its entries are the fates that this plan gives the rank's
-    /// first events; else `None`.
+    /// Its trail, as long as its seat's place, where it is a lane of this rank and its entries are the fates
+    /// that this plan gives the rank's first events; else `None`.
     pub fn into_trail(self, settled: &Settled, rank: Proc) -> Option<Vec<Fate>>
-        ensures trail { IfSome result (λ trail. trail.items ≡ self.entry.trail) }
-        ensures some { (result ≢ None) ↔ ((self.entry.seat.rank ≡ rank.number) × AreFates (plan_of settled.now) rank.number self.entry.trail) }
+        ensures trail { IfSome result (λ trail. IsTrailOf self.entry trail.items) }
+        ensures some { (result ≢ None) ↔ IsLaneOf (plan_of settled.now) rank.number self.entry }
     {
         let Lane {
             board: _,
