@@ -194,7 +194,7 @@ stores {S} plan slots id h carried told shown s kept sized at small =
             (fits_move plan s.words h n mine, tt);
         apart = λ r. let o = owners_set r s.views id (h ∷ []) w at in let c = count_map r h.rank n (h ∷ []) in let one = kept.apart r in omega arith;
       },
-      refl,
+      (refl, omega (arith, owns), (λ _. refl, tt)),
     )
 
 -- K3, a split

@@ -1,17 +1,17 @@
 -- What the positions that a seat knows show of an event's sources.
-use Rattle.std.proofs.Common.{◌≡◌, ℕ, zero, suc, ◌<◌, List, [], ◌∷◌, ◌++◌, ◌&&◌, Bool, true, Option, Some, None, ◌↔◌, map, refl, sym, ap, ◌∙◌, subst, lt-ltb, ltb-true}
-use Rattle.std.specs.Prelude.{slice_get, slice_index, option_map, option_to_list}
+use Rattle.std.proofs.Common.{◌≡◌, ℕ, zero, suc, ◌<◌, List, [], ◌∷◌, ◌++◌, ◌&&◌, Bool, true, false, not, Option, Some, None, ◌↔◌, map, take, drop, length, get_or, refl, sym, ap, ◌∙◌, subst, inl, inr, arith, lt-ltb, ltb-true}
+use Rattle.std.specs.Prelude.{slice_get, slice_index, option_map, option_to_list, is_some, if◌then◌else◌}
 use Rattle.std.specs.List.{list_all}
-use Rattle.std.proofs.lemmas.Bool.{and_parts, and_from}
+use Rattle.std.proofs.lemmas.Bool.{and_parts, and_from, and_cases, cases_Bool, true≢false}
 use Rattle.std.proofs.lemmas.Option.{same_Some}
-use Rattle.std.proofs.lemmas.List.Folds.{list_all-append, list_all-map}
+use Rattle.std.proofs.lemmas.List.Folds.{list_all-map}
 use Rattle.wire_types.specs.declared.Event.{Event as CodeEvent}
 use Rattle.wire_runs.specs.Plan.{Plan, Event, event_of, event_count}
 use Rattle.wire_runs.specs.Fate.{Waits, HasFate}
 use Rattle.wire_rehearsal.specs.Scripts.{Scripts}
 use Rattle.wire_rehearsal.specs.Planned.{plan_of}
 use Rattle.wire_plan.specs.Index.{AreSources, source_list}
-use Rattle.wire_board.specs.Cuts.{shows_event, ShowsSources}
+use Rattle.wire_board.specs.Cuts.{shows_event, skip_shown, ShowsSources}
 use Rattle.wire_board.specs.declared.hold.Hold.{Hold}
 use Rattle.wire_board.specs.Positions.{hold, next_in, ShowsNextIn}
 
@@ -34,15 +34,71 @@ sources_shown plan known y sources are = (
   λ shown. all_from (shows_event known) sources (λ k x is. lt-ltb x.at (slice_index known x.proc) (shown x (are.only k x is))),
 )
 
--- they are looked at in three parts
-pub in_parts : (known : List ℕ) (previous awaited : Option CodeEvent) (arrivals : List CodeEvent) → list_all (shows_event known) (source_list previous awaited arrivals)
-    ≡ (list_all (shows_event known) (option_to_list (option_map event_of previous)) && (list_all (shows_event known) (option_to_list (option_map event_of awaited)) && list_all (λ x. shows_event known (event_of x)) arrivals))
-in_parts known previous awaited arrivals =
-    let p = shows_event known in
-    let one = option_to_list (option_map event_of previous) in
-    let two = option_to_list (option_map event_of awaited) in
-    list_all-append p one (two ++ map event_of arrivals)
-    ∙ ap (λ b. list_all p one && b) (list_all-append p two (map event_of arrivals) ∙ ap (λ b. list_all p two && b) (list_all-map p event_of arrivals))
+-- Sources that are skipped because they are shown
+
+pub skip_one : (known : List ℕ) (x : Event) (xs : List Event) → shows_event known x ≡ true → skip_shown known (x ∷ xs) ≡ skip_shown known xs
+skip_one known x xs e = ap (λ (b : Bool). if b then skip_shown known xs else x ∷ xs) e
+
+pub skip_none : (known : List ℕ) (x : Event) (xs : List Event) → shows_event known x ≡ false → skip_shown known (x ∷ xs) ≡ x ∷ xs
+skip_none known x xs e = ap (λ (b : Bool). if b then skip_shown known xs else x ∷ xs) e
+
+-- the first of these events that isn't shown
+pub skip_to : (known : List ℕ) (events : List CodeEvent) (at : ℕ) (d : CodeEvent) → at < length events
+    → list_all (λ e. shows_event known (event_of e)) (take at events) ≡ true → shows_event known (event_of (get_or events at d)) ≡ false
+    → map event_of (drop at events) ≡ skip_shown known (map event_of events)
+skip_to known [] at d lt before here = absurd (omega (arith, lt))
+skip_to known (x ∷ xs) zero d lt before here = sym (skip_none known (event_of x) (map event_of xs) here)
+skip_to known (x ∷ xs) (suc at) d lt before here =
+    let parts = and_parts _ _ before in
+    skip_to known xs at d (omega (arith, lt)) parts.1 here ∙ sym (skip_one known (event_of x) (map event_of xs) parts.0)
+
+pub skip_all : (known : List ℕ) (xs : List Event) → list_all (shows_event known) xs ≡ true → skip_shown known xs ≡ []
+skip_all known [] all = refl
+skip_all known (x ∷ xs) all = let parts = and_parts _ _ all in skip_one known x xs parts.0 ∙ skip_all known xs parts.1
+
+pub skip_events : (known : List ℕ) (events : List CodeEvent) → list_all (λ e. shows_event known (event_of e)) events ≡ true → skip_shown known (map event_of events) ≡ []
+skip_events known events all = skip_all known (map event_of events) (list_all-map (shows_event known) event_of events ∙ all)
+
+-- an event that needn't be there, and more behind it
+pub skip_awaited : (known : List ℕ) (o : Option CodeEvent) (xs : List Event) → true ≡ list_all (shows_event known) (option_to_list (option_map event_of o))
+    → skip_shown known (option_to_list (option_map event_of o) ++ xs) ≡ skip_shown known xs
+skip_awaited known None xs shown = refl
+skip_awaited known (Some x) xs shown = skip_one known (event_of x) xs (and_parts _ _ (sym shown)).0
+
+pub skip_not : (known : List ℕ) (o : Option CodeEvent) (xs : List Event) → false ≡ list_all (shows_event known) (option_to_list (option_map event_of o))
+    → skip_shown known (option_to_list (option_map event_of o) ++ xs) ≡ option_to_list (option_map event_of o) ++ xs
+skip_not known None xs shown = absurd (true≢false (sym shown))
+skip_not known (Some x) xs shown = skip_none known (event_of x) xs (elim (and_cases _ _ (sym shown)) [ inl e ↦ e | inr e ↦ absurd (true≢false e) ])
+
+-- nothing is left exactly where all are shown
+pub none_left : (known : List ℕ) (xs : List Event) → (slice_get (skip_shown known xs) 0 ≡ None) ↔ (list_all (shows_event known) xs ≡ true)
+none_left known [] = (λ _. refl, λ _. refl)
+none_left known (x ∷ xs) = elim (cases_Bool (shows_event known x)) [
+  | inl t ↦ (
+    λ none. and_from _ _ t ((none_left known xs).0 (ap (λ ys. slice_get ys 0) (sym (skip_one known x xs t)) ∙ none)),
+    λ all. ap (λ ys. slice_get ys 0) (skip_all known (x ∷ xs) all),
+  )
+  | inr f ↦ (
+    λ none. absurd (some_none x (ap (λ ys. slice_get ys 0) (sym (skip_none known x xs f)) ∙ none)),
+    λ all. ap (λ ys. slice_get ys 0) (skip_all known (x ∷ xs) all),
+  )
+]
+  where
+    some_none : (x : Event) → ◌≡◌ {A = Option Event} (Some x) None → ⊥
+    some_none x e = cc
+
+-- told by the first of those that are left
+pub none_told : (known : List ℕ) (xs ys : List Event) (o : Option CodeEvent) (b : Bool) → is_some o ≡ not b → option_map event_of o ≡ slice_get ys 0 → ys ≡ skip_shown known xs → (b ≡ true) ↔ (list_all (shows_event known) xs ≡ true)
+none_told known xs ys None true told first are = (λ _. (none_left known xs).0 (ap (λ zs. slice_get zs 0) (sym are) ∙ sym first), λ _. refl)
+none_told known xs ys None false told first are = absurd (true≢false (sym told))
+none_told known xs ys (Some x) true told first are = absurd (true≢false told)
+none_told known xs ys (Some x) false told first are = (
+  λ e. absurd (true≢false (sym e)),
+  λ all. absurd (there (event_of x) (first ∙ (ap (λ zs. slice_get zs 0) are ∙ (none_left known xs).1 all))),
+)
+  where
+    there : (y : Event) → ◌≡◌ {A = Option Event} (Some y) None → ⊥
+    there y e = cc
 
 -- The owner of a rank whose positions show that its next event can happen, told of the plan and the event that the code has
 

@@ -1,5 +1,5 @@
 -- Words as the cut of a run: for each process the number of its events that are done.
-use Rattle.std.specs.Prelude.{◌≡◌, ℕ, ◌<◌, Bool, List, nat_lt, slice_index}
+use Rattle.std.specs.Prelude.{◌≡◌, ℕ, ◌<◌, Bool, List, [], ◌∷◌, nat_lt, slice_index, if◌then◌else◌}
 use Rattle.wire_runs.specs.Plan.{Plan, Event, process_count}
 use Rattle.wire_runs.specs.State.{State}
 use Rattle.wire_runs.specs.Step.{IsReachable}
@@ -22,6 +22,11 @@ pub record IsReachedCut (plan : Plan) (words : List ℕ) : Type 0 where
 -- whether these positions show that the event is done
 abbrev pub shows_event : List ℕ → Event → Bool
 shows_event known x = nat_lt x.at (slice_index known x.proc)
+
+-- these events from the first one on that the positions don't show to be done; none where they show each
+abbrev pub skip_shown : List ℕ → List Event → List Event
+skip_shown known [] = []
+skip_shown known (x ∷ xs) = if shows_event known x then skip_shown known xs else x ∷ xs
 
 -- they show that all sources of the event are done
 abbrev pub ShowsSources : Plan → List ℕ → Event → Type 0

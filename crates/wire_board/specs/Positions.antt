@@ -58,11 +58,13 @@ learn k n h = hold h.plan h.rank (slice_set h.known k n)
 
 -- what is found is known from now on, is no less than was known, and is the place at the word of an own rank
 abbrev pub Learns : {S : Type 0} → Step S → Me S (List Hold) → ℕ → Me S (List Hold) → Type 0
-Learns s m found n = (n ≡ (map (learn s.word found) m.0, m.1)) × Each (λ (h : Hold). (slice_index h.known s.word ≤ found) × (s.word ≡ h.rank → found ≡ slice_index h.known s.word)) m.0
+Learns s m found n = (n ≡ (map (learn s.word found) m.0, m.1))
+    × Each (λ (h : Hold). (slice_index h.known s.word ≤ found) × (s.word ≡ h.rank → found ≡ slice_index h.known s.word)) m.0
 
--- what is stored is known from now on
+-- a store moves the word of a rank that the seat owns, one up from the place there; what is stored is known from now on
 abbrev pub Stored : {S : Type 0} → Step S → Me S (List Hold) → ℕ → Me S (List Hold) → Type 0
-Stored s m stored n = n ≡ (map (learn s.word stored) m.0, m.1)
+Stored s m stored n = (n ≡ (map (learn s.word stored) m.0, m.1)) × (0 < count_of s.word m.0)
+    × Each (λ (h : Hold). s.word ≡ h.rank → stored ≡ slice_index h.known h.rank + 1) m.0
 
 -- the next event of the owner's rank
 abbrev pub next_in : Hold → Event

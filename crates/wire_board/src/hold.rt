@@ -27,7 +27,7 @@ impl TableRule<(), LinkedList<Hold>, Scripts> for Positions {
     ghost first = { opening_view };
 }
 
-/// A load of any word: what is found there is known from then on.
+/// A load of any word: what is known of it rises to what is found there.
 pub(crate) struct Reads;
 
 impl Play<(), LinkedList<Hold>> for Reads {
@@ -36,7 +36,7 @@ impl Play<(), LinkedList<Hold>> for Reads {
     ghost then = { Learns };
 }
 
-/// A store to the owner's word: what is stored there is known from then on.
+/// A store to the owner's word, one up from its place: what is stored there is known from then on.
 pub(crate) struct Stores;
 
 impl Play<(), LinkedList<Hold>> for Stores {

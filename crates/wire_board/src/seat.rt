@@ -2,12 +2,14 @@
 
 ghost use Rattle.std.specs.Prelude.{◌≡◌, ◌↔◌, ◌<◌, IsTrue};
 ghost use Rattle.wire_runs.specs.Plan.{event_of};
-ghost use Rattle.wire_board.specs.Cuts.{procs_of, shows_event};
+ghost use Rattle.wire_plan.specs.Index.{source_list};
+ghost use Rattle.wire_board.specs.Cuts.{procs_of, shows_event, skip_shown};
 ghost use Rattle.wire_board.specs.Seats.{SeatIs, place_of, ShowsNext};
 
 use crate::hold::Token;
-use crate::shown::{shown_fate, shows_event};
+use crate::shown::{shown_fate, shows_event, skip_shown};
 use std::marker::Model;
+use wire_plan::Sources;
 use wire_races::Settled;
 use wire_types::{Event, Proc};
 
@@ -54,6 +56,14 @@ impl Seat {
         ensures { result ≡ shows_event self.now.known (event_of event) }
     {
         shows_event(self.known.as_slice(), event)
+    }
+
+    /// These sources from the first one on that it doesn't know to be done; none where it knows each.
+    pub fn skip_known<'s>(&self, sources: Sources<'s>) -> Sources<'s>
+        ensures { source_list result.previous result.awaited result.arrivals.now
+            ≡ skip_shown self.now.known (source_list sources.entry.previous sources.entry.awaited sources.entry.arrivals.now) }
+    {
+        skip_shown(self.known.as_slice(), sources)
     }
 
     /// Whether the next event of its rank can happen: there is one, its fate isn't `Waits`, and the

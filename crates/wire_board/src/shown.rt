@@ -1,12 +1,12 @@
 //! What positions show: for each process the number of its events that are known to be done.
 
-ghost use Rattle.std.specs.Prelude.{◌≡◌, ◌≢◌, ◌↔◌, ◌<◌, ◌≤◌, None, map, option_map, option_to_list, slice_index, IfSome, MatchOption, IsTrue};
+ghost use Rattle.std.specs.Prelude.{◌≡◌, ◌≢◌, ◌↔◌, ◌<◌, ◌≤◌, None, map, option_map, option_to_list, slice_index, IfSome, MatchOption, slice_get, IsTrue};
 ghost use Rattle.std.specs.List.{list_all};
 ghost use Rattle.wire_runs.specs.Plan.{event_of, event_count};
 ghost use Rattle.wire_rehearsal.specs.Planned.{plan_of};
 ghost use Rattle.wire_plan.specs.Index.{source_list};
 ghost use Rattle.wire_races.specs.Fates.{IsFateOf};
-ghost use Rattle.wire_board.specs.Cuts.{shows_event, ShowsSources};
+ghost use Rattle.wire_board.specs.Cuts.{shows_event, skip_shown, ShowsSources};
 ghost use Rattle.wire_board.specs.Positions.{hold, next_in, ShowsNextIn};
 
 use wire_plan::{Plan, Sources};
@@ -33,24 +33,55 @@ fn shows_awaited(known: &[u64], event: Option<Event>) -> bool
     }
 }
 
-// The same of each of these events.
-fn shows_each(known: &[u64], events: &[Event]) -> bool
-    ensures { result ≡ list_all (λ event. shows_event known.now (event_of event)) events.now }
+// These events from the first one on that the positions don't show to be done; none where they show each.
+fn skip_shown_events<'a>(known: &[u64], events: &'a [Event]) -> &'a [Event]
+    ensures { map event_of result.now ≡ skip_shown known.now (map event_of events.now) }
 {
-    events.iter().all(|event| shows_event(known, *event))
+    for at in 0..events.len() {
+        if !shows_event(known, events[at]) {
+            return &events[at..];
+        }
+    }
+    &[]
 }
 
-// The same of each of these sources. Each is looked at once.
-fn shows_all(known: &[u64], sources: Sources<'_>) -> bool
-    ensures { result ≡ list_all (shows_event known.now) (source_list sources.entry.previous sources.entry.awaited sources.entry.arrivals.now) }
+/// These sources from the first one on that the positions don't show to be done; none where they show each.
+/// Each source is looked at once.
+pub fn skip_shown<'a>(known: &[u64], sources: Sources<'a>) -> Sources<'a>
+    ensures { source_list result.previous result.awaited result.arrivals.now
+        ≡ skip_shown known.now (source_list sources.entry.previous sources.entry.awaited sources.entry.arrivals.now) }
 {
     if !shows_awaited(known, sources.previous) {
-        return false;
+        return sources;
     }
     if !shows_awaited(known, sources.awaited) {
-        return false;
+        return Sources {
+            previous: None,
+            awaited: sources.awaited,
+            arrivals: sources.arrivals,
+        };
     }
-    shows_each(known, sources.arrivals)
+    Sources {
+        previous: None,
+        awaited: None,
+        arrivals: skip_shown_events(known, sources.arrivals),
+    }
+}
+
+/// The first of these sources, if there is one.
+pub fn first_source(sources: Sources<'_>) -> Option<Event>
+    ensures { option_map event_of result ≡ slice_get (source_list sources.entry.previous sources.entry.awaited sources.entry.arrivals.now) 0 }
+{
+    if let Some(previous) = sources.previous {
+        return Some(previous);
+    }
+    if let Some(awaited) = sources.awaited {
+        return Some(awaited);
+    }
+    match sources.arrivals.get(0) {
+        Some(arrival) => Some(*arrival),
+        None => None,
+    }
 }
 
 // Whether the positions show all sources of an event of the plan.
@@ -58,7 +89,7 @@ fn shows_sources(known: &[u64], plan: &Plan, event: Event) -> bool
     requires { event.at < event_count (plan_of plan.now) event.proc.number }
     ensures { IsTrue result ↔ ShowsSources (plan_of plan.now) known.now (event_of event) }
 {
-    shows_all(known, plan.sources(event))
+    first_source(skip_shown(known, plan.sources(event))).is_none()
 }
 
 // The next event of a rank, if there is one.

@@ -1,3 +1,4 @@
 pub mod Trails
 pub mod Opening
 mod Looking
+mod Told

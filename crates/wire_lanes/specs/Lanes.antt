@@ -1,14 +1,14 @@
 -- What clauses see of a lane, and what its type keeps.
-use Rattle.std.specs.Prelude.{◌≡◌, ◌≢◌, ℕ, ◌++◌, ◌≤◌, List, Option, Some, IfSome, Vec, length, slice_get, slice_index}
+use Rattle.std.specs.Prelude.{◌≡◌, ◌≢◌, ◌↔◌, ◌⊎◌, ℕ, true, ◌++◌, ◌≤◌, List, [], Option, Some, None, IfSome, Vec, length, slice_get, slice_index}
 use Rattle.std.specs.declared.alloc.Global.{Global}
-use Rattle.wire_types.specs.declared.Event.{Event as CodeEvent}
-use Rattle.wire_runs.specs.Plan.{Plan, event_of, event_count, process_count}
+use Rattle.wire_runs.specs.Plan.{Plan, Event, event_count, process_count}
 use Rattle.wire_runs.specs.Order.{Edge}
 use Rattle.wire_rehearsal.specs.Scripts.{Scripts}
 use Rattle.wire_rehearsal.specs.Planned.{plan_of}
 use Rattle.wire_races.specs.declared.Fate.{Fate}
 use Rattle.wire_races.specs.declared.Fate.TheVariants.{Waits}
 use Rattle.wire_races.specs.Fates.{IsFateOf}
+use Rattle.wire_board.specs.Cuts.{shows_event}
 use Rattle.wire_board.specs.Seats.{BoardIs, SeatIs, place_of, next_of}
 
 -- the seat of its rank, and what the rank's events did
@@ -53,20 +53,47 @@ pub record HasRead (old new : LaneIs) : Type 0 where
   pub place : place_of new.seat ≡ place_of old.seat
   pub rises : (k : ℕ) → slice_index old.seat.known k ≤ slice_index new.seat.known k
 
--- a source of the next event of the lane's rank
-abbrev pub IsSource : LaneIs → CodeEvent → Type 0
-IsSource lane x = Edge (plan_of lane.seat.board.plan) (event_of x) (next_of lane.seat)
-
-abbrev pub AreSourcesOf : LaneIs → List CodeEvent → Type 0
-AreSourcesOf lane xs = (i : ℕ) (x : CodeEvent) → slice_get xs i ≡ Some x → IsSource lane x
-
--- if one is noted as missing, it is a source of the next event of the seat's rank
-abbrev pub IsMissing : Scripts → SeatIs → Option CodeEvent → Type 0
-IsMissing settled seat noted = IfSome noted (λ x. Edge (plan_of settled) (event_of x) (next_of seat))
+-- these are sources of the next event of the seat's rank, and the seat knows all others to be done
+pub record AreLeft (plan : Plan) (seat : SeatIs) (xs : List Event) : Type 0 where
+  pub only : (k : ℕ) (x : Event) → slice_get xs k ≡ Some x → Edge plan x (next_of seat)
+  pub all : (x : Event) → Edge plan x (next_of seat) → (shows_event seat.known x ≡ true) ⊎ ((k : ℕ) × (slice_get xs k ≡ Some x))
 
 -- how many lanes there are
 pub record LanesAre : Type 0 where
   pub count : ℕ
+
+-- a lane with this seat, of whose rank nothing is done
+abbrev pub new_lane : SeatIs → LaneIs
+new_lane seat = record { seat = seat; trail = [] }
+
+-- the lane is of this rank, and its entries are fates of this plan
+pub record IsLaneOf (plan : Plan) (rank : ℕ) (lane : LaneIs) : Type 0 where
+  pub rank_is : lane.seat.rank ≡ rank
+  pub fates : AreFates plan rank lane.trail
+
+-- such a lane for each rank of the plan, in process order
+pub record AreLanesOf (plan : Plan) (lanes : List LaneIs) : Type 0 where
+  pub count : length lanes ≡ process_count plan
+  pub each : (r : ℕ) (lane : LaneIs) → slice_get lanes r ≡ Some lane → IsLaneOf plan r lane
+
+-- the lane's trail: as many entries as its seat's place says
+pub record IsTrailOf (lane : LaneIs) (trail : List Fate) : Type 0 where
+  pub is : trail ≡ lane.trail
+  pub as_long : length trail ≡ place_of lane.seat
+
+-- the trail of each of these lanes, in their order
+pub record AreTrailsOf (lanes : List LaneIs) (trails : List (Vec Fate Global)) : Type 0 where
+  pub count : length trails ≡ length lanes
+  pub each : (r : ℕ) (lane : LaneIs) (trail : Vec Fate Global) → slice_get lanes r ≡ Some lane → slice_get trails r ≡ Some trail → IsTrailOf lane trail.items
+
+-- what these lanes tell: their trails, exactly where they are the lanes of the plan
+pub record Tell (plan : Plan) (lanes : List LaneIs) (told : Option (Vec (Vec Fate Global) Global)) : Type 0 where
+  pub some : (told ≢ None) ↔ AreLanesOf plan lanes
+  pub trails : IfSome told (λ trails. AreTrailsOf lanes trails.items)
+
+-- it is what so many lanes tell
+abbrev pub IsToldBy : Plan → ℕ → Option (Vec (Vec Fate Global) Global) → Type 0
+IsToldBy plan count told = (lanes : List LaneIs) × (length lanes ≡ count) × Tell plan lanes told
 
 -- a trail for each rank of the plan, in process order
 pub record AreTrails (plan : Plan) (trails : List (Vec Fate Global)) : Type 0 where

@@ -1,19 +1,18 @@
 //! One rank's seat, and the trail of what its events did.
 
-ghost use Rattle.std.specs.Prelude.{◌≡◌, ◌≢◌, ◌+◌, ◌<◌, [], length, option_map, option_to_list, None, IfOk, IfSome, IsOkUnless, IsTrue, ◌↔◌};
-ghost use Rattle.std.specs.List.{list_all};
+ghost use Rattle.std.specs.Prelude.{◌≡◌, ◌≢◌, ◌+◌, ◌<◌, [], length, None, IfOk, IfSome, IsOkUnless, IsTrue, ◌↔◌};
 ghost use Rattle.wire_types.specs.declared.Fault.TheVariants.{Memory};
 ghost use Rattle.wire_runs.specs.Plan.{event_of, event_count};
 ghost use Rattle.wire_rehearsal.specs.Planned.{plan_of};
 ghost use Rattle.wire_races.specs.Fates.{IsFateOf};
 ghost use Rattle.wire_plan.specs.Index.{source_list};
-ghost use Rattle.wire_board.specs.Cuts.{shows_event};
+ghost use Rattle.wire_board.specs.Cuts.{shows_event, ShowsSources};
 ghost use Rattle.wire_board.specs.Seats.{place_of, next_of, ShowsNext};
-ghost use Rattle.wire_lanes.specs.Lanes.{AreFates, IsTrail, Grows, HasRead, IsSource, AreSourcesOf, SameLane};
+ghost use Rattle.wire_lanes.specs.Lanes.{AreFates, IsTrail, IsLaneOf, IsTrailOf, Grows, HasRead, AreLeft, SameLane};
 
 use std::alloc::Global;
 use std::marker::Model;
-use wire_board::{Board, Seat};
+use wire_board::{Board, Seat, first_source};
 use wire_plan::Sources;
 use wire_races::{Fate, Settled};
 use wire_types::{Event, Fault, Proc};
@@ -26,19 +25,23 @@ pub struct Lane<'a> {
     settled: &'a Settled,
     seat: Seat,
     trail: Vec<Fate>,
-    /// A source of the next event that wasn't done when its word was last read, if one was met.
-    missing: Option<Event>,
+    /// The sources of the next event from the first one on that wasn't done when its word was last read, if they
+    /// were looked at.
+    left: Option<Sources<'a>>,
 }
 
 impl<'a> Model for Lane<'a> {
-    ghost use Rattle.std.specs.Prelude.{vec_capacity};
-    ghost use Rattle.wire_lanes.specs.Lanes.{LaneIs, IsLane, IsMissing};
+    ghost use Rattle.std.specs.Prelude.{vec_capacity, IfSome};
+    ghost use Rattle.wire_rehearsal.specs.Planned.{plan_of};
+    ghost use Rattle.wire_plan.specs.Index.{source_list};
+    ghost use Rattle.wire_lanes.specs.Lanes.{LaneIs, IsLane, AreLeft};
 
     ghost Value = { LaneIs };
 
     ghost view = { λ l. record { seat = l.seat; trail = l.trail.items } };
 
-    ghost invariant = { λ l. IsLane l.board.now l.settled.now l.seat l.trail.items (vec_capacity l.trail) × IsMissing l.settled.now l.seat l.missing };
+    ghost invariant = { λ l. IsLane l.board.now l.settled.now l.seat l.trail.items (vec_capacity l.trail)
+        × IfSome l.left (λ s. AreLeft (plan_of l.settled.now) l.seat (source_list s.previous s.awaited s.arrivals.now)) };
 }
 
 impl<'a> Lane<'a> {
@@ -63,7 +66,7 @@ impl<'a> Lane<'a> {
             settled,
             seat,
             trail,
-            missing: None,
+            left: None,
         })
     }
 
@@ -82,10 +85,8 @@ impl<'a> Lane<'a> {
         self.trail.as_slice()
     }
 
-    // Whether the seat knows that a source of the next event is done. Where it doesn't, it reads the word of the source's
-    // process afresh first.
+    // Whether the seat knows that an event is done. Where it doesn't, it reads the word of the event's process afresh first.
     fn finds(&mut self, source: Event) -> bool
-        requires { IsSource self.old source }
         ensures read { HasRead self.old self.new }
         ensures found { result ≡ shows_event self.new.seat.known (event_of source) }
     {
@@ -98,65 +99,48 @@ impl<'a> Lane<'a> {
             return false;
         }
         let _ = board.read(&mut self.seat, source.proc);
-        let found = self.seat.knows(source);
-        if !found {
-            self.missing = Some(source);
-        }
-        found
+        self.seat.knows(source)
     }
 
-    // The same of a source that needn't be there.
-    fn finds_awaited(&mut self, source: Option<Event>) -> bool
-        requires { IfSome source (IsSource self.old) }
-        ensures read { HasRead self.old self.new }
-        ensures found { result ≡ list_all (shows_event self.new.seat.known) (option_to_list (option_map event_of source)) }
+    // The sources of the next event that may not be known to be done: those from the first one on that was missing when
+    // they were looked at last, or all.
+    fn sources_left(&self, event: Event) -> Sources<'a>
+        requires event { (event_of event ≡ next_of self.now.seat) × (event.at < event_count (plan_of self.now.seat.board.plan) event.proc.number) }
+        ensures { AreLeft (plan_of self.now.seat.board.plan) self.now.seat (source_list result.previous result.awaited result.arrivals.now) }
     {
-        match source {
-            Some(source) => self.finds(source),
-            None => true,
-        }
-    }
-
-    // The same of each of these sources. It stops at the first that isn't done.
-    fn finds_each(&mut self, sources: &[Event]) -> bool
-        requires { AreSourcesOf self.old sources.now }
-        ensures read { HasRead self.old self.new }
-        ensures found { result ≡ list_all (λ event. shows_event self.new.seat.known (event_of event)) sources.now }
-    {
-        for source in sources {
-            if !self.finds(*source) {
-                return false;
+        match self.left {
+            Some(left) => left,
+            None => {
+                let settled = self.settled;
+                settled.plan().sources(event)
             }
         }
+    }
+
+    // These sources are the ones to be looked at next.
+    fn keep_left(&mut self, left: Sources<'a>)
+        requires { AreLeft (plan_of self.old.seat.board.plan) self.old.seat (source_list left.previous left.awaited left.arrivals.now) }
+        ensures { self.new ≡ self.old }
+    {
+        self.left = Some(left);
+    }
+
+    // Whether the seat knows all sources of the next event to be done. It reads afresh the word of each that it doesn't know to
+    // be done, up to the first that isn't done then. Each source is passed once, however often this is called.
+    fn finds_all(&mut self, event: Event) -> bool
+        requires event { (event_of event ≡ next_of self.old.seat) × (event.at < event_count (plan_of self.old.seat.board.plan) event.proc.number) }
+        ensures read { HasRead self.old self.new }
+        ensures found { IsTrue result ↔ ShowsSources (plan_of self.new.seat.board.plan) self.new.seat.known (next_of self.new.seat) }
+    {
+        let mut left = self.seat.skip_known(self.sources_left(event));
+        'sources: while let Some(source) = first_source(left) {
+            if !self.finds(source) {
+                self.keep_left(left);
+                return false;
+            }
+            left = self.seat.skip_known(left);
+        }
         true
-    }
-
-    // The same of all these sources. That of its own process is known by the seat's place.
-    fn finds_all(&mut self, sources: Sources<'_>) -> bool
-        requires previous { IfSome sources.previous (IsSource self.old) }
-        requires awaited { IfSome sources.awaited (IsSource self.old) }
-        requires arrivals { AreSourcesOf self.old sources.arrivals.now }
-        ensures read { HasRead self.old self.new }
-        ensures found { result ≡ list_all (shows_event self.new.seat.known) (source_list sources.entry.previous sources.entry.awaited sources.entry.arrivals.now) }
-    {
-        if !self.finds_awaited(sources.previous) {
-            return false;
-        }
-        if !self.finds_awaited(sources.awaited) {
-            return false;
-        }
-        self.finds_each(sources.arrivals)
-    }
-
-    // Whether the source that was missing last is still missing, after a fresh read.
-    fn is_missing(&mut self) -> bool
-        ensures read { HasRead self.old self.new }
-        ensures missing { IsTrue result → ¬ (ShowsNext self.new.seat) }
-    {
-        match self.missing {
-            Some(source) => !self.finds(source),
-            None => false,
-        }
     }
 
     // The fate of the next event, where the seat shows that it can happen after it read afresh the words of sources that
@@ -166,30 +150,17 @@ impl<'a> Lane<'a> {
         ensures ready { (result ≢ None) ↔ ShowsNext self.new.seat }
         ensures fate { IfSome result (λ fate. IsFateOf (plan_of self.new.seat.board.plan) (next_of self.new.seat) fate × (fate ≢ Fate.Waits)) }
     {
-        if self.is_missing() {
-            return None;
-        }
-        self.look_at_all()
-    }
-
-    // The same, whatever was missing before.
-    fn look_at_all(&mut self) -> Option<Fate>
-        ensures read { HasRead self.old self.new }
-        ensures ready { (result ≢ None) ↔ ShowsNext self.new.seat }
-        ensures fate { IfSome result (λ fate. IsFateOf (plan_of self.new.seat.board.plan) (next_of self.new.seat) fate × (fate ≢ Fate.Waits)) }
-    {
         let settled = self.settled;
-        let plan = settled.plan();
         let proc = self.seat.rank();
         let done = self.trail.len();
-        if done >= plan.event_count(proc) as usize {
+        if done >= settled.plan().event_count(proc) as usize {
             return None;
         }
         let event = Event {
             proc,
             at: done as u32,
         };
-        if !self.finds_all(plan.sources(event)) {
+        if !self.finds_all(event) {
             return None;
         }
         match settled.fate(event) {
@@ -209,7 +180,7 @@ impl<'a> Lane<'a> {
         let settled = self.settled;
         board.advance(&mut self.seat, settled);
         self.trail.push_reserved(fate);
-        self.missing = None;
+        self.left = None;
     }
 
     /// Serves the rank as far as it goes: reads afresh the sources of the next event that aren't known to be
@@ -238,18 +209,18 @@ impl<'a> Lane<'a> {
         self.next_fate().is_some()
     }
 
-    /// Its trail, where it is a lane of this rank and its entries are the fates that this plan gives the rank's
-    /// first events; else `None`.
+    /// Its trail, as long as its seat's place, where it is a lane of this rank and its entries are the fates
+    /// that this plan gives the rank's first events; else `None`.
     pub fn into_trail(self, settled: &Settled, rank: Proc) -> Option<Vec<Fate>>
-        ensures trail { IfSome result (λ trail. trail.items ≡ self.entry.trail) }
-        ensures some { (result ≢ None) ↔ ((self.entry.seat.rank ≡ rank.number) × AreFates (plan_of settled.now) rank.number self.entry.trail) }
+        ensures trail { IfSome result (λ trail. IsTrailOf self.entry trail.items) }
+        ensures some { (result ≢ None) ↔ IsLaneOf (plan_of settled.now) rank.number self.entry }
     {
         let Lane {
             board: _,
             settled: _,
             seat,
             trail,
-            missing: _,
+            left: _,
         } = self;
         if seat.rank() != rank {
             return None;

@@ -1,14 +1,15 @@
 //! The lanes of all ranks, each under a lock.
 
-ghost use Rattle.std.specs.Prelude.{◌≡◌, length, IfOk, IfSome, IsOkUnless};
+ghost use Rattle.std.specs.Prelude.{◌≡◌, length, IfOk, IfSome, IsOkUnless, vec_len};
 ghost use Rattle.wire_types.specs.declared.Fault.TheVariants.{Memory};
 ghost use Rattle.wire_rehearsal.specs.Planned.{plan_of};
 ghost use Rattle.wire_board.specs.Cuts.{procs_of};
 ghost use Rattle.wire_board.specs.Seats.{opening_seats};
-ghost use Rattle.wire_lanes.specs.Lanes.{AreTrails};
+ghost use Rattle.wire_lanes.specs.Lanes.{AreTrails, IsToldBy};
 
 use crate::lane::Lane;
-use std::alloc::Global;
+use crate::row::{lanes_of, trails_of};
+use std::alloc::{AllocError, Global};
 use std::marker::Model;
 use std::sync::{Mutex, Wait};
 use wire_board::{Board, Seat};
@@ -40,18 +41,15 @@ impl<'a> Lanes<'a> {
         alloc: Global,
         board: &'a Board,
         settled: &'a Settled,
-        mut seats: Vec<Seat>,
+        seats: Vec<Seat>,
     ) -> Result<Lanes<'a>, Fault>
         requires plan { board.now.plan ≡ settled.now }
         requires seats { seats.items ≡ opening_seats board.now }
         ensures count { IfOk result (λ lanes. lanes.count ≡ procs_of board.now.plan) }
         ensures memory { IsOkUnless result Memory }
     {
-        let mut lanes = Vec::with_capacity(alloc, seats.len())?;
-        'seats: while let Some(seat) = seats.pop() {
-            lanes.push_reserved(Mutex::new(Lane::new(alloc, board, settled, seat)?));
-        }
-        lanes.reverse();
+        let lanes = lanes_of(alloc, board, settled, seats)?;
+        let lanes = locked(alloc, lanes)?;
         Ok(Lanes { lanes })
     }
 
@@ -77,26 +75,42 @@ impl<'a> Lanes<'a> {
 
     /// The trails of all ranks of this plan, in process order; `None` where there aren't as many lanes as
     /// ranks, or where a lane is of another rank than its place says or has entries that aren't the fates of
-    /// this plan. The one fault is `Fault::Memory`.
+    /// this plan (`trails_of`). Which lanes come from under the locks isn't told: other threads may have served
+    /// them, or not. The one fault is `Fault::Memory`.
     pub fn trails(self, alloc: Global, settled: &Settled) -> Result<Option<Vec<Vec<Fate>>>, Fault>
+        ensures told { IfOk result (λ o. IsToldBy (plan_of settled.now) self.entry.count o) }
         ensures trails { IfOk result (λ o. IfSome o (λ trails. AreTrails (plan_of settled.now) trails.items)) }
         ensures count { IfOk result (λ o. IfSome o (λ trails. length trails.items ≡ self.entry.count)) }
         ensures memory { IsOkUnless result Memory }
     {
-        let mut lanes = self.lanes;
-        let count = settled.plan().process_count();
-        if lanes.len() != count as usize {
-            return Ok(None);
-        }
-        let mut trails = Vec::with_capacity(alloc, lanes.len())?;
-        lanes.reverse();
-        'lanes: while let Some(lane) = lanes.pop() {
-            let rank = Proc::new(trails.len() as u32);
-            let Some(trail) = lane.into_inner().into_trail(settled, rank) else {
-                return Ok(None);
-            };
-            trails.push_reserved(trail);
-        }
-        Ok(Some(trails))
+        let lanes = unlocked(alloc, self.lanes)?;
+        let told = trails_of(alloc, lanes, settled)?;
+        Ok(told)
     }
+}
+
+// These lanes, in their order, each under a lock.
+fn locked<'a>(alloc: Global, lanes: Vec<Lane<'a>>) -> Result<Vec<Mutex<Lane<'a>>>, AllocError>
+    ensures { IfOk result (λ locked. vec_len locked ≡ vec_len lanes.entry) }
+{
+    let mut lanes = lanes;
+    let mut locked = Vec::with_capacity(alloc, lanes.len())?;
+    'lanes: while let Some(lane) = lanes.pop() {
+        locked.push_reserved(Mutex::new(lane));
+    }
+    locked.reverse();
+    Ok(locked)
+}
+
+// These lanes, in their order, under no lock.
+fn unlocked<'a>(alloc: Global, locked: Vec<Mutex<Lane<'a>>>) -> Result<Vec<Lane<'a>>, AllocError>
+    ensures { IfOk result (λ lanes. vec_len lanes ≡ vec_len locked.entry) }
+{
+    let mut locked = locked;
+    let mut lanes = Vec::with_capacity(alloc, locked.len())?;
+    'locks: while let Some(lane) = locked.pop() {
+        lanes.push_reserved(lane.into_inner());
+    }
+    lanes.reverse();
+    Ok(lanes)
 }

@@ -4,6 +4,8 @@
 
 mod lane;
 mod lanes;
+mod row;
 
 pub use lane::Lane;
 pub use lanes::Lanes;
+pub use row::{lanes_of, trails_of};

@@ -10,12 +10,12 @@ pub returns-then-not-are_fates-clause-some : goal.returns-then-not-are_fates-cla
 returns-then-not-are_fates-clause-some c =
     let same = c.as_slice.ensures.value ∙ ap (λ (l : LaneIs). l.trail) c.self.view_is in (
       (λ none. absurd (none refl)),
-      (λ both. absurd (true≢false (sym (c.are_fates.ensures.1 (subst (AreFates (plan_of c.args.settled.now) c.args.rank.number) (sym same) both.1)) ∙ c.if-not-are_fates.true))),
+      (λ both. absurd (true≢false (sym (c.are_fates.ensures.1 (subst (AreFates (plan_of c.args.settled.now) c.args.rank.number) (sym same) both.fates)) ∙ c.if-not-are_fates.true))),
     )
 
 pub returns-clause-some : goal.returns-clause-some
 returns-clause-some c =
     let same = c.as_slice.ensures.value ∙ ap (λ (l : LaneIs). l.trail) c.self.view_is in (
-      (λ _. (grind (arith, common_steps), subst (AreFates (plan_of c.args.settled.now) c.args.rank.number) same (c.are_fates.ensures.0 c.if-not-are_fates.false))),
+      (λ _. record { rank_is = grind (arith, common_steps); fates = subst (AreFates (plan_of c.args.settled.now) c.args.rank.number) same (c.are_fates.ensures.0 c.if-not-are_fates.false) }),
       (λ _ none. none-some _ (sym none)),
     )

@@ -1,19 +1,17 @@
-use Rattle.std.proofs.Common.{Some, arith}
-use Rattle.std.proofs.lemmas.Grind.{common_steps}
-use Rattle.std.proofs.lemmas.List.Elements.{All-pop}
-use Rattle.wire_lanes.proofs.Opening.{IsNew, new_seats, seat_count}
+use Rattle.std.proofs.Common.{length, ap, arith}
+use Rattle.std.proofs.lemmas.List.{length-map}
+use Rattle.wire_lanes.specs.Lanes.{new_lane}
+use Rattle.wire_lanes.proofs.Opening.{new_seats, seat_count}
 use Rattle.wire_lanes.proofs.lanes.Lanes.new.Goals as goal
 
-pub seats-init : goal.seats-init
-seats-init c = let count = seat_count c.args.board.now c.args.seats.items c.requires.seats in let len = c.args.seats.ok.0 in (
-  new_seats c.args.board.now c.args.seats.items c.requires.seats,
-  grind (arith, common_steps, count, len),
-  grind (arith, common_steps, count, len),
-)
+pub lanes_of-requires-clause-seats : goal.lanes_of-requires-clause-seats
+lanes_of-requires-clause-seats c = new_seats c.args.board.now c.args.seats.items c.requires.seats
 
-pub seats-preserved : goal.seats-preserved
-seats-preserved c = (
-  (All-pop (IsNew c.args.board.now) c.seats.seats.items c.pop.new.self.items (Some c.in-Some.seat) c.in-Some.ensures.items c.seats.invariant.0).0,
-  grind (arith, common_steps),
-  grind (arith, common_steps),
-)
+pub returns-clause-count : goal.returns-clause-count
+returns-clause-count c =
+    let made = ap length c.in_ok-lanes.ensures.lanes in
+    let mapped = length-map c.args.seats.items new_lane in
+    let count = seat_count c.args.board.now c.args.seats.items c.requires.seats in
+    let ok = c.in_ok-lanes.lanes.ok.0 in
+    let locked = c.in_ok-lanes-2.ensures in
+    omega (arith, made, mapped, count, ok, locked)
