@@ -3,3 +3,4 @@ pub mod Keeps
 pub mod Dealing
 pub mod Closing
 pub mod Showing
+pub mod Steps

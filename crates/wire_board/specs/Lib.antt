@@ -1,3 +1,4 @@
 pub mod Cuts
 pub mod Positions
 pub mod Seats
+pub mod Steps

@@ -19,8 +19,8 @@ use wire_rehearsal::Scripts;
 use wire_types::{Fault, Proc};
 
 /// One atomic word for each process: the number of its events that are done. Between any two steps of any
-/// threads the words are the cut of a state that a run can come to. Contracts see which board it is, and
-/// the settled plan of which it was made.
+/// threads the words are the cut of a state that a run can come to. Each store is one step of a run (the law
+/// `stores_are_steps`). Contracts see which board it is, and the settled plan of which it was made.
 #[derive(Drop)]
 pub struct Board {
     table: Table<(), LinkedList<Hold>, Scripts, Positions, Global>,

@@ -2,3 +2,4 @@ pub mod Trails
 pub mod Opening
 mod Looking
 mod Told
+pub mod PlainTrails

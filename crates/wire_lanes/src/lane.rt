@@ -18,7 +18,8 @@ use wire_races::{Fate, Settled};
 use wire_types::{Event, Fault, Proc};
 
 /// A rank with its seat, and the trail of what its events did: the fates of its first events, as many as
-/// are done. It borrows the board of its seat, and the settled plan of which that board was made.
+/// are done. Each is the reply that its event gets in the plain run, or silence for an arrival (the law
+/// `trails_are_plain`). It borrows the board of its seat, and the settled plan of which that board was made.
 #[derive(Drop)]
 pub struct Lane<'a> {
     board: &'a Board,

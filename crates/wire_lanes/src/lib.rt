@@ -4,6 +4,7 @@
 
 mod lane;
 mod lanes;
+pub mod laws;
 mod row;
 
 pub use lane::Lane;
