@@ -13,4 +13,4 @@ pub use checking::{Ended, check};
 pub use following::follow;
 pub use rehearsing::{Mode, rehearse};
 pub use replaying::plain;
-pub use wire_asked::{Asked, asked, workers_of};
+pub use wire_asked::{Asked, CallWords, Refusal, Request, asked, read_request, workers_of};
