@@ -1,5 +1,5 @@
 -- What a getter of `clap` gives, as the rows of the matches say it.
-use Rattle.std.proofs.Common.{◌≡◌, ◌∙◌, ap, sym, refl, ℕ, List, Bool, Option, Some, None, option_map, is_some, Bor, ◌++◌, ◌∷◌, [], map}
+use Rattle.std.proofs.Common.{◌≡◌, ◌∙◌, ap, sym, refl, List, Option, Some, None, option_map, is_some, Bor, ◌++◌, ◌∷◌, [], map}
 use Rattle.std.proofs.lemmas.List.{map-append}
 use Rattle.clap.specs.Matches.{first_value}
 use Rattle.clap.specs.Walk.{Text, first_of, rows_of}

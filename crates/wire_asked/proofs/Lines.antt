@@ -1,7 +1,7 @@
 -- How a command grows by an argument and by a command of its own.
-use Rattle.std.proofs.Common.{◌≡◌, ◌∙◌, ap, ap₂, refl, false, ◌||◌, Result, IfOk}
-use Rattle.std.proofs.lemmas.Result.{IfOk-weaker}
-use Rattle.clap.specs.Words.{App, Shape, Rule, AddsArg, AddsSubcommand, app_of, rule_of, shape_of, with_rule, with_subcommand}
+use Rattle.std.proofs.Common.{◌≡◌, ◌∙◌, ap, ap₂, refl, false, Result, Ok, Err, IfOk, IsOkAnd}
+use Rattle.std.specs.declared.alloc.AllocError.{AllocError}
+use Rattle.clap.specs.Words.{App, Rule, AddsArg, AddsSubcommand, app_of, rule_of, with_rule, with_subcommand}
 use Rattle.clap.specs.declared.builder.arg.Arg.{Arg}
 use Rattle.clap.specs.declared.builder.command.Command.{Command}
 use Rattle.clap.specs.declared.builder.command.Command.TheViews.{out-Command as fields_of}
@@ -22,3 +22,9 @@ with_command old sub new app of_sub adds line its = record {
   is = adds.shape its.local ∙ ap₂ with_subcommand line.is (ap (λ (a : App). a.top) its.is);
   local = adds.globals ∙ rw (line.local, its.local) refl;
 }
+
+-- where that command could be made
+pub with_made : (old new : Command) (made : Result Command AllocError) (app of_sub : App) → IsOkAnd made (λ sub. AddsSubcommand old sub new) → IfOk made (λ c. app_of c ≡ of_sub)
+    → IfOk made (λ c. (fields_of c).has_globals ≡ false) → IsLine old app → IsLine new (with_subcommand app of_sub.top)
+with_made old new (Ok sub) app of_sub adds is local line = with_command old sub new app of_sub adds line (record { is = is; local = local })
+with_made old new (Err e) app of_sub adds is local line = absurd adds

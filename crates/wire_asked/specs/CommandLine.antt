@@ -1,10 +1,9 @@
 -- The command line of `wire_up` as `clap` reads it, and what the words of one ask for.
-use Rattle.std.specs.Prelude.{◌≡◌, ◌⊎◌, ◌&&◌, ℕ, Bool, true, false, List, [], ◌∷◌, map, flat_map, option_to_list, unwrap_or, Option, Some, None, is_some, codes, if◌then◌else◌}
+use Rattle.std.specs.Prelude.{◌≡◌, ◌⊎◌, Bool, true, false, List, [], ◌∷◌, map, flat_map, option_to_list, unwrap_or, Option, Some, is_some, codes, if◌then◌else◌}
 use Rattle.std.specs.List.{list_all}
 use Rattle.std.specs.Option.{option_map_or}
 use Rattle.std.specs.Str.{bytes_eq}
-use Rattle.std.specs.Borrow.{Bor}
-use Rattle.clap.specs.Words.{App, Shape, Rule, Row, Text, HasKind, kind_of, fault_of, first_of, new_app, new_rule, with_rule, with_subcommand, subcommand_of}
+use Rattle.clap.specs.Words.{App, Rule, Row, Text, HasKind, kind_of, fault_of, first_of, new_app, new_rule, with_rule, with_subcommand, subcommand_of}
 use Rattle.clap.specs.declared.builder.action.ArgAction.TheVariants.{SetTrue}
 use Rattle.clap.specs.declared.error.Error.{Error}
 use Rattle.clap.specs.declared.error.kind.ErrorKind.TheVariants.{MissingRequiredArgument}
@@ -71,11 +70,15 @@ has_needed command rows = list_all (λ name. is_some (first_of name rows)) (need
 abbrev pub is_set : Text → List Row → Bool
 is_set name rows = option_map_or (λ word. bytes_eq word (codes "true")) (first_of name rows) false
 
+-- the word of `--workers`, `1` where none was given
+abbrev pub workers_word : List Row → Text
+workers_word rows = unwrap_or (first_of (codes "workers") rows) (codes "1")
+
 -- what the matches of a command say
 pub record SaidBy (name : Text) (rows : List Row) (asked : Asked) : Type 0 where
   pub command : asked.command.now ≡ name
   pub words : map (λ w. w.now) asked.words.items ≡ words_given rows
-  pub workers : asked.workers.now ≡ unwrap_or (first_of (codes "workers") rows) (codes "1")
+  pub workers : asked.workers.now ≡ workers_word rows
   pub json : asked.json ≡ is_set (codes "json") rows
   pub anyway : asked.anyway ≡ is_set (codes "anyway") rows
 

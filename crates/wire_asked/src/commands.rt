@@ -1,7 +1,7 @@
 //! The commands of the command line, as `clap` takes them.
 
-ghost use Rattle.std.specs.Prelude.{◌≡◌, false, codes, IfOk};
-ghost use Rattle.clap.specs.Words.{app_of, rule_of};
+ghost use Rattle.std.specs.Prelude.{◌≡◌, false, codes, IfOk, IsOkAnd};
+ghost use Rattle.clap.specs.Words.{AddsSubcommand, app_of, rule_of};
 ghost use Rattle.clap.specs.declared.builder.command.Command.TheViews.{out-Command as fields_of};
 ghost use Rattle.wire_asked.specs.CommandLine as spec;
 
@@ -101,7 +101,7 @@ fn why_command<'a>(alloc: Global) -> Result<Command<'a>, AllocError>
 }
 
 /// The program without its commands.
-fn program<'a>(alloc: Global) -> Command<'a>
+pub(crate) fn program<'a>(alloc: Global) -> Command<'a>
     ensures app { app_of result ≡ spec.program_alone }
     ensures local { (fields_of result).has_globals ≡ false }
 {
@@ -114,13 +114,28 @@ fn program<'a>(alloc: Global) -> Command<'a>
         .subcommand_required(true)
 }
 
+/// The program with one more command, where that could be made.
+fn with_command<'a>(
+    line: Command<'a>,
+    made: Result<Command<'a>, AllocError>,
+) -> Result<Command<'a>, AllocError>
+    ensures { IfOk result (λ after. IsOkAnd made.entry (λ command. AddsSubcommand line.entry command after)) }
+{
+    match made {
+        Ok(command) => line.subcommand(command),
+        Err(error) => {
+            drop(line);
+            Err(error)
+        }
+    }
+}
+
 /// The command line of the program.
 pub fn command_line<'a>(alloc: Global) -> Result<Command<'a>, AllocError>
     ensures { IfOk result (λ c. app_of c ≡ spec.program_line) }
 {
-    program(alloc)
-        .subcommand(check_command(alloc)?)?
-        .subcommand(replay_command(alloc)?)?
-        .subcommand(follow_command(alloc)?)?
-        .subcommand(why_command(alloc)?)
+    let line = with_command(program(alloc), check_command(alloc))?;
+    let line = with_command(line, replay_command(alloc))?;
+    let line = with_command(line, follow_command(alloc))?;
+    with_command(line, why_command(alloc))
 }

@@ -1,12 +1,16 @@
-//! The command line of `wire_up`: the words of it, and what they ask for.
+//! The command line of `wire_up`: the words of it, what they ask for, and the command that they request.
 #![tactic(auto)]
 
 mod commands;
 mod help;
 mod matching;
 mod number;
+mod reading;
+pub mod request;
 pub mod wanted;
 
 pub use matching::asked;
 pub use number::workers_of;
+pub use reading::read_request;
+pub use request::{CallWords, Refusal, Request};
 pub use wanted::Asked;

@@ -1,15 +1,23 @@
 //! What the words of a command line ask for.
 
-ghost use Rattle.std.specs.Prelude.{◌≡◌, ◌++◌, map, codes, is_some, option_to_list, unwrap_or, true, false, Some, OnOk, IfOk, IfErr, IfSome, IfNone};
-ghost use Rattle.clap.specs.Words.{first_of, found_of, rows_of, subcommand_rows_of};
+ghost use Rattle.std.specs.Prelude.{◌≡◌, ◌⊎◌, ◌++◌, List, [], map, is_some, option_to_list, true, false, Some, OnOk, IfOk, IfErr, IfSome, IfNone};
+ghost use Rattle.clap.specs.Words.{Row, Text, HasKind, kind_of, fault_of, first_of, found_of, rows_of, subcommand_of, subcommand_rows_of};
 ghost use Rattle.wire_asked.specs.CommandLine as spec;
 ghost use Rattle.wire_asked.specs.CommandLine.{AsksFor, RefusedFor, SaidBy};
+ghost use Rattle.wire_asked.specs.Requests.{text_of};
 
-use crate::commands::command_line;
+use crate::commands::{command_line, program};
 use crate::wanted::Asked;
 use clap::error::ErrorKind;
 use clap::{ArgMatches, Error};
 use std::alloc::{AllocError, Global};
+
+/// The word of this name, if it was given.
+pub(crate) fn find_word<'a>(found: &ArgMatches<'a>, name: &str) -> Option<&'a str>
+    ensures { text_of result ≡ first_of name.now (rows_of (found_of found.now)) }
+{
+    found.get_str(name)
+}
 
 /// Whether a word of this name was given.
 fn has_word(found: &ArgMatches<'_>, name: &str) -> bool
@@ -19,7 +27,7 @@ fn has_word(found: &ArgMatches<'_>, name: &str) -> bool
 }
 
 /// Whether a flag was given.
-fn is_set(found: &ArgMatches<'_>, name: &str) -> bool
+pub(crate) fn is_set(found: &ArgMatches<'_>, name: &str) -> bool
     ensures { result ≡ spec.is_set name.now (rows_of (found_of found.now)) }
 {
     match found.get_str(name) {
@@ -70,8 +78,8 @@ fn words_given<'a>(alloc: Global, found: &ArgMatches<'a>) -> Result<Vec<&'a str>
 }
 
 /// The word of `--workers`, `1` where none was given.
-fn workers_given<'a>(found: &ArgMatches<'a>) -> &'a str
-    ensures { result.now ≡ unwrap_or (first_of (codes "workers") (rows_of (found_of found.now))) (codes "1") }
+pub(crate) fn workers_given<'a>(found: &ArgMatches<'a>) -> &'a str
+    ensures { result.now ≡ spec.workers_word (rows_of (found_of found.now)) }
 {
     match found.get_str("workers") {
         Some(word) => word,
@@ -110,6 +118,37 @@ fn whole<'m, 'a>(matches: &'m ArgMatches<'a>) -> Option<(&'a str, &'m ArgMatches
     }
 }
 
+/// The error of a word that is missing.
+pub(crate) fn tell_missing(alloc: Global) -> Result<Error, AllocError>
+    ensures { IfOk result (λ e. kind_of e ≡ ErrorKind.MissingRequiredArgument) }
+{
+    let mut line = program(alloc);
+    let error = line.error(ErrorKind::MissingRequiredArgument, "a word is missing");
+    drop(line);
+    error
+}
+
+/// The matches of `clap` for the words of a command line.
+pub(crate) fn match_words<'a>(alloc: Global, words: &'a [&'a str]) -> Result<ArgMatches<'a>, Error>
+    ensures lawful { OnOk result (fault_of spec.program_line (map (λ w. w.now) words.entry.now) ≡ []) }
+    ensures command { IfOk result (λ m. subcommand_rows_of m ≡ subcommand_of spec.program_line (map (λ w. w.now) words.entry.now)) }
+    ensures err { IfErr result (HasKind (fault_of spec.program_line (map (λ w. w.now) words.entry.now))) }
+{
+    command_line(alloc)?.try_get_matches_from(words)
+}
+
+/// What the command asks for that the matches name.
+fn asked_in<'a>(alloc: Global, matches: &ArgMatches<'a>) -> Result<Asked<'a>, Error>
+    ensures ok { IfOk result (λ asked. (m : Text × List Row) × (subcommand_rows_of matches.now ≡ Some m) × (spec.has_needed m.0 m.1 ≡ true) × SaidBy m.0 m.1 asked) }
+    ensures err { IfErr result (λ e. (kind_of e ≡ ErrorKind.OutOfMemory)
+        ⊎ ((kind_of e ≡ ErrorKind.MissingRequiredArgument) × (spec.is_whole (subcommand_rows_of matches.now) ≡ false))) }
+{
+    match whole(matches) {
+        Some((command, found)) => Ok(asked_by(alloc, command, found)?),
+        None => Err(tell_missing(alloc)?),
+    }
+}
+
 /// What the words of a command line ask for. The first of them is the program's name.
 ///
 /// Where it is `Ok`, `clap` finds no fault in the words, and the answer is what its matches for them say, each
@@ -119,10 +158,8 @@ pub fn asked<'a>(alloc: Global, words: &'a [&'a str]) -> Result<Asked<'a>, Error
     ensures ok { IfOk result (λ asked. AsksFor (map (λ w. w.now) words.entry.now) asked) }
     ensures err { IfErr result (λ e. RefusedFor (map (λ w. w.now) words.entry.now) e) }
 {
-    let mut line = command_line(alloc)?;
-    let matches = line.try_get_matches_from_mut(words)?;
-    match whole(&matches) {
-        Some((command, found)) => Ok(asked_by(alloc, command, found)?),
-        None => Err(line.error(ErrorKind::MissingRequiredArgument, "a word is missing")?),
-    }
+    let matches = match_words(alloc, words)?;
+    let asked = asked_in(alloc, &matches);
+    drop(matches);
+    asked
 }

@@ -4,5 +4,5 @@
 mod rehearsing;
 
 pub use rehearsing::{Mode, rehearse};
-pub use wire_asked::{Asked, asked, workers_of};
+pub use wire_asked::{Asked, CallWords, Refusal, Request, asked, read_request, workers_of};
 pub use wire_commands::{Ended, check, follow, plain, why};

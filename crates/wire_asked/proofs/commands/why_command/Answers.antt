@@ -1,7 +1,7 @@
-use Rattle.std.proofs.Common.{rules, ap, refl, ◌≡◌, ◌∙◌, codes, IfOk}
+use Rattle.std.proofs.Common.{rules, ap, ◌∙◌, codes}
 use Rattle.std.proofs.lemmas.Result.{IfOk-weaker}
 use Rattle.clap.specs.Simple.{app_of_fields}
-use Rattle.clap.specs.Words.{app_of, new_app}
+use Rattle.clap.specs.Words.{new_app}
 use Rattle.wire_asked.proofs.Lines.{IsLine, with_argument}
 use Rattle.wire_asked.proofs.commands.why_command.Goals as goal
 

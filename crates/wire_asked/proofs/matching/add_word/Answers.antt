@@ -1,7 +1,7 @@
-use Rattle.std.proofs.Common.{rules, refl, ap, sym, ◌∙◌, ◌≡◌, Some, None, codes}
+use Rattle.std.proofs.Common.{sym, Some, None}
 use Rattle.std.proofs.lemmas.List.{append-nil}
-use Rattle.clap.specs.Words.{first_of, found_of, rows_of}
-use Rattle.wire_asked.proofs.Given.{word_given, is_given, added}
+use Rattle.clap.specs.Words.{found_of}
+use Rattle.wire_asked.proofs.Given.{word_given, added}
 use Rattle.wire_asked.proofs.matching.add_word.Goals as goal
 
 pub returns-in_ok-push : goal.returns-in_ok-push

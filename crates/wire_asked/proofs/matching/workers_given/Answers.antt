@@ -1,6 +1,6 @@
-use Rattle.std.proofs.Common.{rules, refl, ◌∙◌, ◌≡◌, Some, None}
-use Rattle.clap.specs.Words.{first_of, found_of, rows_of}
-use Rattle.wire_asked.proofs.Given.{word_given, is_given}
+use Rattle.std.proofs.Common.{rules, Some, None}
+use Rattle.clap.specs.Words.{found_of}
+use Rattle.wire_asked.proofs.Given.{word_given}
 use Rattle.std.proofs.Common.{codes}
 use Rattle.wire_asked.proofs.matching.workers_given.Goals as goal
 
