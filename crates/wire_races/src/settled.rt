@@ -90,7 +90,7 @@ impl Settled {
         ensures reply { TellsReply (plan_of self.now) (event_of event) result }
         ensures enabled { TellsEnabled (plan_of self.now) (event_of event) result }
     {
-        fate_of(&self.plan, &self.marks, event)
+        fate_of(&self.marks.with(&self.plan), event)
     }
 
     /// The marks of its plan.
