@@ -124,12 +124,7 @@ fn away_reply(marked: &MarkedPlan<'_>, event: Event, put: Event, key: u32) -> Re
 }
 
 /// The reply to a live get that is answered at once (PMIx Standard 5.0, PMIx_Get with PMIX_IMMEDIATE).
-pub(crate) fn get_now_reply(
-    marked: &MarkedPlan<'_>,
-    event: Event,
-    owner: Proc,
-    key: u32,
-) -> Reply
+pub(crate) fn get_now_reply(marked: &MarkedPlan<'_>, event: Event, owner: Proc, key: u32) -> Reply
     requires settled { IsSettled (plan_of marked.now) }
     requires live { Live (plan_of marked.now) (event_of event) }
     ensures { GivesGetNow (plan_of marked.now) (event_of event) owner.number key result }

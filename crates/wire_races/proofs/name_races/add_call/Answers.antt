@@ -10,7 +10,7 @@ use Rattle.wire_races.proofs.name_races.add_call.Goals as goal
 
 pub returns-then-live : goal.returns-then-live
 returns-then-live c =
-    let plan = plan_of c.args.plan.now in
+    let plan = plan_of c.args.marked.now in
     let name = c.args.x.name in
     let x = event_of c.args.x.event in
     let rivals = map event_of c.args.rivals.now in
@@ -18,7 +18,7 @@ returns-then-live c =
 
 pub returns-else-live : goal.returns-else-live
 returns-else-live c =
-    let plan = plan_of c.args.plan.now in
+    let plan = plan_of c.args.marked.now in
     let x = event_of c.args.x.event in
     adds_none plan c.args.found.now (IsRaceFrom plan c.args.x.name x) c.requires.found
-    (λ f r. true≢false (sym ((c.live.ensures plan c.requires.marks).1 (from_live plan c.args.x.name x f r)) ∙ c.if-live.false))
+    (λ f r. true≢false (sym (c.live.ensures.1 (from_live plan c.args.x.name x f r)) ∙ c.if-live.false))
