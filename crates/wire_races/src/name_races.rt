@@ -14,7 +14,8 @@ ghost use Rattle.wire_races.specs.FindingKinds.{IsOfName, AllAdded};
 ghost use Rattle.wire_races.specs.Collected.{AreFound};
 ghost use Rattle.wire_races.specs.Adding.{Adds};
 ghost use Rattle.wire_races.specs.Pieces.{IsPiece, ArePieces};
-ghost use Rattle.wire_races.specs.NameRaces.{IsRaceOn, IsRaceFrom, IsRaceWith, AreCallsOn, AreOf, IsStretch, AreRivals, HasRivals, AreWriters, IsAbove, IsBelow, IsCut};
+ghost use Rattle.wire_races.specs.NameRaces.{IsRaceOn, IsRaceFrom, IsRaceWith, AreCallsOn, AreOf, IsStretch, AreRivals, HasRivals, AreWriters, IsAbove};
+ghost use Rattle.wire_races.specs.NameRaces.{IsBelow, IsCut};
 
 use crate::finding::Finding;
 use crate::found::Found;
@@ -118,7 +119,8 @@ fn add_between(
 // How many of these calls in process order are of processes up to this one, by bisection.
 fn count_upto(calls: &[Event], proc: Proc) -> usize
     ensures within { result ≤ length calls.now }
-    ensures cut { (plan : runs.Plan) (name : ℕ) → AreCallsOn plan name (map event_of calls.now) → IsCut (λ z. z.proc ≤ proc.number) (map event_of calls.now) result }
+    ensures cut { (plan : runs.Plan) (name : ℕ) → AreCallsOn plan name (map event_of calls.now) →
+        IsCut (λ z. z.proc ≤ proc.number) (map event_of calls.now) result }
 {
     let mut low = 0;
     let mut high = calls.len();
@@ -136,8 +138,10 @@ fn count_upto(calls: &[Event], proc: Proc) -> usize
 // How many of the first of these calls in process order are of this process, which is that of the first one.
 fn stretch_length(calls: &[Event], proc: Proc) -> usize
     ensures within { result ≤ length calls.now }
-    ensures stretch { (plan : runs.Plan) (name : ℕ) (x : Event) → AreCallsOn plan name (map event_of calls.now) → slice_get calls.now 0 ≡ Some x → x.proc ≡ proc → AreOf proc.number (map event_of (take result calls.now)) }
-    ensures more { (plan : runs.Plan) (name : ℕ) (x : Event) → AreCallsOn plan name (map event_of calls.now) → slice_get calls.now 0 ≡ Some x → x.proc ≡ proc → 0 < result }
+    ensures stretch { (plan : runs.Plan) (name : ℕ) (x : Event) → AreCallsOn plan name (map event_of calls.now) → slice_get calls.now 0 ≡ Some x →
+        x.proc ≡ proc → AreOf proc.number (map event_of (take result calls.now)) }
+    ensures more { (plan : runs.Plan) (name : ℕ) (x : Event) → AreCallsOn plan name (map event_of calls.now) → slice_get calls.now 0 ≡ Some x → x.proc ≡ proc →
+        0 < result }
 {
     count_upto(calls, proc)
 }
@@ -153,7 +157,8 @@ fn add_rivals(
     requires x { calls_name (plan_of marked.now) x.name (event_of x.event) (kind (plan_of marked.now) (event_of x.event)) ≡ true }
     requires live { Live (plan_of marked.now) (event_of x.event) }
     requires rivals { AreRivals (plan_of marked.now) x.name (event_of x.event) (map event_of rivals.now) }
-    ensures { OnOk result (Adds (plan_of marked.now) found.old found.new (IsRaceWith (plan_of marked.now) x.name (event_of x.event) (map event_of rivals.now))) }
+    ensures { OnOk result (Adds (plan_of marked.now) found.old found.new
+        (IsRaceWith (plan_of marked.now) x.name (event_of x.event) (map event_of rivals.now))) }
 {
     let mut rest = rivals;
     'stretches: while let Some(first) = rest.first() {
@@ -186,7 +191,8 @@ fn add_call(
 
 // The calls of processes above this one.
 fn above(calls: &[Event], proc: Proc) -> &[Event]
-    ensures { (plan : runs.Plan) (name : ℕ) → AreCallsOn plan name (map event_of calls.now) → IsAbove proc.number (map event_of calls.now) (map event_of result.now) }
+    ensures { (plan : runs.Plan) (name : ℕ) → AreCallsOn plan name (map event_of calls.now) →
+        IsAbove proc.number (map event_of calls.now) (map event_of result.now) }
 {
     calls.split_at(count_upto(calls, proc)).1
 }

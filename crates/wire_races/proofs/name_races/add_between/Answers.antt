@@ -14,7 +14,8 @@ race_of-requires-clause-y c = rw c.plan-plan.ensures (
     c.requires.rivals.calls_on.each c.loop-k.k _ (place_at c.args.run.now c.loop-k.k _ (omega (arith, lt, within))))
 
 pub loop-k-init : goal.loop-k-init
-loop-k-init c = adds_none (plan_of c.args.marked.now) c.args.found.now _ c.requires.found (among_none c.args.x.name (event_of c.args.x.event) (map event_of c.args.run.now) c.count_below-from.result c.count_below-to.result)
+loop-k-init c = adds_none (plan_of c.args.marked.now) c.args.found.now _ c.requires.found
+    (among_none c.args.x.name (event_of c.args.x.event) (map event_of c.args.run.now) c.count_below-from.result c.count_below-to.result)
 
 pub loop-k-preserved : goal.loop-k-preserved
 loop-k-preserved c =

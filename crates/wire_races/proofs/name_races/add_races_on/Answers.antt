@@ -30,7 +30,9 @@ returns c =
     (subst (λ l. Adds plan c.args.found.now c.loop-event.found (IsRaceAmong plan c.args.name (map event_of l))) all c.loop-event.invariant)
 
 pub rivals_of-requires-clause-x : goal.rivals_of-requires-clause-x
-rivals_of-requires-clause-x c = rw c.plan-plan.ensures ((rw c.plan-plan.ensures at c.name_calls-calls.ensures).only c.loop-event.event-index _ (place_at c.name_calls-calls.result.now c.loop-event.event-index _ c.loop-event-test.true))
+rivals_of-requires-clause-x c = rw c.plan-plan.ensures ((rw c.plan-plan.ensures at c.name_calls-calls.ensures).only c.loop-event.event-index _
+    (place_at c.name_calls-calls.result.now c.loop-event.event-index _ c.loop-event-test.true))
 
 pub add_call-requires-clause-x : goal.add_call-requires-clause-x
-add_call-requires-clause-x c = (rw c.plan-plan.ensures at c.name_calls-calls.ensures).only c.loop-event.event-index _ (place_at c.name_calls-calls.result.now c.loop-event.event-index _ c.loop-event-test.true)
+add_call-requires-clause-x c = (rw c.plan-plan.ensures at c.name_calls-calls.ensures).only c.loop-event.event-index _
+    (place_at c.name_calls-calls.result.now c.loop-event.event-index _ c.loop-event-test.true)

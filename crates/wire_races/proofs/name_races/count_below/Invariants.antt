@@ -9,7 +9,8 @@ abbrev pub invariant-bisection : goal.invariant-bisection
 invariant-bisection l = record {
   order : l.low ≤ l.high;
   within : l.high ≤ length l.run;
-  narrowed : (name p : ℕ) → AreCallsOn (plan_of l.marked) name (map event_of l.run) → AreOf p (map event_of l.run) → IsNarrowed (IsBelow (plan_of l.marked) (event_of l.x) l.border) (map event_of l.run) l.low l.high;
+  narrowed : (name p : ℕ) → AreCallsOn (plan_of l.marked) name (map event_of l.run) → AreOf p (map event_of l.run) →
+      IsNarrowed (IsBelow (plan_of l.marked) (event_of l.x) l.border) (map event_of l.run) l.low l.high;
 }
 
 abbrev pub decreases-bisection : goal.decreases-bisection
