@@ -30,7 +30,7 @@ returns-in-Publish c = λ fate_of past is_past.
     let y = event_of c.args.event in
     let found = option_map event_of c.standing.result in
     publish_says plan y past c.in-Publish.name found (stands plan y c.in-Publish.name found fate_of past c.standing.ensures.standing is_past) c.publish_reply.result
-        (rw c.plan-plan.ensures at c.in-Publish.ensures) c.publish_reply.ensures
+    (rw c.plan-plan.ensures at c.in-Publish.ensures) c.publish_reply.ensures
 
 pub returns-in-Lookup : goal.returns-in-Lookup
 returns-in-Lookup c = λ fate_of past is_past.
@@ -38,7 +38,7 @@ returns-in-Lookup c = λ fate_of past is_past.
     let y = event_of c.args.event in
     let found = option_map event_of c.standing-in-Lookup.result in
     lookup_says plan y past c.in-Lookup.name found (stands plan y c.in-Lookup.name found fate_of past c.standing-in-Lookup.ensures.standing is_past) c.lookup_reply.result
-        (rw c.plan-plan.ensures at c.in-Lookup.ensures) (rw c.plan-plan.ensures at c.lookup_reply.ensures)
+    (rw c.plan-plan.ensures at c.in-Lookup.ensures) (rw c.plan-plan.ensures at c.lookup_reply.ensures)
 
 pub returns-in-LookupWait : goal.returns-in-LookupWait
 returns-in-LookupWait c = λ fate_of past is_past.
@@ -46,7 +46,7 @@ returns-in-LookupWait c = λ fate_of past is_past.
     let y = event_of c.args.event in
     let found = option_map event_of c.standing-in-LookupWait.result in
     waiting_is plan y past c.in-LookupWait.name found (stands plan y c.in-LookupWait.name found fate_of past c.standing-in-LookupWait.ensures.standing is_past) c.waiting_fate.result
-        (rw c.plan-plan.ensures at c.in-LookupWait.ensures) (rw c.plan-plan.ensures at c.waiting_fate.ensures)
+    (rw c.plan-plan.ensures at c.in-LookupWait.ensures) (rw c.plan-plan.ensures at c.waiting_fate.ensures)
 
 pub returns-in-Unpublish : goal.returns-in-Unpublish
 returns-in-Unpublish c = λ fate_of past is_past.
@@ -54,4 +54,4 @@ returns-in-Unpublish c = λ fate_of past is_past.
     let y = event_of c.args.event in
     let found = option_map event_of c.standing-in-Unpublish.result in
     unpublish_says plan y past c.in-Unpublish.name found (stands plan y c.in-Unpublish.name found fate_of past c.standing-in-Unpublish.ensures.standing is_past) c.unpublish_reply.result
-        (rw c.plan-plan.ensures at c.in-Unpublish.ensures) c.unpublish_reply.ensures
+    (rw c.plan-plan.ensures at c.in-Unpublish.ensures) c.unpublish_reply.ensures

@@ -24,7 +24,7 @@ returns-then-comes_surely c = λ s cut.
     let plan = plan_of c.args.marked.now in
     brought_sure plan c.requires.settled (event_of c.args.put) c.args.key c.requires.put (event_of c.args.event) c.requires.away s cut c.value_reply.result
     (subst (λ n. ComesSurely plan c.args.put.proc.number c.args.key n (event_of c.args.event)) (rw c.plan-plan.ensures at c.node_of.ensures)
-        ((rw c.plan-plan.ensures at c.comes_surely.ensures).0 c.if-comes_surely.true))
+    ((rw c.plan-plan.ensures at c.comes_surely.ensures).0 c.if-comes_surely.true))
     (rw c.plan-plan.ensures at c.value_reply.ensures)
 
 pub returns-else-comes_surely : goal.returns-else-comes_surely
@@ -32,5 +32,5 @@ returns-else-comes_surely c = λ s cut.
     let plan = plan_of c.args.marked.now in
     brought_unsure plan c.requires.settled (event_of c.args.put) c.args.key c.requires.put (event_of c.args.event) c.requires.away s cut c.bare.result
     (λ sure. true≢false (sym ((rw c.plan-plan.ensures at c.comes_surely.ensures).1
-        (subst (λ n. ComesSurely plan c.args.put.proc.number c.args.key n (event_of c.args.event)) (sym (rw c.plan-plan.ensures at c.node_of.ensures)) sure)) ∙ c.if-comes_surely.false))
+    (subst (λ n. ComesSurely plan c.args.put.proc.number c.args.key n (event_of c.args.event)) (sym (rw c.plan-plan.ensures at c.node_of.ensures)) sure)) ∙ c.if-comes_surely.false))
     (ap (λ r. r ∷ []) (sym c.bare.ensures))

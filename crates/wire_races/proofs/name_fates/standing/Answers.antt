@@ -21,7 +21,7 @@ returns c = record {
       let are = c.updates-updates.ensures plan marks in
       let cut = c.count_before-count.ensures.cut plan c.args.name settled marks are in
       standing_found plan settled c.marks-marks.result.now marks c.args.name c.updates-updates.result.now are (event_of c.args.event) c.count_before-count.result cut _
-          c.count_before-count.ensures.within c.if-count-eq0.false;
+      c.count_before-count.ensures.within c.if-count-eq0.false;
   there =
       let plan = plan_of c.args.marked.now in
       let settled = c.requires in
@@ -30,5 +30,5 @@ returns c = record {
       let cut = c.count_before-count.ensures.cut plan c.args.name settled marks are in
       standing_within plan (event_of c.args.event) c.args.name _
       (standing_found plan settled c.marks-marks.result.now marks c.args.name c.updates-updates.result.now are (event_of c.args.event) c.count_before-count.result cut _
-          c.count_before-count.ensures.within c.if-count-eq0.false);
+      c.count_before-count.ensures.within c.if-count-eq0.false);
 }

@@ -40,10 +40,12 @@ returns c =
     let all = map event_of c.args.rivals.now in
     let empty = none_there c.stretches.rest.now (sym c.first.ensures.value ∙ ap option_copied c.in_default.is) in
     none_left plan name x c.args.found.now c.stretches.found all c.stretches.invariant.found
-        (subst (λ l. IsLeft plan name x c.args.found.now c.stretches.found all (map event_of l)) empty c.stretches.invariant.left)
+    (subst (λ l. IsLeft plan name x c.args.found.now c.stretches.found all (map event_of l)) empty c.stretches.invariant.left)
 
 pub add_between-requires-clause-run : goal.add_between-requires-clause-run
-add_between-requires-clause-run c =
-    (c.in-Some.first.now.proc.number, subst (λ l. AreOf c.in-Some.first.now.proc.number (map event_of l)) (sym c.split_at.ensures.front)
-        (c.stretch_length.ensures.stretch (plan_of c.args.marked.now) c.args.x.name c.in-Some.first.now c.stretches.invariant.rivals.calls_on
-        (sym c.first.ensures.value ∙ ap option_copied c.in-Some.is) refl))
+add_between-requires-clause-run c = (
+  c.in-Some.first.now.proc.number,
+  subst (λ l. AreOf c.in-Some.first.now.proc.number (map event_of l)) (sym c.split_at.ensures.front)
+      (c.stretch_length.ensures.stretch (plan_of c.args.marked.now) c.args.x.name c.in-Some.first.now c.stretches.invariant.rivals.calls_on
+      (sym c.first.ensures.value ∙ ap option_copied c.in-Some.is) refl),
+)

@@ -19,8 +19,8 @@ bisection-preserved-then-is_below c =
       within = within;
       narrowed = λ name p are one.
           low_rises (IsBelow (plan_of c.args.marked.now) (event_of c.args.x) c.args.border) (map event_of c.args.run.now)
-              (borders (plan_of c.args.marked.now) (event_of c.args.x) c.args.border name p (map event_of c.args.run.now) are one) low high _ _
-              (place_at c.args.run.now (low + (high - low) / 2) _ fits)
+          (borders (plan_of c.args.marked.now) (event_of c.args.x) c.args.border name p (map event_of c.args.run.now) are one) low high _ _
+          (place_at c.args.run.now (low + (high - low) / 2) _ fits)
           (c.is_below.ensures.0 c.if-is_below.true) (c.bisection.invariant.narrowed name p are one);
     }
 
@@ -36,8 +36,8 @@ bisection-preserved c =
       within = omega (arith, fits);
       narrowed = λ name p are one.
           high_falls (IsBelow (plan_of c.args.marked.now) (event_of c.args.x) c.args.border) (map event_of c.args.run.now)
-              (borders (plan_of c.args.marked.now) (event_of c.args.x) c.args.border name p (map event_of c.args.run.now) are one) low high _ _
-              (place_at c.args.run.now (low + (high - low) / 2) _ fits)
+          (borders (plan_of c.args.marked.now) (event_of c.args.x) c.args.border name p (map event_of c.args.run.now) are one) low high _ _
+          (place_at c.args.run.now (low + (high - low) / 2) _ fits)
           (λ h. true≢false (sym (c.is_below.ensures.1 h) ∙ c.if-is_below.false)) (c.bisection.invariant.narrowed name p are one);
     }
 
