@@ -5,6 +5,7 @@ mod clocks;
 mod grow;
 mod joins;
 mod law;
+mod marked;
 mod marks;
 mod steps;
 mod table;
@@ -12,5 +13,6 @@ mod updates;
 mod way;
 
 pub use law::one_shown;
+pub use marked::MarkedPlan;
 pub use marks::Marks;
 pub use updates::Update;

@@ -8,11 +8,10 @@ ghost use Rattle.wire_runs.specs.Sight.{Shown, held, served};
 ghost use Rattle.wire_runs.specs.Order.{Live};
 ghost use Rattle.wire_runs.specs.Races.{IsSettled};
 ghost use Rattle.wire_plan.specs.Index.{IsFirstPut};
-ghost use Rattle.wire_marks.specs.Clocks.{AreMarks};
 ghost use Rattle.wire_races.specs.Pasts.{GivesSight, GivesGet, GivesGetNow, GivesServed, GivesBrought};
 
 use crate::key_races::{Asked, comes_surely};
-use wire_marks::Marks;
+use wire_marks::MarkedPlan;
 use wire_plan::{Kind, Plan};
 use wire_types::{Event, Proc, Reply, Scope, Status, Value};
 
@@ -86,16 +85,16 @@ pub(crate) fn get_reply(plan: &Plan, event: Event, owner: Proc, key: u32) -> Rep
 
 /// The reply to a get that is answered at once, of a key that another process of the same node puts: what
 /// is committed before the get.
-fn node_reply(plan: &Plan, marks: &Marks, event: Event, put: Event, key: u32) -> Reply
-    requires settled { IsSettled (plan_of plan.now) }
-    requires marks { AreMarks (plan_of plan.now) marks.now }
-    requires put { IsFirstPut (plan_of plan.now) (event_of put) key }
-    ensures { GivesServed (plan_of plan.now) (event_of event) put.proc.number key result }
+fn node_reply(marked: &MarkedPlan<'_>, event: Event, put: Event, key: u32) -> Reply
+    requires settled { IsSettled (plan_of marked.now) }
+    requires put { IsFirstPut (plan_of marked.now) (event_of put) key }
+    ensures { GivesServed (plan_of marked.now) (event_of event) put.proc.number key result }
 {
+    let plan = marked.plan();
     let Some(commit) = plan.store_of(put.proc, key) else {
         return Reply::bare(Status::NotFound);
     };
-    if marks.before(commit, event) {
+    if marked.before(commit, event) {
         served_reply(plan, put, true, key)
     } else {
         Reply::bare(Status::NotFound)
@@ -104,20 +103,20 @@ fn node_reply(plan: &Plan, marks: &Marks, event: Event, put: Event, key: u32) ->
 
 /// The reply to a live get that is answered at once, of a key that a process of another node puts: what a
 /// fence surely brings before the get.
-fn away_reply(plan: &Plan, marks: &Marks, event: Event, put: Event, key: u32) -> Reply
-    requires settled { IsSettled (plan_of plan.now) }
-    requires marks { AreMarks (plan_of plan.now) marks.now }
-    requires live { Live (plan_of plan.now) (event_of event) }
-    requires put { IsFirstPut (plan_of plan.now) (event_of put) key }
-    requires away { same_node (plan_of plan.now) put.proc.number event.proc.number ≡ false }
-    ensures { GivesBrought (plan_of plan.now) (event_of event) put.proc.number key result }
+fn away_reply(marked: &MarkedPlan<'_>, event: Event, put: Event, key: u32) -> Reply
+    requires settled { IsSettled (plan_of marked.now) }
+    requires live { Live (plan_of marked.now) (event_of event) }
+    requires put { IsFirstPut (plan_of marked.now) (event_of put) key }
+    requires away { same_node (plan_of marked.now) put.proc.number event.proc.number ≡ false }
+    ensures { GivesBrought (plan_of marked.now) (event_of event) put.proc.number key result }
 {
+    let plan = marked.plan();
     let asked = Asked {
         get_now: event,
         owner: put.proc,
         key,
     };
-    if comes_surely(plan, marks, asked, plan.node_of(event.proc)) {
+    if comes_surely(plan, marked.marks(), asked, plan.node_of(event.proc)) {
         value_reply(plan, put)
     } else {
         Reply::bare(Status::NotFound)
@@ -125,18 +124,12 @@ fn away_reply(plan: &Plan, marks: &Marks, event: Event, put: Event, key: u32) ->
 }
 
 /// The reply to a live get that is answered at once (PMIx Standard 5.0, PMIx_Get with PMIX_IMMEDIATE).
-pub(crate) fn get_now_reply(
-    plan: &Plan,
-    marks: &Marks,
-    event: Event,
-    owner: Proc,
-    key: u32,
-) -> Reply
-    requires settled { IsSettled (plan_of plan.now) }
-    requires marks { AreMarks (plan_of plan.now) marks.now }
-    requires live { Live (plan_of plan.now) (event_of event) }
-    ensures { GivesGetNow (plan_of plan.now) (event_of event) owner.number key result }
+pub(crate) fn get_now_reply(marked: &MarkedPlan<'_>, event: Event, owner: Proc, key: u32) -> Reply
+    requires settled { IsSettled (plan_of marked.now) }
+    requires live { Live (plan_of marked.now) (event_of event) }
+    ensures { GivesGetNow (plan_of marked.now) (event_of event) owner.number key result }
 {
+    let plan = marked.plan();
     if owner == event.proc {
         return own_reply(plan, event, key);
     }
@@ -144,8 +137,8 @@ pub(crate) fn get_now_reply(
         return Reply::bare(Status::NotFound);
     };
     if plan.node_of(owner) == plan.node_of(event.proc) {
-        node_reply(plan, marks, event, put, key)
+        node_reply(marked, event, put, key)
     } else {
-        away_reply(plan, marks, event, put, key)
+        away_reply(marked, event, put, key)
     }
 }

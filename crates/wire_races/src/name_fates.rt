@@ -12,7 +12,7 @@ ghost use Rattle.wire_races.specs.NameRaces.{IsCut};
 ghost use Rattle.wire_races.specs.Pasts.{events_in, IsStanding, GivesPublish, GivesLookup, GivesUnpublish, WaitsFor};
 
 use crate::fate::Fate;
-use wire_marks::{Marks, Update};
+use wire_marks::{MarkedPlan, Marks, Update};
 use wire_plan::Plan;
 use wire_types::{Event, Proc, Reply, Status, Value};
 
@@ -82,10 +82,12 @@ fn count_before(marks: &Marks, updates: &[Update], event: Event) -> usize
 }
 
 /// The publish that stands under a name after the calls before an event of a settled plan.
-pub(crate) fn standing(marks: &Marks, event: Event, name: u32) -> Option<Event>
-    ensures standing { (plan : runs.Plan) → IsSettled plan → AreMarks plan marks.now → IsStanding plan (event_of event) name (option_map event_of result) }
-    ensures there { (plan : runs.Plan) → IsSettled plan → AreMarks plan marks.now → IfSome result (λ e. e.at < event_count plan e.proc.number) }
+pub(crate) fn standing(marked: &MarkedPlan<'_>, event: Event, name: u32) -> Option<Event>
+    requires { IsSettled (plan_of marked.now) }
+    ensures standing { IsStanding (plan_of marked.now) (event_of event) name (option_map event_of result) }
+    ensures there { IfSome result (λ e. e.at < event_count (plan_of marked.now) e.proc.number) }
 {
+    let marks = marked.marks();
     let updates = marks.updates(name);
     let count = count_before(marks, updates, event);
     if count == 0 {

@@ -14,7 +14,8 @@ ghost use Rattle.wire_races.specs.FindingKinds.{IsOfName, AllAdded};
 ghost use Rattle.wire_races.specs.Collected.{AreFound};
 ghost use Rattle.wire_races.specs.Adding.{Adds};
 ghost use Rattle.wire_races.specs.Pieces.{IsPiece, ArePieces};
-ghost use Rattle.wire_races.specs.NameRaces.{IsRaceOn, IsRaceFrom, IsRaceWith, AreCallsOn, AreOf, IsStretch, AreRivals, HasRivals, AreWriters, IsAbove, IsBelow, IsCut};
+ghost use Rattle.wire_races.specs.NameRaces.{IsRaceOn, IsRaceFrom, IsRaceWith, AreCallsOn, AreOf, IsStretch, AreRivals, HasRivals, AreWriters, IsAbove};
+ghost use Rattle.wire_races.specs.NameRaces.{IsBelow, IsCut};
 
 use crate::finding::Finding;
 use crate::found::Found;
@@ -22,7 +23,7 @@ use crate::pieces::add_pieces;
 use rayon::prelude::*;
 use std::alloc::{AllocError, Global};
 use std::thread::Threads;
-use wire_marks::Marks;
+use wire_marks::{MarkedPlan, Marks};
 use wire_plan::{Kind, Plan};
 use wire_types::{Event, Proc};
 
@@ -63,26 +64,26 @@ fn race_of(plan: &Plan, x: NameCall, y: Event) -> Finding
 }
 
 // Whether a call stands below a border of the calls that may race with x.
-fn is_below(marks: &Marks, x: Event, border: Border, y: Event) -> bool
-    ensures { (plan : runs.Plan) → AreMarks plan marks.now → (IsTrue result ↔ IsBelow plan (event_of x) border (event_of y)) }
+fn is_below(marked: &MarkedPlan<'_>, x: Event, border: Border, y: Event) -> bool
+    ensures { IsTrue result ↔ IsBelow (plan_of marked.now) (event_of x) border (event_of y) }
 {
     match border {
-        Border::FirstNotBefore => marks.before(y, x),
-        Border::FirstAfter => marks.live(y) && !marks.before(x, y),
+        Border::FirstNotBefore => marked.before(y, x),
+        Border::FirstAfter => marked.live(y) && !marked.before(x, y),
     }
 }
 
 // How many of these calls of one process stand below the border, by bisection.
-fn count_below(marks: &Marks, x: Event, border: Border, run: &[Event]) -> usize
+fn count_below(marked: &MarkedPlan<'_>, x: Event, border: Border, run: &[Event]) -> usize
     ensures within { result ≤ length run.now }
-    ensures cut { (plan : runs.Plan) (name p : ℕ) → AreMarks plan marks.now → AreCallsOn plan name (map event_of run.now) → AreOf p (map event_of run.now)
-        → IsCut (IsBelow plan (event_of x) border) (map event_of run.now) result }
+    ensures cut { (name p : ℕ) → AreCallsOn (plan_of marked.now) name (map event_of run.now) → AreOf p (map event_of run.now)
+        → IsCut (IsBelow (plan_of marked.now) (event_of x) border) (map event_of run.now) result }
 {
     let mut low = 0;
     let mut high = run.len();
     'bisection: while low < high {
         let middle = low + (high - low) / 2;
-        if is_below(marks, x, border, run[middle]) {
+        if is_below(marked, x, border, run[middle]) {
             low = middle + 1;
         } else {
             high = middle;
@@ -94,22 +95,21 @@ fn count_below(marks: &Marks, x: Event, border: Border, run: &[Event]) -> usize
 // Adds the races of a live call with higher calls of one process. The one publish of a name and a
 // lookup that waits for it are in order where both are live, so they aren't between the borders.
 fn add_between(
-    plan: &Plan,
-    marks: &Marks,
+    marked: &MarkedPlan<'_>,
     found: &mut Found,
     x: NameCall,
     run: &[Event],
 ) -> Result<(), AllocError>
-    requires marks { AreMarks (plan_of plan.now) marks.now }
-    requires found { AreFound (plan_of plan.now) found.old }
-    requires x { calls_name (plan_of plan.now) x.name (event_of x.event) (kind (plan_of plan.now) (event_of x.event)) ≡ true }
-    requires live { Live (plan_of plan.now) (event_of x.event) }
-    requires rivals { AreRivals (plan_of plan.now) x.name (event_of x.event) (map event_of run.now) }
+    requires found { AreFound (plan_of marked.now) found.old }
+    requires x { calls_name (plan_of marked.now) x.name (event_of x.event) (kind (plan_of marked.now) (event_of x.event)) ≡ true }
+    requires live { Live (plan_of marked.now) (event_of x.event) }
+    requires rivals { AreRivals (plan_of marked.now) x.name (event_of x.event) (map event_of run.now) }
     requires run { IsStretch (map event_of run.now) }
-    ensures { OnOk result (Adds (plan_of plan.now) found.old found.new (IsRaceWith (plan_of plan.now) x.name (event_of x.event) (map event_of run.now))) }
+    ensures { OnOk result (Adds (plan_of marked.now) found.old found.new (IsRaceWith (plan_of marked.now) x.name (event_of x.event) (map event_of run.now))) }
 {
-    let from = count_below(marks, x.event, Border::FirstNotBefore, run);
-    let to = count_below(marks, x.event, Border::FirstAfter, run);
+    let plan = marked.plan();
+    let from = count_below(marked, x.event, Border::FirstNotBefore, run);
+    let to = count_below(marked, x.event, Border::FirstAfter, run);
     for k in from..to {
         found.add(race_of(plan, x, run[k]))?;
     }
@@ -119,7 +119,8 @@ fn add_between(
 // How many of these calls in process order are of processes up to this one, by bisection.
 fn count_upto(calls: &[Event], proc: Proc) -> usize
     ensures within { result ≤ length calls.now }
-    ensures cut { (plan : runs.Plan) (name : ℕ) → AreCallsOn plan name (map event_of calls.now) → IsCut (λ z. z.proc ≤ proc.number) (map event_of calls.now) result }
+    ensures cut { (plan : runs.Plan) (name : ℕ) → AreCallsOn plan name (map event_of calls.now) →
+        IsCut (λ z. z.proc ≤ proc.number) (map event_of calls.now) result }
 {
     let mut low = 0;
     let mut high = calls.len();
@@ -137,31 +138,32 @@ fn count_upto(calls: &[Event], proc: Proc) -> usize
 // How many of the first of these calls in process order are of this process, which is that of the first one.
 fn stretch_length(calls: &[Event], proc: Proc) -> usize
     ensures within { result ≤ length calls.now }
-    ensures stretch { (plan : runs.Plan) (name : ℕ) (x : Event) → AreCallsOn plan name (map event_of calls.now) → slice_get calls.now 0 ≡ Some x → x.proc ≡ proc → AreOf proc.number (map event_of (take result calls.now)) }
-    ensures more { (plan : runs.Plan) (name : ℕ) (x : Event) → AreCallsOn plan name (map event_of calls.now) → slice_get calls.now 0 ≡ Some x → x.proc ≡ proc → 0 < result }
+    ensures stretch { (plan : runs.Plan) (name : ℕ) (x : Event) → AreCallsOn plan name (map event_of calls.now) → slice_get calls.now 0 ≡ Some x →
+        x.proc ≡ proc → AreOf proc.number (map event_of (take result calls.now)) }
+    ensures more { (plan : runs.Plan) (name : ℕ) (x : Event) → AreCallsOn plan name (map event_of calls.now) → slice_get calls.now 0 ≡ Some x → x.proc ≡ proc →
+        0 < result }
 {
     count_upto(calls, proc)
 }
 
 // Adds the races of a live call with higher calls, which are cut into stretches of one process each.
 fn add_rivals(
-    plan: &Plan,
-    marks: &Marks,
+    marked: &MarkedPlan<'_>,
     found: &mut Found,
     x: NameCall,
     rivals: &[Event],
 ) -> Result<(), AllocError>
-    requires marks { AreMarks (plan_of plan.now) marks.now }
-    requires found { AreFound (plan_of plan.now) found.old }
-    requires x { calls_name (plan_of plan.now) x.name (event_of x.event) (kind (plan_of plan.now) (event_of x.event)) ≡ true }
-    requires live { Live (plan_of plan.now) (event_of x.event) }
-    requires rivals { AreRivals (plan_of plan.now) x.name (event_of x.event) (map event_of rivals.now) }
-    ensures { OnOk result (Adds (plan_of plan.now) found.old found.new (IsRaceWith (plan_of plan.now) x.name (event_of x.event) (map event_of rivals.now))) }
+    requires found { AreFound (plan_of marked.now) found.old }
+    requires x { calls_name (plan_of marked.now) x.name (event_of x.event) (kind (plan_of marked.now) (event_of x.event)) ≡ true }
+    requires live { Live (plan_of marked.now) (event_of x.event) }
+    requires rivals { AreRivals (plan_of marked.now) x.name (event_of x.event) (map event_of rivals.now) }
+    ensures { OnOk result (Adds (plan_of marked.now) found.old found.new
+        (IsRaceWith (plan_of marked.now) x.name (event_of x.event) (map event_of rivals.now))) }
 {
     let mut rest = rivals;
     'stretches: while let Some(first) = rest.first() {
         let (stretch, others) = rest.split_at(stretch_length(rest, first.proc));
-        add_between(plan, marks, found, x, stretch)?;
+        add_between(marked, found, x, stretch)?;
         rest = others;
     }
     Ok(())
@@ -169,21 +171,19 @@ fn add_rivals(
 
 // Adds the races of a call with all higher ones.
 fn add_call(
-    plan: &Plan,
-    marks: &Marks,
+    marked: &MarkedPlan<'_>,
     found: &mut Found,
     x: NameCall,
     rivals: &[Event],
 ) -> Result<(), AllocError>
-    requires marks { AreMarks (plan_of plan.now) marks.now }
-    requires found { AreFound (plan_of plan.now) found.old }
-    requires x { calls_name (plan_of plan.now) x.name (event_of x.event) (kind (plan_of plan.now) (event_of x.event)) ≡ true }
-    requires rivals { AreRivals (plan_of plan.now) x.name (event_of x.event) (map event_of rivals.now) }
-    requires all { HasRivals (plan_of plan.now) x.name (event_of x.event) (map event_of rivals.now) }
-    ensures { OnOk result (Adds (plan_of plan.now) found.old found.new (IsRaceFrom (plan_of plan.now) x.name (event_of x.event))) }
+    requires found { AreFound (plan_of marked.now) found.old }
+    requires x { calls_name (plan_of marked.now) x.name (event_of x.event) (kind (plan_of marked.now) (event_of x.event)) ≡ true }
+    requires rivals { AreRivals (plan_of marked.now) x.name (event_of x.event) (map event_of rivals.now) }
+    requires all { HasRivals (plan_of marked.now) x.name (event_of x.event) (map event_of rivals.now) }
+    ensures { OnOk result (Adds (plan_of marked.now) found.old found.new (IsRaceFrom (plan_of marked.now) x.name (event_of x.event))) }
 {
-    if marks.live(x.event) {
-        add_rivals(plan, marks, found, x, rivals)
+    if marked.live(x.event) {
+        add_rivals(marked, found, x, rivals)
     } else {
         Ok(())
     }
@@ -191,7 +191,8 @@ fn add_call(
 
 // The calls of processes above this one.
 fn above(calls: &[Event], proc: Proc) -> &[Event]
-    ensures { (plan : runs.Plan) (name : ℕ) → AreCallsOn plan name (map event_of calls.now) → IsAbove proc.number (map event_of calls.now) (map event_of result.now) }
+    ensures { (plan : runs.Plan) (name : ℕ) → AreCallsOn plan name (map event_of calls.now) →
+        IsAbove proc.number (map event_of calls.now) (map event_of result.now) }
 {
     calls.split_at(count_upto(calls, proc)).1
 }
@@ -229,36 +230,34 @@ fn writers_of(alloc: Global, plan: &Plan, name: u32) -> Result<Vec<Event>, Alloc
 
 // Adds the races on a name, from the lower call of each.
 fn add_races_on(
-    plan: &Plan,
-    marks: &Marks,
+    marked: &MarkedPlan<'_>,
     found: &mut Found,
     name: u32,
     writers: &[Event],
 ) -> Result<(), AllocError>
-    requires marks { AreMarks (plan_of plan.now) marks.now }
-    requires found { AreFound (plan_of plan.now) found.old }
-    requires writers { AreWriters (plan_of plan.now) name (map event_of writers.now) }
-    ensures { OnOk result (Adds (plan_of plan.now) found.old found.new (IsRaceOn (plan_of plan.now) name)) }
+    requires found { AreFound (plan_of marked.now) found.old }
+    requires writers { AreWriters (plan_of marked.now) name (map event_of writers.now) }
+    ensures { OnOk result (Adds (plan_of marked.now) found.old found.new (IsRaceOn (plan_of marked.now) name)) }
 {
+    let plan = marked.plan();
     let calls = plan.name_calls(name);
     for event in calls {
         let x = NameCall {
             name,
             event: *event,
         };
-        add_call(plan, marks, found, x, rivals_of(plan, x, calls, writers))?;
+        add_call(marked, found, x, rivals_of(plan, x, calls, writers))?;
     }
     Ok(())
 }
 
 // The races on a name: a piece of the search.
-fn piece(alloc: Global, plan: &Plan, marks: &Marks, name: u32) -> Result<Found, AllocError>
-    requires { AreMarks (plan_of plan.now) marks.now }
-    ensures { IfOk result (IsPiece (plan_of plan.now) (IsRaceOn (plan_of plan.now) name)) }
+fn piece(alloc: Global, marked: &MarkedPlan<'_>, name: u32) -> Result<Found, AllocError>
+    ensures { IfOk result (IsPiece (plan_of marked.now) (IsRaceOn (plan_of marked.now) name)) }
 {
     let mut found = Found::new(alloc);
-    let writers = writers_of(alloc, plan, name)?;
-    add_races_on(plan, marks, &mut found, name, writers.as_slice())?;
+    let writers = writers_of(alloc, marked.plan(), name)?;
+    add_races_on(marked, &mut found, name, writers.as_slice())?;
     Ok(found)
 }
 
@@ -280,7 +279,7 @@ fn pieces(
             |name: u32| -> Result<Found, AllocError>
                 requires { AreMarks (plan_of plan.now) marks.now }
                 ensures { IfOk result (IsPiece (plan_of plan.entry.now) (IsRaceOn (plan_of plan.entry.now) name)) }
-            { piece(alloc, plan, marks, name) },
+            { piece(alloc, &marks.with(plan), name) },
         )
         .collect::<Result<Vec<_>, AllocError>>(rt, alloc)?
 }
@@ -295,17 +294,16 @@ fn pieces(
 pub(crate) fn add_name_races(
     rt: &(impl Threads + Sync),
     alloc: Global,
-    plan: &Plan,
-    marks: &Marks,
+    marked: &MarkedPlan<'_>,
     found: &mut Found,
 ) -> Result<(), AllocError>
-    requires marks { AreMarks (plan_of plan.now) marks.now }
-    requires found { AreFound (plan_of plan.now) found.old }
-    ensures found { OnOk result (AreFound (plan_of plan.now) found.new) }
-    ensures all { OnOk result (AllAdded (plan_of plan.now) IsOfName found.old found.new) }
+    requires found { AreFound (plan_of marked.now) found.old }
+    ensures found { OnOk result (AreFound (plan_of marked.now) found.new) }
+    ensures all { OnOk result (AllAdded (plan_of marked.now) IsOfName found.old found.new) }
 {
     // Scripts are sound, so each call on a name is on one of theirs.
+    let plan = marked.plan();
     let _ = plan.scripts();
-    let pieces = pieces(rt, alloc, plan, marks)?;
+    let pieces = pieces(rt, alloc, plan, marked.marks())?;
     add_pieces(found, pieces)
 }

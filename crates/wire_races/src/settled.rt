@@ -90,7 +90,7 @@ impl Settled {
         ensures reply { TellsReply (plan_of self.now) (event_of event) result }
         ensures enabled { TellsEnabled (plan_of self.now) (event_of event) result }
     {
-        fate_of(&self.plan, &self.marks, event)
+        fate_of(&self.marks.with(&self.plan), event)
     }
 
     /// The marks of its plan.
@@ -107,7 +107,8 @@ impl Settled {
     /// Two processes that are both enabled in a state that a run can reach don't disturb each other: each
     /// stays enabled after the other's step, and both orders lead to the same state.
     pub fn enabled_commute(&self)
-        ensures { let plan = plan_of self.now in (s : State) (p q : ℕ) → IsReachable plan s → p ≢ q → is_enabled plan s p ≡ true → is_enabled plan s q ≡ true → Commute plan s p q }
+        ensures { let plan = plan_of self.now in (s : State) (p q : ℕ) → IsReachable plan s → p ≢ q → is_enabled plan s p ≡ true → is_enabled plan s q ≡ true →
+            Commute plan s p q }
     {
         let _ = &self.plan;
     }
@@ -115,7 +116,8 @@ impl Settled {
     /// Every interleaving that can't go on ends in one state, with the same replies, the same names and
     /// the same processes waiting: that of the plain run.
     pub fn one_end(&self)
-        ensures one { let plan = plan_of self.now in (v w : List ℕ) → IsInterleaving plan start v → IsInterleaving plan start w → IsEnd plan (run plan v) → IsEnd plan (run plan w) → run plan v ≡ run plan w }
+        ensures one { let plan = plan_of self.now in (v w : List ℕ) → IsInterleaving plan start v → IsInterleaving plan start w → IsEnd plan (run plan v) →
+            IsEnd plan (run plan w) → run plan v ≡ run plan w }
         ensures plain { HasOneEnd (plan_of self.now) }
     {
         let _ = &self.plan;

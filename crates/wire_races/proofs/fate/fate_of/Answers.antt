@@ -7,10 +7,10 @@ use Rattle.wire_races.proofs.fate.fate_of.Goals as goal
 
 pub returns-then-live : goal.returns-then-live
 returns-then-live c =
-    let plan = plan_of c.args.plan.now in
-    fate_of_live plan c.args.marks.now (event_of c.args.event) c.live_fate.result c.requires.settled c.requires.marks ((c.live.ensures plan c.requires.marks).0 c.if-live.true) c.live_fate.ensures
+    let plan = plan_of c.args.marked.now in
+    fate_of_live plan c.marks.result.now (event_of c.args.event) c.live_fate.result c.requires c.marks.ensures (c.live.ensures.0 c.if-live.true) c.live_fate.ensures
 
 pub returns-else-live : goal.returns-else-live
 returns-else-live c =
-    let plan = plan_of c.args.plan.now in
-    fate_of_dead plan (event_of c.args.event) (λ l. true≢false (sym ((c.live.ensures plan c.requires.marks).1 l) ∙ c.if-live.false))
+    let plan = plan_of c.args.marked.now in
+    fate_of_dead plan (event_of c.args.event) (λ l. true≢false (sym (c.live.ensures.1 l) ∙ c.if-live.false))

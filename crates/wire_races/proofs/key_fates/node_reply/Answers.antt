@@ -7,16 +7,19 @@ use Rattle.wire_races.proofs.key_fates.node_reply.Goals as goal
 
 pub returns-then-before : goal.returns-then-before
 returns-then-before c =
-    let plan = plan_of c.args.plan.now in
-    served_after plan c.requires.settled (event_of c.args.put) c.args.key c.requires.put (event_of c.args.event) (event_of c.in-Some.commit) c.served_reply.result (ap (λ q. q.number) c.in-Some.ensures.0) c.in-Some.ensures.1
-    ((c.if-before.ensures plan c.requires.marks).0 refl) c.served_reply.ensures
+    let plan = plan_of c.args.marked.now in
+    served_after plan c.requires.settled (event_of c.args.put) c.args.key c.requires.put (event_of c.args.event) (event_of c.in-Some.commit) c.served_reply.result
+    (ap (λ q. q.number) (rw c.plan-plan.ensures at c.in-Some.ensures).0) (rw c.plan-plan.ensures at c.in-Some.ensures).1
+    (c.if-before.ensures.0 refl) (rw c.plan-plan.ensures at c.served_reply.ensures)
 
 pub returns-else-before : goal.returns-else-before
 returns-else-before c =
-    let plan = plan_of c.args.plan.now in
-    served_before plan c.requires.settled (event_of c.args.put) c.args.key c.requires.put (event_of c.args.event) (event_of c.in-Some.commit) c.bare-else-before.result (ap (λ q. q.number) c.in-Some.ensures.0) c.in-Some.ensures.1
-    (λ b. true≢false (sym ((c.if-before.ensures plan c.requires.marks).1 b))) (ap (λ r. r ∷ []) (sym c.bare-else-before.ensures))
+    let plan = plan_of c.args.marked.now in
+    served_before plan c.requires.settled (event_of c.args.put) c.args.key c.requires.put (event_of c.args.event) (event_of c.in-Some.commit) c.bare-else-before.result
+    (ap (λ q. q.number) (rw c.plan-plan.ensures at c.in-Some.ensures).0) (rw c.plan-plan.ensures at c.in-Some.ensures).1
+    (λ b. true≢false (sym (c.if-before.ensures.1 b))) (ap (λ r. r ∷ []) (sym c.bare-else-before.ensures))
 
 pub returns-in_default : goal.returns-in_default
 returns-in_default c =
-    served_never (plan_of c.args.plan.now) c.requires.settled (event_of c.args.put) c.args.key c.requires.put (event_of c.args.event) c.bare.result c.in_default.ensures (ap (λ r. r ∷ []) (sym c.bare.ensures))
+    served_never (plan_of c.args.marked.now) c.requires.settled (event_of c.args.put) c.args.key c.requires.put (event_of c.args.event) c.bare.result (rw c.plan-plan.ensures at c.in_default.ensures)
+    (ap (λ r. r ∷ []) (sym c.bare.ensures))

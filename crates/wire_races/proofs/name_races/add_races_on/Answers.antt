@@ -10,11 +10,11 @@ use Rattle.wire_races.proofs.NameRaces.{IsRaceAmong, with_more, among_on, on_amo
 use Rattle.wire_races.proofs.name_races.add_races_on.Goals as goal
 
 pub loop-event-init : goal.loop-event-init
-loop-event-init c = adds_none (plan_of c.args.plan.now) c.args.found.now _ c.requires.found (λ f r. r.1)
+loop-event-init c = adds_none (plan_of c.args.marked.now) c.args.found.now _ c.requires.found (λ f r. r.1)
 
 pub loop-event-preserved : goal.loop-event-preserved
 loop-event-preserved c =
-    let plan = plan_of c.args.plan.now in
+    let plan = plan_of c.args.marked.now in
     let calls = c.name_calls-calls.result.now in
     let n = c.loop-event.event-index in
     subst (λ l. Adds plan c.args.found.now c.add_call.new.found (IsRaceAmong plan c.args.name l)) (sym (map_more event_of calls n _ c.loop-event-test.true))
@@ -22,15 +22,17 @@ loop-event-preserved c =
 
 pub returns : goal.returns
 returns c =
-    let plan = plan_of c.args.plan.now in
+    let plan = plan_of c.args.marked.now in
     let calls = c.name_calls-calls.result.now in
     let all : take c.loop-event.event-index calls ≡ calls = take_all c.loop-event.event-index calls (omega arith) in
     adds_same plan c.args.found.now c.loop-event.found (IsRaceAmong plan c.args.name (map event_of calls)) (IsRaceOn plan c.args.name)
-    (among_on plan c.args.name (map event_of calls)) (on_among plan c.args.name (map event_of calls) c.name_calls-calls.ensures)
+    (among_on plan c.args.name (map event_of calls)) (on_among plan c.args.name (map event_of calls) (rw c.plan-plan.ensures at c.name_calls-calls.ensures))
     (subst (λ l. Adds plan c.args.found.now c.loop-event.found (IsRaceAmong plan c.args.name (map event_of l))) all c.loop-event.invariant)
 
 pub rivals_of-requires-clause-x : goal.rivals_of-requires-clause-x
-rivals_of-requires-clause-x c = c.name_calls-calls.ensures.only c.loop-event.event-index _ (place_at c.name_calls-calls.result.now c.loop-event.event-index _ c.loop-event-test.true)
+rivals_of-requires-clause-x c = rw c.plan-plan.ensures ((rw c.plan-plan.ensures at c.name_calls-calls.ensures).only c.loop-event.event-index _
+    (place_at c.name_calls-calls.result.now c.loop-event.event-index _ c.loop-event-test.true))
 
 pub add_call-requires-clause-x : goal.add_call-requires-clause-x
-add_call-requires-clause-x c = c.name_calls-calls.ensures.only c.loop-event.event-index _ (place_at c.name_calls-calls.result.now c.loop-event.event-index _ c.loop-event-test.true)
+add_call-requires-clause-x c = (rw c.plan-plan.ensures at c.name_calls-calls.ensures).only c.loop-event.event-index _
+    (place_at c.name_calls-calls.result.now c.loop-event.event-index _ c.loop-event-test.true)

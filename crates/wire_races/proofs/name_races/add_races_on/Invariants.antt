@@ -6,4 +6,4 @@ use Rattle.wire_races.proofs.NameRaces.{IsRaceAmong}
 use Rattle.wire_races.proofs.name_races.add_races_on.Given as goal
 
 abbrev pub invariant-loop-event : goal.invariant-loop-event
-invariant-loop-event l = Adds (plan_of l.plan) l.initial.found l.found (IsRaceAmong (plan_of l.plan) l.name (map event_of (take l.event-index l.calls)))
+invariant-loop-event l = Adds (plan_of l.marked) l.initial.found l.found (IsRaceAmong (plan_of l.marked) l.name (map event_of (take l.event-index l.calls)))

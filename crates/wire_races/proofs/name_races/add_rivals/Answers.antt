@@ -11,14 +11,14 @@ stretches-init c = record { found = c.requires.found; rivals = c.requires.rivals
 
 pub add_between-requires-clause-rivals : goal.add_between-requires-clause-rivals
 add_between-requires-clause-rivals c =
-    let plan = plan_of c.args.plan.now in
+    let plan = plan_of c.args.marked.now in
     let parts = both_parts c.stretches.rest.now c.split_at.result.0.now c.split_at.result.1.now c.stretch_length.result c.split_at.ensures.front c.split_at.ensures.back in
     first_rivals plan c.args.x.name (event_of c.args.x.event) (map event_of c.split_at.result.0.now) (map event_of c.split_at.result.1.now)
     (subst (λ l. AreRivals plan c.args.x.name (event_of c.args.x.event) l) parts c.stretches.invariant.rivals)
 
 pub stretches-preserved : goal.stretches-preserved
 stretches-preserved c =
-    let plan = plan_of c.args.plan.now in
+    let plan = plan_of c.args.marked.now in
     let name = c.args.x.name in
     let x = event_of c.args.x.event in
     let all = map event_of c.args.rivals.now in
@@ -34,13 +34,18 @@ stretches-preserved c =
 
 pub returns : goal.returns
 returns c =
-    let plan = plan_of c.args.plan.now in
+    let plan = plan_of c.args.marked.now in
     let name = c.args.x.name in
     let x = event_of c.args.x.event in
     let all = map event_of c.args.rivals.now in
     let empty = none_there c.stretches.rest.now (sym c.first.ensures.value ∙ ap option_copied c.in_default.is) in
-    none_left plan name x c.args.found.now c.stretches.found all c.stretches.invariant.found (subst (λ l. IsLeft plan name x c.args.found.now c.stretches.found all (map event_of l)) empty c.stretches.invariant.left)
+    none_left plan name x c.args.found.now c.stretches.found all c.stretches.invariant.found
+    (subst (λ l. IsLeft plan name x c.args.found.now c.stretches.found all (map event_of l)) empty c.stretches.invariant.left)
 
 pub add_between-requires-clause-run : goal.add_between-requires-clause-run
-add_between-requires-clause-run c =
-    (c.in-Some.first.now.proc.number, subst (λ l. AreOf c.in-Some.first.now.proc.number (map event_of l)) (sym c.split_at.ensures.front) (c.stretch_length.ensures.stretch (plan_of c.args.plan.now) c.args.x.name c.in-Some.first.now c.stretches.invariant.rivals.calls_on (sym c.first.ensures.value ∙ ap option_copied c.in-Some.is) refl))
+add_between-requires-clause-run c = (
+  c.in-Some.first.now.proc.number,
+  subst (λ l. AreOf c.in-Some.first.now.proc.number (map event_of l)) (sym c.split_at.ensures.front)
+      (c.stretch_length.ensures.stretch (plan_of c.args.marked.now) c.args.x.name c.in-Some.first.now c.stretches.invariant.rivals.calls_on
+      (sym c.first.ensures.value ∙ ap option_copied c.in-Some.is) refl),
+)

@@ -8,9 +8,9 @@ use Rattle.wire_races.proofs.name_races.add_rivals.Given as goal
 
 abbrev pub invariant-stretches : goal.invariant-stretches
 invariant-stretches l = record {
-  found : AreFound (plan_of l.plan) l.found;
-  rivals : AreRivals (plan_of l.plan) l.x.name (event_of l.x.event) (map event_of l.rest);
-  left : IsLeft (plan_of l.plan) l.x.name (event_of l.x.event) l.initial.found l.found (map event_of l.rivals) (map event_of l.rest);
+  found : AreFound (plan_of l.marked) l.found;
+  rivals : AreRivals (plan_of l.marked) l.x.name (event_of l.x.event) (map event_of l.rest);
+  left : IsLeft (plan_of l.marked) l.x.name (event_of l.x.event) l.initial.found l.found (map event_of l.rivals) (map event_of l.rest);
 }
 
 abbrev pub decreases-stretches : goal.decreases-stretches

@@ -1,6 +1,7 @@
 use Rattle.std.proofs.Common.{◌∙◌, ◌+◌, ◌-◌, ◌/◌, ◌<◌, map, length, sym, arith}
 use Rattle.std.proofs.lemmas.Bool.{true≢false}
 use Rattle.wire_runs.specs.Plan.{event_of}
+use Rattle.wire_rehearsal.specs.Planned.{plan_of}
 use Rattle.wire_races.specs.NameRaces.{IsBelow}
 use Rattle.wire_races.proofs.Lists.{place_at}
 use Rattle.wire_races.proofs.NameRaces.{low_rises, high_falls, narrowed_cut, borders}
@@ -16,9 +17,11 @@ bisection-preserved-then-is_below c =
     record {
       order = omega (arith, lt);
       within = within;
-      narrowed = λ plan name p marks are one.
-          low_rises (IsBelow plan (event_of c.args.x) c.args.border) (map event_of c.args.run.now) (borders plan (event_of c.args.x) c.args.border name p (map event_of c.args.run.now) are one) low high _ _ (place_at c.args.run.now (low + (high - low) / 2) _ fits)
-          ((c.is_below.ensures plan marks).0 c.if-is_below.true) (c.bisection.invariant.narrowed plan name p marks are one);
+      narrowed = λ name p are one.
+          low_rises (IsBelow (plan_of c.args.marked.now) (event_of c.args.x) c.args.border) (map event_of c.args.run.now)
+          (borders (plan_of c.args.marked.now) (event_of c.args.x) c.args.border name p (map event_of c.args.run.now) are one) low high _ _
+          (place_at c.args.run.now (low + (high - low) / 2) _ fits)
+          (c.is_below.ensures.0 c.if-is_below.true) (c.bisection.invariant.narrowed name p are one);
     }
 
 pub bisection-preserved : goal.bisection-preserved
@@ -31,10 +34,12 @@ bisection-preserved c =
     record {
       order = omega arith;
       within = omega (arith, fits);
-      narrowed = λ plan name p marks are one.
-          high_falls (IsBelow plan (event_of c.args.x) c.args.border) (map event_of c.args.run.now) (borders plan (event_of c.args.x) c.args.border name p (map event_of c.args.run.now) are one) low high _ _ (place_at c.args.run.now (low + (high - low) / 2) _ fits)
-          (λ h. true≢false (sym ((c.is_below.ensures plan marks).1 h) ∙ c.if-is_below.false)) (c.bisection.invariant.narrowed plan name p marks are one);
+      narrowed = λ name p are one.
+          high_falls (IsBelow (plan_of c.args.marked.now) (event_of c.args.x) c.args.border) (map event_of c.args.run.now)
+          (borders (plan_of c.args.marked.now) (event_of c.args.x) c.args.border name p (map event_of c.args.run.now) are one) low high _ _
+          (place_at c.args.run.now (low + (high - low) / 2) _ fits)
+          (λ h. true≢false (sym (c.is_below.ensures.1 h) ∙ c.if-is_below.false)) (c.bisection.invariant.narrowed name p are one);
     }
 
 pub returns-clause-cut : goal.returns-clause-cut
-returns-clause-cut c = λ plan name p marks are one. narrowed_cut _ _ c.bisection.low c.bisection.high c.bisection-test.false (c.bisection.invariant.narrowed plan name p marks are one)
+returns-clause-cut c = λ name p are one. narrowed_cut _ _ c.bisection.low c.bisection.high c.bisection-test.false (c.bisection.invariant.narrowed name p are one)

@@ -1,6 +1,6 @@
 use Rattle.std.proofs.Common.{◌-◌, ◌≤◌, ℕ, length, map}
-use Rattle.wire_runs.specs.Plan.{Plan, event_of}
-use Rattle.wire_marks.specs.Clocks.{AreMarks}
+use Rattle.wire_runs.specs.Plan.{event_of}
+use Rattle.wire_rehearsal.specs.Planned.{plan_of}
 use Rattle.wire_races.specs.NameRaces.{AreCallsOn, AreOf, IsBelow}
 use Rattle.wire_races.proofs.NameRaces.{IsNarrowed}
 use Rattle.wire_races.proofs.name_races.count_below.Given as goal
@@ -9,7 +9,8 @@ abbrev pub invariant-bisection : goal.invariant-bisection
 invariant-bisection l = record {
   order : l.low ≤ l.high;
   within : l.high ≤ length l.run;
-  narrowed : (plan : Plan) (name p : ℕ) → AreMarks plan l.marks → AreCallsOn plan name (map event_of l.run) → AreOf p (map event_of l.run) → IsNarrowed (IsBelow plan (event_of l.x) l.border) (map event_of l.run) l.low l.high;
+  narrowed : (name p : ℕ) → AreCallsOn (plan_of l.marked) name (map event_of l.run) → AreOf p (map event_of l.run) →
+      IsNarrowed (IsBelow (plan_of l.marked) (event_of l.x) l.border) (map event_of l.run) l.low l.high;
 }
 
 abbrev pub decreases-bisection : goal.decreases-bisection

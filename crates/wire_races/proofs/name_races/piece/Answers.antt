@@ -5,5 +5,5 @@ use Rattle.wire_races.proofs.name_races.piece.Goals as goal
 
 pub returns : goal.returns
 returns c =
-    let plan = plan_of c.args.plan.now in
+    let plan = plan_of c.args.marked.now in
     piece_of plan (IsRaceOn plan c.args.name) c.new-found.result c.add_races_on.new.found c.new-found.ensures c.in_ok-add_races_on.ensures
