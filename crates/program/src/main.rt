@@ -14,7 +14,7 @@ use std::thread::Threads;
 use std::{env, io};
 use wire_sched::OpenGate;
 use wire_types::{Fault, FromRead, ToWrite, write_out};
-use wire_up::{Asked, Ended, Mode, asked, check, follow, rehearse, why, workers_of};
+use wire_up::{Ended, Mode, Refusal, Request, check, follow, read_request, rehearse, why};
 
 /// The exit status of a command line that can't be read.
 const USAGE: u8 = 5;
@@ -63,71 +63,51 @@ fn words<'a>(alloc: Global, arguments: &'a [String]) -> Result<Vec<&'a str>, All
     Ok(words)
 }
 
-/// Does what the words ask for, and answers how that ended.
+/// Does what the words request, and answers how that ended.
 fn obey<'a>(
     rt: &(impl Files + Input + Print + Eprint + AllocGlobal + Threads + Wait + Sync),
     words: &'a [&'a str],
 ) -> Result<Ended, Failure> {
-    match asked(rt.alloc(), words) {
-        Ok(asked) => run_command(rt, &asked),
-        Err(error) => {
+    match read_request(rt.alloc(), words) {
+        Ok(request) => Ok(serve(rt, request)?),
+        Err(Refusal::Workers) => {
+            let _ = rt.eprintln("wire_up: usage --workers");
+            Err(Failure::Usage)
+        }
+        Err(Refusal::Usage(error)) => {
             tell(rt, &error)?;
             Ok(Ended::Clean)
         }
     }
 }
 
-/// Runs the command that was asked for.
-fn run_command(
-    rt: &(impl Files + Input + Print + Eprint + AllocGlobal + Threads + Wait + Sync),
-    asked: &Asked<'_>,
-) -> Result<Ended, Failure> {
-    if asked.command == "check" {
-        return Ok(check_file(rt, word(asked, 0))?);
+/// Runs the command that was requested.
+fn serve(
+    rt: &(impl Files + Input + Print + AllocGlobal + Threads + Wait + Sync),
+    request: Request<'_>,
+) -> Result<Ended, Fault> {
+    match request {
+        Request::Check { plan } => check_plan(rt, plan),
+        Request::Replay {
+            plan,
+            workers,
+            json,
+            anyway,
+        } => replay_plan(rt, plan, workers, Mode { json, anyway }),
+        Request::Follow { order, plan } => {
+            follow_order(rt, order, plan)?;
+            Ok(Ended::Clean)
+        }
+        Request::Why {
+            first,
+            second,
+            plan,
+        } => {
+            let words = [first.proc, first.number, second.proc, second.number];
+            answer_question(rt, words, plan)?;
+            Ok(Ended::Clean)
+        }
     }
-    if asked.command == "replay" {
-        return replay(rt, asked);
-    }
-    show(rt, asked)?;
-    Ok(Ended::Clean)
-}
-
-/// A word of the command, if there are so many.
-fn word<'a>(asked: &Asked<'a>, index: usize) -> Option<&'a str> {
-    asked.words.get(index).copied()
-}
-
-/// Replays scripts by so many workers as are asked for.
-fn replay(
-    rt: &(impl Files + Input + Print + Eprint + AllocGlobal + Threads + Wait + Sync),
-    asked: &Asked<'_>,
-) -> Result<Ended, Failure> {
-    let Some(workers) = workers_of(asked.workers) else {
-        let _ = rt.eprintln("wire_up: usage --workers");
-        return Err(Failure::Usage);
-    };
-    let mode = Mode {
-        json: asked.json,
-        anyway: asked.anyway,
-    };
-    Ok(replay_file(rt, word(asked, 0), workers, mode)?)
-}
-
-/// Shows a run in an order, or the order of two calls.
-fn show(rt: &(impl Files + Input + Print + AllocGlobal), asked: &Asked<'_>) -> Result<(), Failure> {
-    let Some(first) = word(asked, 0) else {
-        return Err(Failure::Usage);
-    };
-    if asked.command == "follow" {
-        return Ok(follow_file(rt, first, word(asked, 1))?);
-    }
-    let words = [
-        first,
-        word(asked, 1).unwrap_or(""),
-        word(asked, 2).unwrap_or(""),
-        word(asked, 3).unwrap_or(""),
-    ];
-    Ok(why_file(rt, words, word(asked, 4))?)
 }
 
 /// Tells why there is nothing to do: the user asked for help or the version, or the words can't be read.
@@ -144,108 +124,101 @@ fn tell(rt: &(impl Print + Eprint + AllocGlobal), error: &Error) -> Result<(), F
     Ok(())
 }
 
-/// Checks a file, or standard input where none is named.
-fn check_file(
-    rt: &(impl Files + Input + Print + AllocGlobal + Threads + Sync),
-    file: Option<&str>,
-) -> Result<Ended, Fault> {
-    let mut writer = ToWrite::new(io::writer(rt));
-    match file {
-        Some(path) => {
-            let file = File::open(rt, path).map_err(|_| Fault::Read)?;
-            check(rt, rt.alloc(), &mut FromRead::new(file), &mut writer)
+/// A plan that is open: a file, or standard input.
+#[derive(Drop)]
+enum Opened<F, S> {
+    File(F),
+    Standard(S),
+}
+
+impl<F: Read, S: Read> Read for Opened<F, S> {
+    fn read(&mut self, buffer: &mut [u8]) -> io::Result<usize> {
+        match self {
+            Opened::File(file) => file.read(buffer),
+            Opened::Standard(input) => input.read(buffer),
         }
-        None => check(rt, rt.alloc(), &mut FromRead::new(rt.reader()), &mut writer),
     }
 }
 
-/// Replays a file, or standard input where none is named. The file is opened before the number of workers is judged.
-fn replay_file(
+/// What the system answered, where each error of it is the fault `Read`.
+fn judge_read<T>(answer: io::Result<T>) -> Result<T, Fault> {
+    match answer {
+        Ok(value) => Ok(value),
+        Err(error) => {
+            drop(error);
+            Err(Fault::Read)
+        }
+    }
+}
+
+/// Opens a plan: a file, or standard input where none is named.
+fn open_plan<R: Files + Input>(
+    rt: &R,
+    plan: Option<&str>,
+) -> Result<FromRead<Opened<R::File, R::Reader>>, Fault> {
+    let opened = match plan {
+        Some(path) => Opened::File(judge_read(File::open(rt, path))?),
+        None => Opened::Standard(rt.reader()),
+    };
+    Ok(FromRead::new(opened))
+}
+
+/// Checks a plan.
+fn check_plan(
+    rt: &(impl Files + Input + Print + AllocGlobal + Threads + Sync),
+    plan: Option<&str>,
+) -> Result<Ended, Fault> {
+    let mut reader = open_plan(rt, plan)?;
+    let mut writer = ToWrite::new(io::writer(rt));
+    check(rt, rt.alloc(), &mut reader, &mut writer)
+}
+
+/// Replays a plan. It is opened before the number of workers is judged.
+fn replay_plan(
     rt: &(impl Files + Input + Print + AllocGlobal + Threads + Wait + Sync),
-    file: Option<&str>,
+    plan: Option<&str>,
     workers: usize,
     mode: Mode,
 ) -> Result<Ended, Fault> {
+    let mut reader = open_plan(rt, plan)?;
     let mut writer = ToWrite::new(io::writer(rt));
-    match file {
-        Some(path) => {
-            let file = File::open(rt, path).map_err(|_| Fault::Read)?;
-            rehearse(
-                rt,
-                rt.alloc(),
-                &mut FromRead::new(file),
-                &mut writer,
-                workers,
-                mode,
-                &OpenGate,
-            )
-        }
-        None => rehearse(
-            rt,
-            rt.alloc(),
-            &mut FromRead::new(rt.reader()),
-            &mut writer,
-            workers,
-            mode,
-            &OpenGate,
-        ),
-    }
+    rehearse(
+        rt,
+        rt.alloc(),
+        &mut reader,
+        &mut writer,
+        workers,
+        mode,
+        &OpenGate,
+    )
 }
 
-/// Follows the order of a file on the scripts of a file, or on those of standard input where none is
-/// named. The scripts are opened first.
-fn follow_file(
+/// Follows the order of a file on a plan, which is opened first.
+fn follow_order(
     rt: &(impl Files + Input + Print + AllocGlobal),
     order: &str,
-    file: Option<&str>,
+    plan: Option<&str>,
 ) -> Result<(), Fault> {
-    let mut writer = ToWrite::new(io::writer(rt));
-    match file {
-        Some(path) => {
-            let file = File::open(rt, path).map_err(|_| Fault::Read)?;
-            let order = File::open(rt, order).map_err(|_| Fault::Read)?;
-            follow(
-                rt.alloc(),
-                &mut FromRead::new(file),
-                &mut FromRead::new(order),
-                &mut writer,
-            )
-        }
-        None => {
-            let mut input = rt.reader();
-            // Where standard input is closed, the order would be opened in its place, and be read as the
-            // scripts. A read of no bytes fails there, and takes nothing anywhere else.
-            input.read(&mut [0; 0]).map_err(|_| Fault::Read)?;
-            let order = File::open(rt, order).map_err(|_| Fault::Read)?;
-            follow(
-                rt.alloc(),
-                &mut FromRead::new(input),
-                &mut FromRead::new(order),
-                &mut writer,
-            )
-        }
+    let mut reader = open_plan(rt, plan)?;
+    if plan.is_none() {
+        // Where standard input is closed, the order would be opened in its place, and be read as the
+        // plan. A read of no bytes fails there, and takes nothing anywhere else.
+        judge_read(reader.inner.read(&mut [0; 0]))?;
     }
+    let mut order = FromRead::new(judge_read(File::open(rt, order))?);
+    let mut writer = ToWrite::new(io::writer(rt));
+    follow(rt.alloc(), &mut reader, &mut order, &mut writer)
 }
 
-/// Answers a question about a file, or about standard input where none is named.
-fn why_file(
+/// Answers a question about a plan.
+fn answer_question(
     rt: &(impl Files + Input + Print + AllocGlobal),
     words: [&str; 4],
-    file: Option<&str>,
+    plan: Option<&str>,
 ) -> Result<(), Fault> {
+    let mut reader = open_plan(rt, plan)?;
     let mut writer = ToWrite::new(io::writer(rt));
-    match file {
-        Some(path) => {
-            let file = File::open(rt, path).map_err(|_| Fault::Read)?;
-            why(rt.alloc(), &mut FromRead::new(file), &mut writer, words)
-        }
-        None => why(
-            rt.alloc(),
-            &mut FromRead::new(rt.reader()),
-            &mut writer,
-            words,
-        ),
-    }
+    why(rt.alloc(), &mut reader, &mut writer, words)
 }
 
 fn run(
