@@ -4,7 +4,7 @@ Usage: python3 tests/bench.py [PROGRAM] [--beside OTHER] [--only WORD] [--runs N
 Prints the tables of docs/performance.md: for each file its bytes, calls and findings; for each command the least time of N runs,
 with the start of the process in it and the output thrown away, how that grows from a quarter of the calls, and the greatest
 resident size. With OTHER, its time and size in the same runs, and the ratio. The last two tables have runs that judge no findings (of
-crates/parts, which is built where it isn't there): the plain run by one thread, beside OTHER's `replay` where that has no workers and
+crates/one_function, which is built where it isn't there): the plain run by one thread, beside OTHER's `replay` where that has no workers and
 so is such a run; and the same with one worker over a core under a lock, and `replay` by 1, 2 and 4 workers, beside it.
 --small takes files of a few calls, each once: it only shows that all of it still works.
 """
@@ -17,7 +17,7 @@ import tempfile
 import time
 
 TOP = os.path.dirname(os.path.dirname(os.path.abspath(__file__)))
-PARTS = os.path.join(TOP, "crates", "parts", "out", "parts")
+PARTS = os.path.join(TOP, "crates", "one_function", "out", "one_function")
 ONE_NODE = "rehearsal 1\nnode n0\njob app\n"
 TWO_NODES = "rehearsal 1\nnode n0\nnode n1\njob app\n"
 QUARTER, WHOLE = 1, 4
@@ -260,8 +260,8 @@ class Bench:
 def has_parts():
     """Whether there is the program that has functions by themselves. It is built where it isn't there."""
     if not os.path.exists(PARTS):
-        print("building crates/parts", file=sys.stderr, flush=True)
-        subprocess.run(["rt", "run"], cwd=os.path.join(TOP, "crates", "parts"), capture_output=True, check=False)
+        print("building crates/one_function", file=sys.stderr, flush=True)
+        subprocess.run(["rt", "run"], cwd=os.path.join(TOP, "crates", "one_function"), capture_output=True, check=False)
     return os.path.exists(PARTS)
 
 
@@ -288,7 +288,7 @@ def main():
         if not os.path.exists(program):
             sys.exit(f"there is no {program}: make run builds ./wire_up")
     if not has_parts():
-        sys.exit("crates/parts can't be built: `rt run` in that folder shows why")
+        sys.exit("crates/one_function can't be built: `rt run` in that folder shows why")
     if args.small:
         args.runs = 1
     with tempfile.TemporaryDirectory(prefix="wire-up-") as room:

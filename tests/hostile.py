@@ -297,7 +297,7 @@ def breaks_off_at_full_pipe(started, form):
 def prefixes(started, room):
     """Every prefix of a file is read or refused, by every command alike, and what is read has a canonical text that reads as the same."""
     runner, has_parts = soak.Runner(started, room), bench.has_parts()
-    yield has_parts or tell("canonical texts", "crates/parts isn't built: `rt run` in that folder shows why")
+    yield has_parts or tell("canonical texts", "crates/one_function isn't built: `rt run` in that folder shows why")
     for size in range(len(program.CARDS) + 1):
         name, text = f"the first {size} bytes of the cards", program.CARDS[:size]
         found, _ = soak.difference_of(runner, text, size)

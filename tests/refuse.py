@@ -6,7 +6,7 @@ after main was called; N rises until a run meets no refusal. This is done twice:
 follow. Each run must end with `wire_up: fault 1 Memory`, status 3 and nothing on standard output, or exactly as it does without a
 refusal. With `--anyway` any order is right that gives its report when it is followed. A worker whose start is refused is left out.
 At least one run of each command must end with the fault.
-The same is done to functions of the library by themselves (crates/parts, which is built where it isn't there). They say whether the
+The same is done to functions of the library by themselves (crates/one_function, which is built where it isn't there). They say whether the
 refusal met the function or what stands before and after it, and at least one must have met the function.
 Prints a line for each command for which this doesn't hold, and last 'N passed, M failed'. --tell prints how many requests each made.
 """
@@ -225,7 +225,7 @@ def all_refusals(started, only="", tells=False):
             return 0, 0
         has_parts = bench.has_parts()
         if not has_parts:
-            print("tests/refuse.py: crates/parts isn't built: `rt run` in that folder shows why")
+            print("tests/refuse.py: crates/one_function isn't built: `rt run` in that folder shows why")
         tried = [it for it in (*forms(room), *(parts() if has_parts else ())) if only in it.name]
         well = [Trial(started, library_path, room, it).went_well(pool, tells) for it in tried] + [False] * (not has_parts)
     print(f"tests/refuse.py: {well.count(True)} passed, {well.count(False)} failed", flush=True)

@@ -3,7 +3,7 @@ use Rattle.std.proofs.Common.{◌≡◌, ℕ, zero, suc, ◌+◌, List, [], ◌�
 use Rattle.std.proofs.lemmas.List.Elements.{All-nil, All-cons}
 use mathlib.Core.Option.{some, some-ne-none, some-injective}
 use lib.ListN.{get_elem?}
-use Rattle.wire_rehearsal.specs.Scripts.{Scripts}
+use Rattle.wire_content.specs.Scripts.{Scripts}
 use Rattle.wire_board.specs.Seats.{SeatIs, hold_of, IsTrueOf}
 use Rattle.wire_board.specs.Positions.{Fits, Each}
 

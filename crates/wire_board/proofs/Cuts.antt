@@ -10,8 +10,8 @@ use Rattle.wire_runs.specs.Fate.{Fate, Waits, HasFate, IsSoundCut}
 use Rattle.wire_runs.specs.Laws.{FatesHold}
 use Rattle.wire_runs.proofs.Due.{done_same, done_other}
 use Rattle.wire_runs.proofs.Fates.{runs_are_sound}
-use Rattle.wire_rehearsal.specs.Scripts.{Scripts}
-use Rattle.wire_rehearsal.specs.Planned.{plan_of}
+use Rattle.wire_content.specs.Scripts.{Scripts}
+use Rattle.wire_content.specs.Planned.{plan_of}
 use Rattle.wire_board.specs.declared.hold.Hold.{Hold}
 use Rattle.wire_board.specs.Cuts.{IsReachedCut, CutsAreSound}
 use Rattle.wire_board.specs.Positions.{Fits, next_in, ShowsNextIn}

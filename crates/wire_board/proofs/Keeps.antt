@@ -7,8 +7,8 @@ use mathlib.Core.Option.{some, none, some-ne-none, some-injective}
 use lib.ListN.{get_elem?}
 use Rattle.atomic_table.specs.Table.{Me, step, keeps, opening, Allows, Splits, Joins}
 use Rattle.atomic_table.proofs.Lists.{at_set, at_snoc}
-use Rattle.wire_rehearsal.specs.Scripts.{Scripts}
-use Rattle.wire_rehearsal.specs.Planned.{plan_of}
+use Rattle.wire_content.specs.Scripts.{Scripts}
+use Rattle.wire_content.specs.Planned.{plan_of}
 use Rattle.wire_board.specs.declared.hold.Hold.{Hold}
 use Rattle.wire_board.specs.Cuts.{procs_of}
 use Rattle.wire_board.specs.Positions.{hold, Fits, Each, count_of, owners_of, IsKept, holds_from, opening_view, learn, Learns, Stored, ShowsNextIn}

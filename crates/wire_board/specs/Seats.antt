@@ -3,8 +3,8 @@ use Rattle.std.specs.Prelude.{◌≡◌, ℕ, zero, suc, ◌-◌, ◌<◌, ◌�
 use Rattle.atomic_table.specs.Table.{Me}
 use Rattle.atomic_table.specs.Seated.{TableId}
 use Rattle.wire_runs.specs.Plan.{Event}
-use Rattle.wire_rehearsal.specs.Scripts.{Scripts}
-use Rattle.wire_rehearsal.specs.Planned.{plan_of}
+use Rattle.wire_content.specs.Scripts.{Scripts}
+use Rattle.wire_content.specs.Planned.{plan_of}
 use Rattle.wire_board.specs.declared.hold.Hold.{Hold}
 use Rattle.wire_board.specs.Cuts.{procs_of}
 use Rattle.wire_board.specs.Positions.{hold, holds_from, next_in, ShowsNextIn}

@@ -3,11 +3,11 @@
 ghost use Rattle.std.specs.Prelude.{◌≡◌, ℕ, ◌+◌, ◌<◌, ◌≤◌, All, [], length, map, replicate, IfOk, OnOk, IsOkUnless, MatchOption, slice_index, slice_set};
 ghost use Rattle.std.specs.Mem.Slots.{slots_items, slots_len, IsFull};
 ghost use Rattle.wire_types.specs.declared.Fault.TheVariants.{Memory};
-ghost use Rattle.wire_rehearsal.specs.Planned.{plan_of};
+ghost use Rattle.wire_content.specs.Planned.{plan_of};
 ghost use Rattle.wire_board.specs.Cuts.{procs_of, IsReachedCut};
 ghost use Rattle.wire_board.specs.Seats.{place_of, hold_of, opening_seat, opening_seats, ranks_from, Has, ShowsNext, IsTrueOf};
 
-use crate::hold::{Hold, Positions, Ranks, Reads, Stores, Token};
+use crate::hold::{Hold, Positions, Ranks, Reads, Stores, TableSeat};
 use crate::seat::Seat;
 use atomic_table::{Closed, Table};
 use std::alloc::{AllocError, Global};
@@ -15,7 +15,7 @@ use std::collections::LinkedList;
 use std::marker::Model;
 use wire_plan::Plan;
 use wire_races::Settled;
-use wire_rehearsal::Scripts;
+use wire_content::Scripts;
 use wire_types::{Fault, Proc};
 
 /// One atomic word for each process: the number of its events that are done. Between any two steps of any
@@ -60,7 +60,7 @@ impl Board {
     }
 
     // A board, and a first token, which owns each rank.
-    fn make(alloc: Global, plan: &Plan) -> Result<(Board, Token), AllocError>
+    fn make(alloc: Global, plan: &Plan) -> Result<(Board, TableSeat), AllocError>
         ensures plan { IfOk result (λ made. made.0.plan ≡ plan.now) }
         ensures first { IfOk result (λ made. Has made.0 (ranks_from made.0 0) made.1.table_id made.1.me) }
     {
@@ -70,7 +70,7 @@ impl Board {
     }
 
     // Cuts one seat for each rank off the first token.
-    fn deal(&self, alloc: Global, plan: &Plan, mut first: Token) -> Result<Vec<Seat>, AllocError>
+    fn deal(&self, alloc: Global, plan: &Plan, mut first: TableSeat) -> Result<Vec<Seat>, AllocError>
         requires plan { self.now.plan ≡ plan.now }
         requires first { Has self.now (ranks_from self.now 0) first.table_id first.me }
         ensures { IfOk result (λ seats. seats.items ≡ opening_seats self.now) }
@@ -88,7 +88,7 @@ impl Board {
         &self,
         alloc: Global,
         count: u32,
-        first: &mut Token,
+        first: &mut TableSeat,
         rank: u32,
     ) -> Result<Seat, AllocError>
         requires count { count ≡ procs_of self.now.plan }
@@ -149,7 +149,7 @@ impl Board {
     }
 
     // One token that has the ranks of all of these.
-    fn gather(&self, mut seats: Vec<Seat>) -> Option<Token>
+    fn gather(&self, mut seats: Vec<Seat>) -> Option<TableSeat>
         requires { All (λ seat. seat.board ≡ self.now) seats.items }
         ensures { MatchOption result (seats.items ≡ []) (λ token. Has self.now (map hold_of seats.items) token.table_id token.me) }
     {

@@ -2,7 +2,7 @@
 
 use atomic_table::{Join, Play, Split, TableRule};
 use std::collections::LinkedList;
-use wire_rehearsal::Scripts;
+use wire_content::Scripts;
 
 /// What the owner of a rank knows: the scripts of the plan, its rank, and of each process a number of
 /// events that are done. Only contracts speak of it: no value of it is made.
@@ -13,7 +13,7 @@ pub struct Hold {
 }
 
 /// What a thread steps with: it may own several ranks.
-pub(crate) type Token = atomic_table::Seat<(), LinkedList<Hold>>;
+pub(crate) type TableSeat = atomic_table::Seat<(), LinkedList<Hold>>;
 
 /// The rule of the words: they are the cut of a state that a run can come to, and each rank has one owner
 /// at most.

@@ -6,7 +6,7 @@ ghost use Rattle.wire_plan.specs.Index.{source_list};
 ghost use Rattle.wire_board.specs.Cuts.{procs_of, shows_event, skip_shown};
 ghost use Rattle.wire_board.specs.Seats.{SeatIs, place_of, ShowsNext};
 
-use crate::hold::Token;
+use crate::hold::TableSeat;
 use crate::shown::{shown_fate, shows_event, skip_shown};
 use std::marker::Model;
 use wire_plan::Sources;
@@ -18,7 +18,7 @@ use wire_types::{Event, Proc};
 /// board, its rank and what it knows.
 #[derive(Drop)]
 pub struct Seat {
-    pub(crate) token: Token,
+    pub(crate) token: TableSeat,
     pub(crate) rank: Proc,
     pub(crate) known: Vec<u64>,
 }

@@ -3,7 +3,7 @@
 ghost use Rattle.std.specs.Prelude.{◌≡◌, ◌≢◌, ◌↔◌, ◌<◌, ◌≤◌, None, map, option_map, option_to_list, slice_index, IfSome, MatchOption, slice_get, IsTrue};
 ghost use Rattle.std.specs.List.{list_all};
 ghost use Rattle.wire_runs.specs.Plan.{event_of, event_count};
-ghost use Rattle.wire_rehearsal.specs.Planned.{plan_of};
+ghost use Rattle.wire_content.specs.Planned.{plan_of};
 ghost use Rattle.wire_plan.specs.Index.{source_list};
 ghost use Rattle.wire_races.specs.Fates.{IsFateOf};
 ghost use Rattle.wire_board.specs.Cuts.{shows_event, skip_shown, ShowsSources};

@@ -1,8 +1,8 @@
 -- What a run by workers gives, whichever interleaving they took.
 use Rattle.std.specs.Prelude.{◌≡◌, ℕ, ◌≤◌, List}
 use Rattle.wire_types.specs.Outcome.{Ends}
-use Rattle.wire_rehearsal.specs.Scripts.{Scripts}
-use Rattle.wire_rehearsal.specs.Planned.{plan_of}
+use Rattle.wire_content.specs.Scripts.{Scripts}
+use Rattle.wire_content.specs.Planned.{plan_of}
 use Rattle.wire_runs.specs.State.{start}
 use Rattle.wire_runs.specs.Step.{IsInterleaving, IsEnd, run}
 use Rattle.wire_core.specs.EndsAfter.{ends_after}

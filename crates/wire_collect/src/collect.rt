@@ -30,7 +30,7 @@ fn may_work(workers: usize) -> bool
 }
 
 // The core, where it is of this plan and no process is ready; else a new one of the plan, run to its end.
-fn completed<'a, G: Gate>(
+fn complete<'a, G: Gate>(
     alloc: Global,
     plan: &'a Plan,
     core: Core<'a>,
@@ -53,7 +53,7 @@ fn completed<'a, G: Gate>(
 }
 
 // What became of every call of a core at its end, and its history.
-fn told(alloc: Global, core: &Core<'_>) -> Result<(Outcome, Vec<Proc>), Fault>
+fn tell_run(alloc: Global, core: &Core<'_>) -> Result<(Outcome, Vec<Proc>), Fault>
     requires { IsEnd (plan_in core.now) (state_of core.now) }
     ensures ok { IfOk result (λ r. IsCompleteRun core.now.scripts (map (λ p. p.number) r.1.items) (ends_of r.0)) }
     ensures memory { IsOkUnless result Memory }
@@ -91,8 +91,8 @@ pub fn run_any<R: Threads + Wait + Sync, G: Gate + Sync>(
     }
     let core = Core::new(alloc, plan)?;
     let core = run_core(rt, alloc, core, workers, gate)?;
-    let core = completed(alloc, plan, core, workers, gate)?;
-    let ran = told(alloc, &core);
+    let core = complete(alloc, plan, core, workers, gate)?;
+    let ran = tell_run(alloc, &core);
     drop(core);
     ran
 }

@@ -3,7 +3,7 @@
 ghost use Rattle.std.specs.Prelude.{◌<◌, IsOkUnless};
 ghost use Rattle.wire_sched.specs.Rounds.{ArePassesOf};
 
-use crate::rounds::{Dealt, serve_round, wanted_after};
+use crate::rounds::{Dealt, serve_round, workers_after};
 use std::alloc::Global;
 use std::sync::Wait;
 use std::thread::Threads;
@@ -72,7 +72,7 @@ pub(crate) fn run_core<'a, R: Threads + Wait + Sync, G: Gate + Sync>(
                 };
                 let (next, steps) = locked_round(rt, core, dealt, gate);
                 core = next;
-                wanted = wanted_after(steps, workers);
+                wanted = workers_after(steps, workers);
             }
             Err(fault) => {
                 drop(core);

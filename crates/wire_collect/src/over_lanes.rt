@@ -2,20 +2,20 @@
 
 ghost use Rattle.std.specs.Prelude.{◌≡◌, ◌<◌, IfOk, IfSome, IsOkUnless};
 ghost use Rattle.wire_types.specs.Outcome.{ends_of};
-ghost use Rattle.wire_rehearsal.specs.Planned.{plan_of};
+ghost use Rattle.wire_content.specs.Planned.{plan_of};
 ghost use Rattle.wire_board.specs.Seats.{opening_seats};
 ghost use Rattle.wire_lanes.specs.Lanes.{AreTrails};
 ghost use Rattle.wire_sched.specs.Rounds.{ArePassesOf};
 ghost use Rattle.wire_core.specs.EndsAfter.{plain_ends};
 
-use crate::rounds::{Dealt, serve_round, wanted_after};
+use crate::rounds::{Dealt, serve_round, workers_after};
 use std::alloc::Global;
 use std::sync::Wait;
 use std::thread::Threads;
 use wire_board::{Board, Seat};
 use wire_races::{Fate, Settled};
 use wire_sched::{Gate, Lanes, Round};
-use wire_trails::outcome_of;
+use wire_outcome::outcome_of;
 use wire_types::{Fault, Outcome, Proc};
 
 /// What a run over a board is given: the settled plan, how many workers, and the gate.
@@ -81,7 +81,7 @@ fn run_lanes<R: Threads + Wait + Sync, G: Gate + Sync>(
         if events == 0 || done >= total {
             break;
         }
-        wanted = wanted_after(events, settings.workers);
+        wanted = workers_after(events, settings.workers);
     }
     Ok(())
 }

@@ -63,7 +63,7 @@ pub(crate) fn serve_round<R: Threads + Wait + Sync, S: Serves + Sync, G: Gate + 
 const EVENTS_PER_WORKER: usize = 1_000;
 
 /// How many workers the round after one of so many events has: at least one, and at most all.
-pub(crate) fn wanted_after(events: usize, workers: usize) -> usize
+pub(crate) fn workers_after(events: usize, workers: usize) -> usize
     requires { 0 < workers }
     ensures { 0 < result }
 {

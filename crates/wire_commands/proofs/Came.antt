@@ -2,9 +2,9 @@
 use Rattle.std.proofs.Common.{◌≡◌, ◌∙◌, subst, refl, ℕ, List, take, Option, Some, None, Result, Ok, Err, IfSome, IfOk, IfErr, ◌⊎◌, inl, inr}
 use Rattle.wire_types.specs.declared.Fault.{Fault}
 use Rattle.wire_types.specs.declared.Fault.TheVariants.{Memory, Read}
-use Rattle.wire_rehearsal.specs.Scripts.{Scripts}
+use Rattle.wire_content.specs.Scripts.{Scripts}
 use Rattle.wire_script.specs.Reads.{Reads}
-use Rattle.wire_commands.specs.Replay.{ReadAs, Refuses}
+use Rattle.wire_commands.specs.Plain.{ReadAs, Refuses}
 use Rattle.wire_commands.proofs.Limited.{reads_limited}
 use Rattle.wire_commands.proofs.FileFaults.{not_read}
 

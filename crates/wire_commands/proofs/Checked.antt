@@ -4,8 +4,8 @@ use Rattle.std.specs.Io.KnownBytes.{Appends}
 use Rattle.wire_types.specs.declared.Fault.{Fault}
 use Rattle.wire_types.specs.declared.Fault.TheVariants.{Memory, Read, Write}
 use Rattle.wire_types.specs.Front.{WritesFront}
-use Rattle.wire_rehearsal.specs.Scripts.{Scripts}
-use Rattle.wire_rehearsal.specs.Planned.{plan_of}
+use Rattle.wire_content.specs.Scripts.{Scripts}
+use Rattle.wire_content.specs.Planned.{plan_of}
 use Rattle.wire_runs.specs.Races.{IsSettled}
 use Rattle.wire_runs.proofs.PlainRun.{plain_runs}
 use Rattle.wire_runs.proofs.Findings.{races_are_unordered}
@@ -14,7 +14,7 @@ use Rattle.wire_races.specs.Findings.{AreFindings}
 use Rattle.wire_report.specs.Findings.{findings_report}
 use Rattle.wire_commands.specs.declared.checking.Ended.{Ended}
 use Rattle.wire_commands.specs.declared.checking.Ended.TheVariants.{Clean, Found}
-use Rattle.wire_commands.specs.Replay.{ReadAs}
+use Rattle.wire_commands.specs.Plain.{ReadAs}
 use Rattle.wire_commands.specs.Check.{ended_with, IsJudged, IsVerdict, WritesVerdict, BreaksOffVerdict, WritesFindings, EndsInOneState, BreaksOffFindings, StopsBeforeFindings}
 
 -- it is clean exactly where nothing is found

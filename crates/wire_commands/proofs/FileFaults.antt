@@ -4,7 +4,7 @@ use Rattle.wire_types.specs.declared.Fault.{Fault}
 use Rattle.wire_types.specs.declared.Fault.TheVariants.{Memory, Read, Write, TooLong, BadHeader, BadLine, UnknownName, Twice, NotMember, TooMany}
 use Rattle.wire_lines.specs.Said as said
 use Rattle.wire_lines.specs.Text.{lines_of}
-use Rattle.wire_rehearsal.specs.Scripts.{Scripts}
+use Rattle.wire_content.specs.Scripts.{Scripts}
 use Rattle.wire_script.specs.Statements.{Statement, statements}
 use Rattle.wire_script.specs.FirstPass.{Started, Declared, is_in_place, is_short, is_known, is_again, has_room, after, judged, Judges, JudgesAll, FirstPass, nothing}
 use Rattle.wire_script.specs.Reads.{Reads, ReadsShort, is_declared_call, is_with_caller, call_fault, fault_in, first_fault, first_of, unless_fault}

@@ -8,12 +8,12 @@ use Rattle.wire_types.specs.declared.CallAt.{CallAt}
 use Rattle.wire_types.specs.declared.Fault.{Fault}
 use Rattle.wire_types.specs.declared.Fault.TheVariants.{Memory, Read, BadOrder}
 use Rattle.wire_types.specs.Front.{WritesFront}
-use Rattle.wire_rehearsal.specs.Scripts.{Scripts, Process, calls_in}
-use Rattle.wire_rehearsal.specs.Planned.{plan_of, planned_call, planned_process}
+use Rattle.wire_content.specs.Scripts.{Scripts, Process, calls_in}
+use Rattle.wire_content.specs.Planned.{plan_of, planned_call, planned_process}
 use Rattle.wire_order.specs.Question.{QuestionReads, Asks as AsksBoth, First, Second, Third, Fourth, IsCallNamed, calls_made}
 use Rattle.wire_runs.specs.Ends.{calls_of, process_calls}
 use Rattle.wire_report.specs.Chain.{IsChainText}
-use Rattle.wire_commands.specs.Replay.{ReadAs, Refuses}
+use Rattle.wire_commands.specs.Plain.{ReadAs, Refuses}
 use Rattle.wire_commands.specs.Why.{Asks, Answers, WritesAnswer, BreaksOffAnswer, StopsBeforeAnswer}
 
 -- the calls that are named are the plan's

@@ -4,8 +4,8 @@ use Rattle.std.specs.Io.KnownBytes.{Appends}
 use Rattle.wire_types.specs.declared.Fault.{Fault}
 use Rattle.wire_types.specs.declared.Fault.TheVariants.{Memory, Read, Write}
 use Rattle.wire_types.specs.Front.{WritesFront}
-use Rattle.wire_rehearsal.specs.Scripts.{Scripts}
-use Rattle.wire_commands.specs.Replay.{plain_report, ReadAs, Refuses, WritesReport, BreaksOff}
+use Rattle.wire_content.specs.Scripts.{Scripts}
+use Rattle.wire_commands.specs.Plain.{plain_report, ReadAs, Refuses, WritesReport, BreaksOff}
 use Rattle.wire_commands.proofs.FileFaults.{not_write}
 
 -- an error that is handed on

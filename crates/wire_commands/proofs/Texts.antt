@@ -4,14 +4,14 @@ use Rattle.wire_types.specs.declared.CallAt.{CallAt}
 use Rattle.wire_types.specs.declared.Fault.{Fault}
 use Rattle.wire_types.specs.declared.Fault.TheVariants.{Memory}
 use Rattle.wire_types.specs.Outcome.{Ends}
-use Rattle.wire_rehearsal.specs.Scripts.{Scripts}
-use Rattle.wire_rehearsal.specs.Planned.{plan_of}
+use Rattle.wire_content.specs.Scripts.{Scripts}
+use Rattle.wire_content.specs.Planned.{plan_of}
 use Rattle.wire_runs.specs.State.{start}
 use Rattle.wire_runs.specs.Step.{run, IsInterleaving}
 use Rattle.wire_runs.specs.Ends.{outcome, calls_of}
 use Rattle.wire_report.specs.Report.{report}
 use Rattle.wire_core.specs.EndsAfter.{plain_ends}
-use Rattle.wire_commands.specs.Replay.{plain_report}
+use Rattle.wire_commands.specs.Plain.{plain_report}
 use Rattle.wire_commands.specs.Follow.{StopsAfter, report_after}
 
 -- the report of the plain run

@@ -4,14 +4,14 @@ use Rattle.std.specs.Io.KnownBytes.{Appends}
 use Rattle.wire_types.specs.Front.{WritesFront}
 use Rattle.wire_types.specs.declared.Fault.{Fault}
 use Rattle.wire_types.specs.declared.Fault.TheVariants.{Memory, Read, NotReady}
-use Rattle.wire_rehearsal.specs.Scripts.{Scripts}
-use Rattle.wire_rehearsal.specs.Planned.{plan_of}
+use Rattle.wire_content.specs.Scripts.{Scripts}
+use Rattle.wire_content.specs.Planned.{plan_of}
 use Rattle.wire_order.specs.Order.{order_read}
 use Rattle.wire_runs.specs.State.{start}
 use Rattle.wire_runs.specs.Step.{is_enabled, run, IsInterleaving}
 use Rattle.wire_core.specs.EndsAfter.{ends_after}
 use Rattle.wire_report.specs.Report.{report}
-use Rattle.wire_commands.specs.Replay.{WereComing, ReadAs, Refuses}
+use Rattle.wire_commands.specs.Plain.{WereComing, ReadAs, Refuses}
 
 -- the report of the state after these steps
 abbrev pub report_after : Scripts → List ℕ → List ℕ

@@ -1,4 +1,4 @@
-pub mod Replay
+pub mod Plain
 pub mod Follow
 pub mod Why
 pub mod Check

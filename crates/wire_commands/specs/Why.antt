@@ -5,10 +5,10 @@ use Rattle.wire_types.specs.Front.{WritesFront}
 use Rattle.wire_types.specs.declared.CallAt.{CallAt}
 use Rattle.wire_types.specs.declared.Fault.{Fault}
 use Rattle.wire_types.specs.declared.Fault.TheVariants.{Memory, Read}
-use Rattle.wire_rehearsal.specs.Scripts.{Scripts}
+use Rattle.wire_content.specs.Scripts.{Scripts}
 use Rattle.wire_order.specs.Question.{QuestionReads}
 use Rattle.wire_report.specs.Chain.{IsChainText}
-use Rattle.wire_commands.specs.Replay.{ReadAs, Refuses}
+use Rattle.wire_commands.specs.Plain.{ReadAs, Refuses}
 
 abbrev pub word_at : List (List ℕ) → ℕ → List ℕ
 word_at words n = slice_index_or words n []

@@ -3,17 +3,17 @@
 ghost use Rattle.std.specs.Prelude.{◌≡◌, ◌≢◌, ◌<◌, ◌⊎◌, ℕ, List, Ok, Err, length, map, OnOk, IfOk, IfErr};
 ghost use Rattle.wire_types.specs.declared.Fault.TheVariants.{Memory, Read};
 ghost use Rattle.wire_types.specs.Counting.{one_more};
-ghost use Rattle.wire_rehearsal.specs.Planned.{plan_of};
+ghost use Rattle.wire_content.specs.Planned.{plan_of};
 ghost use Rattle.wire_runs.specs.Ends.{calls_of};
 ghost use Rattle.wire_report.specs.Chain.{IsChainText};
 ghost use Rattle.wire_commands.specs.Why.{Asks, Answers, WritesAnswer, BreaksOffAnswer, StopsBeforeAnswer};
 
-use crate::replaying::read_scripts;
+use crate::plain_run::read_scripts;
 use std::alloc::Global;
 use wire_marks::Marks;
 use wire_order::{Question, calls_asked};
 use wire_plan::Plan;
-use wire_rehearsal::Scripts;
+use wire_content::Scripts;
 use wire_report::{chain_text, write_text};
 use wire_types::{CallAt, Fault, Sink, Source};
 

@@ -8,14 +8,14 @@ ghost use Rattle.wire_commands.specs.declared.checking.Ended.TheVariants.{Clean}
 ghost use Rattle.wire_commands.specs.Check as spec;
 ghost use Rattle.wire_commands.specs.Check.{WritesVerdict, BreaksOffVerdict, WritesFindings, EndsInOneState, BreaksOffFindings, StopsBeforeFindings};
 
-use crate::replaying::read_scripts;
+use crate::plain_run::read_scripts;
 use std::alloc::Global;
 use std::thread::Threads;
 use wire_marks::Marks;
 use wire_plan::Plan;
 use wire_races::laws::settled_exactly;
 use wire_races::{Finding, finding_list};
-use wire_rehearsal::Scripts;
+use wire_content::Scripts;
 use wire_report::write_findings;
 use wire_types::{Fault, Sink, Source};
 
@@ -38,14 +38,14 @@ impl Ended {
     }
 
     /// How a check ends that has these findings.
-    pub fn with(findings: &[Finding]) -> Ended
+    pub fn of_findings(findings: &[Finding]) -> Ended
         ensures { result ≡ spec.ended_with findings.now }
     {
-        Ended::counted(findings.len())
+        Ended::of_count(findings.len())
     }
 
     /// How a check ends that has so many findings.
-    fn counted(count: usize) -> Ended
+    fn of_count(count: usize) -> Ended
         ensures { (findings : List Told) → count ≡ length findings → result ≡ spec.ended_with findings }
     {
         match count {
@@ -56,7 +56,7 @@ impl Ended {
 }
 
 /// Writes all findings of a plan, and says how its check ends.
-fn judged<W: Sink>(
+fn check_plan<W: Sink>(
     rt: &(impl Threads + Sync),
     alloc: Global,
     plan: &Plan,
@@ -70,13 +70,13 @@ fn judged<W: Sink>(
     let marks = Marks::of(alloc, plan)?;
     let found = finding_list(rt, alloc, plan, &marks)?;
     settled_exactly();
-    let ended = Ended::counted(found.len());
+    let ended = Ended::of_count(found.len());
     write_findings(alloc, plan.scripts(), &found, false, writer)?;
     Ok(ended)
 }
 
 /// Writes all findings of scripts, and says how their check ends.
-fn verdict<W: Sink>(
+fn check_scripts<W: Sink>(
     rt: &(impl Threads + Sync),
     alloc: Global,
     scripts: Scripts,
@@ -88,7 +88,7 @@ fn verdict<W: Sink>(
         ⊎ (BreaksOffVerdict scripts (W.written writer.old) (W.written writer.new) e × (W.failures writer.new ≡ one_more (W.failures writer.old)))) }
 {
     let plan = Plan::build(alloc, scripts)?;
-    let ended = judged(rt, alloc, &plan, writer);
+    let ended = check_plan(rt, alloc, &plan, writer);
     drop(plan);
     ended
 }
@@ -123,5 +123,5 @@ pub fn check<R: Source, W: Sink>(
     ensures unfailed { IfErr result (λ e. e ≢ Memory → e ≢ Read → R.failures reader.new ≡ R.failures reader.old) }
 {
     let scripts = read_scripts(alloc, reader)?;
-    verdict(rt, alloc, scripts, writer)
+    check_scripts(rt, alloc, scripts, writer)
 }

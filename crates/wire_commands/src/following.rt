@@ -4,21 +4,21 @@ ghost use Rattle.std.specs.Prelude.{◌≡◌, ◌≢◌, ◌⊎◌, ℕ, Ok, Er
 ghost use Rattle.wire_types.specs.declared.Fault.TheVariants.{Memory, Read, Write};
 ghost use Rattle.wire_types.specs.Counting.{one_more};
 ghost use Rattle.wire_types.specs.Outcome.{ends_of};
-ghost use Rattle.wire_rehearsal.specs.Scripts.{Scripts, numbers_of};
-ghost use Rattle.wire_rehearsal.specs.Planned.{plan_of};
+ghost use Rattle.wire_content.specs.Scripts.{Scripts, numbers_of};
+ghost use Rattle.wire_content.specs.Planned.{plan_of};
 ghost use Rattle.wire_runs.specs.State.{start};
 ghost use Rattle.wire_runs.specs.Step.{run, IsInterleaving};
 ghost use Rattle.wire_runs.specs.Ends.{outcome};
-ghost use Rattle.wire_commands.specs.Replay.{ReadAs};
+ghost use Rattle.wire_commands.specs.Plain.{ReadAs};
 ghost use Rattle.wire_commands.specs.Follow.{WritesFollowed, BreaksOffFollowed, StopsBefore, OrdersAs, RefusesSteps, StopsAfter, report_after};
 
 use crate::reading::read_up_to;
-use crate::replaying::read_scripts;
+use crate::plain_run::read_scripts;
 use std::alloc::Global;
 use wire_core::Core;
 use wire_order::{ORDER_BYTES, read_order};
 use wire_plan::Plan;
-use wire_rehearsal::Scripts;
+use wire_content::Scripts;
 use wire_report::{report_text, write_text};
 use wire_types::{Fault, Outcome, Proc, Sink, Source};
 

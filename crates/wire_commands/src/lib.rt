@@ -6,9 +6,9 @@ mod asking;
 mod checking;
 mod following;
 mod reading;
-mod replaying;
+mod plain_run;
 
 pub use asking::why;
 pub use checking::{Ended, check};
 pub use following::follow;
-pub use replaying::{plain, read_scripts};
+pub use plain_run::{plain, read_scripts};

@@ -12,8 +12,8 @@ use Rattle.wire_runs.specs.State.{State, next_event}
 use Rattle.wire_runs.specs.Sight.{held, served}
 use Rattle.wire_runs.specs.Step.{is_seen, may_do, is_enabled, is_publisher, name_after, step}
 use Rattle.wire_runs.proofs.Due.{done_same, done_other, place_path}
-use Rattle.wire_rehearsal.specs.Scripts.{Scripts}
-use Rattle.wire_rehearsal.specs.Planned.{plan_of}
+use Rattle.wire_content.specs.Scripts.{Scripts}
+use Rattle.wire_content.specs.Planned.{plan_of}
 use Rattle.wire_fence.specs.declared.FenceId.{FenceId}
 use Rattle.wire_fence.specs.FenceTable.{FenceTable}
 use Rattle.wire_fence.specs.Arrivals.{TellsMissing, missing_at}

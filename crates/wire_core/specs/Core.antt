@@ -3,8 +3,8 @@ use Rattle.std.specs.Prelude.{ℕ, ◌≤◌, List, Option}
 use Rattle.wire_runs.specs.Plan.{event_total}
 use Rattle.wire_runs.specs.Step.{run}
 use Rattle.wire_types.specs.declared.CallAt.{CallAt}
-use Rattle.wire_rehearsal.specs.Scripts.{Scripts}
-use Rattle.wire_rehearsal.specs.Planned.{plan_of}
+use Rattle.wire_content.specs.Scripts.{Scripts}
+use Rattle.wire_content.specs.Planned.{plan_of}
 use Rattle.wire_fence.specs.FenceTable.{FenceTable}
 use Rattle.wire_core.specs.declared.rank.Rank.{Rank}
 use Rattle.wire_core.specs.declared.waits.Awaited.{Awaited}

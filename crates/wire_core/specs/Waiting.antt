@@ -5,8 +5,8 @@ use Rattle.wire_runs.specs.Plan.{Event, Kind, kind, process_count}
 use Rattle.wire_runs.specs.Plan as plan
 use Rattle.wire_runs.specs.State.{State, next_event}
 use Rattle.wire_runs.specs.Step.{may_do, is_enabled}
-use Rattle.wire_rehearsal.specs.Scripts.{Scripts}
-use Rattle.wire_rehearsal.specs.Planned.{plan_of}
+use Rattle.wire_content.specs.Scripts.{Scripts}
+use Rattle.wire_content.specs.Planned.{plan_of}
 use Rattle.wire_fence.specs.declared.FenceId.{FenceId}
 use Rattle.wire_fence.specs.FenceTable.{FenceTable}
 use Rattle.wire_fence.specs.Arrivals.{missing_at}

@@ -3,7 +3,7 @@
 ghost use Rattle.std.specs.Prelude.{◌≡◌, ◌+◌, ◌<◌, ◌^◌, ◌∷◌, ◌++◌, [], true, Some, None, ℕ, List, length, map, option_map, slice_get, IsTrue, ◌↔◌, IfOk, IfErr, OnOk, OnSome};
 ghost use Rattle.wire_runs.specs.Plan.{event_of, process_count};
 ghost use Rattle.wire_types.specs.Outcome.{ends_of};
-ghost use Rattle.wire_rehearsal.specs.Planned.{plan_of};
+ghost use Rattle.wire_content.specs.Planned.{plan_of};
 ghost use Rattle.wire_plan.specs.Kinds.{kind_of};
 ghost use Rattle.wire_runs.specs.State.{start, next_event, next_kind};
 ghost use Rattle.wire_runs.specs.Step.{is_enabled, run, IsInterleaving, IsEnd, reply as answer};

@@ -15,9 +15,9 @@ use Rattle.wire_types.specs.declared.Call.TheVariants as call
 use Rattle.wire_types.specs.declared.Reply.{Reply}
 use Rattle.wire_types.specs.declared.Status.TheVariants.{BadParam}
 use Rattle.wire_types.specs.Replies.{bare}
-use Rattle.wire_rehearsal.specs.Said.{is_reserved}
-use Rattle.wire_rehearsal.specs.Scripts.{Process, Scripts, IsSound, calls_in, set_at, text_at}
-use Rattle.wire_rehearsal.specs.Planned.{reply_of_key, planned_call, planned_process, plan_of}
+use Rattle.wire_content.specs.Said.{is_reserved}
+use Rattle.wire_content.specs.Scripts.{Process, Scripts, IsSound, calls_in, set_at, text_at}
+use Rattle.wire_content.specs.Planned.{reply_of_key, planned_call, planned_process, plan_of}
 use Rattle.wire_fence.specs.FenceTable.{is_over, fence_count, written_calls}
 use Rattle.wire_fence.specs.Reading.{says_with, says_to}
 use Rattle.wire_fence.specs.Missing.{CallsAreArrivals}

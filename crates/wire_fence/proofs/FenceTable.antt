@@ -8,9 +8,9 @@ use Rattle.wire_runs.specs.Plan.{event_count}
 use Rattle.wire_runs.specs.Fences.{arrivals, collects, is_full, is_collecting, has_node}
 use Rattle.wire_types.specs.declared.Call.{Call}
 use Rattle.wire_types.specs.declared.Call.TheVariants.{Fence}
-use Rattle.wire_rehearsal.specs.Scripts.{Scripts, IsSound, calls_in, call_at, set_at}
-use Rattle.wire_rehearsal.specs.Planned.{plan_of}
-use Rattle.wire_fence.specs.declared.register.Row.{Row}
+use Rattle.wire_content.specs.Scripts.{Scripts, IsSound, calls_in, call_at, set_at}
+use Rattle.wire_content.specs.Planned.{plan_of}
+use Rattle.wire_fence.specs.declared.register.FenceDraft.{FenceDraft}
 use Rattle.wire_fence.specs.FenceTable.{FenceInfo, FenceTable, IsFenceOf, IsFence, AreFencesOf, is_reached, fence_at, fence_number, fence_over, fence_count, written_calls}
 use Rattle.wire_fence.specs.Reading.{says_to}
 use Rattle.wire_fence.specs.Register.{info_of, HasRow, read_count, read_to, IsRead, AreRead, IsNumber, AreAllNumbers}
@@ -34,7 +34,7 @@ none_missing a b n sum = elim (cases_eq a 0) [
 ]
 
 -- a row tells of its fence
-info_is : (s : Scripts) → IsSound s → (row : Row) → IsRead s (all_calls s) row → info_of s.sets row ≡ fence_over s row.set row.nth
+info_is : (s : Scripts) → IsSound s → (row : FenceDraft) → IsRead s (all_calls s) row → info_of s.sets row ≡ fence_over s row.set row.nth
 info_is s sound row is =
     let members = set_at s.sets row.set in
     let full : (row.missing == 0) ≡ is_full (plan_of s) members row.nth =
@@ -49,24 +49,24 @@ info_is s sound row is =
     λ t. record { set = row.set; nth = row.nth; members = members; full = full t; collects = says t }
 
 -- the row of a fence of the table
-row_at : (s : Scripts) (rows : List Row) (number : ℕ) (fence : FenceInfo) → slice_get (map (info_of s.sets) rows) number ≡ Some fence → (row : Row) × (slice_get rows number ≡ Some row) × (info_of s.sets row ≡ fence)
+row_at : (s : Scripts) (rows : List FenceDraft) (number : ℕ) (fence : FenceInfo) → slice_get (map (info_of s.sets) rows) number ≡ Some fence → (row : FenceDraft) × (slice_get rows number ≡ Some row) × (info_of s.sets row ≡ fence)
 row_at s rows number fence there = go (slice_get rows number) refl (sym (slice_get-map (info_of s.sets) rows number) ∙ there)
   where
-    go : (o : Option Row) → slice_get rows number ≡ o → option_map (info_of s.sets) o ≡ Some fence → (row : Row) × (slice_get rows number ≡ Some row) × (info_of s.sets row ≡ fence)
+    go : (o : Option FenceDraft) → slice_get rows number ≡ o → option_map (info_of s.sets) o ≡ Some fence → (row : FenceDraft) × (slice_get rows number ≡ Some row) × (info_of s.sets row ≡ fence)
     go None e h = absurd (none-some fence h)
     go (Some row) e h = (row, e, same_Some (info_of s.sets row) fence h)
 
-has_row : (s : Scripts) (rows : List Row) (number : ℕ) (fence : FenceInfo) → slice_get (map (info_of s.sets) rows) number ≡ Some fence → HasRow rows number fence.set fence.nth
+has_row : (s : Scripts) (rows : List FenceDraft) (number : ℕ) (fence : FenceInfo) → slice_get (map (info_of s.sets) rows) number ≡ Some fence → HasRow rows number fence.set fence.nth
 has_row s rows number fence there =
     let at = row_at s rows number fence there in
     record { row = at.0; there = at.1; of_set = ap (λ (f : FenceInfo). f.set) at.2; is_nth = ap (λ (f : FenceInfo). f.nth) at.2 }
 
 -- a number is only where a fence call is
-fence_call : (rows : List Row) (calls : List Call) (c number : ℕ) (o : Option Call) (found : Option ℕ) → IsNumber rows calls c o found → found ≡ Some number → (k : ℕ) × (collect : Bool) × (o ≡ Some (Fence k collect))
+fence_call : (rows : List FenceDraft) (calls : List Call) (c number : ℕ) (o : Option Call) (found : Option ℕ) → IsNumber rows calls c o found → found ≡ Some number → (k : ℕ) × (collect : Bool) × (o ≡ Some (Fence k collect))
 fence_call rows calls c number (Some (Fence k collect)) found is there = (k, collect, refl)
 fence_call rows calls c number _ found is there = absurd (none-some number (sym is ∙ there))
 
-module _ (s : Scripts) (sound : IsSound s) (rows : List Row) (numbers : List (List (Option ℕ))) (nodes : List (List Bool)) (are : AreRead s (read_to s (length s.processes)) rows) (numbered : AreAllNumbers rows s.processes numbers (length s.processes)) where
+module _ (s : Scripts) (sound : IsSound s) (rows : List FenceDraft) (numbers : List (List (Option ℕ))) (nodes : List (List Bool)) (are : AreRead s (read_to s (length s.processes)) rows) (numbered : AreAllNumbers rows s.processes numbers (length s.processes)) where
   abbrev table : FenceTable
   table = record { fences = map (info_of s.sets) rows; numbers = numbers; nodes = nodes }
 

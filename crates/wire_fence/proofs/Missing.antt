@@ -7,8 +7,8 @@ use Rattle.std.proofs.lemmas.Option.{same_Some, slice_get_within, slice_get-map,
 use Rattle.std.proofs.lemmas.List.{length-map, length-set, get_or-set_same, get_or-set_other}
 use Rattle.wire_runs.specs.Plan.{Kind, Arrive, kind_at, update}
 use Rattle.wire_runs.specs.Fences.{arrivals_with, arrivals, is_complete}
-use Rattle.wire_rehearsal.specs.Scripts.{Scripts, IsSound, set_at}
-use Rattle.wire_rehearsal.specs.Planned.{plan_of}
+use Rattle.wire_content.specs.Scripts.{Scripts, IsSound, set_at}
+use Rattle.wire_content.specs.Planned.{plan_of}
 use Rattle.wire_fence.specs.FenceTable.{FenceInfo, FenceTable, IsFence, AreFencesOf, fence_at, fence_over}
 use Rattle.wire_fence.specs.Arrivals.{arrived, missing_at, one_arrived, TellsMissing, IsArriving}
 use Rattle.wire_fence.specs.Missing.{OtherEventsKeep, ArrivalCounts, SomebodyIsMissing, ArrivingIsMissing}

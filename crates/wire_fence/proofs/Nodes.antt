@@ -4,9 +4,9 @@ use Rattle.std.proofs.lemmas.Option.{slice_get-map}
 use Rattle.std.proofs.lemmas.List.Folds.{list_any_more}
 use Rattle.wire_runs.specs.Plan.{node_of, process_node}
 use Rattle.wire_runs.specs.Fences.{has_node}
-use Rattle.wire_rehearsal.specs.Scripts.{Process, Scripts}
-use Rattle.wire_rehearsal.specs.Planned.{planned_process, plan_of}
-use Rattle.wire_rehearsal.specs.Map.{node_in, node_at}
+use Rattle.wire_content.specs.Scripts.{Process, Scripts}
+use Rattle.wire_content.specs.Planned.{planned_process, plan_of}
+use Rattle.wire_content.specs.Map.{node_in, node_at}
 
 -- the node of a process of the plan is that of the scripts
 pub node_is : (s : Scripts) (m : ℕ) → node_of (plan_of s) m ≡ node_at s.processes m

@@ -9,8 +9,8 @@ use Rattle.wire_runs.specs.Plan.{update}
 use Rattle.wire_runs.specs.Fences.{is_member}
 use Rattle.wire_types.specs.declared.Call.{Call}
 use Rattle.wire_types.specs.declared.Call.TheVariants.{Fence}
-use Rattle.wire_rehearsal.specs.Scripts.{Scripts, IsSound, set_at}
-use Rattle.wire_fence.specs.declared.register.Row.{Row}
+use Rattle.wire_content.specs.Scripts.{Scripts, IsSound, set_at}
+use Rattle.wire_fence.specs.declared.register.FenceDraft.{FenceDraft}
 use Rattle.wire_fence.specs.FenceTable.{is_over, fence_count, written_calls}
 use Rattle.wire_fence.specs.Reading.{says_with, says_to}
 use Rattle.wire_fence.specs.Register.{called, HasRow, IsCalled, Again, First, read_count, IsRead, AreRead}
@@ -53,7 +53,7 @@ says_none set_of_row j calls (suc n) low = go (slice_get calls n) refl (says_non
         past (x ∷ xs) (suc k) e = ap (λ ys. x ∷ ys) (past xs k e)
 
 -- reading that doesn't change what is counted changes nothing
-pub read_same : (s : Scripts) (read now : ℕ → ℕ) (rows : List Row) → ((m set_of_row : ℕ) → read_count s now m set_of_row ≡ read_count s read m set_of_row) → ((m set_of_row j : ℕ) → says_to set_of_row j (written_calls s m) (now m) ≡ says_to set_of_row j (written_calls s m) (read m)) → AreRead s read rows → AreRead s now rows
+pub read_same : (s : Scripts) (read now : ℕ → ℕ) (rows : List FenceDraft) → ((m set_of_row : ℕ) → read_count s now m set_of_row ≡ read_count s read m set_of_row) → ((m set_of_row j : ℕ) → says_to set_of_row j (written_calls s m) (now m) ≡ says_to set_of_row j (written_calls s m) (read m)) → AreRead s read rows → AreRead s now rows
 read_same s read now rows counts says are = record {
   each = λ number row there.
       let is = are.each number row there in
@@ -132,7 +132,7 @@ module _ (s : Scripts) (sound : IsSound s) (read : ℕ → ℕ) (p n set_of_call
       in
       says_before set_of_row nth ∙ sym (says_after set_of_row nth ∙ ap (λ b. cond b collect (says_to set_of_row nth (written_calls s p) n)) fails)
 
-  other_row : (row : Row) → ((row.set ≡ set_of_call) × (row.nth ≡ suc count) → ⊥) → IsRead s before row → IsRead s after row
+  other_row : (row : FenceDraft) → ((row.set ≡ set_of_call) × (row.nth ≡ suc count) → ⊥) → IsRead s before row → IsRead s after row
   other_row row other was = record {
     of_set = was.of_set;
     from_one = was.from_one;
@@ -159,7 +159,7 @@ module _ (s : Scripts) (sound : IsSound s) (read : ℕ → ℕ) (p n set_of_call
   }
 
   -- the called row
-  called_row : (row : Row) → row.set ≡ set_of_call → row.nth ≡ suc count → IsRead s before row → IsRead s after (called collect row)
+  called_row : (row : FenceDraft) → row.set ≡ set_of_call → row.nth ≡ suc count → IsRead s before row → IsRead s after (called collect row)
   called_row row of_set is_nth was =
       let members = set_at s.sets row.set in
       let distinct = canonical_distinct members (set_canonical s row.set sound was.of_set) in
@@ -188,10 +188,10 @@ module _ (s : Scripts) (sound : IsSound s) (read : ℕ → ℕ) (p n set_of_call
       }
 
   -- a fence that nobody has called
-  abbrev blank : Row
+  abbrev blank : FenceDraft
   blank = record { set = set_of_call; nth = suc count; missing = length (set_at s.sets set_of_call); collects = true }
 
-  blank_row : (rows : List Row) → AreRead s before rows → ((m : ℕ) → HasRow rows m set_of_call (suc count) → ⊥) → IsRead s before blank
+  blank_row : (rows : List FenceDraft) → AreRead s before rows → ((m : ℕ) → HasRow rows m set_of_call (suc count) → ⊥) → IsRead s before blank
   blank_row rows are none =
       let there = (sound.members p n set_of_call collect is).0 in
       let low : (m : ℕ) → read_count s before m set_of_call < suc count = λ m. elim (cases_lt (read_count s before m set_of_call) (suc count)) [
@@ -207,7 +207,7 @@ module _ (s : Scripts) (sound : IsSound s) (read : ℕ → ℕ) (p n set_of_call
       }
 
   -- the fences that are there afterwards
-  there_after : (rows new : List Row) (number : ℕ) → AreRead s before rows → ((m k nth : ℕ) → HasRow rows m k nth → HasRow new m k nth) → HasRow new number set_of_call (suc count) → (m set_of_row nth : ℕ) → set_of_row < length s.sets → 0 < nth → nth ≤ read_count s after m set_of_row → (number : ℕ) × HasRow new number set_of_row nth
+  there_after : (rows new : List FenceDraft) (number : ℕ) → AreRead s before rows → ((m k nth : ℕ) → HasRow rows m k nth → HasRow new m k nth) → HasRow new number set_of_call (suc count) → (m set_of_row nth : ℕ) → set_of_row < length s.sets → 0 < nth → nth ≤ read_count s after m set_of_row → (number : ℕ) × HasRow new number set_of_row nth
   there_after rows new number are kept here m set_of_row nth low from_one le = elim (cases_Bool (nat_le nth (read_count s before m set_of_row))) [
     | inl t ↦ let has = are.there m set_of_row nth low from_one (leb-true nth (read_count s before m set_of_row) t) in (has.0, kept has.0 set_of_row nth has.1)
     | inr f ↦
@@ -229,7 +229,7 @@ module _ (s : Scripts) (sound : IsSound s) (read : ℕ → ℕ) (p n set_of_call
   ]
 
 -- the rows by their numbers, where one is written or one comes last
-set_at_number : (rows : List Row) (number : ℕ) (row : Row) (m : ℕ) (x : Row) → slice_get (set rows number row) m ≡ Some x → ((m ≡ number) × (x ≡ row)) ⊎ (slice_get rows m ≡ Some x)
+set_at_number : (rows : List FenceDraft) (number : ℕ) (row : FenceDraft) (m : ℕ) (x : FenceDraft) → slice_get (set rows number row) m ≡ Some x → ((m ≡ number) × (x ≡ row)) ⊎ (slice_get rows m ≡ Some x)
 set_at_number [] number row m x h = absurd (none-some x h)
 set_at_number (y ∷ rows) zero row zero x h = inl (refl, same_Some x row (sym h))
 set_at_number (y ∷ rows) zero row (suc m) x h = inr h
@@ -239,19 +239,19 @@ set_at_number (y ∷ rows) (suc number) row (suc m) x h = elim (set_at_number ro
   | inr old ↦ inr old
 ]
 
-set_there : (rows : List Row) (number : ℕ) (was row : Row) → slice_get rows number ≡ Some was → slice_get (set rows number row) number ≡ Some row
+set_there : (rows : List FenceDraft) (number : ℕ) (was row : FenceDraft) → slice_get rows number ≡ Some was → slice_get (set rows number row) number ≡ Some row
 set_there [] number was row h = absurd (none-some was h)
 set_there (y ∷ rows) zero was row h = refl
 set_there (y ∷ rows) (suc number) was row h = set_there rows number was row h
 
-set_elsewhere : (rows : List Row) (number : ℕ) (row : Row) (m : ℕ) (x : Row) → (m ≡ number → ⊥) → slice_get rows m ≡ Some x → slice_get (set rows number row) m ≡ Some x
+set_elsewhere : (rows : List FenceDraft) (number : ℕ) (row : FenceDraft) (m : ℕ) (x : FenceDraft) → (m ≡ number → ⊥) → slice_get rows m ≡ Some x → slice_get (set rows number row) m ≡ Some x
 set_elsewhere [] number row m x ne h = absurd (none-some x h)
 set_elsewhere (y ∷ rows) zero row zero x ne h = absurd (ne refl)
 set_elsewhere (y ∷ rows) zero row (suc m) x ne h = h
 set_elsewhere (y ∷ rows) (suc number) row zero x ne h = h
 set_elsewhere (y ∷ rows) (suc number) row (suc m) x ne h = set_elsewhere rows number row m x (λ e. ne (ap suc e)) h
 
-push_at : (rows : List Row) (row : Row) (m : ℕ) (x : Row) → slice_get (rows ++ row ∷ []) m ≡ Some x → ((m ≡ length rows) × (x ≡ row)) ⊎ (slice_get rows m ≡ Some x)
+push_at : (rows : List FenceDraft) (row : FenceDraft) (m : ℕ) (x : FenceDraft) → slice_get (rows ++ row ∷ []) m ≡ Some x → ((m ≡ length rows) × (x ≡ row)) ⊎ (slice_get rows m ≡ Some x)
 push_at [] row zero x h = inl (refl, same_Some x row (sym h))
 push_at [] row (suc m) x h = absurd (none-some x h)
 push_at (y ∷ rows) row zero x h = inr h
@@ -260,25 +260,25 @@ push_at (y ∷ rows) row (suc m) x h = elim (push_at rows row m x h) [
   | inr old ↦ inr old
 ]
 
-push_old : (rows : List Row) (row : Row) (m : ℕ) (x : Row) → slice_get rows m ≡ Some x → slice_get (rows ++ row ∷ []) m ≡ Some x
+push_old : (rows : List FenceDraft) (row : FenceDraft) (m : ℕ) (x : FenceDraft) → slice_get rows m ≡ Some x → slice_get (rows ++ row ∷ []) m ≡ Some x
 push_old [] row m x h = absurd (none-some x h)
 push_old (y ∷ rows) row zero x h = h
 push_old (y ∷ rows) row (suc m) x h = push_old rows row m x h
 
-push_new : (rows : List Row) (row : Row) → slice_get (rows ++ row ∷ []) (length rows) ≡ Some row
+push_new : (rows : List FenceDraft) (row : FenceDraft) → slice_get (rows ++ row ∷ []) (length rows) ≡ Some row
 push_new [] row = refl
 push_new (y ∷ rows) row = push_new rows row
 
 -- each row keeps its place
-pub kept_row : (rows new : List Row) (set_of_call nth members number : ℕ) (collect : Bool) → IsCalled rows set_of_call nth members collect number new → (m k j : ℕ) → HasRow rows m k j → HasRow new m k j
+pub kept_row : (rows new : List FenceDraft) (set_of_call nth members number : ℕ) (collect : Bool) → IsCalled rows set_of_call nth members collect number new → (m k j : ℕ) → HasRow rows m k j → HasRow new m k j
 kept_row rows new set_of_call nth members number collect (Again row there of_set is_nth made) m k j has = elim (cases_eq m number) [
   | inl here ↦
       let same : has.row ≡ row = same_Some has.row row (sym has.there ∙ ap (slice_get rows) here ∙ there) in
       record {
         row = called collect row;
         there = ap (λ xs. slice_get xs m) made ∙ ap (slice_get (set rows number (called collect row))) here ∙ set_there rows number row (called collect row) there;
-        of_set = ap (λ (r : Row). r.set) (sym same) ∙ has.of_set;
-        is_nth = ap (λ (r : Row). r.nth) (sym same) ∙ has.is_nth;
+        of_set = ap (λ (r : FenceDraft). r.set) (sym same) ∙ has.of_set;
+        is_nth = ap (λ (r : FenceDraft). r.nth) (sym same) ∙ has.is_nth;
       }
   | inr ne ↦
       record {
@@ -298,7 +298,7 @@ kept_row rows new set_of_call nth members number collect (First last none made) 
     }
 
 -- and the call's own is there
-pub row_of_call : (rows new : List Row) (set_of_call nth members number : ℕ) (collect : Bool) → IsCalled rows set_of_call nth members collect number new → HasRow new number set_of_call nth
+pub row_of_call : (rows new : List FenceDraft) (set_of_call nth members number : ℕ) (collect : Bool) → IsCalled rows set_of_call nth members collect number new → HasRow new number set_of_call nth
 row_of_call rows new set_of_call nth members number collect (Again row there of_set is_nth made) = record {
   row = called collect row;
   there = ap (λ xs. slice_get xs number) made ∙ set_there rows number row (called collect row) there;
@@ -313,7 +313,7 @@ row_of_call rows new set_of_call nth members number collect (First last none mad
 }
 
 -- there is at most one row more
-pub few_rows : (rows new : List Row) (set_of_call nth members number : ℕ) (collect : Bool) → IsCalled rows set_of_call nth members collect number new → length new ≤ length rows + 1
+pub few_rows : (rows new : List FenceDraft) (set_of_call nth members number : ℕ) (collect : Bool) → IsCalled rows set_of_call nth members collect number new → length new ≤ length rows + 1
 few_rows rows new set_of_call nth members number collect (Again row there of_set is_nth made) = let same = ap length made ∙ length-set rows number (called collect row) in omega (arith, same)
 few_rows rows new set_of_call nth members number collect (First last none made) =
     let row = called collect (record { set = set_of_call; nth = nth; missing = members; collects = true }) in
@@ -321,22 +321,22 @@ few_rows rows new set_of_call nth members number collect (First last none made) 
     omega (arith, more)
 
 -- a row that is there afterwards was there, or is the call's own
-row_before : (rows new : List Row) (set_of_call nth members number : ℕ) (collect : Bool) → IsCalled rows set_of_call nth members collect number new → (m k j : ℕ) → HasRow new m k j → HasRow rows m k j ⊎ ((m ≡ number) × ((k ≡ set_of_call) × (j ≡ nth)))
+row_before : (rows new : List FenceDraft) (set_of_call nth members number : ℕ) (collect : Bool) → IsCalled rows set_of_call nth members collect number new → (m k j : ℕ) → HasRow new m k j → HasRow rows m k j ⊎ ((m ≡ number) × ((k ≡ set_of_call) × (j ≡ nth)))
 row_before rows new set_of_call nth members number collect (Again row there of_set is_nth made) m k j has = elim (set_at_number rows number (called collect row) m has.row (ap (λ xs. slice_get xs m) (sym made) ∙ has.there)) [
-  | inl here ↦ inr (here.0, (sym has.of_set ∙ ap (λ (r : Row). r.set) here.1 ∙ of_set, sym has.is_nth ∙ ap (λ (r : Row). r.nth) here.1 ∙ is_nth))
+  | inl here ↦ inr (here.0, (sym has.of_set ∙ ap (λ (r : FenceDraft). r.set) here.1 ∙ of_set, sym has.is_nth ∙ ap (λ (r : FenceDraft). r.nth) here.1 ∙ is_nth))
   | inr old ↦ inl (record { row = has.row; there = old; of_set = has.of_set; is_nth = has.is_nth })
 ]
 row_before rows new set_of_call nth members number collect (First last none made) m k j has = elim (push_at rows (called collect (record { set = set_of_call; nth = nth; missing = members; collects = true })) m has.row (ap (λ xs. slice_get xs m) (sym made) ∙ has.there)) [
-  | inl here ↦ inr (here.0 ∙ sym last, (sym has.of_set ∙ ap (λ (r : Row). r.set) here.1, sym has.is_nth ∙ ap (λ (r : Row). r.nth) here.1))
+  | inl here ↦ inr (here.0 ∙ sym last, (sym has.of_set ∙ ap (λ (r : FenceDraft). r.set) here.1, sym has.is_nth ∙ ap (λ (r : FenceDraft). r.nth) here.1))
   | inr old ↦ inl (record { row = has.row; there = old; of_set = has.of_set; is_nth = has.is_nth })
 ]
 
 -- a row that was there with the call's set and number is the call's own
-same_place : (s : Scripts) (read : ℕ → ℕ) (rows new : List Row) (set_of_call nth members number : ℕ) (collect : Bool) → AreRead s read rows → IsCalled rows set_of_call nth members collect number new → (m : ℕ) → HasRow rows m set_of_call nth → m ≡ number
+same_place : (s : Scripts) (read : ℕ → ℕ) (rows new : List FenceDraft) (set_of_call nth members number : ℕ) (collect : Bool) → AreRead s read rows → IsCalled rows set_of_call nth members collect number new → (m : ℕ) → HasRow rows m set_of_call nth → m ≡ number
 same_place s read rows new set_of_call nth members number collect are (Again row there of_set is_nth made) m has = are.once m number set_of_call nth has (record { row = row; there = there; of_set = of_set; is_nth = is_nth })
 same_place s read rows new set_of_call nth members number collect are (First last none made) m has = absurd (none m has)
 
-once_after : (s : Scripts) (read : ℕ → ℕ) (rows new : List Row) (set_of_call nth members number : ℕ) (collect : Bool) → AreRead s read rows → IsCalled rows set_of_call nth members collect number new → (m n k j : ℕ) → HasRow new m k j → HasRow new n k j → m ≡ n
+once_after : (s : Scripts) (read : ℕ → ℕ) (rows new : List FenceDraft) (set_of_call nth members number : ℕ) (collect : Bool) → AreRead s read rows → IsCalled rows set_of_call nth members collect number new → (m n k j : ℕ) → HasRow new m k j → HasRow new n k j → m ≡ n
 once_after s read rows new set_of_call nth members number collect are call m n k j at_m at_n = elim (row_before rows new set_of_call nth members number collect call m k j at_m) [
   | inl old_m ↦
       elim (row_before rows new set_of_call nth members number collect call n k j at_n) [
@@ -350,11 +350,11 @@ once_after s read rows new set_of_call nth members number collect are call m n k
       ]
 ]
   where
-    renamed : (xs : List Row) (i a b c d : ℕ) → a ≡ c → b ≡ d → HasRow xs i a b → HasRow xs i c d
+    renamed : (xs : List FenceDraft) (i a b c d : ℕ) → a ≡ c → b ≡ d → HasRow xs i a b → HasRow xs i c d
     renamed xs i a b c d e f has = record { row = has.row; there = has.there; of_set = has.of_set ∙ e; is_nth = has.is_nth ∙ f }
 
 -- one more fence call is read
-each_after : (s : Scripts) (sound : IsSound s) (read : ℕ → ℕ) (p n set_of_call : ℕ) (collect : Bool) (is : slice_get (written_calls s p) n ≡ Some (Fence set_of_call collect)) (rows new : List Row) (number : ℕ) → AreRead s (update read p n) rows → IsCalled rows set_of_call (suc (fence_count set_of_call (take n (written_calls s p)))) (length (set_at s.sets set_of_call)) collect number new → (m : ℕ) (row : Row) → slice_get new m ≡ Some row → IsRead s (update read p (suc n)) row
+each_after : (s : Scripts) (sound : IsSound s) (read : ℕ → ℕ) (p n set_of_call : ℕ) (collect : Bool) (is : slice_get (written_calls s p) n ≡ Some (Fence set_of_call collect)) (rows new : List FenceDraft) (number : ℕ) → AreRead s (update read p n) rows → IsCalled rows set_of_call (suc (fence_count set_of_call (take n (written_calls s p)))) (length (set_at s.sets set_of_call)) collect number new → (m : ℕ) (row : FenceDraft) → slice_get new m ≡ Some row → IsRead s (update read p (suc n)) row
 each_after s sound read p n set_of_call collect is rows new number are (Again row there of_set is_nth made) m x at_m = elim (set_at_number rows number (called collect row) m x (ap (λ xs. slice_get xs m) (sym made) ∙ at_m)) [
   | inl here ↦ subst (IsRead s (update read p (suc n))) (sym here.1) (called_row s sound read p n set_of_call collect is row of_set is_nth (are.each number row there))
   | inr old ↦
@@ -369,7 +369,7 @@ each_after s sound read p n set_of_call collect is rows new number are (Again ro
       ]
 ]
 each_after s sound read p n set_of_call collect is rows new number are (First last none made) m x at_m =
-    let first : Row = record { set = set_of_call; nth = suc (fence_count set_of_call (take n (written_calls s p))); missing = length (set_at s.sets set_of_call); collects = true } in
+    let first : FenceDraft = record { set = set_of_call; nth = suc (fence_count set_of_call (take n (written_calls s p))); missing = length (set_at s.sets set_of_call); collects = true } in
     elim (push_at rows (called collect first) m x (ap (λ xs. slice_get xs m) (sym made) ∙ at_m)) [
       | inl here ↦ subst (IsRead s (update read p (suc n))) (sym here.1) (called_row s sound read p n set_of_call collect is first refl refl (blank_row s sound read p n set_of_call collect is rows are none))
       | inr old ↦
@@ -378,7 +378,7 @@ each_after s sound read p n set_of_call collect is rows new number are (First la
           (are.each m x old)
     ]
 
-pub read_fence : (s : Scripts) (sound : IsSound s) (read : ℕ → ℕ) (p n set_of_call : ℕ) (collect : Bool) (is : slice_get (written_calls s p) n ≡ Some (Fence set_of_call collect)) (rows new : List Row) (number : ℕ) → AreRead s (update read p n) rows → IsCalled rows set_of_call (suc (fence_count set_of_call (take n (written_calls s p)))) (length (set_at s.sets set_of_call)) collect number new → AreRead s (update read p (suc n)) new
+pub read_fence : (s : Scripts) (sound : IsSound s) (read : ℕ → ℕ) (p n set_of_call : ℕ) (collect : Bool) (is : slice_get (written_calls s p) n ≡ Some (Fence set_of_call collect)) (rows new : List FenceDraft) (number : ℕ) → AreRead s (update read p n) rows → IsCalled rows set_of_call (suc (fence_count set_of_call (take n (written_calls s p)))) (length (set_at s.sets set_of_call)) collect number new → AreRead s (update read p (suc n)) new
 read_fence s sound read p n set_of_call collect is rows new number are call =
     let nth = suc (fence_count set_of_call (take n (written_calls s p))) in
     let members = length (set_at s.sets set_of_call) in
@@ -389,7 +389,7 @@ read_fence s sound read p n set_of_call collect is rows new number are call =
     }
 
 -- one more call is read that is no fence
-pub read_other : (s : Scripts) (read : ℕ → ℕ) (p n : ℕ) (call : Call) (rows : List Row) → slice_get (written_calls s p) n ≡ Some call → ((k : ℕ) → is_over k call ≡ false) → ((k j m : ℕ) (b : Bool) → says_with k j m b (Some call) ≡ b) → AreRead s (update read p n) rows → AreRead s (update read p (suc n)) rows
+pub read_other : (s : Scripts) (read : ℕ → ℕ) (p n : ℕ) (call : Call) (rows : List FenceDraft) → slice_get (written_calls s p) n ≡ Some call → ((k : ℕ) → is_over k call ≡ false) → ((k j m : ℕ) (b : Bool) → says_with k j m b (Some call) ≡ b) → AreRead s (update read p n) rows → AreRead s (update read p (suc n)) rows
 read_other s read p n call rows is over silent are =
     read_same s (update read p n) (update read p (suc n)) rows
     (λ m k. elim (cases_eq m p) [

@@ -8,8 +8,8 @@ use Rattle.std.proofs.Math.ListN.{set}
 use Rattle.wire_runs.specs.Plan.{update}
 use Rattle.wire_types.specs.declared.Call.{Call}
 use Rattle.wire_types.specs.declared.Call.TheVariants.{Fence}
-use Rattle.wire_rehearsal.specs.Scripts.{Process, Scripts, IsSound, set_at, calls_in, call_count}
-use Rattle.wire_fence.specs.declared.register.Row.{Row}
+use Rattle.wire_content.specs.Scripts.{Process, Scripts, IsSound, set_at, calls_in, call_count}
+use Rattle.wire_fence.specs.declared.register.FenceDraft.{FenceDraft}
 use Rattle.wire_fence.specs.FenceTable.{is_over, fence_count, written_calls}
 use Rattle.wire_fence.specs.Reading.{says_with}
 use Rattle.wire_fence.specs.Register.{HasRow, IsCalled, IsAfter, AreRead, IsNumber, AreNumbers, AreAllNumbers, read_to}
@@ -18,7 +18,7 @@ use Rattle.wire_fence.proofs.Missing.{cut_here, cut_other}
 use Rattle.wire_fence.proofs.ReadRows.{count_call, read_fence, read_other, kept_row, row_of_call, few_rows}
 
 -- after the first n calls of a process
-pub record StateOf (first rows : List Row) (sets : List (List ℕ)) (calls : List Call) (counts : List ℕ) (numbers : List (Option ℕ)) (n : ℕ) : Type 0 where
+pub record StateOf (first rows : List FenceDraft) (sets : List (List ℕ)) (calls : List Call) (counts : List ℕ) (numbers : List (Option ℕ)) (n : ℕ) : Type 0 where
   pub few : length rows ≤ length first + n
   pub len : length counts ≡ length sets
   pub counted : (k : ℕ) → k < length sets → get_or counts k 0 ≡ fence_count k (take n calls)
@@ -26,7 +26,7 @@ pub record StateOf (first rows : List Row) (sets : List (List ℕ)) (calls : Lis
   pub kept : (m k j : ℕ) → HasRow first m k j → HasRow rows m k j
   pub read : (s : Scripts) (p : ℕ) (read : ℕ → ℕ) → IsSound s → sets ≡ s.sets → calls ≡ written_calls s p → read p ≡ 0 → AreRead s read first → AreRead s (update read p n) rows
 
-pub state_first : (rows : List Row) (sets : List (List ℕ)) (calls : List Call) (counts : List ℕ) (numbers : List (Option ℕ)) (size : ℕ) → size ≡ length sets → counts ≡ replicate size 0 → numbers ≡ [] → StateOf rows rows sets calls counts numbers 0
+pub state_first : (rows : List FenceDraft) (sets : List (List ℕ)) (calls : List Call) (counts : List ℕ) (numbers : List (Option ℕ)) (size : ℕ) → size ≡ length sets → counts ≡ replicate size 0 → numbers ≡ [] → StateOf rows rows sets calls counts numbers 0
 state_first rows sets calls counts numbers size size_is zeros none = record {
   few = omega arith;
   len = ap length zeros ∙ length-replicate size 0 ∙ size_is;
@@ -43,17 +43,17 @@ state_first rows sets calls counts numbers size size_is zeros none = record {
 }
 
 -- the numbers of earlier calls stay
-number_kept : (rows new : List Row) (calls : List Call) (c : ℕ) (o : Option Call) (number : Option ℕ) → ((m k j : ℕ) → HasRow rows m k j → HasRow new m k j) → IsNumber rows calls c o number → IsNumber new calls c o number
+number_kept : (rows new : List FenceDraft) (calls : List Call) (c : ℕ) (o : Option Call) (number : Option ℕ) → ((m k j : ℕ) → HasRow rows m k j → HasRow new m k j) → IsNumber rows calls c o number → IsNumber new calls c o number
 number_kept rows new calls c (Some (Fence other collect)) number kept is = (is.0, is.1, kept is.0 other (fence_count other (take (suc c) calls)) is.2)
 number_kept rows new calls c _ number kept is = is
 
-pub numbers_kept : (rows new : List Row) (calls : List Call) (numbers : List (Option ℕ)) (n : ℕ) → ((m k j : ℕ) → HasRow rows m k j → HasRow new m k j) → AreNumbers rows calls numbers n → AreNumbers new calls numbers n
+pub numbers_kept : (rows new : List FenceDraft) (calls : List Call) (numbers : List (Option ℕ)) (n : ℕ) → ((m k j : ℕ) → HasRow rows m k j → HasRow new m k j) → AreNumbers rows calls numbers n → AreNumbers new calls numbers n
 numbers_kept rows new calls numbers n kept are = record {
   count = are.count;
   each = λ c low. number_kept rows new calls c (slice_get calls c) (get_or numbers c None) kept (are.each c low);
 }
 
-numbers_more : (rows new : List Row) (calls : List Call) (numbers : List (Option ℕ)) (n : ℕ) (number : Option ℕ) → ((m k j : ℕ) → HasRow rows m k j → HasRow new m k j) → AreNumbers rows calls numbers n → IsNumber new calls n (slice_get calls n) number → AreNumbers new calls (numbers ++ number ∷ []) (suc n)
+numbers_more : (rows new : List FenceDraft) (calls : List Call) (numbers : List (Option ℕ)) (n : ℕ) (number : Option ℕ) → ((m k j : ℕ) → HasRow rows m k j → HasRow new m k j) → AreNumbers rows calls numbers n → IsNumber new calls n (slice_get calls n) number → AreNumbers new calls (numbers ++ number ∷ []) (suc n)
 numbers_more rows new calls numbers n number kept are is = record {
   count = length_push numbers number ∙ add-one (length numbers) ∙ ap suc are.count;
   each = λ c low. elim (cases_eq c n) [
@@ -69,7 +69,7 @@ numbers_more rows new calls numbers n number kept are is = record {
 }
 
 -- a fence call more
-state_fence : (first rows new : List Row) (sets : List (List ℕ)) (calls : List Call) (counts now : List ℕ) (numbers : List (Option ℕ)) (number : Option ℕ) (n other at : ℕ) (collect : Bool) → StateOf first rows sets calls counts numbers n → slice_get calls n ≡ Some (Fence other collect) → other < length sets → number ≡ Some at → IsCalled rows other (get_or counts other 0 + 1) (length (set_at sets other)) collect at new → now ≡ set counts other (get_or counts other 0 + 1) → StateOf first new sets calls now (numbers ++ number ∷ []) (suc n)
+state_fence : (first rows new : List FenceDraft) (sets : List (List ℕ)) (calls : List Call) (counts now : List ℕ) (numbers : List (Option ℕ)) (number : Option ℕ) (n other at : ℕ) (collect : Bool) → StateOf first rows sets calls counts numbers n → slice_get calls n ≡ Some (Fence other collect) → other < length sets → number ≡ Some at → IsCalled rows other (get_or counts other 0 + 1) (length (set_at sets other)) collect at new → now ≡ set counts other (get_or counts other 0 + 1) → StateOf first new sets calls now (numbers ++ number ∷ []) (suc n)
 state_fence first rows new sets calls counts now numbers number n other at collect state is within number_is call now_is =
     let count : get_or counts other 0 ≡ fence_count other (take n calls) = state.counted other within in
     let nth : get_or counts other 0 + 1 ≡ suc (fence_count other (take n calls)) = add-one (get_or counts other 0) ∙ ap suc count in
@@ -123,7 +123,7 @@ state_fence first rows new sets calls counts now numbers number n other at colle
     over_other k m ne = ne_eqb k m (λ e. ne (sym e))
 
 -- a call more that is no fence
-state_other : (first rows new : List Row) (sets : List (List ℕ)) (calls : List Call) (counts now : List ℕ) (numbers : List (Option ℕ)) (number : Option ℕ) (n : ℕ) (call : Call) → StateOf first rows sets calls counts numbers n → slice_get calls n ≡ Some call → ((k : ℕ) → is_over k call ≡ false) → ((k j m : ℕ) (b : Bool) → says_with k j m b (Some call) ≡ b) → IsNumber new calls n (Some call) number → new ≡ rows → now ≡ counts → StateOf first new sets calls now (numbers ++ number ∷ []) (suc n)
+state_other : (first rows new : List FenceDraft) (sets : List (List ℕ)) (calls : List Call) (counts now : List ℕ) (numbers : List (Option ℕ)) (number : Option ℕ) (n : ℕ) (call : Call) → StateOf first rows sets calls counts numbers n → slice_get calls n ≡ Some call → ((k : ℕ) → is_over k call ≡ false) → ((k j m : ℕ) (b : Bool) → says_with k j m b (Some call) ≡ b) → IsNumber new calls n (Some call) number → new ≡ rows → now ≡ counts → StateOf first new sets calls now (numbers ++ number ∷ []) (suc n)
 state_other first rows new sets calls counts now numbers number n call state is over silent number_is new_is now_is =
     let few = state.few in
     let same = ap length new_is in
@@ -146,18 +146,18 @@ state_other first rows new sets calls counts now numbers number n call state is 
     plus_none : (k : ℕ) → k ≡ k + 0
     plus_none k = omega arith
 
-state_step : (first rows new : List Row) (sets : List (List ℕ)) (calls : List Call) (counts now : List ℕ) (numbers : List (Option ℕ)) (number : Option ℕ) (n : ℕ) (call : Call) → StateOf first rows sets calls counts numbers n → slice_get calls n ≡ Some call → ((k : ℕ) (collect : Bool) → call ≡ Fence k collect → k < length sets) → IsAfter sets call rows counts number new now → StateOf first new sets calls now (numbers ++ number ∷ []) (suc n)
+state_step : (first rows new : List FenceDraft) (sets : List (List ℕ)) (calls : List Call) (counts now : List ℕ) (numbers : List (Option ℕ)) (number : Option ℕ) (n : ℕ) (call : Call) → StateOf first rows sets calls counts numbers n → slice_get calls n ≡ Some call → ((k : ℕ) (collect : Bool) → call ≡ Fence k collect → k < length sets) → IsAfter sets call rows counts number new now → StateOf first new sets calls now (numbers ++ number ∷ []) (suc n)
 state_step first rows new sets calls counts now numbers number n (Fence other collect) state is within after =
     state_fence first rows new sets calls counts now numbers number n other after.0 collect state is (within other collect refl) after.1 after.2 after.3
 state_step first rows new sets calls counts now numbers number n call state is within after =
     state_other first rows new sets calls counts now numbers number n call state is (λ _. refl) (λ _ _ _ _. refl) after.0 after.1 after.2
 
-pub state_more : (first rows new : List Row) (sets : List (List ℕ)) (calls : List Call) (counts now : List ℕ) (numbers : List (Option ℕ)) (number : Option ℕ) (n : ℕ) (call : Call) → StateOf first rows sets calls counts numbers n → slice_get calls n ≡ Some call → ((k : ℕ) (collect : Bool) → call ≡ Fence k collect → k < length sets) → IsAfter sets call rows counts number new now → StateOf first new sets calls now (numbers ++ number ∷ []) (n + 1)
+pub state_more : (first rows new : List FenceDraft) (sets : List (List ℕ)) (calls : List Call) (counts now : List ℕ) (numbers : List (Option ℕ)) (number : Option ℕ) (n : ℕ) (call : Call) → StateOf first rows sets calls counts numbers n → slice_get calls n ≡ Some call → ((k : ℕ) (collect : Bool) → call ≡ Fence k collect → k < length sets) → IsAfter sets call rows counts number new now → StateOf first new sets calls now (numbers ++ number ∷ []) (n + 1)
 state_more first rows new sets calls counts now numbers number n call state is within after =
     subst (StateOf first new sets calls now (numbers ++ number ∷ [])) (sym (add-one n)) (state_step first rows new sets calls counts now numbers number n call state is within after)
 
 -- each count is below the number of calls
-pub count_fits : (first rows : List Row) (sets : List (List ℕ)) (calls : List Call) (counts : List ℕ) (numbers : List (Option ℕ)) (n k : ℕ) → StateOf first rows sets calls counts numbers n → n < length calls → get_or counts k 0 < length calls
+pub count_fits : (first rows : List FenceDraft) (sets : List (List ℕ)) (calls : List Call) (counts : List ℕ) (numbers : List (Option ℕ)) (n k : ℕ) → StateOf first rows sets calls counts numbers n → n < length calls → get_or counts k 0 < length calls
 count_fits first rows sets calls counts numbers n k state low = elim (cases_lt k (length sets)) [
   | inl below ↦
       let is = state.counted k below in
@@ -176,12 +176,12 @@ count_fits first rows sets calls counts numbers n k state low = elim (cases_lt k
     short (suc m) (x ∷ xs) = let less = short m xs in omega (arith, less)
 
 -- after the first n processes
-pub record AllRead (rows : List Row) (sets : List (List ℕ)) (processes : List Process) (numbers : List (List (Option ℕ))) (n : ℕ) : Type 0 where
+pub record AllRead (rows : List FenceDraft) (sets : List (List ℕ)) (processes : List Process) (numbers : List (List (Option ℕ))) (n : ℕ) : Type 0 where
   pub few : length rows ≤ call_count (take n processes)
   pub numbered : AreAllNumbers rows processes numbers n
   pub read : (s : Scripts) → IsSound s → sets ≡ s.sets → processes ≡ s.processes → AreRead s (read_to s n) rows
 
-pub all_first : (rows : List Row) (sets : List (List ℕ)) (processes : List Process) (numbers : List (List (Option ℕ))) → rows ≡ [] → numbers ≡ [] → AllRead rows sets processes numbers 0
+pub all_first : (rows : List FenceDraft) (sets : List (List ℕ)) (processes : List Process) (numbers : List (List (Option ℕ))) → rows ≡ [] → numbers ≡ [] → AllRead rows sets processes numbers 0
 all_first rows sets processes numbers none nothing = record {
   few = let e = ap length none in omega (arith, e);
   numbered = record { count = ap length nothing; each = λ p low. absurd (omega (arith, low)) };
@@ -194,7 +194,7 @@ all_first rows sets processes numbers none nothing = record {
   };
 }
 
-all_numbers_more : (rows new : List Row) (processes : List Process) (numbers : List (List (Option ℕ))) (more : List (Option ℕ)) (n : ℕ) → ((m k j : ℕ) → HasRow rows m k j → HasRow new m k j) → AreAllNumbers rows processes numbers n → AreNumbers new (calls_in (slice_get processes n)) more (length (calls_in (slice_get processes n))) → AreAllNumbers new processes (numbers ++ more ∷ []) (suc n)
+all_numbers_more : (rows new : List FenceDraft) (processes : List Process) (numbers : List (List (Option ℕ))) (more : List (Option ℕ)) (n : ℕ) → ((m k j : ℕ) → HasRow rows m k j → HasRow new m k j) → AreAllNumbers rows processes numbers n → AreNumbers new (calls_in (slice_get processes n)) more (length (calls_in (slice_get processes n))) → AreAllNumbers new processes (numbers ++ more ∷ []) (suc n)
 all_numbers_more rows new processes numbers more n kept are is = record {
   count = length_push numbers more ∙ add-one (length numbers) ∙ ap suc are.count;
   each = λ p low. elim (cases_eq p n) [
@@ -211,7 +211,7 @@ all_numbers_more rows new processes numbers more n kept are is = record {
   ];
 }
 
-pub all_more : (rows new : List Row) (sets : List (List ℕ)) (processes : List Process) (numbers : List (List (Option ℕ))) (more : List (Option ℕ)) (n : ℕ) (process : Process) → AllRead rows sets processes numbers n → slice_get processes n ≡ Some process →
+pub all_more : (rows new : List FenceDraft) (sets : List (List ℕ)) (processes : List Process) (numbers : List (List (Option ℕ))) (more : List (Option ℕ)) (n : ℕ) (process : Process) → AllRead rows sets processes numbers n → slice_get processes n ≡ Some process →
     length new ≤ length rows + length process.calls → AreNumbers new process.calls more (length process.calls) → ((m k j : ℕ) → HasRow rows m k j → HasRow new m k j) →
     ((s : Scripts) (p : ℕ) (read : ℕ → ℕ) → IsSound s → sets ≡ s.sets → process.calls ≡ written_calls s p → read p ≡ 0 → AreRead s read rows → AreRead s (update read p (length process.calls)) new) →
     AllRead new sets processes (numbers ++ more ∷ []) (n + 1)
@@ -247,7 +247,7 @@ all_more rows new sets processes numbers more n process all is few are kept read
     ]
 
 -- the same, where the calls that were read are told apart from the process
-pub all_more_of : (rows new : List Row) (sets : List (List ℕ)) (processes : List Process) (numbers : List (List (Option ℕ))) (more : List (Option ℕ)) (n : ℕ) (process : Process) (calls : List Call) → AllRead rows sets processes numbers n → n < length processes → process ≡ get_or processes n process → calls ≡ process.calls →
+pub all_more_of : (rows new : List FenceDraft) (sets : List (List ℕ)) (processes : List Process) (numbers : List (List (Option ℕ))) (more : List (Option ℕ)) (n : ℕ) (process : Process) (calls : List Call) → AllRead rows sets processes numbers n → n < length processes → process ≡ get_or processes n process → calls ≡ process.calls →
     length new ≤ length rows + length calls → AreNumbers new calls more (length calls) → ((m k j : ℕ) → HasRow rows m k j → HasRow new m k j) →
     ((s : Scripts) (p : ℕ) (read : ℕ → ℕ) → IsSound s → sets ≡ s.sets → calls ≡ written_calls s p → read p ≡ 0 → AreRead s read rows → AreRead s (update read p (length calls)) new) →
     AllRead new sets processes (numbers ++ more ∷ []) (n + 1)

@@ -2,8 +2,8 @@
 use Rattle.std.specs.Prelude.{◌≡◌, ℕ, suc, ◌+◌, ◌-◌, List, Bool, true, Some, length, count_by, nat_le, set, slice_index_or}
 use Rattle.wire_runs.specs.Plan.{Arrive, kind_at}
 use Rattle.wire_runs.specs.Fences.{arrivals, is_member}
-use Rattle.wire_rehearsal.specs.Scripts.{Scripts}
-use Rattle.wire_rehearsal.specs.Planned.{plan_of}
+use Rattle.wire_content.specs.Scripts.{Scripts}
+use Rattle.wire_content.specs.Planned.{plan_of}
 use Rattle.wire_fence.specs.FenceTable.{FenceInfo, FenceTable, fence_at}
 
 -- how many of the members have arrived at the fence

@@ -4,8 +4,8 @@ use Rattle.std.specs.Prelude.{◌≡◌, ℕ, suc, ◌<◌, List, [], Bool, fals
 use Rattle.wire_runs.specs.Fences.{is_full, is_collecting, has_node}
 use Rattle.wire_types.specs.declared.Call.{Call}
 use Rattle.wire_types.specs.declared.Call.TheVariants.{Fence}
-use Rattle.wire_rehearsal.specs.Scripts.{Scripts, IsSound, calls_in, call_at, set_at}
-use Rattle.wire_rehearsal.specs.Planned.{plan_of}
+use Rattle.wire_content.specs.Scripts.{Scripts, IsSound, calls_in, call_at, set_at}
+use Rattle.wire_content.specs.Planned.{plan_of}
 
 -- a fence: the number of its set, its number among the fences over that set, from 1, its members, whether each of them calls
 -- it, and whether every call of it says collect. A member that doesn't call it has no say in the last, so a fence collects

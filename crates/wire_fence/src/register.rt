@@ -3,19 +3,19 @@
 ghost use Rattle.std.specs.Prelude.{◌≡◌, ◌+◌, ◌<◌, ◌≤◌, ◌^◌, [], ℕ, map, length, slice_get, slice_index_or, OnOk, IfOk, Some};
 ghost use Rattle.wire_types.specs.declared.Call.TheVariants.{Fence as TheFence};
 ghost use Rattle.wire_runs.specs.Plan.{update};
-ghost use Rattle.wire_rehearsal.specs.Scripts.{Scripts, IsSound, IsCounted, numbers_of, call_at, set_at};
+ghost use Rattle.wire_content.specs.Scripts.{Scripts, IsSound, IsCounted, numbers_of, call_at, set_at};
 ghost use Rattle.wire_fence.specs.FenceTable.{written_calls};
 ghost use Rattle.wire_fence.specs.Register.{IsKeyed, HasRow, IsCalled, IsAfter, AreNumbers, AreAllNumbers, AreRead, read_to, called};
 
 use indexmap::IndexSet;
 use std::alloc::{AllocError, Global};
-use wire_rehearsal::Process;
+use wire_content::Process;
 use wire_types::{Call, Proc};
 
 // The nth fence over a set, as far as calls are read: how many members haven't called it, and whether
 // all that have say collect.
 #[derive(Clone, Copy)]
-pub(crate) struct Row {
+pub(crate) struct FenceDraft {
     pub set: u32,
     pub nth: usize,
     pub missing: usize,
@@ -25,15 +25,15 @@ pub(crate) struct Row {
 // The rows by number, and the number of each by set and nth.
 #[derive(Drop)]
 pub(crate) struct Register {
-    pub rows: Vec<Row>,
+    pub rows: Vec<FenceDraft>,
     pub keys: IndexSet<(u32, usize)>,
 }
 
-impl Row {
-    fn called(self, collect: bool) -> Row
+impl FenceDraft {
+    fn with_call(self, collect: bool) -> FenceDraft
         ensures { result ≡ called collect self }
     {
-        Row {
+        FenceDraft {
             set: self.set,
             nth: self.nth,
             missing: self.missing.saturating_sub(1),
@@ -77,16 +77,16 @@ impl Register {
     {
         let (number, is_new) = self.keys.insert_full((set, nth))?;
         if is_new {
-            let row = Row {
+            let row = FenceDraft {
                 set,
                 nth,
                 missing: members,
                 collects: true,
             };
-            self.rows.push(row.called(collect))?;
+            self.rows.push(row.with_call(collect))?;
         } else {
             let row = self.rows[number];
-            self.rows[number] = row.called(collect);
+            self.rows[number] = row.with_call(collect);
         }
         Ok(number)
     }

@@ -3,16 +3,16 @@
 ghost use Rattle.std.specs.Prelude.{◌≡◌, ◌<◌, ◌||◌, ◌==◌, ℕ, Some, false, is_some, true, [], length, map as map_list, slice_index_or, IfOk, OnOk, IsOkUnless};
 ghost use Rattle.std.specs.List.{list_all};
 ghost use Rattle.wire_runs.specs.Fences.{has_node};
-ghost use Rattle.wire_rehearsal.specs.Scripts.{Scripts as TheScripts, numbers_of, set_at};
-ghost use Rattle.wire_rehearsal.specs.Planned.{plan_of};
+ghost use Rattle.wire_content.specs.Scripts.{Scripts as TheScripts, numbers_of, set_at};
+ghost use Rattle.wire_content.specs.Planned.{plan_of};
 ghost use Rattle.wire_procmap.specs.Map.{map_of, row_count};
 ghost use Rattle.wire_fence.specs.FenceTable.{FenceInfo, AreFencesOf, fence_at, members_in, full_in, collects_in, reaches_in, fence_number as the_fence_number};
 
-use crate::register::{Register, Row, members_of};
+use crate::register::{Register, FenceDraft, members_of};
 use std::alloc::{AllocError, Global};
 use std::marker::Model;
 use wire_procmap::ProcMap;
-use wire_rehearsal::{Scripts, Sets};
+use wire_content::{Scripts, Sets};
 use wire_types::{CallAt, Fault, Proc};
 
 /// A fence, by its number.
@@ -27,13 +27,13 @@ pub struct FenceId {
 pub struct Fences {
     sets: Vec<Vec<Proc>>,
     nodes: Vec<Vec<bool>>,
-    rows: Vec<Row>,
+    rows: Vec<FenceDraft>,
     numbers: Vec<Vec<Option<u32>>>,
 }
 
 impl Model for Fences {
     ghost use Rattle.std.specs.Prelude.{map};
-    ghost use Rattle.wire_rehearsal.specs.Scripts.{numbers_of};
+    ghost use Rattle.wire_content.specs.Scripts.{numbers_of};
     ghost use Rattle.wire_fence.specs.FenceTable.{FenceTable};
     ghost use Rattle.wire_fence.specs.Register.{info_of};
 
@@ -113,7 +113,7 @@ fn is_reached(nodes: &[Vec<bool>], set: usize, node: usize) -> bool
 }
 
 // How many members the fence of each row has.
-fn sizes_of(alloc: Global, sets: &[Vec<Proc>], rows: &[Row]) -> Result<Vec<usize>, AllocError>
+fn sizes_of(alloc: Global, sets: &[Vec<Proc>], rows: &[FenceDraft]) -> Result<Vec<usize>, AllocError>
     ensures { IfOk result (λ sizes. sizes.items ≡ map_list (λ row. length (set_at (map_list (λ v. numbers_of v.items) sets.now) row.set)) rows.now) }
 {
     let mut sizes = Vec::with_capacity(alloc, rows.len())?;

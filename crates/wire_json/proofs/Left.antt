@@ -3,7 +3,7 @@ use Rattle.std.proofs.Common.{◌≡◌, ◌∙◌, ap, sym, refl, List, [], ◌
 use Rattle.serde_json.specs.Data.{Data}
 use Rattle.wire_types.specs.declared.Call.{Call}
 use Rattle.wire_types.specs.declared.CallEnd.{CallEnd}
-use Rattle.wire_rehearsal.specs.Scripts.{Scripts, Process}
+use Rattle.wire_content.specs.Scripts.{Scripts, Process}
 use Rattle.wire_json.specs.Trees.{calls_data, ranks_data}
 
 all_made : (out left all : List Data) → left ≡ [] → out ++ left ≡ all → out ≡ all

@@ -4,7 +4,7 @@ ghost use Rattle.std.specs.Prelude.{◌≡◌, ◌++◌, codes, false, map, IfOk
 ghost use Rattle.serde_json.specs.View.{view};
 ghost use Rattle.serde_json.specs.Written.{compact_text, has_float};
 ghost use Rattle.wire_types.specs.Outcome.{ends_of};
-ghost use Rattle.wire_rehearsal.specs.Scripts.{numbers_of};
+ghost use Rattle.wire_content.specs.Scripts.{numbers_of};
 ghost use Rattle.wire_words.specs.Words.{name_of};
 ghost use Rattle.wire_json.specs.Json as spec;
 ghost use Rattle.wire_json.specs.Trees as trees;
@@ -13,7 +13,7 @@ use crate::strings::strings;
 use crate::trees::rank_trees;
 use serde_json::{Value, json};
 use std::alloc::{AllocError, Global};
-use wire_rehearsal::Scripts;
+use wire_content::Scripts;
 use wire_types::{Outcome, Proc};
 use wire_words::push_proc;
 

@@ -9,18 +9,18 @@ use serde_json::Value;
 use std::alloc::{AllocError, Global};
 
 /// A text as a string, each byte that isn't printable as a question mark.
-pub fn printed_text(alloc: Global, text: &[u8]) -> Result<String, AllocError>
+pub fn printable_text(alloc: Global, text: &[u8]) -> Result<String, AllocError>
     ensures { IfOk result (λ string. string_bytes string ≡ map spec.printed text.now) }
 {
     let mut string = String::new(alloc);
     for byte in text {
-        string.push(char::from(printed(*byte)))?;
+        string.push(char::from(printable_byte(*byte)))?;
     }
     Ok(string)
 }
 
 /// A printable byte is itself, and any other a question mark.
-fn printed(byte: u8) -> u8
+fn printable_byte(byte: u8) -> u8
     ensures printed { result ≡ spec.printed byte }
     ensures ascii { result < 128 }
 {
@@ -39,7 +39,7 @@ pub fn strings(alloc: Global, texts: &[Vec<u8>]) -> Result<Vec<Value>, AllocErro
 {
     let mut values = Vec::new(alloc);
     for text in texts {
-        let string = printed_text(alloc, text.as_slice())?;
+        let string = printable_text(alloc, text.as_slice())?;
         values.push(Value::String(string))?;
     }
     Ok(values)

@@ -4,10 +4,10 @@ ghost use Rattle.std.specs.Prelude.{◌≡◌, map, IfOk};
 ghost use Rattle.serde_json.specs.View.{view};
 ghost use Rattle.wire_json.specs.Trees as spec;
 
-use crate::strings::printed_text;
+use crate::strings::printable_text;
 use serde_json::{Value, json};
 use std::alloc::{AllocError, Global};
-use wire_rehearsal::{Process, Scripts};
+use wire_content::{Process, Scripts};
 use wire_types::{Call, CallEnd, Value as ReplyValue};
 use wire_words::{end_word, push_process, push_value, replied_value, verb};
 
@@ -38,7 +38,7 @@ fn rank_tree(
 {
     let mut text = Vec::new(alloc);
     push_process(&mut text, scripts, process)?;
-    let name = printed_text(alloc, text.as_slice())?;
+    let name = printable_text(alloc, text.as_slice())?;
     let calls = call_trees(alloc, scripts, process, ends)?;
     json!(in alloc; {"calls": calls, "proc": name})
 }
@@ -75,7 +75,7 @@ fn call_tree(
     }
     let mut text = Vec::new(alloc);
     push_value(&mut text, scripts, &value)?;
-    let text = printed_text(alloc, text.as_slice())?;
+    let text = printable_text(alloc, text.as_slice())?;
     valued_call(alloc, end_word(end), text.as_str(), verb(call))
 }
 

@@ -10,8 +10,8 @@ use Rattle.wire_races.specs.declared.Fate.{Fate}
 use Rattle.wire_races.specs.declared.Fate.TheVariants.{Waits}
 use Rattle.wire_races.specs.Fates.{IsFateOf, fate_told}
 use Rattle.wire_races.proofs.Fates.{there_if}
-use Rattle.wire_rehearsal.specs.Scripts.{Scripts}
-use Rattle.wire_rehearsal.specs.Planned.{plan_of}
+use Rattle.wire_content.specs.Scripts.{Scripts}
+use Rattle.wire_content.specs.Planned.{plan_of}
 use Rattle.wire_board.specs.Seats.{BoardIs, SeatIs, place_of, next_of}
 use Rattle.wire_lanes.specs.Lanes.{AreFates, Grows, LaneIs, IsLane, IsTrail}
 

@@ -3,7 +3,7 @@
 ghost use Rattle.std.specs.Prelude.{◌≡◌, ◌≢◌, ◌+◌, ◌<◌, [], length, None, IfOk, IfSome, IsOkUnless, IsTrue, ◌↔◌};
 ghost use Rattle.wire_types.specs.declared.Fault.TheVariants.{Memory};
 ghost use Rattle.wire_runs.specs.Plan.{event_of, event_count};
-ghost use Rattle.wire_rehearsal.specs.Planned.{plan_of};
+ghost use Rattle.wire_content.specs.Planned.{plan_of};
 ghost use Rattle.wire_races.specs.Fates.{IsFateOf};
 ghost use Rattle.wire_plan.specs.Index.{source_list};
 ghost use Rattle.wire_board.specs.Cuts.{shows_event, ShowsSources};
@@ -33,7 +33,7 @@ pub struct Lane<'a> {
 
 impl<'a> Model for Lane<'a> {
     ghost use Rattle.std.specs.Prelude.{vec_capacity, IfSome};
-    ghost use Rattle.wire_rehearsal.specs.Planned.{plan_of};
+    ghost use Rattle.wire_content.specs.Planned.{plan_of};
     ghost use Rattle.wire_plan.specs.Index.{source_list};
     ghost use Rattle.wire_lanes.specs.Lanes.{LaneIs, IsLane, AreLeft};
 

@@ -2,7 +2,7 @@
 
 ghost use Rattle.std.specs.Prelude.{◌≡◌, length, IfOk, IfSome, IsOkUnless, vec_len};
 ghost use Rattle.wire_types.specs.declared.Fault.TheVariants.{Memory};
-ghost use Rattle.wire_rehearsal.specs.Planned.{plan_of};
+ghost use Rattle.wire_content.specs.Planned.{plan_of};
 ghost use Rattle.wire_board.specs.Cuts.{procs_of};
 ghost use Rattle.wire_board.specs.Seats.{opening_seats};
 ghost use Rattle.wire_lanes.specs.Lanes.{AreTrails, IsToldBy};

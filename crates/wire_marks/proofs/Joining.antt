@@ -5,8 +5,8 @@ use Rattle.std.proofs.lemmas.Bool.{cases_eq, cases_lt}
 use Rattle.std.proofs.lemmas.Option.{slice_get_within, same_Some}
 use Rattle.wire_runs.specs.Plan.{Plan, Event, Leave, kind, process_count}
 use Rattle.wire_runs.specs.Fences.{arrivals, arrivals_with, is_member}
-use Rattle.wire_rehearsal.specs.Scripts.{Scripts}
-use Rattle.wire_rehearsal.specs.Planned.{plan_of}
+use Rattle.wire_content.specs.Scripts.{Scripts}
+use Rattle.wire_content.specs.Planned.{plan_of}
 use Rattle.wire_fence.specs.FenceTable.{FenceInfo, FenceTable, fence_at}
 use Rattle.wire_runs.specs.Order.{Edge, IsArrival, may_come}
 use Rattle.wire_plan.specs.Index.{AreSources, AreArrivals, AwaitsCommit, AwaitsPublish, Awaits, IsAwaited, previous_at, previous_of}

@@ -1,8 +1,8 @@
 -- What is kept of each fence: how many of its arrivals are marked, and then the join of their clocks: for the contracts of private functions.
 use Rattle.std.specs.Prelude.{◌≡◌, ◌≢◌, ◌⊎◌, ◌<◌, ◌≤◌, ℕ, List, Option, Some, None, length, slice_get, MatchOption}
 use Rattle.wire_runs.specs.Plan.{Plan, Event, Leave, kind}
-use Rattle.wire_rehearsal.specs.Scripts.{Scripts}
-use Rattle.wire_rehearsal.specs.Planned.{plan_of}
+use Rattle.wire_content.specs.Scripts.{Scripts}
+use Rattle.wire_content.specs.Planned.{plan_of}
 use Rattle.wire_fence.specs.FenceTable.{FenceInfo, FenceTable, fence_at}
 use Rattle.wire_fence.specs.declared.table.FenceId.{FenceId}
 use Rattle.wire_plan.specs.Index.{AreArrivals}

@@ -4,7 +4,7 @@
 ghost use Rattle.std.specs.Prelude.{◌≡◌, ◌<◌, ◌≤◌, ◌+◌, ◌^◌, ◌↔◌, ◌++◌, ◌∷◌, [], ℕ, Some, IsTrue, IfOk, OnOk, option_map, map, length, slice_index, max};
 ghost use Rattle.wire_runs.specs.Plan.{event_of, event_count};
 ghost use Rattle.wire_runs.specs.Plan as runs;
-ghost use Rattle.wire_rehearsal.specs.Planned.{plan_of};
+ghost use Rattle.wire_content.specs.Planned.{plan_of};
 ghost use Rattle.wire_marks.specs.Clocks.{items_at, marked_count, number_at, base_at, clock_of};
 ghost use Rattle.wire_marks.specs.Marking.{AreBased, IsGrown, Adds, Notes, number_before, Counts, IsRaised};
 ghost use Rattle.wire_marks.specs.Meeting.{AreMarked, IsJoin};

@@ -3,7 +3,7 @@
 ghost use Rattle.std.specs.Prelude.{◌≡◌, ◌<◌, ◌≤◌, ◌^◌, ℕ, [], IfOk, OnOk, MatchOption, length};
 ghost use Rattle.std.specs.Bool.{OnTrue, OnFalse};
 ghost use Rattle.wire_runs.specs.Plan.{process_count};
-ghost use Rattle.wire_rehearsal.specs.Planned.{plan_of};
+ghost use Rattle.wire_content.specs.Planned.{plan_of};
 ghost use Rattle.wire_fence.specs.FenceTable.{AreFencesOf};
 ghost use Rattle.wire_marks.specs.Clocks.{items_at, marked_count, AreMarks};
 ghost use Rattle.wire_marks.specs.Marking.{AreClocks, IsStuckAt, IsNextBase, unmarked};
@@ -146,7 +146,7 @@ fn mark_run(
 }
 
 // Passes over the processes, each with its run of ready events. Whether any event was marked.
-fn pass(
+fn mark_once(
     alloc: Global,
     plan: &Plan,
     fences: &Fences,
@@ -169,7 +169,7 @@ fn pass(
 }
 
 // Marks what is ready in the processes of a way, the last one first.
-fn go_back(
+fn mark_way_back(
     alloc: Global,
     plan: &Plan,
     fences: &Fences,
@@ -190,7 +190,7 @@ fn go_back(
 
 // Marks what is ready in a process, then in the one that it waits for, and so on, as long as they are new to
 // the way.
-fn go_down(
+fn mark_way_down(
     alloc: Global,
     plan: &Plan,
     fences: &Fences,
@@ -219,7 +219,7 @@ fn go_down(
 
 // Marks what is ready, each process after the one that it waits for, as far as that goes in one round: the
 // passes are then few.
-fn hurry(alloc: Global, plan: &Plan, fences: &Fences, growth: &mut Growth) -> Result<(), AllocError>
+fn mark_along_waits(alloc: Global, plan: &Plan, fences: &Fences, growth: &mut Growth) -> Result<(), AllocError>
     requires fences { AreFencesOf plan.now fences.now }
     requires growing { AreGrowing (plan_of plan.now) fences.now growth.old.clocks growth.old.meetings.items }
     ensures growing { OnOk result (AreGrowing (plan_of plan.now) fences.now growth.new.clocks growth.new.meetings.items) }
@@ -227,9 +227,9 @@ fn hurry(alloc: Global, plan: &Plan, fences: &Fences, growth: &mut Growth) -> Re
 {
     let mut way = Way::new(alloc, plan.process_count() as usize)?;
     for number in 0..plan.process_count() {
-        go_down(alloc, plan, fences, growth, &mut way, Proc::new(number))?;
+        mark_way_down(alloc, plan, fences, growth, &mut way, Proc::new(number))?;
     }
-    go_back(alloc, plan, fences, growth, &way.procs)?;
+    mark_way_back(alloc, plan, fences, growth, &way.procs)?;
     Ok(())
 }
 
@@ -245,8 +245,8 @@ pub(crate) fn all_clocks(alloc: Global, plan: &Plan) -> Result<Clocks, AllocErro
     };
     let mut moved = true;
     'passes: while moved {
-        hurry(alloc, plan, fences, &mut growth)?;
-        moved = pass(alloc, plan, fences, &mut growth)?;
+        mark_along_waits(alloc, plan, fences, &mut growth)?;
+        moved = mark_once(alloc, plan, fences, &mut growth)?;
     }
     Ok(growth.clocks)
 }

@@ -2,7 +2,7 @@
 
 ghost use Rattle.std.specs.Prelude.{◌≡◌, ◌↔◌, IsTrue};
 ghost use Rattle.wire_runs.specs.Plan.{event_of};
-ghost use Rattle.wire_rehearsal.specs.Planned.{plan_of};
+ghost use Rattle.wire_content.specs.Planned.{plan_of};
 ghost use Rattle.wire_runs.specs.Order.{Live, Before};
 ghost use Rattle.wire_marks.specs.Clocks.{AreMarks};
 
@@ -19,8 +19,8 @@ pub struct MarkedPlan<'a> {
 }
 
 impl<'a> Model for MarkedPlan<'a> {
-    ghost use Rattle.wire_rehearsal.specs.Scripts as spec;
-    ghost use Rattle.wire_rehearsal.specs.Planned.{plan_of};
+    ghost use Rattle.wire_content.specs.Scripts as spec;
+    ghost use Rattle.wire_content.specs.Planned.{plan_of};
     ghost use Rattle.wire_marks.specs.Clocks.{AreMarks};
 
     ghost Value = { spec.Scripts };

@@ -3,7 +3,7 @@
 ghost use Rattle.std.specs.Prelude.{◌≡◌, ◌↔◌, IsTrue, IfOk, IsOkUnless, MatchOption, map};
 ghost use Rattle.wire_runs.specs.Plan.{event_of};
 ghost use Rattle.wire_runs.specs.Plan as runs;
-ghost use Rattle.wire_rehearsal.specs.Planned.{plan_of};
+ghost use Rattle.wire_content.specs.Planned.{plan_of};
 ghost use Rattle.wire_runs.specs.Order.{Live, Before};
 ghost use Rattle.wire_marks.specs.Clocks.{AreMarks, IsClockOf};
 ghost use Rattle.wire_marks.specs.Updates.{AreUpdates};

@@ -3,7 +3,7 @@
 ghost use Rattle.std.specs.Prelude.{◌≡◌, ◌⊎◌, ◌↔◌, ◌++◌, ◌∷◌, [], List, Some, IsTrue, IfOk, map, option_map, option_to_list};
 ghost use Rattle.wire_runs.specs.Plan.{event_of};
 ghost use Rattle.wire_runs.specs.Plan as runs;
-ghost use Rattle.wire_rehearsal.specs.Planned.{plan_of};
+ghost use Rattle.wire_content.specs.Planned.{plan_of};
 ghost use Rattle.wire_runs.specs.Order.{Before};
 ghost use Rattle.wire_marks.specs.Clocks.{AreMarks, LeadsTo};
 ghost use Rattle.wire_marks.specs.Chain.{AtMost, IsStepBack, IsShown, Lowest};
@@ -40,7 +40,7 @@ fn lower(x: Option<Event>, y: Event) -> Event
 }
 
 // Whether y is x or after x.
-fn leads(marks: &Marks, x: Event, y: Event) -> bool
+fn leads_to(marks: &Marks, x: Event, y: Event) -> bool
     ensures { (plan : runs.Plan) → AreMarks plan marks.now → (IsTrue result ↔ LeadsTo plan (event_of x) (event_of y)) }
 {
     is_same(x, y) || marks.before(x, y)
@@ -51,7 +51,7 @@ fn lowest_with(marks: &Marks, x: Event, lowest: Option<Event>, z: Event) -> Opti
     ensures { (plan : runs.Plan) (places : List runs.Event) → AreMarks plan marks.now → Lowest plan (event_of x) places (option_map event_of lowest)
         → Lowest plan (event_of x) (places ++ event_of z ∷ []) (option_map event_of result) }
 {
-    if leads(marks, x, z) {
+    if leads_to(marks, x, z) {
         Some(lower(lowest, z))
     } else {
         lowest

@@ -3,7 +3,7 @@ use Rattle.std.proofs.Common.{◌≡◌, ◌∙◌, ap, sym, subst, ℕ, ◌+◌
 use Rattle.std.proofs.lemmas.Fmt.{decimal_injective}
 use Rattle.std.proofs.lemmas.Option.{same_Some}
 use Rattle.wire_types.specs.declared.CallAt.{CallAt}
-use Rattle.wire_rehearsal.specs.Scripts.{Scripts}
+use Rattle.wire_content.specs.Scripts.{Scripts}
 use Rattle.wire_order.specs.Order.{proc_named}
 use Rattle.wire_order.specs.Question.{IsCallNumber, IsCallNamed, IsProcWrong, IsNumberWrong, QuestionReads, Asks, First, Second, Third, Fourth, OneQuestion, calls_made}
 

@@ -4,7 +4,7 @@ use Rattle.std.proofs.lemmas.Bool.{cases_lt}
 use Rattle.std.proofs.lemmas.List.{length-take, take-take, take_all}
 use borrow.Author.Tests.{lt-ltb}
 use Rattle.wire_types.specs.declared.Fault.TheVariants.{BadOrder}
-use Rattle.wire_rehearsal.specs.Scripts.{Scripts}
+use Rattle.wire_content.specs.Scripts.{Scripts}
 use Rattle.wire_order.specs.Order.{order_within, order_read}
 
 -- past the limit only the bytes up to it tell

@@ -3,7 +3,7 @@ use Rattle.std.proofs.Common.{◌≡◌, ◌∙◌, ap, sym, refl, ℕ, List, []
 use Rattle.wire_types.specs.declared.Fault.{Fault}
 use Rattle.wire_types.specs.declared.Fault.TheVariants.{BadOrder}
 use Rattle.wire_types.specs.declared.Proc.{Proc}
-use Rattle.wire_rehearsal.specs.Scripts.{Scripts, numbers_of}
+use Rattle.wire_content.specs.Scripts.{Scripts, numbers_of}
 use Rattle.wire_script.specs.Statements.{Statement}
 use Rattle.wire_order.specs.Order.{step_of, with_step, order_of}
 use Rattle.wire_order.specs.Words.{steps_before}

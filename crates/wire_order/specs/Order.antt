@@ -3,8 +3,8 @@ use Rattle.std.specs.Prelude.{ℕ, ◌+◌, ◌==◌, nat_lt, List, [], ◌∷�
 use Rattle.std.specs.Str.{bytes_eq}
 use Rattle.wire_types.specs.declared.Fault.{Fault}
 use Rattle.wire_types.specs.declared.Fault.TheVariants.{BadOrder}
-use Rattle.wire_rehearsal.specs.Scripts.{Scripts}
-use Rattle.wire_rehearsal.specs.Canonical.{process_text}
+use Rattle.wire_content.specs.Scripts.{Scripts}
+use Rattle.wire_content.specs.Canonical.{process_text}
 use Rattle.wire_script.specs.Statements.{Statement, statements}
 
 -- the number of the first process whose text is the word

@@ -3,7 +3,7 @@ use Rattle.std.specs.Prelude.{◌≡◌, ℕ, ◌+◌, ◌<◌, ◌^◌, List, l
 use Rattle.wire_types.specs.declared.CallAt.{CallAt}
 use Rattle.wire_types.specs.declared.Fault.{Fault}
 use Rattle.wire_types.specs.declared.Fault.TheVariants.{BadOrder}
-use Rattle.wire_rehearsal.specs.Scripts.{Scripts, calls_in}
+use Rattle.wire_content.specs.Scripts.{Scripts, calls_in}
 use Rattle.wire_order.specs.Order.{proc_named}
 
 -- the word is the number of a call among so many, counted from 1: its decimal digits, of which there are at most nine

@@ -1,7 +1,7 @@
 //! From bytes to an order of steps.
 
 ghost use Rattle.std.specs.Prelude.{◌≡◌, ◌≤◌, ◌⊎◌, ◌∷◌, ◌++◌, [], length, map, option_map, Ok, Err, OnOk, IfOk, IfErr};
-ghost use Rattle.wire_rehearsal.specs.Scripts.{Scripts as Said, numbers_of};
+ghost use Rattle.wire_content.specs.Scripts.{Scripts as Said, numbers_of};
 ghost use Rattle.wire_script.specs.Statements.{statements};
 ghost use Rattle.wire_order.specs.Order as spec;
 ghost use Rattle.wire_order.specs.Order.{order_of, order_read};
@@ -10,7 +10,7 @@ ghost use Rattle.wire_order.specs.Words.{IsTableOf};
 use crate::words::ProcWords;
 use std::alloc::{AllocError, Global};
 use wire_lines::line_past;
-use wire_rehearsal::Scripts;
+use wire_content::Scripts;
 use wire_script::Cursor;
 use wire_types::{Fault, Proc};
 

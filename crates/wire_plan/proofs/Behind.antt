@@ -8,9 +8,9 @@ use Rattle.wire_runs.specs.Plan as plan
 use Rattle.wire_types.specs.declared.Call.{Call as Written}
 use Rattle.wire_types.specs.declared.Call.TheVariants as written
 use Rattle.wire_types.specs.declared.Reply.{Reply}
-use Rattle.wire_rehearsal.specs.Scripts.{Process, Scripts, calls_in, call_at, set_at, text_at, name_in}
-use Rattle.wire_rehearsal.specs.Planned.{planned_call, planned_process, plan_of}
-use Rattle.wire_rehearsal.specs.Said.{is_reserved}
+use Rattle.wire_content.specs.Scripts.{Process, Scripts, calls_in, call_at, set_at, text_at, name_in}
+use Rattle.wire_content.specs.Planned.{planned_call, planned_process, plan_of}
+use Rattle.wire_content.specs.Said.{is_reserved}
 use Rattle.wire_runs.specs.Ends.{call_number, call_size, calls_of, process_calls}
 use Rattle.wire_plan.proofs.Planning.{events_first}
 use Rattle.wire_plan.specs.Meetings.{is_of_fence}

@@ -5,8 +5,8 @@ use Rattle.wire_runs.specs.Plan.{Plan, Event, Arrive, kind_at}
 use Rattle.wire_runs.specs.Fences.{arrivals, is_full, is_collecting, has_node}
 use Rattle.wire_types.specs.declared.Event.{Event as CodeEvent}
 use Rattle.wire_runs.specs.Puts.{own, stored, stored_with}
-use Rattle.wire_rehearsal.specs.Scripts.{Scripts, set_at}
-use Rattle.wire_rehearsal.specs.Planned.{plan_of}
+use Rattle.wire_content.specs.Scripts.{Scripts, set_at}
+use Rattle.wire_content.specs.Planned.{plan_of}
 use Rattle.wire_fence.specs.FenceTable.{FenceTable, AreFencesOf, fence_at, fence_over, full_in, collects_in, reaches_in}
 use Rattle.wire_runs.specs.Order.{IsArrival}
 use Rattle.wire_plan.specs.Index.{IsDelivering, IsNextDelivery}

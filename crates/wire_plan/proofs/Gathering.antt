@@ -7,8 +7,8 @@ use Rattle.std.proofs.lemmas.List.{map-append, map-set, length-map, get_or-set_s
 use Rattle.wire_runs.specs.Plan.{Plan, Kind, Arrive, Leave, Event, kind, kind_at, event_count, process_count, event_of}
 use Rattle.wire_runs.specs.Fences.{arrivals, arrivals_with, is_full}
 use Rattle.wire_types.specs.declared.Event.{Event as CodeEvent}
-use Rattle.wire_rehearsal.specs.Scripts.{Scripts, set_at}
-use Rattle.wire_rehearsal.specs.Planned.{plan_of}
+use Rattle.wire_content.specs.Scripts.{Scripts, set_at}
+use Rattle.wire_content.specs.Planned.{plan_of}
 use Rattle.wire_fence.specs.FenceTable.{FenceInfo, FenceTable, AreFencesOf, fence_at, fence_over, full_in}
 use Rattle.wire_plan.specs.declared.kind.Kind.{Kind as CodeKind}
 use Rattle.wire_plan.specs.declared.kind.Kind.TheVariants as code

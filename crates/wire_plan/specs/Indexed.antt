@@ -1,6 +1,6 @@
 -- What a plan keeps besides its events: for the contracts of private functions.
-use Rattle.wire_rehearsal.specs.Scripts.{Scripts}
-use Rattle.wire_rehearsal.specs.Planned.{plan_of}
+use Rattle.wire_content.specs.Scripts.{Scripts}
+use Rattle.wire_content.specs.Planned.{plan_of}
 use Rattle.wire_fence.specs.FenceTable.{FenceTable}
 use Rattle.wire_plan.specs.Meetings.{AreArrivalLists}
 use Rattle.wire_plan.specs.Keys.{AreKeysOf}

@@ -3,7 +3,7 @@
 ghost use Rattle.std.specs.Prelude.{◌≡◌, ◌≢◌, ◌<◌, ◌++◌, ◌∷◌, [], ℕ, suc, List, Some, length, map, OnOk, IfOk};
 ghost use Rattle.wire_runs.specs.Plan.{event_of, kind_at};
 ghost use Rattle.wire_runs.specs.Plan as runs;
-ghost use Rattle.wire_rehearsal.specs.Planned.{plan_of};
+ghost use Rattle.wire_content.specs.Planned.{plan_of};
 ghost use Rattle.wire_plan.specs.Kinds.{kind_of};
 ghost use Rattle.wire_plan.specs.Tables.{is_listed, is_number, events_listed, AreListed, AreListedTo};
 

@@ -42,7 +42,7 @@ pub(crate) fn next_delivery(
         → IsNextDelivery plan delivery.owner.number delivery.key delivery.node from (option_map (λ e. e.at) result) }
 {
     let Delivery { owner, key, node } = delivery;
-    match keys.sent_after(owner, key) {
+    match keys.sending_commit(owner, key) {
         Some(commit) => {
             let at = higher(from, commit);
             arrivals.first_from(node, Event { proc: owner, at })

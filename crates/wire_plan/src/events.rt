@@ -2,19 +2,19 @@
 
 ghost use Rattle.std.specs.Prelude.{◌≡◌, ◌<◌, ◌^◌, Some, length, map, sum_by, vec_len, IfOk, IfErr};
 ghost use Rattle.wire_runs.specs.Plan.{event_of, process_count, kinds, kind_at, event_count, node_of};
-ghost use Rattle.wire_rehearsal.specs.Scripts.{IsSound};
-ghost use Rattle.wire_rehearsal.specs.Planned.{plan_of};
+ghost use Rattle.wire_content.specs.Scripts.{IsSound};
+ghost use Rattle.wire_content.specs.Planned.{plan_of};
 ghost use Rattle.wire_procmap.specs.Map.{map_of};
 ghost use Rattle.wire_plan.specs.Kinds.{kind_of, kinds_planned, calls_planned, starts_planned};
 ghost use Rattle.wire_runs.specs.Ends.{call_of, calls_of, first_event};
 ghost use Rattle.wire_runs.specs.Plan.{event_total};
 
 use crate::kind::Kind;
-use crate::row::{Row, row_of};
+use crate::row::{ProcessEvents, row_of};
 use std::alloc::{AllocError, Global};
 use std::marker::Model;
 use wire_procmap::ProcMap;
-use wire_rehearsal::Scripts;
+use wire_content::Scripts;
 use wire_types::{CallAt, Event, Fault, Proc};
 
 /// Scripts, with their process map, their fences, and the events of each process.
@@ -22,12 +22,12 @@ use wire_types::{CallAt, Event, Fault, Proc};
 pub(crate) struct Events {
     scripts: Scripts,
     places: ProcMap,
-    rows: Vec<Row>,
+    rows: Vec<ProcessEvents>,
 }
 
 impl Model for Events {
     ghost use Rattle.std.specs.Prelude.{◌≡◌, map};
-    ghost use Rattle.wire_rehearsal.specs.Scripts as spec;
+    ghost use Rattle.wire_content.specs.Scripts as spec;
     ghost use Rattle.wire_procmap.specs.Map.{map_of};
     ghost use Rattle.wire_plan.specs.Kinds.{kind_of, AreEventsOf};
 
@@ -39,7 +39,7 @@ impl Model for Events {
 }
 
 /// The events of each process.
-fn all_rows(alloc: Global, scripts: &Scripts, places: &ProcMap) -> Result<Vec<Row>, AllocError>
+fn all_rows(alloc: Global, scripts: &Scripts, places: &ProcMap) -> Result<Vec<ProcessEvents>, AllocError>
     requires { places.now ≡ map_of scripts.now }
     ensures kinds { IfOk result (λ all. map (λ row. map (kind_of scripts.now.sets) row.kinds.items) all.items ≡ kinds_planned scripts.now) }
     ensures calls { IfOk result (λ all. map (λ row. row.calls.items) all.items ≡ calls_planned scripts.now) }
@@ -54,7 +54,7 @@ fn all_rows(alloc: Global, scripts: &Scripts, places: &ProcMap) -> Result<Vec<Ro
 }
 
 /// The process map of scripts, and the events of each process.
-fn parts_of(alloc: Global, scripts: &Scripts) -> Result<(ProcMap, Vec<Row>), Fault>
+fn parts_of(alloc: Global, scripts: &Scripts) -> Result<(ProcMap, Vec<ProcessEvents>), Fault>
     ensures places { IfOk result (λ parts. parts.0 ≡ map_of scripts.now) }
     ensures kinds { IfOk result (λ parts. map (λ row. map (kind_of scripts.now.sets) row.kinds.items) parts.1.items ≡ kinds_planned scripts.now) }
     ensures calls { IfOk result (λ parts. map (λ row. row.calls.items) parts.1.items ≡ calls_planned scripts.now) }
@@ -67,7 +67,7 @@ fn parts_of(alloc: Global, scripts: &Scripts) -> Result<(ProcMap, Vec<Row>), Fau
 }
 
 /// How many events these rows hold.
-fn total_of(rows: &[Row]) -> usize
+fn total_of(rows: &[ProcessEvents]) -> usize
     requires { sum_by (λ row. vec_len row.kinds) rows.now < 2 ^ 64 }
     ensures { result ≡ sum_by (λ row. vec_len row.kinds) rows.now }
 {

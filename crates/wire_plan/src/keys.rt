@@ -6,7 +6,7 @@ ghost use Rattle.std.specs.Prelude.{◌≡◌, ◌↔◌, ◌||◌, ◌+◌, ◌
 ghost use Rattle.wire_runs.specs.Plan.{Plan, event_of, kind_at, event_count, admits};
 ghost use Rattle.wire_runs.specs.Plan as runs;
 ghost use Rattle.wire_runs.specs.Puts.{own, stored, put_count};
-ghost use Rattle.wire_rehearsal.specs.Planned.{plan_of};
+ghost use Rattle.wire_content.specs.Planned.{plan_of};
 ghost use Rattle.wire_plan.specs.Kinds.{kind_of};
 ghost use Rattle.wire_runs.specs.Order.{Stores};
 ghost use Rattle.wire_runs.specs.Races.{IsPutOnce};
@@ -195,7 +195,7 @@ impl KeyTable {
 
     /// The commit that a get of another process's key waits for: the one that first stores it, where
     /// the key is put once.
-    pub(crate) fn feeding(&self, owner: Proc, key: u32) -> Option<Event>
+    pub(crate) fn feeding_commit(&self, owner: Proc, key: u32) -> Option<Event>
         ensures { (plan : Plan) → AreKeysOf plan self.now → MatchOption result ((x : runs.Event) → x.proc ≡ owner.number → IsPutOnce plan owner.number key → Stores plan x key → ⊥) (λ x. (x.proc ≡ owner) × IsPutOnce plan owner.number key × Stores plan (event_of x) key) }
     {
         if self.put_count(owner, key) == 1 {
@@ -207,7 +207,7 @@ impl KeyTable {
 
     /// The number of the commit after which what a process has stored under a key is for processes of
     /// other nodes, where the key is put once; `None` where it never is.
-    pub(crate) fn sent_after(&self, owner: Proc, key: u32) -> Option<u32>
+    pub(crate) fn sending_commit(&self, owner: Proc, key: u32) -> Option<u32>
         ensures { (plan : Plan) → AreKeysOf plan self.now → IsPutOnce plan owner.number key → IsSentAfter plan owner.number key result }
     {
         match self.row(owner, key) {

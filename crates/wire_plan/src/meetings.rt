@@ -3,8 +3,8 @@
 ghost use Rattle.std.specs.Prelude.{◌≡◌, ◌<◌, ◌∷◌, [], ℕ, suc, List, true, Some, length, map as map_list, IfOk, OnOk};
 ghost use Rattle.wire_runs.specs.Plan.{Leave, event_of, process_count, event_count, kind};
 ghost use Rattle.wire_runs.specs.Fences.{arrivals as arrivals_of, is_full as is_full_fence};
-ghost use Rattle.wire_rehearsal.specs.Scripts.{Scripts as TheScripts};
-ghost use Rattle.wire_rehearsal.specs.Planned.{plan_of};
+ghost use Rattle.wire_content.specs.Scripts.{Scripts as TheScripts};
+ghost use Rattle.wire_content.specs.Planned.{plan_of};
 ghost use Rattle.wire_fence.specs.FenceTable.{FenceInfo, FenceTable, AreFencesOf, fence_at as the_fence_at};
 ghost use Rattle.wire_plan.specs.Index.{AreArrivals};
 ghost use Rattle.wire_plan.specs.Meetings.{is_of_fence, IsMet, arrivals_in, AreArrivalLists, AreArrivalListsTo, IsAdded};

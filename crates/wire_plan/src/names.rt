@@ -3,7 +3,7 @@
 ghost use Rattle.std.specs.Prelude.{◌≡◌, map, IfOk, MatchOption};
 ghost use Rattle.wire_runs.specs.Plan.{event_of};
 ghost use Rattle.wire_runs.specs.Plan as runs;
-ghost use Rattle.wire_rehearsal.specs.Planned.{plan_of};
+ghost use Rattle.wire_content.specs.Planned.{plan_of};
 ghost use Rattle.wire_runs.specs.Order.{PublishesOnce};
 ghost use Rattle.wire_plan.specs.Index.{AreNameCalls};
 ghost use Rattle.wire_plan.specs.Tables.{only_of, AreNamesOf};

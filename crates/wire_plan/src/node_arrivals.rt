@@ -3,7 +3,7 @@
 ghost use Rattle.std.specs.Prelude.{◌≡◌, ◌<◌, ◌≤◌, ◌&&◌, ◌||◌, ◌==◌, ℕ, suc, Some, true, false, slice_get, map, nat_lt, IfOk, IfSome, OnOk};
 ghost use Rattle.wire_runs.specs.Plan.{event_of, event_count, node_of};
 ghost use Rattle.wire_runs.specs.Plan as runs;
-ghost use Rattle.wire_rehearsal.specs.Planned.{plan_of};
+ghost use Rattle.wire_content.specs.Planned.{plan_of};
 ghost use Rattle.wire_fence.specs.FenceTable.{AreFencesOf, fence_at as the_fence_at, full_in, collects_in, reaches_in};
 ghost use Rattle.wire_plan.specs.Tables.{events_listed};
 ghost use Rattle.wire_plan.specs.Bringing.{AreNodeArrivals, AreNodeArrivalsTo, IsFirstFrom, IsRising, is_below, with_added};

@@ -5,8 +5,8 @@ ghost use Rattle.wire_runs.specs.Plan.{Get, Leave, event_of, process_count, kind
 ghost use Rattle.wire_runs.specs.Plan as runs;
 ghost use Rattle.wire_runs.specs.Puts.{put_count};
 ghost use Rattle.wire_runs.specs.Fences.{arrivals as arrivals_of};
-ghost use Rattle.wire_rehearsal.specs.Scripts.{IsSound};
-ghost use Rattle.wire_rehearsal.specs.Planned.{plan_of};
+ghost use Rattle.wire_content.specs.Scripts.{IsSound};
+ghost use Rattle.wire_content.specs.Planned.{plan_of};
 ghost use Rattle.wire_procmap.specs.Map.{map_of};
 ghost use Rattle.wire_fence.specs.FenceTable.{AreFencesOf};
 ghost use Rattle.wire_plan.specs.Kinds.{kind_of};
@@ -28,7 +28,7 @@ use std::alloc::Global;
 use std::marker::Model;
 use wire_fence::{FenceId, Fences};
 use wire_procmap::ProcMap;
-use wire_rehearsal::Scripts;
+use wire_content::Scripts;
 use wire_types::{CallAt, Event, Fault, Proc};
 
 /// Scripts, with their process map, their fences, the events of each process, and what they wait for.
@@ -40,7 +40,7 @@ pub struct Plan {
 }
 
 impl Model for Plan {
-    ghost use Rattle.wire_rehearsal.specs.Scripts as spec;
+    ghost use Rattle.wire_content.specs.Scripts as spec;
     ghost use Rattle.wire_fence.specs.FenceTable.{AreFencesOf};
     ghost use Rattle.wire_plan.specs.Indexed.{IsIndexed};
 
@@ -200,7 +200,7 @@ impl Plan {
                 if owner == event.proc {
                     None
                 } else {
-                    self.index.keys.feeding(owner, key)
+                    self.index.keys.feeding_commit(owner, key)
                 }
             }
             Kind::LookupWait { name } => self.index.names.once_published(name),
@@ -315,7 +315,7 @@ pub fn fence_of(plan: &Plan, fences: &Fences, event: Event) -> FenceId
 impl PartialEq for Plan {
     ghost use Rattle.std.specs.Prelude.{◌≡◌};
     ghost use Rattle.std.specs.Bool.{Decides};
-    ghost use Rattle.wire_rehearsal.specs.Same.{same_scripts, scripts_alike};
+    ghost use Rattle.wire_content.specs.Same.{same_scripts, scripts_alike};
 
     ghost eq = { same_scripts };
 

@@ -2,26 +2,26 @@
 
 ghost use Rattle.std.specs.Prelude.{◌≡◌, ◌+◌, ◌<◌, ◌^◌, ◌∷◌, ◌++◌, [], length, map, OnOk, IfOk};
 ghost use Rattle.wire_runs.specs.Plan.{kinds_of};
-ghost use Rattle.wire_rehearsal.specs.Planned.{planned_call};
+ghost use Rattle.wire_content.specs.Planned.{planned_call};
 ghost use Rattle.wire_procmap.specs.Map.{map_of};
 ghost use Rattle.wire_plan.specs.Kinds.{kind_of, calls_from, starts_from};
 
 use crate::kind::{Kind, first_kind};
 use std::alloc::{AllocError, Global};
 use wire_procmap::ProcMap;
-use wire_rehearsal::Scripts;
+use wire_content::Scripts;
 use wire_types::Call;
 
 /// What the events of a process are, in their order, and the number of the call of each; and for each
 /// call the number of its first event.
 #[derive(Drop)]
-pub(crate) struct Row {
+pub(crate) struct ProcessEvents {
     pub kinds: Vec<Kind>,
     pub calls: Vec<u32>,
     pub starts: Vec<u32>,
 }
 
-impl Row {
+impl ProcessEvents {
     fn add(&mut self, kind: Kind, call: u32) -> Result<(), AllocError>
         ensures kinds { OnOk result (self.new.kinds.items ≡ self.old.kinds.items ++ kind ∷ []) }
         ensures calls { OnOk result (self.new.calls.items ≡ self.old.calls.items ++ call ∷ []) }
@@ -35,7 +35,7 @@ impl Row {
 
 /// Adds the events of a call.
 fn add_call(
-    row: &mut Row,
+    row: &mut ProcessEvents,
     scripts: &Scripts,
     places: &ProcMap,
     call: Call,
@@ -61,14 +61,14 @@ pub(crate) fn row_of(
     scripts: &Scripts,
     places: &ProcMap,
     calls: &[Call],
-) -> Result<Row, AllocError>
+) -> Result<ProcessEvents, AllocError>
     requires places { places.now ≡ map_of scripts.now }
     requires few { length calls.now < 2 ^ 31 }
     ensures kinds { IfOk result (λ row. map (kind_of scripts.now.sets) row.kinds.items ≡ kinds_of (map (planned_call scripts.now) calls.now)) }
     ensures calls { IfOk result (λ row. row.calls.items ≡ calls_from 0 (map (planned_call scripts.now) calls.now)) }
     ensures starts { IfOk result (λ row. row.starts.items ≡ starts_from 0 (map (planned_call scripts.now) calls.now)) }
 {
-    let mut row = Row {
+    let mut row = ProcessEvents {
         kinds: Vec::with_capacity(alloc, calls.len())?,
         calls: Vec::with_capacity(alloc, calls.len())?,
         starts: Vec::with_capacity(alloc, calls.len())?,

@@ -4,9 +4,9 @@ use Rattle.std.proofs.lemmas.Bool.{cases_order, cond-true, and_parts, and_from, 
 use Rattle.std.proofs.lemmas.List.{take-take, get_or-take, length-take-le}
 use Rattle.std.proofs.lemmas.List.Quantifiers.{position-Some}
 use Rattle.std.proofs.lemmas.List.Sums.{sum_by_more_le}
-use Rattle.wire_rehearsal.specs.Scripts.{Process}
-use Rattle.wire_rehearsal.specs.Map.{job_at}
-use Rattle.wire_procmap.specs.declared.row.Row.{Row}
+use Rattle.wire_content.specs.Scripts.{Process}
+use Rattle.wire_content.specs.Map.{job_at}
+use Rattle.wire_procmap.specs.declared.row.ProcessNumbers.{ProcessNumbers}
 use Rattle.wire_procmap.specs.Places.{IsAt, OneProcess}
 use Rattle.wire_procmap.specs.Rows.{row_of, rows_of}
 use Rattle.wire_procmap.proofs.Rows.{nobody, job_there, length_of_rows, row_at, none_passes}
@@ -39,7 +39,7 @@ one_process processes job rank p q first second = elim (cases_order p q) [
       absurd (omega (arith, rise, ranked processes job rank p first, ranked processes job rank q second))
 ]
 
-abbrev pub has_place : ℕ → ℕ → Row → Bool
+abbrev pub has_place : ℕ → ℕ → ProcessNumbers → Bool
 has_place job rank r = (r.job == job) && (r.rank == rank)
 
 pub found_at : (processes : List Process) (job rank p : ℕ) → Some p ≡ position (has_place job rank) (rows_of processes) → IsAt processes job rank p

@@ -8,9 +8,9 @@ use Rattle.std.proofs.lemmas.Option.{slice_get-get_or, none-some}
 use Rattle.std.proofs.lemmas.List.FromFn.{length-map-range_with_len, map-range_with_len_more, get_or-map-range_with_len, sum_by-map-range_with_len_more}
 use Rattle.std.proofs.lemmas.List.Sums.{sum_by_more, fails_before_first}
 use Rattle.std.proofs.Math.Seq.{take-length}
-use Rattle.wire_rehearsal.specs.Scripts.{Process}
-use Rattle.wire_rehearsal.specs.Map.{job_in, node_in, job_at, node_at, size_of_job}
-use Rattle.wire_procmap.specs.declared.row.Row.{Row}
+use Rattle.wire_content.specs.Scripts.{Process}
+use Rattle.wire_content.specs.Map.{job_in, node_in, job_at, node_at, size_of_job}
+use Rattle.wire_procmap.specs.declared.row.ProcessNumbers.{ProcessNumbers}
 use Rattle.wire_procmap.specs.Rows.{row_of, rows_of}
 
 pub nobody : Process
@@ -19,7 +19,7 @@ nobody = record { job = 0; rank = 0; node = 0; calls = [] }
 pub length_of_rows : (processes : List Process) → length (rows_of processes) ≡ length processes
 length_of_rows processes = length-map-range_with_len (row_of processes) 0 (length processes)
 
-pub row_at : (processes : List Process) (p : ℕ) (d : Row) → p < length processes → get_or (rows_of processes) p d ≡ row_of processes p
+pub row_at : (processes : List Process) (p : ℕ) (d : ProcessNumbers) → p < length processes → get_or (rows_of processes) p d ≡ row_of processes p
 row_at processes p d h = get_or-map-range_with_len (row_of processes) 0 (length processes) p p d h (omega arith)
 
 pub job_there : (processes : List Process) (p : ℕ) (d : Process) → p < length processes → job_at processes p ≡ (get_or processes p d).job
@@ -29,7 +29,7 @@ pub node_there : (processes : List Process) (p : ℕ) (d : Process) → p < leng
 node_there processes p d h = ap node_in (slice_get-get_or processes p d h)
 
 -- a row of counts
-pub row_is : (processes : List Process) (p job node rank local_rank node_rank job_size : ℕ) → job ≡ job_at processes p → node ≡ node_at processes p → rank ≡ count_by (λ (q : Process). q.job == job) (take p processes) → local_rank ≡ count_by (λ (q : Process). (q.job == job) && (q.node == node)) (take p processes) → node_rank ≡ count_by (λ (q : Process). q.node == node) (take p processes) → job_size ≡ count_by (λ (q : Process). q.job == job) processes → ◌≡◌ {A = Row} (record { job = job; node = node; rank = rank; local_rank = local_rank; node_rank = node_rank; job_size = job_size }) (row_of processes p)
+pub row_is : (processes : List Process) (p job node rank local_rank node_rank job_size : ℕ) → job ≡ job_at processes p → node ≡ node_at processes p → rank ≡ count_by (λ (q : Process). q.job == job) (take p processes) → local_rank ≡ count_by (λ (q : Process). (q.job == job) && (q.node == node)) (take p processes) → node_rank ≡ count_by (λ (q : Process). q.node == node) (take p processes) → job_size ≡ count_by (λ (q : Process). q.job == job) processes → ◌≡◌ {A = ProcessNumbers} (record { job = job; node = node; rank = rank; local_rank = local_rank; node_rank = node_rank; job_size = job_size }) (row_of processes p)
 unfolding row_of
 row_is processes p job node rank local_rank node_rank job_size of_job of_node ranks locals nodes sizes =
     let rank_is = ranks ∙ ap (λ j. count_by (λ (q : Process). q.job == j) (take p processes)) of_job in
@@ -43,19 +43,19 @@ pub rows_more : (processes : List Process) (n : ℕ) → map (row_of processes) 
 rows_more processes n = map-range_with_len_more (row_of processes) 0 n n (omega arith)
 
 -- the first rows count the jobs of the first processes
-counted : (processes : List Process) (job k : ℕ) → k ≤ length processes → count_by (λ (r : Row). r.job == job) (map (row_of processes) (range_with_len 0 k)) ≡ count_by (λ (q : Process). q.job == job) (take k processes)
+counted : (processes : List Process) (job k : ℕ) → k ≤ length processes → count_by (λ (r : ProcessNumbers). r.job == job) (map (row_of processes) (range_with_len 0 k)) ≡ count_by (λ (q : Process). q.job == job) (take k processes)
 unfolding row_of
 counted processes job zero h = refl
 counted processes job (suc k) h =
     let low : k < length processes = omega arith in
     let ih = counted processes job k (omega arith) in
     let here : cond (job_at processes k == job) 1 0 ≡ cond ((get_or processes k nobody).job == job) 1 0 = ap (λ n. cond (n == job) 1 0) (job_there processes k nobody low) in
-    let rows = sum_by-map-range_with_len_more (λ (r : Row). cond (r.job == job) 1 0) (row_of processes) 0 k k (omega arith) in
+    let rows = sum_by-map-range_with_len_more (λ (r : ProcessNumbers). cond (r.job == job) 1 0) (row_of processes) 0 k k (omega arith) in
     let firsts = sum_by_more (λ (q : Process). cond (q.job == job) 1 0) processes k nobody low in
-    let Counts : ℕ → Type 0 = λ n. count_by (λ (r : Row). r.job == job) (map (row_of processes) (range_with_len 0 n)) ≡ count_by (λ (q : Process). q.job == job) (take n processes) in
+    let Counts : ℕ → Type 0 = λ n. count_by (λ (r : ProcessNumbers). r.job == job) (map (row_of processes) (range_with_len 0 n)) ≡ count_by (λ (q : Process). q.job == job) (take n processes) in
     subst Counts (add-one k) (rows ∙ ap (λ n. n + cond (job_at processes k == job) 1 0) ih ∙ ap (λ n. count_by (λ (q : Process). q.job == job) (take k processes) + n) here ∙ sym firsts)
 
-pub size_of_rows : (processes : List Process) (job : ℕ) → count_by (λ (r : Row). r.job == job) (rows_of processes) ≡ size_of_job processes job
+pub size_of_rows : (processes : List Process) (job : ℕ) → count_by (λ (r : ProcessNumbers). r.job == job) (rows_of processes) ≡ size_of_job processes job
 size_of_rows processes job = counted processes job (length processes) (omega arith) ∙ ap (count_by (λ (q : Process). q.job == job)) (take-length processes)
 
 -- where no element passes, each fails

@@ -1,13 +1,13 @@
 -- The map of scripts: the row of each process, and the kind of each key.
 use Rattle.std.specs.Prelude.{ℕ, List, length, map}
-use Rattle.wire_rehearsal.specs.Scripts.{Scripts}
+use Rattle.wire_content.specs.Scripts.{Scripts}
 use Rattle.wire_procmap.specs.declared.key.KeyKind.{KeyKind}
-use Rattle.wire_procmap.specs.declared.row.Row.{Row}
+use Rattle.wire_procmap.specs.declared.row.ProcessNumbers.{ProcessNumbers}
 use Rattle.wire_procmap.specs.Keys.{key_kind}
 use Rattle.wire_procmap.specs.Rows.{rows_of}
 
 pub record Map : Type 0 where
-  pub rows : List Row
+  pub rows : List ProcessNumbers
   pub kinds : List KeyKind
 
 abbrev pub map_of : Scripts → Map

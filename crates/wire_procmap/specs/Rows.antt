@@ -1,17 +1,17 @@
 -- What the map keeps of each process.
 use Rattle.std.specs.Prelude.{ℕ, List, length, map}
 use Rattle.std.specs.List.{range_with_len}
-use Rattle.wire_rehearsal.specs.Scripts.{Process}
-use Rattle.wire_rehearsal.specs.Map.{job_at, node_at, rank_of, local_rank_of, node_rank_of, size_of_job}
+use Rattle.wire_content.specs.Scripts.{Process}
+use Rattle.wire_content.specs.Map.{job_at, node_at, rank_of, local_rank_of, node_rank_of, size_of_job}
 use Rattle.wire_types.specs.Replies.{bare, success_with}
 use Rattle.wire_types.specs.declared.Reply.{Reply}
 use Rattle.wire_types.specs.declared.Status.TheVariants.{NotFound}
 use Rattle.wire_types.specs.declared.Value.TheVariants.{Number, NodeName}
 use Rattle.wire_procmap.specs.declared.key.KeyKind.{KeyKind}
 use Rattle.wire_procmap.specs.declared.key.KeyKind.TheVariants.{Plain, Rank, LocalRank, NodeRank, JobSize, Hostname, Other}
-use Rattle.wire_procmap.specs.declared.row.Row.{Row}
+use Rattle.wire_procmap.specs.declared.row.ProcessNumbers.{ProcessNumbers}
 
-unfoldable pub row_of : List Process → ℕ → Row
+unfoldable pub row_of : List Process → ℕ → ProcessNumbers
 row_of processes p = record {
   job = job_at processes p;
   node = node_at processes p;
@@ -22,11 +22,11 @@ row_of processes p = record {
 }
 
 -- the row of each process
-abbrev pub rows_of : List Process → List Row
+abbrev pub rows_of : List Process → List ProcessNumbers
 rows_of processes = map (row_of processes) (range_with_len 0 (length processes))
 
 -- what a get of a key of this kind replies of the process of this row
-abbrev pub reply_of : Row → KeyKind → Reply
+abbrev pub reply_of : ProcessNumbers → KeyKind → Reply
 reply_of row Plain = bare NotFound
 reply_of row Rank = success_with (Number row.rank)
 reply_of row LocalRank = success_with (Number row.local_rank)

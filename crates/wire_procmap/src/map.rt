@@ -2,25 +2,25 @@
 
 ghost use Rattle.std.specs.Prelude.{◌≡◌, ℕ, ◌<◌, IfOk, IsOkUnless, IfSome, IfNone};
 ghost use Rattle.wire_lines.specs.Said.{is_reserved};
-ghost use Rattle.wire_rehearsal.specs.Scripts.{Scripts, text_at};
-ghost use Rattle.wire_rehearsal.specs.Map.{job_at, node_at, rank_of, local_rank_of, node_rank_of, size_of_job};
-ghost use Rattle.wire_rehearsal.specs.Reserved.{reserved_reply};
+ghost use Rattle.wire_content.specs.Scripts.{Scripts, text_at};
+ghost use Rattle.wire_content.specs.Map.{job_at, node_at, rank_of, local_rank_of, node_rank_of, size_of_job};
+ghost use Rattle.wire_content.specs.Reserved.{reserved_reply};
 ghost use Rattle.wire_procmap.specs.Keys as keys;
 ghost use Rattle.wire_procmap.specs.Map.{map_of, row_count};
 ghost use Rattle.wire_procmap.specs.Places.{IsAt};
 ghost use Rattle.wire_procmap.specs.Rows as rows;
 
 use crate::key::{KeyKind, kinds_of};
-use crate::row::{Row, place_in, rows_of, size_in};
+use crate::row::{ProcessNumbers, place_in, rows_of, size_in};
 use std::alloc::Global;
 use std::marker::Model;
-use wire_rehearsal::Scripts;
+use wire_content::Scripts;
 use wire_types::{Fault, Proc, Reply};
 
 /// The process map of scripts.
 #[derive(Drop)]
 pub struct ProcMap {
-    rows: Vec<Row>,
+    rows: Vec<ProcessNumbers>,
     kinds: Vec<KeyKind>,
 }
 
@@ -48,7 +48,7 @@ impl ProcMap {
         })
     }
 
-    fn row(&self, proc: Proc) -> Row
+    fn row(&self, proc: Proc) -> ProcessNumbers
         requires { proc.number < row_count self.now }
         ensures { (s : Scripts) → self.now ≡ map_of s → result ≡ rows.row_of s.processes proc.number }
     {

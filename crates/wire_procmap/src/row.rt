@@ -6,12 +6,12 @@ ghost use Rattle.wire_procmap.specs.Rows as rows;
 
 use crate::key::KeyKind;
 use std::alloc::{AllocError, Global};
-use wire_rehearsal::Process;
+use wire_content::Process;
 use wire_types::{Reply, Status, Value};
 
 /// The numbers of one process, and how many processes its job has.
 #[derive(Clone, Copy)]
-pub(crate) struct Row {
+pub(crate) struct ProcessNumbers {
     pub job: u32,
     pub node: u32,
     pub rank: u32,
@@ -20,7 +20,7 @@ pub(crate) struct Row {
     pub job_size: u32,
 }
 
-impl Row {
+impl ProcessNumbers {
     /// What a get of a key of this kind replies of this process.
     pub(crate) fn reply(self, kind: KeyKind) -> Reply
         ensures { result ≡ rows.reply_of self kind }
@@ -79,7 +79,7 @@ fn count_of_job_on_node(processes: &[Process], job: u32, node: u32) -> u32
         .count() as u32
 }
 
-fn row_of(processes: &[Process], index: usize) -> Row
+fn row_of(processes: &[Process], index: usize) -> ProcessNumbers
     requires few { length processes.now < 2 ^ 31 }
     requires there { index < length processes.now }
     ensures { result ≡ rows.row_of processes.now index }
@@ -87,7 +87,7 @@ fn row_of(processes: &[Process], index: usize) -> Row
     let job = processes[index].job();
     let node = processes[index].node();
     let before = &processes[..index];
-    Row {
+    ProcessNumbers {
         job,
         node,
         rank: count_of_job(before, job),
@@ -99,7 +99,7 @@ fn row_of(processes: &[Process], index: usize) -> Row
 
 /// The row of each process, in process order.
 #[tactic(auto, using(crate::proofs::Rows::rows_more))]
-pub(crate) fn rows_of(alloc: Global, processes: &[Process]) -> Result<Vec<Row>, AllocError>
+pub(crate) fn rows_of(alloc: Global, processes: &[Process]) -> Result<Vec<ProcessNumbers>, AllocError>
     requires { length processes.now < 2 ^ 31 }
     ensures { IfOk result (λ made. made.items ≡ rows.rows_of processes.now) }
 {
@@ -111,7 +111,7 @@ pub(crate) fn rows_of(alloc: Global, processes: &[Process]) -> Result<Vec<Row>, 
 }
 
 /// How many rows are of the job.
-pub(crate) fn size_in(rows: &[Row], job: u32) -> u32
+pub(crate) fn size_in(rows: &[ProcessNumbers], job: u32) -> u32
     requires { length rows.now < 2 ^ 31 }
     ensures { result ≡ count_by (λ r. r.job == job) rows.now }
 {
@@ -119,7 +119,7 @@ pub(crate) fn size_in(rows: &[Row], job: u32) -> u32
 }
 
 /// The number of the first row of the job and the rank.
-pub(crate) fn place_in(rows: &[Row], job: u32, rank: u32) -> Option<usize>
+pub(crate) fn place_in(rows: &[ProcessNumbers], job: u32, rank: u32) -> Option<usize>
     ensures { result ≡ position (λ r. (r.job == job) && (r.rank == rank)) rows.now }
 {
     rows.iter()

@@ -8,8 +8,8 @@ use Rattle.wire_runs.specs.Plan as plan
 use Rattle.wire_types.specs.declared.Call.{Call as Written}
 use Rattle.wire_types.specs.declared.Call.TheVariants.{Put, Commit, Fence, Get, GetNow, Publish, Lookup, LookupWait, Unpublish}
 use Rattle.wire_types.specs.declared.Reply.{Reply}
-use Rattle.wire_rehearsal.specs.Scripts.{Process, Scripts, IsSound, name_in, calls_in, set_at}
-use Rattle.wire_rehearsal.specs.Planned.{plan_of, planned_call, planned_process}
+use Rattle.wire_content.specs.Scripts.{Process, Scripts, IsSound, name_in, calls_in, set_at}
+use Rattle.wire_content.specs.Planned.{plan_of, planned_call, planned_process}
 use Rattle.wire_runs.specs.Names.{calls_name}
 use Rattle.wire_plan.proofs.Planning.{events_first}
 use Rattle.wire_races.proofs.Calls.{get_left, get_right}

@@ -2,7 +2,7 @@
 
 ghost use Rattle.std.specs.Prelude.{◌≡◌, ◌<◌, Some, true, false};
 ghost use Rattle.wire_runs.specs.Plan.{Get, event_of, event_count, kind, same_node, admits};
-ghost use Rattle.wire_rehearsal.specs.Planned.{plan_of};
+ghost use Rattle.wire_content.specs.Planned.{plan_of};
 ghost use Rattle.wire_runs.specs.Puts.{own};
 ghost use Rattle.wire_runs.specs.Sight.{Shown, held, served};
 ghost use Rattle.wire_runs.specs.Order.{Live};
@@ -10,7 +10,7 @@ ghost use Rattle.wire_runs.specs.Races.{IsSettled};
 ghost use Rattle.wire_plan.specs.Index.{IsFirstPut};
 ghost use Rattle.wire_races.specs.Pasts.{GivesSight, GivesGet, GivesGetNow, GivesServed, GivesBrought};
 
-use crate::key_races::{Asked, comes_surely};
+use crate::key_races::{GetNow, comes_surely};
 use wire_marks::MarkedPlan;
 use wire_plan::{Kind, Plan};
 use wire_types::{Event, Proc, Reply, Scope, Status, Value};
@@ -111,7 +111,7 @@ fn away_reply(marked: &MarkedPlan<'_>, event: Event, put: Event, key: u32) -> Re
     ensures { GivesBrought (plan_of marked.now) (event_of event) put.proc.number key result }
 {
     let plan = marked.plan();
-    let asked = Asked {
+    let asked = GetNow {
         get_now: event,
         owner: put.proc,
         key,

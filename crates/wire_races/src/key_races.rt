@@ -3,7 +3,7 @@
 ghost use Rattle.std.specs.Prelude.{◌≡◌, ◌<◌, ◌*◌, ◌/◌, max, ℕ, List, suc, Some, OnOk, IsTrue, MatchOption, IfOk, ◌↔◌, true, false, map};
 ghost use Rattle.wire_runs.specs.Plan.{GetNow, Leave, event_of, process_count, event_count, event_total, kind, node_of, same_node};
 ghost use Rattle.wire_runs.specs.Plan as runs;
-ghost use Rattle.wire_rehearsal.specs.Planned.{plan_of};
+ghost use Rattle.wire_content.specs.Planned.{plan_of};
 ghost use Rattle.wire_runs.specs.EventLists.{IsLower};
 ghost use Rattle.wire_runs.specs.Order.{IsArrival, Live};
 ghost use Rattle.wire_runs.specs.Races.{IsUnordered, IsPutOnce, ComesSurely};
@@ -29,7 +29,7 @@ use wire_types::{Event, Proc};
 
 /// A get that is answered at once, and the key for which it asks.
 #[derive(Clone, Copy)]
-pub(crate) struct Asked {
+pub(crate) struct GetNow {
     pub get_now: Event,
     pub owner: Proc,
     pub key: u32,
@@ -50,7 +50,7 @@ fn are_unordered(marks: &Marks, x: Event, y: Event) -> bool
 }
 
 /// The race of a get with an event, the lower call first.
-fn race_of(plan: &Plan, source: Event, asked: Asked) -> Finding
+fn race_of(plan: &Plan, source: Event, asked: GetNow) -> Finding
     requires { IsKeyRace (plan_of plan.now) (event_of source) (event_of asked.get_now) asked.owner.number asked.key }
     ensures { IsRaceOf (event_of source) (event_of asked.get_now) asked.owner.number asked.key (shown (plan_of plan.now) result) }
 {
@@ -64,7 +64,7 @@ fn race_of(plan: &Plan, source: Event, asked: Asked) -> Finding
 }
 
 /// Adds the race of a get with an event.
-fn add_race(plan: &Plan, found: &mut Found, source: Event, asked: Asked) -> Result<(), AllocError>
+fn add_race(plan: &Plan, found: &mut Found, source: Event, asked: GetNow) -> Result<(), AllocError>
     requires race { IsKeyRace (plan_of plan.now) (event_of source) (event_of asked.get_now) asked.owner.number asked.key }
     requires found { AreFound (plan_of plan.now) found.old }
     ensures { OnOk result (Adds (plan_of plan.now) found.old found.new (IsRaceOf (event_of source) (event_of asked.get_now) asked.owner.number asked.key)) }
@@ -77,7 +77,7 @@ fn add_node_race(
     plan: &Plan,
     marks: &Marks,
     found: &mut Found,
-    asked: Asked,
+    asked: GetNow,
 ) -> Result<(), AllocError>
     requires marks { AreMarks (plan_of plan.now) marks.now }
     requires found { AreFound (plan_of plan.now) found.old }
@@ -222,7 +222,7 @@ fn next_arrival(plan: &Plan, owner: Proc, key: u32, node: u32, from: u32) -> Opt
 
 /// Whether a delivery of a key to a node comes before a get in every run. If any does, the first one
 /// does: all arrivals at its fence are before each later arrival of the owner.
-pub(crate) fn comes_surely(plan: &Plan, marks: &Marks, asked: Asked, node: u32) -> bool
+pub(crate) fn comes_surely(plan: &Plan, marks: &Marks, asked: GetNow, node: u32) -> bool
     requires marks { AreMarks (plan_of plan.now) marks.now }
     requires live { Live (plan_of plan.now) (event_of asked.get_now) }
     requires once { IsPutOnce (plan_of plan.now) asked.owner.number asked.key }
@@ -239,7 +239,7 @@ fn add_late(
     plan: &Plan,
     marks: &Marks,
     found: &mut Found,
-    asked: Asked,
+    asked: GetNow,
     arrival: Event,
 ) -> Result<(), AllocError>
     requires marks { AreMarks (plan_of plan.now) marks.now }
@@ -263,7 +263,7 @@ fn add_all_late(
     plan: &Plan,
     marks: &Marks,
     found: &mut Found,
-    asked: Asked,
+    asked: GetNow,
     node: u32,
 ) -> Result<(), AllocError>
     requires marks { AreMarks (plan_of plan.now) marks.now }
@@ -292,7 +292,7 @@ fn add_delivery_races(
     plan: &Plan,
     marks: &Marks,
     found: &mut Found,
-    asked: Asked,
+    asked: GetNow,
 ) -> Result<(), AllocError>
     requires marks { AreMarks (plan_of plan.now) marks.now }
     requires found { AreFound (plan_of plan.now) found.old }
@@ -308,7 +308,7 @@ fn add_delivery_races(
 }
 
 /// Whether a get that is answered at once is live, and of a key that another process puts once.
-fn is_open(plan: &Plan, marks: &Marks, asked: Asked) -> bool
+fn is_open(plan: &Plan, marks: &Marks, asked: GetNow) -> bool
     requires marks { AreMarks (plan_of plan.now) marks.now }
     requires get { kind (plan_of plan.now) (event_of asked.get_now) ≡ Some (GetNow asked.owner.number asked.key) }
     ensures { IsTrue result ↔ IsOpen (plan_of plan.now) (event_of asked.get_now) asked.owner.number asked.key }
@@ -323,7 +323,7 @@ fn add_get_now(
     plan: &Plan,
     marks: &Marks,
     found: &mut Found,
-    asked: Asked,
+    asked: GetNow,
 ) -> Result<(), AllocError>
     requires marks { AreMarks (plan_of plan.now) marks.now }
     requires found { AreFound (plan_of plan.now) found.old }
@@ -351,7 +351,7 @@ fn add_event(plan: &Plan, marks: &Marks, found: &mut Found, event: Event) -> Res
 {
     match plan.kind(event) {
         Kind::GetNow { owner, key } => {
-            let asked = Asked {
+            let asked = GetNow {
                 get_now: event,
                 owner,
                 key,

@@ -3,7 +3,7 @@
 ghost use Rattle.std.specs.Prelude.{◌<◌, ◌≤◌, ℕ, length, option_map, IfSome};
 ghost use Rattle.wire_runs.specs.Plan.{event_of, event_count};
 ghost use Rattle.wire_runs.specs.Plan as runs;
-ghost use Rattle.wire_rehearsal.specs.Planned.{plan_of};
+ghost use Rattle.wire_content.specs.Planned.{plan_of};
 ghost use Rattle.wire_runs.specs.Order.{Live, Before};
 ghost use Rattle.wire_runs.specs.Races.{IsSettled};
 ghost use Rattle.wire_marks.specs.Clocks.{AreMarks};
@@ -82,7 +82,7 @@ fn count_before(marks: &Marks, updates: &[Update], event: Event) -> usize
 }
 
 /// The publish that stands under a name after the calls before an event of a settled plan.
-pub(crate) fn standing(marked: &MarkedPlan<'_>, event: Event, name: u32) -> Option<Event>
+pub(crate) fn standing_publish(marked: &MarkedPlan<'_>, event: Event, name: u32) -> Option<Event>
     requires { IsSettled (plan_of marked.now) }
     ensures standing { IsStanding (plan_of marked.now) (event_of event) name (option_map event_of result) }
     ensures there { IfSome result (λ e. e.at < event_count (plan_of marked.now) e.proc.number) }

@@ -3,7 +3,7 @@
 ghost use Rattle.std.specs.Prelude.{◌≡◌, ◌<◌, ◌≤◌, ◌↔◌, ℕ, Some, true, IsTrue, IfOk, OnOk, length, map, take, slice_get};
 ghost use Rattle.wire_runs.specs.Plan.{event_of, kind, event_count};
 ghost use Rattle.wire_runs.specs.Plan as runs;
-ghost use Rattle.wire_rehearsal.specs.Planned.{plan_of};
+ghost use Rattle.wire_content.specs.Planned.{plan_of};
 ghost use Rattle.wire_runs.specs.Names.{calls_name, writes_name};
 ghost use Rattle.wire_runs.specs.Order.{Live};
 ghost use Rattle.wire_runs.specs.Findings.{NameRace};
@@ -43,7 +43,7 @@ struct NameCall {
 }
 
 // Whether a call can change what stands under its name.
-fn writes(plan: &Plan, x: NameCall) -> bool
+fn is_write(plan: &Plan, x: NameCall) -> bool
     requires { x.event.at < event_count (plan_of plan.now) x.event.proc.number }
     ensures { result ≡ writes_name (plan_of plan.now) x.name (event_of x.event) (kind (plan_of plan.now) (event_of x.event)) }
 {
@@ -190,7 +190,7 @@ fn add_call(
 }
 
 // The calls of processes above this one.
-fn above(calls: &[Event], proc: Proc) -> &[Event]
+fn calls_above(calls: &[Event], proc: Proc) -> &[Event]
     ensures { (plan : runs.Plan) (name : ℕ) → AreCallsOn plan name (map event_of calls.now) →
         IsAbove proc.number (map event_of calls.now) (map event_of result.now) }
 {
@@ -206,10 +206,10 @@ fn rivals_of<'a>(plan: &Plan, x: NameCall, calls: &'a [Event], writers: &'a [Eve
     ensures rivals { AreRivals (plan_of plan.now) x.name (event_of x.event) (map event_of result.now) }
     ensures all { HasRivals (plan_of plan.now) x.name (event_of x.event) (map event_of result.now) }
 {
-    if writes(plan, x) {
-        above(calls, x.event.proc)
+    if is_write(plan, x) {
+        calls_above(calls, x.event.proc)
     } else {
-        above(writers, x.event.proc)
+        calls_above(writers, x.event.proc)
     }
 }
 
@@ -221,7 +221,7 @@ fn writers_of(alloc: Global, plan: &Plan, name: u32) -> Result<Vec<Event>, Alloc
     let mut writers = Vec::new(alloc);
     for event in calls {
         let event = *event;
-        if writes(plan, NameCall { name, event }) {
+        if is_write(plan, NameCall { name, event }) {
             writers.push(event)?;
         }
     }

@@ -2,7 +2,7 @@
 
 ghost use Rattle.std.specs.Prelude.{◌≡◌, ◌≢◌, ◌↔◌, ◌<◌, ℕ, List, [], true, IfOk, IfErr, IsOk};
 ghost use Rattle.wire_runs.specs.Plan as runs;
-ghost use Rattle.wire_rehearsal.specs.Planned.{plan_of};
+ghost use Rattle.wire_content.specs.Planned.{plan_of};
 ghost use Rattle.wire_runs.specs.State.{State, start};
 ghost use Rattle.wire_runs.specs.Step.{is_enabled, IsInterleaving, run, IsEnd, IsReachable};
 ghost use Rattle.wire_runs.specs.Fate as runs_fate;
@@ -29,8 +29,8 @@ pub struct Settled {
 }
 
 impl Model for Settled {
-    ghost use Rattle.wire_rehearsal.specs.Scripts as spec;
-    ghost use Rattle.wire_rehearsal.specs.Planned.{plan_of};
+    ghost use Rattle.wire_content.specs.Scripts as spec;
+    ghost use Rattle.wire_content.specs.Planned.{plan_of};
     ghost use Rattle.wire_runs.specs.Races.{IsSettled};
     ghost use Rattle.wire_marks.specs.Clocks.{AreMarks};
 

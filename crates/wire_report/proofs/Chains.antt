@@ -5,8 +5,8 @@ use Rattle.std.proofs.lemmas.Option.{slice_get-map, slice_get_within, same_Some}
 use Rattle.wire_runs.specs.Plan.{Plan, Event, event_of, event_count}
 use Rattle.wire_types.specs.declared.CallAt.{CallAt}
 use Rattle.wire_types.specs.declared.Event.{Event as CodeEvent}
-use Rattle.wire_rehearsal.specs.Scripts.{Scripts}
-use Rattle.wire_rehearsal.specs.Planned.{plan_of}
+use Rattle.wire_content.specs.Scripts.{Scripts}
+use Rattle.wire_content.specs.Planned.{plan_of}
 use Rattle.wire_runs.specs.Order.{Live, Before, edge, further}
 use Rattle.wire_runs.proofs.Basics.{event_within}
 use Rattle.wire_runs.proofs.Fates.{live_event}

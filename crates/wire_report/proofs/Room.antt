@@ -8,14 +8,14 @@ use Rattle.wire_types.specs.declared.Call.{Call}
 use Rattle.wire_types.specs.declared.Call.TheVariants.{Put, Commit, Fence, Get, GetNow, Publish, Lookup, LookupWait, Unpublish}
 use Rattle.wire_types.specs.declared.CallAt.{CallAt}
 use Rattle.wire_types.specs.declared.Proc.{Proc}
-use Rattle.wire_rehearsal.specs.Scripts.{Scripts, IsSound, call_at, text_at}
-use Rattle.wire_rehearsal.specs.Process.{Process}
-use Rattle.wire_rehearsal.specs.Map.{job_at, rank_of}
+use Rattle.wire_content.specs.Scripts.{Scripts, IsSound, call_at, text_at}
+use Rattle.wire_content.specs.Process.{Process}
+use Rattle.wire_content.specs.Map.{job_at, rank_of}
 use Rattle.wire_races.specs.declared.finding.Finding.{Finding}
 use Rattle.wire_races.specs.declared.finding.Finding.TheVariants.{Rewrite, KeyRace, NameRace}
 use Rattle.wire_words.specs.Words.{name_of, text_of_process}
 use Rattle.wire_report.specs.Findings.{put_key_text, finding_line, count_line}
-use Rattle.wire_report.specs.Lines.{NoneIsLonger, HoldsAnyLine, AreNumbered, IsNumbered}
+use Rattle.wire_report.specs.FindingLines.{NoneIsLonger, HoldsAnyLine, AreNumbered, IsNumbered}
 
 -- room for four words, none of which is longer than any process, key or name of the scripts, and for 128 bytes between them
 pub record FitsWords (scripts : Scripts) (room : ℕ) : Type 0 where

@@ -4,8 +4,8 @@ use Rattle.std.specs.List.{flat_map}
 use Rattle.wire_types.specs.declared.Call.{Call}
 use Rattle.wire_types.specs.declared.CallAt.{CallAt}
 use Rattle.wire_runs.specs.Plan.{Plan, Event, Kind, Arrive, Leave, kind}
-use Rattle.wire_rehearsal.specs.Scripts.{Scripts, call_at}
-use Rattle.wire_rehearsal.specs.Planned.{plan_of}
+use Rattle.wire_content.specs.Scripts.{Scripts, call_at}
+use Rattle.wire_content.specs.Planned.{plan_of}
 use Rattle.wire_runs.specs.Order.{Live, Before}
 use Rattle.wire_runs.specs.Ends.{call_of, first_event}
 use Rattle.wire_marks.specs.Chain.{IsShown}

@@ -3,15 +3,15 @@
 ghost use Rattle.std.specs.Prelude.{◌≡◌, ◌⊎◌, ◌+◌, ◌<◌, ◌≤◌, ◌++◌, codes, length, map, vec_capacity, OnOk, OnErr, IfOk, IfErr};
 ghost use Rattle.std.specs.List.{flat_map};
 ghost use Rattle.wire_types.specs.declared.Fault.TheVariants.{Memory};
-ghost use Rattle.wire_rehearsal.specs.Scripts.{call_at};
+ghost use Rattle.wire_content.specs.Scripts.{call_at};
 ghost use Rattle.wire_report.specs.Findings as spec;
-ghost use Rattle.wire_report.specs.Lines.{AreNumbered, IsNumbered, AreWordsOf, race_start, key_race_rest, name_race_rest};
+ghost use Rattle.wire_report.specs.FindingLines.{AreNumbered, IsNumbered, AreWordsOf, race_start, key_race_rest, name_race_rest};
 
 use crate::lower_call::LowerCall;
 use std::alloc::{AllocError, Global};
 use wire_json::findings_json;
 use wire_races::Finding;
-use wire_rehearsal::Scripts;
+use wire_content::Scripts;
 use wire_types::{Call, CallAt, Fault, Proc};
 use wire_words::{find_call, push_call, push_number, push_proc};
 

@@ -4,7 +4,7 @@ ghost use Rattle.std.specs.Prelude.{◌≡◌, ◌++◌, map, OnOk};
 ghost use Rattle.wire_report.specs.Report.{call_line, process_lines, all_lines};
 
 use std::alloc::AllocError;
-use wire_rehearsal::{Process, Scripts};
+use wire_content::{Process, Scripts};
 use wire_types::{Call, CallEnd};
 use wire_words::{push_end, push_number, push_process, verb};
 

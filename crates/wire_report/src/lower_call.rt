@@ -1,11 +1,11 @@
 //! The words of the lower call of a race, which most lines share with the line before.
 
 ghost use Rattle.std.specs.Prelude.{◌≡◌, ◌⊎◌, ◌+◌, ◌<◌, ◌≤◌, ◌++◌, None, length, vec_capacity, IfOk, OnOk, OnErr};
-ghost use Rattle.wire_report.specs.Lines.{race_start, AreWordsOf};
+ghost use Rattle.wire_report.specs.FindingLines.{race_start, AreWordsOf};
 
 use crate::findings::push_race_start;
 use std::alloc::{AllocError, Global};
-use wire_rehearsal::Scripts;
+use wire_content::Scripts;
 use wire_types::CallAt;
 
 /// The words of a race up to its lower call: of the race that was told last, if there was one.
@@ -28,7 +28,7 @@ impl LowerCall {
     }
 
     // Makes the words anew, for this call. Fails only where there is no room for them.
-    fn tell(&mut self, scripts: &Scripts, call: CallAt) -> Result<(), AllocError>
+    fn make_words(&mut self, scripts: &Scripts, call: CallAt) -> Result<(), AllocError>
         ensures ok { OnOk result (self.new.words.items ≡ race_start scripts.now call) }
         ensures call { AreWordsOf scripts.now self.new.call self.new.words.items }
         ensures capacity { vec_capacity self.old.words ≤ vec_capacity self.new.words }
@@ -59,7 +59,7 @@ impl LowerCall {
         if self.call == Some(call) {
             return out.extend_from_slice(self.words.as_slice());
         }
-        self.tell(scripts, call)?;
+        self.make_words(scripts, call)?;
         out.extend_from_slice(self.words.as_slice())
     }
 }

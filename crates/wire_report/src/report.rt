@@ -11,7 +11,7 @@ ghost use Rattle.wire_report.specs.Report.{report, report_form};
 use crate::lines::push_all;
 use std::alloc::{AllocError, Global};
 use wire_json::report_json;
-use wire_rehearsal::Scripts;
+use wire_content::Scripts;
 use wire_types::{Fault, Outcome, Sink, write_out};
 use wire_words::push_number;
 

@@ -3,8 +3,8 @@
 ghost use Rattle.std.specs.Prelude.{◌≡◌, ◌<◌, ◌↔◌, ◌++◌, ℕ, List, Some, codes, length, map, IsTrue, IfOk, OnOk, IfErr};
 ghost use Rattle.wire_types.specs.declared.Fault.TheVariants.{Memory};
 ghost use Rattle.wire_runs.specs.Plan.{event_count, event_of};
-ghost use Rattle.wire_rehearsal.specs.Scripts.{call_at};
-ghost use Rattle.wire_rehearsal.specs.Planned.{plan_of};
+ghost use Rattle.wire_content.specs.Scripts.{call_at};
+ghost use Rattle.wire_content.specs.Planned.{plan_of};
 ghost use Rattle.wire_runs.specs.Ends.{calls_of};
 ghost use Rattle.wire_plan.specs.Kinds.{kind_of};
 ghost use Rattle.wire_marks.specs.Clocks.{AreMarks};
@@ -14,7 +14,7 @@ ghost use Rattle.wire_report.specs.There.{AreThere};
 use std::alloc::{AllocError, Global};
 use wire_marks::Marks;
 use wire_plan::{Kind, Plan};
-use wire_rehearsal::Scripts;
+use wire_content::Scripts;
 use wire_types::{CallAt, Event, Fault};
 use wire_words::{find_call, push_call, verb};
 
@@ -119,7 +119,7 @@ fn push_event(out: &mut Vec<u8>, plan: &Plan, event: Event) -> Result<(), AllocE
     ensures { OnOk result (out.new.items ≡ out.old.items ++ spec.event_line plan.now (event_of event)) }
 {
     let call = plan.call_of(event);
-    push_line(out, plan.scripts(), call, half(plan.kind(event)))
+    push_line(out, plan.scripts(), call, half_word(plan.kind(event)))
 }
 
 /// Appends the line of a call, with what half of it is meant.
@@ -149,7 +149,7 @@ fn verb_at(scripts: &Scripts, place: CallAt) -> &'static str
 }
 
 /// Which half of a fence an event is, after a space.
-fn half(kind: Kind) -> &'static str
+fn half_word(kind: Kind) -> &'static str
     ensures { (sets : List (List ℕ)) → result.now ≡ spec.half_text (Some (kind_of sets kind)) }
 {
     match kind {

@@ -9,14 +9,14 @@ ghost use Rattle.wire_types.specs.Front.{BreaksAfter, WritesFront};
 ghost use Rattle.wire_words.specs.Chunks.{IsOnItsWay};
 ghost use Rattle.wire_words.specs.Words.{name_of};
 ghost use Rattle.wire_report.specs.Findings as spec;
-ghost use Rattle.wire_report.specs.Lines.{NoneIsLonger, HoldsAnyLine, AreWordsOf};
+ghost use Rattle.wire_report.specs.FindingLines.{NoneIsLonger, HoldsAnyLine, AreWordsOf};
 
 use crate::findings::{findings_text, push_count, push_line_after};
 use crate::lower_call::LowerCall;
 use crate::writing::write_text;
 use std::alloc::Global;
 use wire_races::{Finding, FindingList};
-use wire_rehearsal::{Scripts, Texts};
+use wire_content::{Scripts, Texts};
 use wire_types::{Fault, Sink};
 use wire_words::Chunk;
 
@@ -25,7 +25,7 @@ const CHUNK: usize = 65_536;
 
 /// What lines tell: findings of scripts, and how much room there is for each line.
 #[derive(Clone, Copy)]
-struct Lines<'a> {
+struct FindingLines<'a> {
     scripts: &'a Scripts,
     findings: &'a FindingList,
     room: usize,
@@ -56,7 +56,7 @@ pub fn write_findings<S: Sink>(
     };
     let mut chunk = Chunk::new(alloc, room.max(CHUNK))?;
     let mut told = LowerCall::new(alloc, room)?;
-    let lines = Lines {
+    let lines = FindingLines {
         scripts,
         findings,
         room,
@@ -86,7 +86,7 @@ fn write_json<S: Sink>(
 fn write_chunks<S: Sink>(
     chunk: &mut Chunk,
     told: &mut LowerCall,
-    lines: Lines<'_>,
+    lines: FindingLines<'_>,
     sink: &mut S,
 ) -> Result<(), u64>
     requires nothing { (chunk.old.waiting.items ≡ []) × (chunk.old.gone ≡ 0) }
@@ -114,7 +114,7 @@ fn write_chunks<S: Sink>(
 fn write_lines<S: Sink>(
     chunk: &mut Chunk,
     told: &mut LowerCall,
-    lines: Lines<'_>,
+    lines: FindingLines<'_>,
     sink: &mut S,
 ) -> Result<(), u64>
     requires nothing { (chunk.old.waiting.items ≡ []) × (chunk.old.gone ≡ 0) }
@@ -142,7 +142,7 @@ fn write_lines<S: Sink>(
 }
 
 /// Appends the line of a finding, where there is room for any.
-fn write_line(out: &mut Vec<u8>, told: &mut LowerCall, lines: Lines<'_>, finding: Finding)
+fn write_line(out: &mut Vec<u8>, told: &mut LowerCall, lines: FindingLines<'_>, finding: Finding)
     requires room { length out.old.items + lines.room ≤ vec_capacity out.old }
     requires told { AreWordsOf lines.scripts.now told.old.call told.old.words.items × (lines.room ≤ vec_capacity told.old.words) }
     requires lines { HoldsAnyLine lines.scripts.now lines.room }

@@ -2,12 +2,12 @@
 use Rattle.std.proofs.Common.{◌≡◌, ◌+◌, ◌<◌, ◌≤◌, List, [], ◌∷◌, ◌++◌, length, drop, sym, ap, ◌∙◌, arith, length-append, append_assoc, append-nil}
 use Rattle.std.proofs.lemmas.List.{drop-drop, drop_all}
 use Rattle.wire_sched.specs.declared.rule.Piece.{Piece}
-use Rattle.wire_sched.specs.declared.rule.Hand.{Hand}
-use Rattle.wire_sched.specs.Hands.{all_parts, Takes}
+use Rattle.wire_sched.specs.declared.rule.DequeView.{DequeView}
+use Rattle.wire_sched.specs.Views.{all_parts, Takes}
 use Rattle.wire_sched.specs.Rules.{weigh, Finds, left_of, IsDrained}
 use Rattle.wire_sched.proofs.Deals.{weigh-append, weigh_ones}
 
-pub record Draining (v w : Hand) (before now : List Piece) : Type 0 where
+pub record Draining (v w : DequeView) (before now : List Piece) : Type 0 where
   pub parts : w.parts ≡ v.parts
   pub dealt : w.dealt ≡ v.dealt
   pub more : List Piece
@@ -17,16 +17,16 @@ pub record Draining (v w : Hand) (before now : List Piece) : Type 0 where
   pub few : length now ≤ length before + w.below
   pub bound : length now ≤ length before + length v.dealt
 
-pub drains_more : (v w u : Hand) (before now : List Piece) (x : Piece) → Draining v w before now → Takes w (x ∷ []) u → Draining v u before (now ++ x ∷ [])
+pub drains_more : (v w u : DequeView) (before now : List Piece) (x : Piece) → Draining v w before now → Takes w (x ∷ []) u → Draining v u before (now ++ x ∷ [])
 drains_more v w u before now x h t =
     let longer : length (now ++ x ∷ []) ≡ length now + 1 = length-append now (x ∷ []) in
-    let below : u.below ≡ t.0 + 1 = ap (λ (y : Hand). y.below) t.5 in
+    let below : u.below ≡ t.0 + 1 = ap (λ (y : DequeView). y.below) t.5 in
     let same : length w.dealt ≡ length v.dealt = ap length h.dealt in
-    let taken : u.taken ≡ w.taken ++ x ∷ [] = ap (λ (y : Hand). y.taken) t.5 in
+    let taken : u.taken ≡ w.taken ++ x ∷ [] = ap (λ (y : DequeView). y.taken) t.5 in
     let count : length u.taken ≡ length w.taken + 1 = ap length taken ∙ length-append w.taken (x ∷ []) in
     record {
-      parts = ap (λ (y : Hand). y.parts) t.5 ∙ h.parts;
-      dealt = ap (λ (y : Hand). y.dealt) t.5 ∙ h.dealt;
+      parts = ap (λ (y : DequeView). y.parts) t.5 ∙ h.parts;
+      dealt = ap (λ (y : DequeView). y.dealt) t.5 ∙ h.dealt;
       more = h.more ++ x ∷ [];
       now_is = ap (λ l. l ++ x ∷ []) h.now_is ∙ append_assoc before h.more (x ∷ []);
       taken_is = taken ∙ (ap (λ l. l ++ x ∷ []) h.taken_is ∙ append_assoc v.taken h.more (x ∷ []));
@@ -39,11 +39,11 @@ drains_more v w u before now x h t =
       bound = (let f = h.few in let p = t.2 in let q = t.4 in omega arith);
     }
 
-pub drains_room : (v w u : Hand) (before now : List Piece) (x : Piece) → Draining v w before now → Takes w (x ∷ []) u → length now < length before + length v.dealt
+pub drains_room : (v w u : DequeView) (before now : List Piece) (x : Piece) → Draining v w before now → Takes w (x ∷ []) u → length now < length before + length v.dealt
 drains_room v w u before now x h t =
     let same : length w.dealt ≡ length v.dealt = ap length h.dealt in let f = h.few in let p = t.2 in let q = t.4 in omega arith
 
-pub drains_all : (v w : Hand) (before now : List Piece) → Draining v w before now → Finds w → IsDrained v before now
+pub drains_all : (v w : DequeView) (before now : List Piece) → Draining v w before now → Finds w → IsDrained v before now
 drains_all v w before now h f whole =
     let found = f (h.parts ∙ whole) in
     let taken : length w.taken ≡ length v.dealt = sym (weigh_ones w.taken) ∙ (found (λ _. 1) ∙ (weigh_ones w.dealt ∙ ap length h.dealt)) in

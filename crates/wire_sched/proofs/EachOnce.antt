@@ -6,12 +6,12 @@ use Rattle.std.specs.List.Sorted.{IsPermutation}
 use mathlib.Core.Option.{some}
 use lib.ListN.{get_elem?}
 use Rattle.wire_sched.specs.declared.rule.Piece.{Piece}
-use Rattle.wire_sched.specs.declared.rule.Hand.{Hand}
+use Rattle.wire_sched.specs.declared.rule.DequeView.{DequeView}
 use Rattle.wire_sched.specs.declared.round.Pass.{Pass}
 use Rattle.wire_sched.specs.declared.round.Round.{Round}
 use Rattle.wire_sched.specs.Rules.{weigh}
 use Rattle.wire_sched.specs.Shares.{share_of, deal_of}
-use Rattle.wire_sched.specs.Rounds.{workers_of, own_hand, token_hands}
+use Rattle.wire_sched.specs.Rounds.{workers_of, own_view, permit_views}
 use Rattle.wire_sched.specs.Taken.{taken_at, stolen, taken_from, rest_of, rest_to, rest_of_all, all_of, taken_by, taken_by_all}
 use Rattle.wire_sched.proofs.Deals.{weigh-append, weigh_ones}
 use Rattle.wire_sched.proofs.Sharing.{shares, shares_zero, shares_suc, shares_all}
@@ -88,45 +88,45 @@ sum_nothing f zero none = refl
 sum_nothing f (suc n) none = omega (arith, sum_nothing f n none, none n)
 
 -- what the views have, place by place, is what they have in all
-pub by_place : (h : Piece → ℕ) (vs : List Hand) → sum_to (λ k. weigh h (taken_at k vs)) (length vs) ≡ weigh h (all_of vs)
+pub by_place : (h : Piece → ℕ) (vs : List DequeView) → sum_to (λ k. weigh h (taken_at k vs)) (length vs) ≡ weigh h (all_of vs)
 by_place h [] = refl
 by_place h (v ∷ vs) = omega (arith, sum_first (λ k. weigh h (taken_at k (v ∷ vs))) (length vs), by_place h vs, weigh-append h v.taken (all_of vs))
 
 -- what all passes stole
 abbrev loot : List Pass → List Piece
 loot [] = []
-loot (p ∷ ps) = all_of (token_hands p) ++ loot ps
+loot (p ∷ ps) = all_of (permit_views p) ++ loot ps
 
 -- deque by deque, or pass by pass
-loot_by_place : (h : Piece → ℕ) (ps : List Pass) (n : ℕ) → ((i : ℕ) (p : Pass) → get_elem? ps i ≡ some p → length (token_hands p) ≡ n) → sum_to (λ k. weigh h (stolen k ps)) n ≡ weigh h (loot ps)
+loot_by_place : (h : Piece → ℕ) (ps : List Pass) (n : ℕ) → ((i : ℕ) (p : Pass) → get_elem? ps i ≡ some p → length (permit_views p) ≡ n) → sum_to (λ k. weigh h (stolen k ps)) n ≡ weigh h (loot ps)
 loot_by_place h [] n each = sum_nothing (λ k. weigh h (stolen k [])) n (λ k. refl)
 loot_by_place h (p ∷ ps) n each =
-    let first : sum_to (λ k. weigh h (taken_at k (token_hands p))) n ≡ weigh h (all_of (token_hands p)) =
-    subst (λ m. sum_to (λ k. weigh h (taken_at k (token_hands p))) m ≡ weigh h (all_of (token_hands p))) (each 0 p refl) (by_place h (token_hands p)) in
+    let first : sum_to (λ k. weigh h (taken_at k (permit_views p))) n ≡ weigh h (all_of (permit_views p)) =
+    subst (λ m. sum_to (λ k. weigh h (taken_at k (permit_views p))) m ≡ weigh h (all_of (permit_views p))) (each 0 p refl) (by_place h (permit_views p)) in
     let rest = loot_by_place h ps n (λ i q at. each (suc i) q at) in
-    let parts = sum_same (λ k. weigh h (stolen k (p ∷ ps))) (λ k. weigh h (taken_at k (token_hands p)) + weigh h (stolen k ps)) n (λ k. weigh-append h (taken_at k (token_hands p)) (stolen k ps)) in
-    let split = sum_both (λ k. weigh h (taken_at k (token_hands p))) (λ k. weigh h (stolen k ps)) n in
-    omega (arith, first, rest, parts, split, weigh-append h (all_of (token_hands p)) (loot ps))
+    let parts = sum_same (λ k. weigh h (stolen k (p ∷ ps))) (λ k. weigh h (taken_at k (permit_views p)) + weigh h (stolen k ps)) n (λ k. weigh-append h (taken_at k (permit_views p)) (stolen k ps)) in
+    let split = sum_both (λ k. weigh h (taken_at k (permit_views p))) (λ k. weigh h (stolen k ps)) n in
+    omega (arith, first, rest, parts, split, weigh-append h (all_of (permit_views p)) (loot ps))
 
-length_hands : (ps : List Pass) → length (map (λ (p : Pass). own_hand p) ps) ≡ length ps
+length_hands : (ps : List Pass) → length (map (λ (p : Pass). own_view p) ps) ≡ length ps
 length_hands [] = refl
 length_hands (p ∷ ps) = ap suc (length_hands ps)
 
 -- what the passes took is what their workers took and what they stole
-taken_split : (h : Piece → ℕ) (ps : List Pass) → weigh h (taken_by_all ps) ≡ weigh h (all_of (map (λ (p : Pass). own_hand p) ps)) + weigh h (loot ps)
+taken_split : (h : Piece → ℕ) (ps : List Pass) → weigh h (taken_by_all ps) ≡ weigh h (all_of (map (λ (p : Pass). own_view p) ps)) + weigh h (loot ps)
 taken_split h [] = refl
 taken_split h (p ∷ ps) =
-    omega (arith, taken_split h ps, weigh-append h (taken_by p) (taken_by_all ps), weigh-append h (own_hand p).taken (all_of (token_hands p)), weigh-append h (own_hand p).taken (all_of (map (λ (q : Pass). own_hand q) ps)), weigh-append h (all_of (token_hands p)) (loot ps))
+    omega (arith, taken_split h ps, weigh-append h (taken_by p) (taken_by_all ps), weigh-append h (own_view p).taken (all_of (permit_views p)), weigh-append h (own_view p).taken (all_of (map (λ (q : Pass). own_view q) ps)), weigh-append h (all_of (permit_views p)) (loot ps))
 
 -- deque by deque, what was taken of it
-taken_by_place : (h : Piece → ℕ) (ps : List Pass) (n : ℕ) → length ps ≡ n → ((i : ℕ) (p : Pass) → get_elem? ps i ≡ some p → length (token_hands p) ≡ n)
+taken_by_place : (h : Piece → ℕ) (ps : List Pass) (n : ℕ) → length ps ≡ n → ((i : ℕ) (p : Pass) → get_elem? ps i ≡ some p → length (permit_views p) ≡ n)
     → sum_to (λ k. weigh h (taken_from k ps)) n ≡ weigh h (taken_by_all ps)
 taken_by_place h ps n len each =
-    let vs = map (λ (p : Pass). own_hand p) ps in
-    let own : sum_to (λ k. weigh h (taken_at k (map (λ (p : Pass). own_hand p) ps))) n ≡ weigh h (all_of (map (λ (p : Pass). own_hand p) ps)) =
-    subst (λ m. sum_to (λ k. weigh h (taken_at k (map (λ (p : Pass). own_hand p) ps))) m ≡ weigh h (all_of (map (λ (p : Pass). own_hand p) ps))) (length_hands ps ∙ len) (by_place h (map (λ (p : Pass). own_hand p) ps)) in
-    let parts = sum_same (λ k. weigh h (taken_from k ps)) (λ k. weigh h (taken_at k (map (λ (p : Pass). own_hand p) ps)) + weigh h (stolen k ps)) n (λ k. weigh-append h (taken_at k (map (λ (p : Pass). own_hand p) ps)) (stolen k ps)) in
-    let split = sum_both (λ k. weigh h (taken_at k (map (λ (p : Pass). own_hand p) ps))) (λ k. weigh h (stolen k ps)) n in
+    let vs = map (λ (p : Pass). own_view p) ps in
+    let own : sum_to (λ k. weigh h (taken_at k (map (λ (p : Pass). own_view p) ps))) n ≡ weigh h (all_of (map (λ (p : Pass). own_view p) ps)) =
+    subst (λ m. sum_to (λ k. weigh h (taken_at k (map (λ (p : Pass). own_view p) ps))) m ≡ weigh h (all_of (map (λ (p : Pass). own_view p) ps))) (length_hands ps ∙ len) (by_place h (map (λ (p : Pass). own_view p) ps)) in
+    let parts = sum_same (λ k. weigh h (taken_from k ps)) (λ k. weigh h (taken_at k (map (λ (p : Pass). own_view p) ps)) + weigh h (stolen k ps)) n (λ k. weigh-append h (taken_at k (map (λ (p : Pass). own_view p) ps)) (stolen k ps)) in
+    let split = sum_both (λ k. weigh h (taken_at k (map (λ (p : Pass). own_view p) ps))) (λ k. weigh h (stolen k ps)) n in
     omega (arith, own, loot_by_place h ps n each, parts, split, taken_split h ps)
 
 -- of the first n deques
@@ -141,7 +141,7 @@ shared_to h r (suc n) ps each =
     let last = each n (omega arith) h in
     omega (arith, last, shares_suc h n (workers_of r) r.round r.ranks, shared_to h r n ps (λ k less. each k (omega arith)), weigh-append h (rest_to r n ps) (rest_of r n ps))
 
-pub each_once : (r : Round) (ps : List Pass) → 0 < workers_of r → length ps ≡ workers_of r → ((i : ℕ) (p : Pass) → get_elem? ps i ≡ some p → length (token_hands p) ≡ workers_of r) → IsShared r (workers_of r) ps
+pub each_once : (r : Round) (ps : List Pass) → 0 < workers_of r → length ps ≡ workers_of r → ((i : ℕ) (p : Pass) → get_elem? ps i ≡ some p → length (permit_views p) ≡ workers_of r) → IsShared r (workers_of r) ps
     → IsPermutation (deal_of r.round r.ranks) (taken_by_all ps ++ rest_of_all r ps)
 each_once r ps staffed len tokens shared =
     same_weights (deal_of r.round r.ranks) (taken_by_all ps ++ rest_of_all r ps)

@@ -7,13 +7,13 @@ use Rattle.std.proofs.lemmas.Bool.{cases_eq}
 use Rattle.crossbeam_deque.specs.Handles as deque
 use Rattle.crossbeam_deque.proofs.Lists.{at_set}
 use Rattle.wire_sched.specs.declared.rule.Piece.{Piece}
-use Rattle.wire_sched.specs.declared.rule.Hand.{Hand}
+use Rattle.wire_sched.specs.declared.rule.DequeView.{DequeView}
 use Rattle.wire_sched.specs.declared.round.Round.{Round}
 use Rattle.wire_sched.specs.declared.round.Pass.{Pass}
-use Rattle.wire_sched.specs.Hands.{all_parts}
+use Rattle.wire_sched.specs.Views.{all_parts}
 use Rattle.wire_sched.specs.Rules.{weigh, left_of, IsDrained}
 use Rattle.wire_sched.specs.Shares.{share_of, deal_of}
-use Rattle.wire_sched.specs.Rounds.{Token, ArePassesOf, IsPassOf, worker_of, workers_of, own_hand}
+use Rattle.wire_sched.specs.Rounds.{Permit, ArePassesOf, IsPassOf, worker_of, workers_of, own_view}
 use Rattle.wire_sched.specs.Taken.{taken_at, stolen, taken_from, rest_of, rest_to, rest_of_all, taken_by_all}
 use Rattle.wire_sched.specs.Deques.{IsGathered, AreGathered}
 use Rattle.wire_sched.proofs.Rows.{get_within, get_there}
@@ -25,12 +25,12 @@ use Rattle.wire_sched.proofs.EachOnce.{IsShared, each_once}
 abbrev pub shares_to : Round → (Piece → ℕ) → ℕ → ℕ
 shares_to r h i = shares h i (workers_of r) r.round r.ranks
 
-pub grown : (h : Piece → ℕ) (r : Round) (i : ℕ) (p : Pass) → worker_of p ≡ i → IsPassOf r p → shares_to r h (i + 1) ≡ shares_to r h i + weigh h (own_hand p).dealt
+pub grown : (h : Piece → ℕ) (r : Round) (i : ℕ) (p : Pass) → worker_of p ≡ i → IsPassOf r p → shares_to r h (i + 1) ≡ shares_to r h i + weigh h (own_view p).dealt
 grown h r i p at is =
     let share = is.dealt ∙ ap (λ k. share_of k (workers_of r) r.round r.ranks) at in
     shares_more h i (workers_of r) r.round r.ranks ∙ ap (λ n. shares_to r h i + n) (ap (weigh h) (sym share))
 
-pub room : (r : Round) (i : ℕ) (p : Pass) → worker_of p ≡ i → IsPassOf r p → shares_to r (λ _. 1) i + length (own_hand p).dealt ≤ r.ranks
+pub room : (r : Round) (i : ℕ) (p : Pass) → worker_of p ≡ i → IsPassOf r p → shares_to r (λ _. 1) i + length (own_view p).dealt ≤ r.ranks
 room r i p at is =
     let w = workers_of r in
     let few : i + 1 ≤ w = omega (arith, at, is.within) in
@@ -38,11 +38,11 @@ room r i p at is =
     let ones = weigh_ones (deal_of r.round r.ranks) in
     let len = length_deal r.round r.ranks in
     let within = shares_within (λ _. 1) (i + 1) w w r.round r.ranks few in
-    omega (arith, grown (λ _. 1) r i p at is, all, ones, len, within, weigh_ones (own_hand p).dealt)
+    omega (arith, grown (λ _. 1) r i p at is, all, ones, len, within, weigh_ones (own_view p).dealt)
 
-own_there : (ps : List Pass) (k : ℕ) (p : Pass) → get_elem? ps k ≡ some p → taken_at k (map (λ (q : Pass). own_hand q) ps) ≡ (own_hand p).taken
+own_there : (ps : List Pass) (k : ℕ) (p : Pass) → get_elem? ps k ≡ some p → taken_at k (map (λ (q : Pass). own_view q) ps) ≡ (own_view p).taken
 own_there [] k p at = absurd (some-ne-none p (sym at))
-own_there (x ∷ ps) zero p at = ap (λ z. (own_hand z).taken) (some-injective x p at)
+own_there (x ∷ ps) zero p at = ap (λ z. (own_view z).taken) (some-injective x p at)
 own_there (x ∷ ps) (suc k) p at = own_there ps k p at
 
 rest_more : (r : Round) (n : ℕ) (ps : List Pass) → rest_to r (n + 1) ps ≡ rest_to r n ps ++ rest_of r n ps
@@ -71,11 +71,11 @@ below k n less other = omega arith
 -- what is known of the deque whose turn it is
 pub record Turn (r : Round) (ps : List Pass) (left : List Piece) (n : ℕ) (b : Pass) : Type 0 where
   pub fifo : deque.worker_flavor b.own ≡ 0
-  pub whole : (own_hand b).parts ≡ all_parts
-  pub taken : (own_hand b).taken ≡ taken_from n ps
-  pub dealt : (own_hand b).dealt ≡ share_of n (workers_of r) r.round r.ranks
-  pub grows : shares_to r (λ _. 1) (n + 1) ≡ shares_to r (λ _. 1) n + length (own_hand b).dealt
-  pub room : length left + length (own_hand b).dealt ≤ r.ranks
+  pub whole : (own_view b).parts ≡ all_parts
+  pub taken : (own_view b).taken ≡ taken_from n ps
+  pub dealt : (own_view b).dealt ≡ share_of n (workers_of r) r.round r.ranks
+  pub grows : shares_to r (λ _. 1) (n + 1) ≡ shares_to r (λ _. 1) n + length (own_view b).dealt
+  pub room : length left + length (own_view b).dealt ≤ r.ranks
 
 pub turn : (r : Round) (ps now : List Pass) (left : List Piece) (n : ℕ) (b : Pass) → ArePassesOf r ps → Finishing r ps now left n → get_elem? now n ≡ some b → Turn r ps left n b
 turn r ps now left n b are h at =
@@ -84,35 +84,35 @@ turn r ps now left n b are h at =
     let a : Pass = there.0 in
     let is = are.1 n a there.1 in
     let g = h.undone n a b (omega arith) there.1 at in
-    let parts : (own_hand b).parts ≡ (own_hand a).parts + length ps = ap (λ (v : Hand). v.parts) g.2 in
-    let dealt : (own_hand b).dealt ≡ (own_hand a).dealt = ap (λ (v : Hand). v.dealt) g.2 in
+    let parts : (own_view b).parts ≡ (own_view a).parts + length ps = ap (λ (v : DequeView). v.parts) g.2 in
+    let dealt : (own_view b).dealt ≡ (own_view a).dealt = ap (λ (v : DequeView). v.dealt) g.2 in
     let more = grown (λ _. 1) r n a is.0 is.1 in
-    let len : length (own_hand b).dealt ≡ length (own_hand a).dealt = ap length dealt in
+    let len : length (own_view b).dealt ≡ length (own_view a).dealt = ap length dealt in
     let space = room r n a is.0 is.1 in
     let fits = h.fits in
     record {
       fifo = g.1.1 ∙ is.1.fifo;
       whole = omega (arith, parts, is.1.parts, are.0);
-      taken = ap (λ (v : Hand). v.taken) g.2 ∙ ap (λ l. l ++ stolen n ps) (sym (own_there ps n a there.1));
+      taken = ap (λ (v : DequeView). v.taken) g.2 ∙ ap (λ l. l ++ stolen n ps) (sym (own_there ps n a there.1));
       dealt = dealt ∙ (is.1.dealt ∙ ap (λ k. share_of k (workers_of r) r.round r.ranks) is.0);
-      grows = more ∙ ap (λ m. shares_to r (λ _. 1) n + m) (weigh_ones (own_hand a).dealt ∙ sym len);
+      grows = more ∙ ap (λ m. shares_to r (λ _. 1) n + m) (weigh_ones (own_view a).dealt ∙ sym len);
       room = omega (arith, space, fits, len);
     }
 
 pub finishing_more : (r : Round) (ps now : List Pass) (left after : List Piece) (n : ℕ) (b q : Pass) → ArePassesOf r ps → Finishing r ps now left n → get_elem? now n ≡ some b
-    → IsDrained (own_hand b) left after → length after ≤ length left + length (own_hand b).dealt → Finishing r ps (set now n q) after (n + 1)
+    → IsDrained (own_view b) left after → length after ≤ length left + length (own_view b).dealt → Finishing r ps (set now n q) after (n + 1)
 finishing_more r ps now left after n b q are h at drained bound =
     let t = turn r ps now left n b are h at in
     let is = drained t.whole in
-    let rest : left_of (own_hand b) ≡ rest_of r n ps = ap (λ l. drop (length l) (own_hand b).dealt) t.taken ∙ ap (λ l. drop (length (taken_from n ps)) l) t.dealt in
+    let rest : left_of (own_view b) ≡ rest_of r n ps = ap (λ l. drop (length l) (own_view b).dealt) t.taken ∙ ap (λ l. drop (length (taken_from n ps)) l) t.dealt in
     record {
       same_length = length-set now n q ∙ h.same_length;
-      left_is = is.0 ∙ (ap (λ l. l ++ left_of (own_hand b)) h.left_is ∙ (ap (λ l. rest_to r n ps ++ l) rest ∙ sym (rest_more r n ps)));
+      left_is = is.0 ∙ (ap (λ l. l ++ left_of (own_view b)) h.left_is ∙ (ap (λ l. rest_to r n ps ++ l) rest ∙ sym (rest_more r n ps)));
       shared = λ k less.
           elim (cases_eq k n) [
             | inl here ↦ (λ f.
                 let e : weigh f (taken_from n ps) + weigh f (rest_of r n ps) ≡ weigh f (share_of n (workers_of r) r.round r.ranks) =
-                ap (λ l. weigh f l + weigh f (rest_of r n ps)) (sym t.taken) ∙ (ap (λ l. weigh f (own_hand b).taken + weigh f l) (sym rest) ∙ (is.1 f ∙ ap (weigh f) t.dealt)) in
+                ap (λ l. weigh f l + weigh f (rest_of r n ps)) (sym t.taken) ∙ (ap (λ l. weigh f (own_view b).taken + weigh f l) (sym rest) ∙ (is.1 f ∙ ap (weigh f) t.dealt)) in
                 subst (λ j. weigh f (taken_from j ps) + weigh f (rest_of r j ps) ≡ weigh f (share_of j (workers_of r) r.round r.ranks)) (sym here) e)
             | inr other ↦ h.shared k (below k n less other)
           ];
@@ -122,7 +122,7 @@ finishing_more r ps now left after n b q are h at drained bound =
           (λ (e : (k ≢ n) × (get_elem? now k ≡ some c)). h.undone k a c (omega arith) x e.1) (at_set now n k q c y);
     }
 
-length_map : (ts : List Token) → length (map (λ (t : Token). deque.view t) ts) ≡ length ts
+length_map : (ts : List Permit) → length (map (λ (t : Permit). deque.view t) ts) ≡ length ts
 length_map [] = refl
 length_map (t ∷ ts) = ap suc (length_map ts)
 

@@ -5,25 +5,25 @@ use lib.ListN.{get_elem?}
 use Rattle.crossbeam_deque.specs.Handles as deque
 use Rattle.crossbeam_deque.proofs.Lists.{at_set}
 use Rattle.wire_sched.specs.declared.rule.Piece.{Piece}
-use Rattle.wire_sched.specs.declared.rule.Hand.{Hand}
+use Rattle.wire_sched.specs.declared.rule.DequeView.{DequeView}
 use Rattle.wire_sched.specs.declared.round.Pass.{Pass}
 use Rattle.wire_sched.specs.declared.round.Round.{Round}
-use Rattle.wire_sched.specs.Hands.{hand}
+use Rattle.wire_sched.specs.Views.{deque_view}
 use Rattle.wire_sched.specs.Rules.{joined}
-use Rattle.wire_sched.specs.Rounds.{Owner, Token, ArePassesOf, own_hand, token_hands}
+use Rattle.wire_sched.specs.Rounds.{Owner, Permit, ArePassesOf, own_view, permit_views}
 use Rattle.wire_sched.specs.Taken.{taken_at, stolen}
 use Rattle.wire_sched.specs.Deques.{EachPair, SameDeque, CanTake, IsJoined, AreJoined, CanJoinAll, AreGathered}
 use Rattle.wire_sched.proofs.Rows.{get_within, get_there, get_same}
 
 -- the tokens of the last deques have been joined, and the first ones are left
-pub record Rowing (first now : List Pass) (all left : List Token) : Type 0 where
+pub record Rowing (first now : List Pass) (all left : List Permit) : Type 0 where
   pub same_length : length now ≡ length first
   pub fewer : length left ≤ length all
-  pub left_is : (k : ℕ) (t : Token) → get_elem? left k ≡ some t → get_elem? all k ≡ some t
-  pub done : (k : ℕ) (a b : Pass) (t : Token) → length left ≤ k → get_elem? first k ≡ some a → get_elem? all k ≡ some t → get_elem? now k ≡ some b → IsJoined a t b
+  pub left_is : (k : ℕ) (t : Permit) → get_elem? left k ≡ some t → get_elem? all k ≡ some t
+  pub done : (k : ℕ) (a b : Pass) (t : Permit) → length left ≤ k → get_elem? first k ≡ some a → get_elem? all k ≡ some t → get_elem? now k ≡ some b → IsJoined a t b
   pub undone : (k : ℕ) (a b : Pass) → k < length left → get_elem? first k ≡ some a → get_elem? now k ≡ some b → b ≡ a
 
-pub rowing_nothing : (first : List Pass) (all : List Token) → length first ≡ length all → Rowing first first all all
+pub rowing_nothing : (first : List Pass) (all : List Permit) → length first ≡ length all → Rowing first first all all
 rowing_nothing first all same = record {
   same_length = refl;
   fewer = omega arith;
@@ -32,17 +32,17 @@ rowing_nothing first all same = record {
   undone = λ k a b _ x y. get_same first k b a y x;
 }
 
-last_of : (left : List Token) (t : Token) → get_elem? (left ++ t ∷ []) (length left) ≡ some t
+last_of : (left : List Permit) (t : Permit) → get_elem? (left ++ t ∷ []) (length left) ≡ some t
 last_of [] t = refl
 last_of (x ∷ left) t = last_of left t
 
-earlier : (left : List Token) (t u : Token) (k : ℕ) → get_elem? left k ≡ some u → get_elem? (left ++ t ∷ []) k ≡ some u
+earlier : (left : List Permit) (t u : Permit) (k : ℕ) → get_elem? left k ≡ some u → get_elem? (left ++ t ∷ []) k ≡ some u
 earlier [] t u k at = absurd (some-ne-none u (sym at))
 earlier (x ∷ left) t u zero at = at
 earlier (x ∷ left) t u (suc k) at = earlier left t u k at
 
 -- what is known of the deque whose token comes next
-pub rowing_next : (first now : List Pass) (all left : List Token) (t : Token) (p : Pass) → Rowing first now all (left ++ t ∷ []) → EachPair CanTake first all → get_elem? now (length left) ≡ some p → CanTake p t
+pub rowing_next : (first now : List Pass) (all left : List Permit) (t : Permit) (p : Pass) → Rowing first now all (left ++ t ∷ []) → EachPair CanTake first all → get_elem? now (length left) ≡ some p → CanTake p t
 rowing_next first now all left t p h can at =
     let w = get_within now (length left) p at in
     let a = get_there first (length left) (omega (arith, h.same_length)) in
@@ -50,7 +50,7 @@ rowing_next first now all left t p h can at =
     let same : p ≡ a.0 = h.undone (length left) a.0 p (omega (arith, len)) a.1 at in
     subst (λ z. CanTake z t) (sym same) (can.1 (length left) a.0 t a.1 (h.left_is (length left) t (last_of left t)))
 
-pub rowing_more : (first now : List Pass) (all left : List Token) (t : Token) (p q : Pass) → Rowing first now all (left ++ t ∷ []) → get_elem? now (length left) ≡ some p → IsJoined p t q
+pub rowing_more : (first now : List Pass) (all left : List Permit) (t : Permit) (p q : Pass) → Rowing first now all (left ++ t ∷ []) → get_elem? now (length left) ≡ some p → IsJoined p t q
     → Rowing first (set now (length left) q) all left
 rowing_more first now all left t p q h at join = record {
   same_length = length-set now (length left) q ∙ h.same_length;
@@ -70,7 +70,7 @@ rowing_more first now all left t p q h at join = record {
       (λ (is : (k ≢ length left) × (get_elem? now k ≡ some b)). h.undone k a b (omega (arith, len)) x is.1) (at_set now (length left) k q b y);
 }
 
-pub rowing_ends : (first now : List Pass) (all left : List Token) → Rowing first now all left → length left ≡ 0 → AreJoined first all now
+pub rowing_ends : (first now : List Pass) (all left : List Permit) → Rowing first now all left → length left ≡ 0 → AreJoined first all now
 rowing_ends first now all left h none = (h.same_length, λ k a b t x y z. h.done k a b t (omega (arith, none)) x y z)
 
 -- after the tokens of the first n passes
@@ -78,11 +78,11 @@ pub record Joining (first now : List Pass) (n : ℕ) : Type 0 where
   pub same_length : length now ≡ length first
   pub same : (k : ℕ) (a b : Pass) → get_elem? first k ≡ some a → get_elem? now k ≡ some b → (b.worker ≡ a.worker) × SameDeque a.own b.own
   pub views : (k : ℕ) (a b : Pass) → get_elem? first k ≡ some a → get_elem? now k ≡ some b
-      → own_hand b ≡ hand ((own_hand a).parts + n) (own_hand a).below (own_hand a).dealt ((own_hand a).taken ++ stolen k (take n first))
+      → own_view b ≡ deque_view ((own_view a).parts + n) (own_view a).below (own_view a).dealt ((own_view a).taken ++ stolen k (take n first))
   pub tokens : (k : ℕ) (a b : Pass) → get_elem? first k ≡ some a → get_elem? now k ≡ some b → n ≤ k → b.tokens ≡ a.tokens
 
-with_more : (v : Hand) (m n : ℕ) (xs ys : List Piece) → m ≡ n → xs ≡ ys → hand m v.below v.dealt xs ≡ hand n v.below v.dealt ys
-with_more v m n xs ys a b = ap (λ k. hand k v.below v.dealt xs) a ∙ ap (λ l. hand n v.below v.dealt l) b
+with_more : (v : DequeView) (m n : ℕ) (xs ys : List Piece) → m ≡ n → xs ≡ ys → deque_view m v.below v.dealt xs ≡ deque_view n v.below v.dealt ys
+with_more v m n xs ys a b = ap (λ k. deque_view k v.below v.dealt xs) a ∙ ap (λ l. deque_view n v.below v.dealt l) b
 
 pub joining_nothing : (first : List Pass) → Joining first first 0
 joining_nothing first = record {
@@ -90,22 +90,22 @@ joining_nothing first = record {
   same = λ k a b x y. let is : b ≡ a = get_same first k b a y x in (ap (λ z. z.worker) is, (ap (λ z. deque.worker_deque z.own) is, ap (λ z. deque.worker_flavor z.own) is));
   views = λ k a b x y.
       let is : b ≡ a = get_same first k b a y x in
-      ap own_hand is ∙ with_more (own_hand a) (own_hand a).parts ((own_hand a).parts + 0) (own_hand a).taken ((own_hand a).taken ++ []) (omega arith) (sym (append-nil (own_hand a).taken));
+      ap own_view is ∙ with_more (own_view a) (own_view a).parts ((own_view a).parts + 0) (own_view a).taken ((own_view a).taken ++ []) (omega arith) (sym (append-nil (own_view a).taken));
   tokens = λ k a b x y _. ap (λ z. z.tokens) (get_same first k b a y x);
 }
 
-stolen_suc : (k n : ℕ) (ps : List Pass) (p : Pass) → get_elem? ps n ≡ some p → stolen k (take (suc n) ps) ≡ stolen k (take n ps) ++ taken_at k (token_hands p)
+stolen_suc : (k n : ℕ) (ps : List Pass) (p : Pass) → get_elem? ps n ≡ some p → stolen k (take (suc n) ps) ≡ stolen k (take n ps) ++ taken_at k (permit_views p)
 stolen_suc k n [] p at = absurd (some-ne-none p (sym at))
-stolen_suc k zero (x ∷ ps) p at = append-nil (taken_at k (token_hands x)) ∙ ap (λ z. taken_at k (token_hands z)) (some-injective x p at)
+stolen_suc k zero (x ∷ ps) p at = append-nil (taken_at k (permit_views x)) ∙ ap (λ z. taken_at k (permit_views z)) (some-injective x p at)
 stolen_suc k (suc n) (x ∷ ps) p at =
-    ap (λ l. taken_at k (token_hands x) ++ l) (stolen_suc k n ps p at) ∙ sym (append_assoc (taken_at k (token_hands x)) (stolen k (take n ps)) (taken_at k (token_hands p)))
+    ap (λ l. taken_at k (permit_views x) ++ l) (stolen_suc k n ps p at) ∙ sym (append_assoc (taken_at k (permit_views x)) (stolen k (take n ps)) (taken_at k (permit_views p)))
 
-stolen_more : (k n : ℕ) (ps : List Pass) (p : Pass) → get_elem? ps n ≡ some p → stolen k (take (n + 1) ps) ≡ stolen k (take n ps) ++ taken_at k (token_hands p)
+stolen_more : (k n : ℕ) (ps : List Pass) (p : Pass) → get_elem? ps n ≡ some p → stolen k (take (n + 1) ps) ≡ stolen k (take n ps) ++ taken_at k (permit_views p)
 stolen_more k n ps p at = rw add-one (stolen_suc k n ps p at)
 
-pub taken_there : (ts : List Token) (k : ℕ) (t : Token) → get_elem? ts k ≡ some t → taken_at k (map (λ (u : Token). deque.view u) ts) ≡ (deque.view t).taken
+pub taken_there : (ts : List Permit) (k : ℕ) (t : Permit) → get_elem? ts k ≡ some t → taken_at k (map (λ (u : Permit). deque.view u) ts) ≡ (deque.view t).taken
 taken_there [] k t at = absurd (some-ne-none t (sym at))
-taken_there (x ∷ ts) zero t at = ap (λ (u : Token). (deque.view u).taken) (some-injective x t at)
+taken_there (x ∷ ts) zero t at = ap (λ (u : Permit). (deque.view u).taken) (some-injective x t at)
 taken_there (x ∷ ts) (suc k) t at = taken_there ts k t at
 
 -- a pass keeps its deque when its tokens are taken from it
@@ -137,23 +137,23 @@ joining_can first now n p q h can at w own =
           let take = row.1 k a.0 t a.1 (subst (λ z. get_elem? z.items k ≡ some t) tokens y) in
           let same = h.same k a.0 o.0 a.1 o.1 in
           let place : deque.worker_deque m.own ≡ deque.worker_deque a.0.own = ap (λ (z : Owner). deque.worker_deque z) mo.1 ∙ same.1.0 in
-          let parts : (own_hand m).parts ≡ (own_hand a.0).parts + n = ap (λ (z : Owner). (deque.worker_view z).parts) mo.1 ∙ ap (λ (v : Hand). v.parts) (h.views k a.0 o.0 a.1 o.1) in
+          let parts : (own_view m).parts ≡ (own_view a.0).parts + n = ap (λ (z : Owner). (deque.worker_view z).parts) mo.1 ∙ ap (λ (v : DequeView). v.parts) (h.views k a.0 o.0 a.1 o.1) in
           (subst (λ d. deque.IsPassOf d t) (sym place) take.0, take.1, (let z = take.2 in omega arith)),
     )
 
 -- what was stolen grows by what the next pass has
-stolen_next : (k n : ℕ) (ps : List Pass) (p : Pass) (t : Token) (mine : List Piece) → get_elem? ps n ≡ some p → get_elem? p.tokens.items k ≡ some t
+stolen_next : (k n : ℕ) (ps : List Pass) (p : Pass) (t : Permit) (mine : List Piece) → get_elem? ps n ≡ some p → get_elem? p.tokens.items k ≡ some t
     → (mine ++ stolen k (take n ps)) ++ (deque.view t).taken ≡ mine ++ stolen k (take (n + 1) ps)
 stolen_next k n ps p t mine at here =
-    let seen : taken_at k (token_hands p) ≡ (deque.view t).taken = taken_there p.tokens.items k t here in
+    let seen : taken_at k (permit_views p) ≡ (deque.view t).taken = taken_there p.tokens.items k t here in
     let more : stolen k (take n ps) ++ (deque.view t).taken ≡ stolen k (take (n + 1) ps) = ap (λ l. stolen k (take n ps) ++ l) (sym seen) ∙ sym (stolen_more k n ps p at) in
     append_assoc mine (stolen k (take n ps)) (deque.view t).taken ∙ ap (λ l. mine ++ l) more
 
 -- a token with one part joins a worker that has joined n
-one_more : (v m w : Hand) (n : ℕ) (xs ys : List Piece) → m ≡ hand (v.parts + n) v.below v.dealt xs → w.parts ≡ 1 → xs ++ w.taken ≡ ys → joined m w ≡ hand (v.parts + (n + 1)) v.below v.dealt ys
+one_more : (v m w : DequeView) (n : ℕ) (xs ys : List Piece) → m ≡ deque_view (v.parts + n) v.below v.dealt xs → w.parts ≡ 1 → xs ++ w.taken ≡ ys → joined m w ≡ deque_view (v.parts + (n + 1)) v.below v.dealt ys
 one_more v m w n xs ys is one all =
     let parts : (v.parts + n) + w.parts ≡ v.parts + (n + 1) = omega arith in
-    ap (λ (u : Hand). joined u w) is ∙ with_more v ((v.parts + n) + w.parts) (v.parts + (n + 1)) (xs ++ w.taken) ys parts all
+    ap (λ (u : DequeView). joined u w) is ∙ with_more v ((v.parts + n) + w.parts) (v.parts + (n + 1)) (xs ++ w.taken) ys parts all
 
 pub joining_more : (first now next : List Pass) (n : ℕ) (p q : Pass) → Joining first now n → CanJoinAll first → get_elem? now n ≡ some p → q.worker ≡ p.worker → q.own ≡ p.own
     → AreJoined (set now n q) p.tokens.items next → Joining first next (n + 1)
@@ -166,7 +166,7 @@ joining_more first now next n p q h can at w own join = record {
   where
     facts : (k : ℕ) (a b : Pass) → get_elem? first k ≡ some a → get_elem? next k ≡ some b
         → (b.worker ≡ a.worker) × SameDeque a.own b.own
-        × (own_hand b ≡ hand ((own_hand a).parts + (n + 1)) (own_hand a).below (own_hand a).dealt ((own_hand a).taken ++ stolen k (take (n + 1) first)))
+        × (own_view b ≡ deque_view ((own_view a).parts + (n + 1)) (own_view a).below (own_view a).dealt ((own_view a).taken ++ stolen k (take (n + 1) first)))
         × (n + 1 ≤ k → b.tokens ≡ a.tokens)
     facts k a b x y =
         let here = get_within now n p at in
@@ -179,19 +179,19 @@ joining_more first now next n p q h can at w own join = record {
         let tokens = h.tokens n p0.0 p p0.1 at le in
         let row = can n p0.0 p0.1 in
         let t0 = get_there p0.0.tokens.items k (omega (arith, row.0)) in
-        let t : Token = t0.0 in
+        let t : Permit = t0.0 in
         let t_at : get_elem? p.tokens.items k ≡ some t = subst (λ z. get_elem? z.items k ≡ some t) (sym tokens) t0.1 in
         let mo = mid_is now n p q k o.0 m.0 at w own o.1 m.1 in
         let j = join.1 k m.0 b t m.1 t_at y in
         let same = h.same k a o.0 x o.1 in
         let v = h.views k a o.0 x o.1 in
         let one : (deque.view t).parts ≡ 1 = (row.1 k a t x t0.1).1 in
-        let view_m : own_hand m.0 ≡ hand ((own_hand a).parts + n) (own_hand a).below (own_hand a).dealt ((own_hand a).taken ++ stolen k (take n first)) = ap (λ (z : Owner). deque.worker_view z) mo.1 ∙ v in
-        let all : ((own_hand a).taken ++ stolen k (take n first)) ++ (deque.view t).taken ≡ (own_hand a).taken ++ stolen k (take (n + 1) first) =
-        stolen_next k n first p0.0 t (own_hand a).taken p0.1 t0.1 in (
+        let view_m : own_view m.0 ≡ deque_view ((own_view a).parts + n) (own_view a).below (own_view a).dealt ((own_view a).taken ++ stolen k (take n first)) = ap (λ (z : Owner). deque.worker_view z) mo.1 ∙ v in
+        let all : ((own_view a).taken ++ stolen k (take n first)) ++ (deque.view t).taken ≡ (own_view a).taken ++ stolen k (take (n + 1) first) =
+        stolen_next k n first p0.0 t (own_view a).taken p0.1 t0.1 in (
           j.0 ∙ (mo.0 ∙ same.0),
           (j.1.0 ∙ (ap (λ (z : Owner). deque.worker_deque z) mo.1 ∙ same.1.0), j.1.1 ∙ (ap (λ (z : Owner). deque.worker_flavor z) mo.1 ∙ same.1.1)),
-          j.3 ∙ one_more (own_hand a) (own_hand m.0) (deque.view t) n ((own_hand a).taken ++ stolen k (take n first)) ((own_hand a).taken ++ stolen k (take (n + 1) first)) view_m one all,
+          j.3 ∙ one_more (own_view a) (own_view m.0) (deque.view t) n ((own_view a).taken ++ stolen k (take n first)) ((own_view a).taken ++ stolen k (take (n + 1) first)) view_m one all,
           λ less. j.2 ∙ (mo.2 (λ e. absurd (omega (arith, e))) ∙ h.tokens k a o.0 x o.1 (omega arith)),
         )
 
@@ -208,7 +208,7 @@ joining_ends first now n h all = (
       let s = h.same k a b x y in (
         s.0,
         s.1,
-        h.views k a b x y ∙ with_more (own_hand a) ((own_hand a).parts + n) ((own_hand a).parts + length first) ((own_hand a).taken ++ stolen k (take n first)) ((own_hand a).taken ++ stolen k first) (ap (λ m. (own_hand a).parts + m) all) (ap (λ l. (own_hand a).taken ++ stolen k l) (take_whole n first all)),
+        h.views k a b x y ∙ with_more (own_view a) ((own_view a).parts + n) ((own_view a).parts + length first) ((own_view a).taken ++ stolen k (take n first)) ((own_view a).taken ++ stolen k first) (ap (λ m. (own_view a).parts + m) all) (ap (λ l. (own_view a).taken ++ stolen k l) (take_whole n first all)),
       ),
 )
 

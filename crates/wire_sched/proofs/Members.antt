@@ -3,12 +3,12 @@ use Rattle.std.proofs.Common.{◌≡◌, ℕ, zero, suc, ◌%◌, ◌<◌, ◌==
 use Rattle.std.specs.List.{All}
 use Rattle.std.proofs.lemmas.List.Elements.{All-nil, All-append, All-drop, All-from_recursion}
 use Rattle.wire_sched.specs.declared.rule.Piece.{Piece}
-use Rattle.wire_sched.specs.declared.rule.Hand.{Hand}
+use Rattle.wire_sched.specs.declared.rule.DequeView.{DequeView}
 use Rattle.wire_sched.specs.declared.round.Round.{Round}
 use Rattle.wire_sched.specs.declared.round.Pass.{Pass}
 use Rattle.wire_sched.specs.declared.round.Take.{Take}
 use Rattle.wire_sched.specs.declared.round.Take.TheVariants.{Got, Empty, Again}
-use Rattle.wire_sched.specs.Hands.{Takes}
+use Rattle.wire_sched.specs.Views.{Takes}
 use Rattle.wire_sched.specs.Rules.{Finds}
 use Rattle.wire_sched.specs.Shares.{piece, share_of}
 use Rattle.wire_sched.specs.Rounds.{IsPieceOf, MatchTake, IfGot, workers_of, share_at}
@@ -35,17 +35,17 @@ share_pieces : (r : Round) (k : ℕ) → All (IsPieceOf r) (share_at r k)
 share_pieces r k = share_below k (workers_of r) r.round r.ranks
 
 -- what a pass takes of a deque of the round
-took_piece : (r : Round) (k : ℕ) (v w : Hand) (x : Piece) → v.dealt ≡ share_at r k → Takes v (x ∷ []) w → IsPieceOf r x
+took_piece : (r : Round) (k : ℕ) (v w : DequeView) (x : Piece) → v.dealt ≡ share_at r k → Takes v (x ∷ []) w → IsPieceOf r x
 took_piece r k v w x dealt t =
     let all : All (IsPieceOf r) v.dealt = subst (All (IsPieceOf r)) (sym dealt) (share_pieces r k) in
     let front : All (IsPieceOf r) (x ∷ t.1) = subst (All (IsPieceOf r)) t.3 (All-drop (IsPieceOf r) t.0 v.dealt all) in
     front 0 x (omega arith)
 
-pub own_piece : (r : Round) (k : ℕ) (o : Option Piece) (v w : Hand) → v.dealt ≡ share_at r k → MatchOption o ((w ≡ v) × Finds v) (λ x. Takes v (x ∷ []) w) → IfSome o (IsPieceOf r)
+pub own_piece : (r : Round) (k : ℕ) (o : Option Piece) (v w : DequeView) → v.dealt ≡ share_at r k → MatchOption o ((w ≡ v) × Finds v) (λ x. Takes v (x ∷ []) w) → IfSome o (IsPieceOf r)
 own_piece r k None v w dealt h = tt
 own_piece r k (Some x) v w dealt h = took_piece r k v w x dealt h
 
-pub token_piece : (r : Round) (k : ℕ) (o : Take) (v w : Hand) → v.dealt ≡ share_at r k → MatchTake o (λ x. Takes v (x ∷ []) w) (w ≡ v) → IfGot o (IsPieceOf r)
+pub token_piece : (r : Round) (k : ℕ) (o : Take) (v w : DequeView) → v.dealt ≡ share_at r k → MatchTake o (λ x. Takes v (x ∷ []) w) (w ≡ v) → IfGot o (IsPieceOf r)
 token_piece r k (Got x) v w dealt h = took_piece r k v w x dealt h
 token_piece r k Empty v w dealt h = tt
 token_piece r k Again v w dealt h = tt

@@ -6,38 +6,38 @@ use Rattle.std.specs.Vec.{with_item}
 use Rattle.crossbeam_deque.specs.Handles as deque
 use Rattle.crossbeam_deque.proofs.Lists.{at_set}
 use Rattle.wire_sched.specs.declared.rule.Piece.{Piece}
-use Rattle.wire_sched.specs.declared.rule.Hand.{Hand}
+use Rattle.wire_sched.specs.declared.rule.DequeView.{DequeView}
 use Rattle.wire_sched.specs.declared.round.Round.{Round}
 use Rattle.wire_sched.specs.declared.round.Pass.{Pass}
 use Rattle.wire_sched.specs.declared.round.Take.{Take}
 use Rattle.wire_sched.specs.declared.round.Take.TheVariants.{Got, Empty, Again}
-use Rattle.wire_sched.specs.Hands.{Takes, IsRising, TookRising, TookWithin}
+use Rattle.wire_sched.specs.Views.{Takes, IsRising, TookRising, TookWithin}
 use Rattle.wire_sched.specs.Rules.{Finds}
-use Rattle.wire_sched.specs.Rounds.{Owner, Token, IsPassOf, IsToken, workers_of, worker_of, own_hand, MatchTake, TookAt, TookNone}
+use Rattle.wire_sched.specs.Rounds.{Owner, Permit, IsPassOf, IsPermit, workers_of, worker_of, own_view, MatchTake, TookAt, TookNone}
 use Rattle.wire_sched.specs.Deques.{SameDeque}
 use Rattle.wire_sched.proofs.Rising.{share_rises, rises_more}
 use Rattle.wire_sched.proofs.Bounds.{within_more}
 
 -- the same parts of the same deal, and what was taken rises and is bounded as before
-abbrev SameShare : Hand → Hand → Type 0
+abbrev SameShare : DequeView → DequeView → Type 0
 SameShare v w = (w.parts ≡ v.parts) × (w.dealt ≡ v.dealt) × (IsRising v.dealt → TookRising v → TookRising w) × (TookWithin v → TookWithin w)
 
-share_of_take : (v w : Hand) (x : Piece) → Takes v (x ∷ []) w → SameShare v w
-share_of_take v w x h = (ap (λ (y : Hand). y.parts) h.5, ap (λ (y : Hand). y.dealt) h.5, rises_more v w x h, within_more v w x h)
+share_of_take : (v w : DequeView) (x : Piece) → Takes v (x ∷ []) w → SameShare v w
+share_of_take v w x h = (ap (λ (y : DequeView). y.parts) h.5, ap (λ (y : DequeView). y.dealt) h.5, rises_more v w x h, within_more v w x h)
 
-share_of_same : (v w : Hand) → w ≡ v → SameShare v w
-share_of_same v w h = (ap (λ (y : Hand). y.parts) h, ap (λ (y : Hand). y.dealt) h, λ _ rises. subst TookRising (sym h) rises, subst TookWithin (sym h))
+share_of_same : (v w : DequeView) → w ≡ v → SameShare v w
+share_of_same v w h = (ap (λ (y : DequeView). y.parts) h, ap (λ (y : DequeView). y.dealt) h, λ _ rises. subst TookRising (sym h) rises, subst TookWithin (sym h))
 
-pub own_share : (r : Option Piece) (v w : Hand) → MatchOption r ((w ≡ v) × Finds v) (λ x. Takes v (x ∷ []) w) → SameShare v w
+pub own_share : (r : Option Piece) (v w : DequeView) → MatchOption r ((w ≡ v) × Finds v) (λ x. Takes v (x ∷ []) w) → SameShare v w
 own_share None v w h = share_of_same v w h.0
 own_share (Some x) v w h = share_of_take v w x h
 
-pub token_share : (r : Take) (v w : Hand) → MatchTake r (λ x. Takes v (x ∷ []) w) (w ≡ v) → SameShare v w
+pub token_share : (r : Take) (v w : DequeView) → MatchTake r (λ x. Takes v (x ∷ []) w) (w ≡ v) → SameShare v w
 token_share (Got x) v w h = share_of_take v w x h
 token_share Empty v w h = share_of_same v w h
 token_share Again v w h = share_of_same v w h
 
-pub with_own : (r : Round) (p : Pass) (o : Owner) → IsPassOf r p → SameDeque p.own o → SameShare (own_hand p) (deque.worker_view o)
+pub with_own : (r : Round) (p : Pass) (o : Owner) → IsPassOf r p → SameDeque p.own o → SameShare (own_view p) (deque.worker_view o)
     → IsPassOf r (record { worker = p.worker; own = o; tokens = p.tokens })
 with_own r p o is same share = record {
   within = is.within;
@@ -54,7 +54,7 @@ with_own r p o is same share = record {
   fifos = is.fifos;
 }
 
-pub with_token : (r : Round) (p : Pass) (k : ℕ) (t u : Token) → IsPassOf r p → k ≢ worker_of p → get_elem? p.tokens.items k ≡ some t → deque.SamePass t u → SameShare (deque.view t) (deque.view u)
+pub with_token : (r : Round) (p : Pass) (k : ℕ) (t u : Permit) → IsPassOf r p → k ≢ worker_of p → get_elem? p.tokens.items k ≡ some t → deque.SamePass t u → SameShare (deque.view t) (deque.view u)
     → IsPassOf r (record { worker = p.worker; own = p.own; tokens = with_item p.tokens k u })
 with_token r p k t u is other at same share = record {
   within = is.within;
@@ -68,8 +68,8 @@ with_token r p k t u is other at same share = record {
   count = length-set p.tokens.items k u ∙ is.count;
   tokens = λ j s y thief here.
       ⊎_elim (λ (x : (j ≡ k) × (u ≡ y)).
-      let old : IsToken r j s t = is.tokens j s t thief (subst (λ i. get_elem? p.tokens.items i ≡ some t) (sym x.0) at) in
-      subst (IsToken r j s) x.1 (
+      let old : IsPermit r j s t = is.tokens j s t thief (subst (λ i. get_elem? p.tokens.items i ≡ some t) (sym x.0) at) in
+      subst (IsPermit r j s) x.1 (
         (same.0 ∙ old.0.0, same.1 ∙ old.0.1, same.3, same.4),
         share.0 ∙ old.1,
         share.1 ∙ old.2,
@@ -83,28 +83,28 @@ with_token r p k t u is other at same share = record {
   fifos = is.fifos;
 }
 
-map_set : (f : Token → Hand) (ts : List Token) (k : ℕ) (u : Token) → map f (set ts k u) ≡ set (map f ts) k (f u)
+map_set : (f : Permit → DequeView) (ts : List Permit) (k : ℕ) (u : Permit) → map f (set ts k u) ≡ set (map f ts) k (f u)
 map_set f [] k u = refl
 map_set f (t ∷ ts) zero u = refl
 map_set f (t ∷ ts) (suc k) u = ap (λ l. f t ∷ l) (map_set f ts k u)
 
-map_at : (f : Token → Hand) (ts : List Token) (k : ℕ) (t : Token) → get_elem? ts k ≡ some t → get_elem? (map f ts) k ≡ some (f t)
+map_at : (f : Permit → DequeView) (ts : List Permit) (k : ℕ) (t : Permit) → get_elem? ts k ≡ some t → get_elem? (map f ts) k ≡ some (f t)
 map_at f [] k t e = absurd (some-ne-none t (sym e))
 map_at f (x ∷ ts) zero t e = ap some (ap f (some-injective x t e))
 map_at f (x ∷ ts) (suc k) t e = map_at f ts k t e
 
-set_same : (vs : List Hand) (k : ℕ) (v w : Hand) → get_elem? vs k ≡ some v → w ≡ v → set vs k w ≡ vs
+set_same : (vs : List DequeView) (k : ℕ) (v w : DequeView) → get_elem? vs k ≡ some v → w ≡ v → set vs k w ≡ vs
 set_same [] k v w e h = refl
 set_same (x ∷ vs) zero v w e h = ap (λ y. y ∷ vs) (h ∙ sym (some-injective x v e))
 set_same (x ∷ vs) (suc k) v w e h = ap (λ l. x ∷ l) (set_same vs k v w e h)
 
-took_none : (p : Pass) (k : ℕ) (t u : Token) → get_elem? p.tokens.items k ≡ some t → deque.view u ≡ deque.view t → TookNone p (record { worker = p.worker; own = p.own; tokens = with_item p.tokens k u })
+took_none : (p : Pass) (k : ℕ) (t u : Permit) → get_elem? p.tokens.items k ≡ some t → deque.view u ≡ deque.view t → TookNone p (record { worker = p.worker; own = p.own; tokens = with_item p.tokens k u })
 took_none p k t u at h =
-    let f : Token → Hand = λ y. deque.view y in (refl, map_set f p.tokens.items k u ∙ set_same (map f p.tokens.items) k (f t) (f u) (map_at f p.tokens.items k t at) h)
+    let f : Permit → DequeView = λ y. deque.view y in (refl, map_set f p.tokens.items k u ∙ set_same (map f p.tokens.items) k (f t) (f u) (map_at f p.tokens.items k t at) h)
 
-pub took_at : (r : Take) (p : Pass) (k : ℕ) (t u : Token) → get_elem? p.tokens.items k ≡ some t → MatchTake r (λ x. Takes (deque.view t) (x ∷ []) (deque.view u)) (deque.view u ≡ deque.view t)
+pub took_at : (r : Take) (p : Pass) (k : ℕ) (t u : Permit) → get_elem? p.tokens.items k ≡ some t → MatchTake r (λ x. Takes (deque.view t) (x ∷ []) (deque.view u)) (deque.view u ≡ deque.view t)
     → let q : Pass = record { worker = p.worker; own = p.own; tokens = with_item p.tokens k u } in MatchTake r (TookAt k p q) (TookNone p q)
 took_at (Got x) p k t u at h =
-    let f : Token → Hand = λ y. deque.view y in (deque.view t, deque.view u, map_at f p.tokens.items k t at, h, map_set f p.tokens.items k u, refl)
+    let f : Permit → DequeView = λ y. deque.view y in (deque.view t, deque.view u, map_at f p.tokens.items k t at, h, map_set f p.tokens.items k u, refl)
 took_at Empty p k t u at h = took_none p k t u at h
 took_at Again p k t u at h = took_none p k t u at h

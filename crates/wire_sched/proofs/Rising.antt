@@ -3,8 +3,8 @@ use Rattle.std.proofs.Common.{◌≡◌, ℕ, zero, suc, ◌+◌, ◌<◌, ◌�
 use mathlib.Core.Option.{some, some-ne-none}
 use lib.ListN.{get_elem?}
 use Rattle.wire_sched.specs.declared.rule.Piece.{Piece}
-use Rattle.wire_sched.specs.declared.rule.Hand.{Hand}
-use Rattle.wire_sched.specs.Hands.{Takes, AllBelow, IsRising, TookRising}
+use Rattle.wire_sched.specs.declared.rule.DequeView.{DequeView}
+use Rattle.wire_sched.specs.Views.{Takes, AllBelow, IsRising, TookRising}
 use Rattle.wire_sched.specs.Shares.{piece, deal_of, share_of, DealRises}
 use Rattle.wire_sched.proofs.Rows.{get_snoc, get_within}
 
@@ -52,11 +52,11 @@ first_of [] (suc k) x after e = ap (λ (l : List Piece). get_elem? l 0) e
 first_of (y ∷ xs) zero x after e = ap (λ (l : List Piece). get_elem? l 0) e
 first_of (y ∷ xs) (suc k) x after e = first_of xs k x after e
 
-pub rises_nothing : (v : Hand) → v.taken ≡ [] → TookRising v
+pub rises_nothing : (v : DequeView) → v.taken ≡ [] → TookRising v
 rises_nothing v none =
     subst (λ l. IsRising l × ((place : ℕ) (x : Piece) → v.below ≤ place → get_elem? v.dealt place ≡ some x → AllBelow x.rank.number l)) (sym none) ((λ i j x y less a b. absurd (some-ne-none x (sym a))), λ place x past at i y a. absurd (some-ne-none y (sym a)))
 
-pub rises_more : (v w : Hand) (x : Piece) → Takes v (x ∷ []) w → IsRising v.dealt → TookRising v → TookRising w
+pub rises_more : (v w : DequeView) (x : Piece) → Takes v (x ∷ []) w → IsRising v.dealt → TookRising v → TookRising w
 rises_more v w x t dealt h =
     let here : get_elem? v.dealt t.0 ≡ some x = first_of v.dealt t.0 x t.1 t.3 in
     let past = t.2 in

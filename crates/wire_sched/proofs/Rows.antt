@@ -4,8 +4,8 @@ use mathlib.Core.Option.{some, some-ne-none, some-injective}
 use lib.ListN.{get_elem?}
 use Rattle.crossbeam_deque.proofs.Lists.{at_set}
 use Rattle.wire_sched.specs.declared.round.Pass.{Pass}
-use Rattle.wire_sched.specs.Rounds.{Token}
-use Rattle.wire_sched.specs.Deques.{EachPair, IsCut, IsTokenOf}
+use Rattle.wire_sched.specs.Rounds.{Permit}
+use Rattle.wire_sched.specs.Deques.{EachPair, IsCut, IsPermitOf}
 
 -- what stands in a longer list at a place
 pub get_snoc : {A : Type 0} → (xs : List A) (x y : A) (k : ℕ) → get_elem? (xs ++ x ∷ []) k ≡ some y → (get_elem? xs k ≡ some y) ⊎ ((k ≡ length xs) × (x ≡ y))
@@ -22,13 +22,13 @@ get_within (y ∷ xs) (suc k) x e = let h = get_within xs k x e in omega arith
 pub get_same : {A : Type 0} → (xs : List A) (k : ℕ) (x y : A) → get_elem? xs k ≡ some x → get_elem? xs k ≡ some y → x ≡ y
 get_same xs k x y a b = some-injective x y (sym a ∙ b)
 
-pub record RowSoFar (before now : List Pass) (row : List Token) (i : ℕ) : Type 0 where
+pub record RowSoFar (before now : List Pass) (row : List Permit) (i : ℕ) : Type 0 where
   pub same_length : length now ≡ length before
   pub so_far : length row ≡ i
   pub cut : (k : ℕ) (a b : Pass) → get_elem? before k ≡ some a → get_elem? now k ≡ some b → (k < i → IsCut a b) × (i ≤ k → b ≡ a)
-  pub tokens : (k : ℕ) (a : Pass) (t : Token) → get_elem? before k ≡ some a → get_elem? row k ≡ some t → IsTokenOf a.own t
+  pub tokens : (k : ℕ) (a : Pass) (t : Permit) → get_elem? before k ≡ some a → get_elem? row k ≡ some t → IsPermitOf a.own t
 
-pub row_goes_on : (before now : List Pass) (row : List Token) (i : ℕ) (p q : Pass) (t : Token) → RowSoFar before now row i → get_elem? now i ≡ some p → IsCut p q → IsTokenOf p.own t
+pub row_goes_on : (before now : List Pass) (row : List Permit) (i : ℕ) (p q : Pass) (t : Permit) → RowSoFar before now row i → get_elem? now i ≡ some p → IsCut p q → IsPermitOf p.own t
     → RowSoFar before (set now i q) (row ++ t ∷ []) (i + 1)
 row_goes_on before now row i p q t h at cut token = record {
   same_length = length-set now i q ∙ h.same_length;
@@ -50,10 +50,10 @@ row_goes_on before now row i p q t h at cut token = record {
       let there : get_elem? now k ≡ some p = subst (λ j. get_elem? now j ≡ some p) (sym k_is) at in
       let e : i ≤ k = omega (arith, k_is) in
       let pa : p ≡ a = (h.cut k a p x there).1 e in
-      subst (λ z. IsTokenOf z.own u) pa (subst (IsTokenOf p.own) is.1 token)) (get_snoc row t u k y);
+      subst (λ z. IsPermitOf z.own u) pa (subst (IsPermitOf p.own) is.1 token)) (get_snoc row t u k y);
 }
 
-pub row_ends : (before now : List Pass) (row : List Token) (i : ℕ) → RowSoFar before now row i → i ≡ length before → EachPair IsCut before now × EachPair (λ p t. IsTokenOf p.own t) before row
+pub row_ends : (before now : List Pass) (row : List Permit) (i : ℕ) → RowSoFar before now row i → i ≡ length before → EachPair IsCut before now × EachPair (λ p t. IsPermitOf p.own t) before row
 row_ends before now row i h all = (
   (sym h.same_length, λ k a b x y. (h.cut k a b x y).0 (let w = get_within before k a x in omega arith)),
   (sym (h.so_far ∙ all), h.tokens),
@@ -65,7 +65,7 @@ get_there (x ∷ xs) zero h = (x, refl)
 get_there (x ∷ xs) (suc k) h = get_there xs k (omega arith)
 
 -- the worker whose turn it is has not changed yet
-pub row_next : (before now : List Pass) (row : List Token) (i : ℕ) (p : Pass) → RowSoFar before now row i → get_elem? now i ≡ some p → get_elem? before i ≡ some p
+pub row_next : (before now : List Pass) (row : List Permit) (i : ℕ) (p : Pass) → RowSoFar before now row i → get_elem? now i ≡ some p → get_elem? before i ≡ some p
 row_next before now row i p h at =
     let w = get_within now i p at in
     let there = get_there before i (omega (arith, h.same_length)) in

@@ -5,9 +5,9 @@ use lib.ListN.{get_elem?}
 use Rattle.crossbeam_deque.specs.Handles as deque
 use Rattle.wire_sched.specs.declared.rule.Piece.{Piece}
 use Rattle.wire_sched.specs.declared.round.Pass.{Pass}
-use Rattle.wire_sched.specs.Hands.{hand, all_parts}
+use Rattle.wire_sched.specs.Views.{deque_view, all_parts}
 use Rattle.wire_sched.specs.Rules.{joined}
-use Rattle.wire_sched.specs.Rounds.{Owner, Thief, Token, own_hand}
+use Rattle.wire_sched.specs.Rounds.{Owner, Thief, Permit, own_view}
 use Rattle.wire_sched.specs.Taken.{stolen}
 
 -- the lists are of one length, and R holds of each two that stand at one place
@@ -19,7 +19,7 @@ SameDeque a b = (deque.worker_deque b ≡ deque.worker_deque a) × (deque.worker
 
 -- the pieces stand in a deque from which nobody took yet
 abbrev pub IsFilled : List Piece → Owner → Type 0
-IsFilled pieces own = (deque.worker_flavor own ≡ 0) × (deque.worker_view own ≡ hand all_parts 0 pieces [])
+IsFilled pieces own = (deque.worker_flavor own ≡ 0) × (deque.worker_view own ≡ deque_view all_parts 0 pieces [])
 
 -- the deque of a pass, full, with a handle for thieves
 abbrev pub IsStart : List Piece → ℕ → Pass → Thief → Type 0
@@ -27,29 +27,29 @@ IsStart pieces worker p s =
     (p.worker ≡ worker) × IsFilled pieces p.own × (deque.stealer_deque s ≡ deque.worker_deque p.own) × (deque.stealer_flavor s ≡ 0)
 
 -- a token of the deque, with one part, with which nothing was taken
-abbrev pub IsTokenOf : Owner → Token → Type 0
-IsTokenOf own t =
-    deque.IsPassOf (deque.worker_deque own) t × (deque.view t ≡ hand 1 0 (deque.worker_view own).dealt [])
+abbrev pub IsPermitOf : Owner → Permit → Type 0
+IsPermitOf own t =
+    deque.IsPassOf (deque.worker_deque own) t × (deque.view t ≡ deque_view 1 0 (deque.worker_view own).dealt [])
 
 -- the pass gave one part away, and is the same otherwise
 abbrev pub IsCut : Pass → Pass → Type 0
 IsCut a b =
     (b.worker ≡ a.worker) × SameDeque a.own b.own × (b.tokens ≡ a.tokens)
-    × (own_hand b ≡ hand ((own_hand a).parts - 1) (own_hand a).below (own_hand a).dealt (own_hand a).taken)
+    × (own_view b ≡ deque_view ((own_view a).parts - 1) (own_view a).below (own_view a).dealt (own_view a).taken)
 
 -- the token is one of the deque of the pass
-abbrev pub CanTake : Pass → Token → Type 0
-CanTake p t = deque.IsPassOf (deque.worker_deque p.own) t × ((deque.view t).parts ≡ 1) × (0 < (own_hand p).parts)
+abbrev pub CanTake : Pass → Permit → Type 0
+CanTake p t = deque.IsPassOf (deque.worker_deque p.own) t × ((deque.view t).parts ≡ 1) × (0 < (own_view p).parts)
 
 -- the token was joined into the deque of the pass
-abbrev pub IsJoined : Pass → Token → Pass → Type 0
-IsJoined a t b = (b.worker ≡ a.worker) × SameDeque a.own b.own × (b.tokens ≡ a.tokens) × (own_hand b ≡ joined (own_hand a) (deque.view t))
+abbrev pub IsJoined : Pass → Permit → Pass → Type 0
+IsJoined a t b = (b.worker ≡ a.worker) × SameDeque a.own b.own × (b.tokens ≡ a.tokens) × (own_view b ≡ joined (own_view a) (deque.view t))
 
 -- the tokens were joined into the deques, each into its own
-abbrev pub AreJoined : List Pass → List Token → List Pass → Type 0
+abbrev pub AreJoined : List Pass → List Permit → List Pass → Type 0
 AreJoined old ts new =
     (length new ≡ length old)
-    × ((k : ℕ) (a b : Pass) (t : Token) → get_elem? old k ≡ some a → get_elem? ts k ≡ some t → get_elem? new k ≡ some b → IsJoined a t b)
+    × ((k : ℕ) (a b : Pass) (t : Permit) → get_elem? old k ≡ some a → get_elem? ts k ≡ some t → get_elem? new k ≡ some b → IsJoined a t b)
 
 -- each pass has a token of each deque
 abbrev pub CanJoinAll : List Pass → Type 0
@@ -59,7 +59,7 @@ CanJoinAll ps = (i : ℕ) (p : Pass) → get_elem? ps i ≡ some p → EachPair 
 abbrev pub IsGathered : List Pass → ℕ → Pass → Pass → Type 0
 IsGathered ps k a b =
     (b.worker ≡ a.worker) × SameDeque a.own b.own
-    × (own_hand b ≡ hand ((own_hand a).parts + length ps) (own_hand a).below (own_hand a).dealt ((own_hand a).taken ++ stolen k ps))
+    × (own_view b ≡ deque_view ((own_view a).parts + length ps) (own_view a).below (own_view a).dealt ((own_view a).taken ++ stolen k ps))
 
 abbrev pub AreGathered : List Pass → List Pass → Type 0
 AreGathered old new =

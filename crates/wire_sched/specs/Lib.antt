@@ -1,4 +1,4 @@
-pub mod Hands
+pub mod Views
 pub mod Rules
 pub mod Shares
 pub mod Rounds

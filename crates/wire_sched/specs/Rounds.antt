@@ -7,26 +7,26 @@ use Rattle.crossbeam_deque.specs.declared.handles.Worker.{Worker}
 use Rattle.crossbeam_deque.specs.declared.handles.Stealer.{Stealer}
 use Rattle.std.specs.declared.alloc.Global.{Global}
 use Rattle.wire_sched.specs.declared.rule.Piece.{Piece}
-use Rattle.wire_sched.specs.declared.rule.Hand.{Hand}
-use Rattle.wire_sched.specs.declared.rule.Once.{Once}
+use Rattle.wire_sched.specs.declared.rule.DequeView.{DequeView}
+use Rattle.wire_sched.specs.declared.rule.DequeRule.{DequeRule}
 use Rattle.wire_sched.specs.declared.round.Round.{Round}
 use Rattle.wire_sched.specs.declared.round.Pass.{Pass}
 use Rattle.wire_sched.specs.declared.round.Take.{Take}
 use Rattle.wire_sched.specs.declared.round.Take.TheVariants.{Got, Empty, Again}
-use Rattle.wire_sched.specs.Hands.{all_parts, Takes, TookRising, TookWithin}
+use Rattle.wire_sched.specs.Views.{all_parts, Takes, TookRising, TookWithin}
 use Rattle.wire_sched.specs.Shares.{deal_of, share_of}
 
 -- the end of a deque at which its own worker pushes and pops
 abbrev pub Owner : Type 0
-Owner = Worker Piece Global Hand Once
+Owner = Worker Piece Global DequeView DequeRule
 
 -- a handle with which others steal from a deque
 abbrev pub Thief : Type 0
-Thief = Stealer Piece Global Hand Once
+Thief = Stealer Piece Global DequeView DequeRule
 
 -- what a pass needs to steal from one deque
-abbrev pub Token : Type 0
-Token = deque.Pass Piece Hand Global
+abbrev pub Permit : Type 0
+Permit = deque.Pass Piece DequeView Global
 
 abbrev pub round_of : Round → ℕ
 round_of r = r.round
@@ -57,16 +57,16 @@ abbrev pub share_at : Round → ℕ → List Piece
 share_at r k = share_of k (workers_of r) (round_of r) (ranks_of r)
 
 -- what the pass knows of its own deque
-abbrev pub own_hand : Pass → Hand
-own_hand p = deque.worker_view p.own
+abbrev pub own_view : Pass → DequeView
+own_view p = deque.worker_view p.own
 
 -- what it knows of each deque as a thief
-abbrev pub token_hands : Pass → List Hand
-token_hands p = map (λ (t : Token). deque.view t) p.tokens.items
+abbrev pub permit_views : Pass → List DequeView
+permit_views p = map (λ (t : Permit). deque.view t) p.tokens.items
 
 -- a token of deque k of the round. What was taken with it rises, and is no more than was dealt
-abbrev pub IsToken : Round → ℕ → Thief → Token → Type 0
-IsToken r k s t =
+abbrev pub IsPermit : Round → ℕ → Thief → Permit → Type 0
+IsPermit r k s t =
     deque.IsPassOf (deque.stealer_deque s) t × ((deque.view t).parts ≡ 1)
     × ((deque.view t).dealt ≡ share_at r k)
     × TookRising (deque.view t) × TookWithin (deque.view t)
@@ -79,13 +79,13 @@ pub record IsPassOf (r : Round) (p : Pass) : Type 0 where
   pub few : workers_of r < 2 ^ 64
   pub own : (s : Thief) → get_elem? r.thieves.items (worker_of p) ≡ some s → deque.worker_deque p.own ≡ deque.stealer_deque s
   pub fifo : deque.worker_flavor p.own ≡ 0
-  pub parts : (own_hand p).parts + workers_of r ≡ all_parts
-  pub dealt : (own_hand p).dealt ≡ share_at r (worker_of p)
-  pub rising : TookRising (own_hand p)
-  pub bounded : TookWithin (own_hand p)
+  pub parts : (own_view p).parts + workers_of r ≡ all_parts
+  pub dealt : (own_view p).dealt ≡ share_at r (worker_of p)
+  pub rising : TookRising (own_view p)
+  pub bounded : TookWithin (own_view p)
   pub count : length p.tokens.items ≡ workers_of r
-  pub tokens : (k : ℕ) (s : Thief) (t : Token) → get_elem? r.thieves.items k ≡ some s → get_elem? p.tokens.items k ≡ some t → IsToken r k s t
-  pub unused : (t : Token) → get_elem? p.tokens.items (worker_of p) ≡ some t → (deque.view t).taken ≡ []
+  pub tokens : (k : ℕ) (s : Thief) (t : Permit) → get_elem? r.thieves.items k ≡ some s → get_elem? p.tokens.items k ≡ some t → IsPermit r k s t
+  pub unused : (t : Permit) → get_elem? p.tokens.items (worker_of p) ≡ some t → (deque.view t).taken ≡ []
   pub fifos : (k : ℕ) (s : Thief) → get_elem? r.thieves.items k ≡ some s → deque.stealer_flavor s ≡ 0
 
 -- all passes of the round, in the order of their workers
@@ -104,14 +104,14 @@ IfGot take got = MatchTake take got ⊤
 
 -- the pass took a piece of its own deque, and nothing else
 abbrev pub TookOwn : Pass → Pass → Piece → Type 0
-TookOwn old new x = Takes (own_hand old) (x ∷ []) (own_hand new) × (token_hands new ≡ token_hands old)
+TookOwn old new x = Takes (own_view old) (x ∷ []) (own_view new) × (permit_views new ≡ permit_views old)
 
 -- the pass took a piece of deque k as a thief, and nothing else
 abbrev pub TookAt : ℕ → Pass → Pass → Piece → Type 0
 TookAt k old new x =
-    (v : Hand) × (w : Hand) × (get_elem? (token_hands old) k ≡ some v) × Takes v (x ∷ []) w
-    × (token_hands new ≡ slice_set (token_hands old) k w) × (own_hand new ≡ own_hand old)
+    (v : DequeView) × (w : DequeView) × (get_elem? (permit_views old) k ≡ some v) × Takes v (x ∷ []) w
+    × (permit_views new ≡ slice_set (permit_views old) k w) × (own_view new ≡ own_view old)
 
 -- the pass took nothing
 abbrev pub TookNone : Pass → Pass → Type 0
-TookNone old new = (own_hand new ≡ own_hand old) × (token_hands new ≡ token_hands old)
+TookNone old new = (own_view new ≡ own_view old) × (permit_views new ≡ permit_views old)

@@ -1,7 +1,7 @@
 -- The pieces of a round, and those that are dealt to one worker.
 use Rattle.std.specs.Prelude.{ℕ, zero, suc, ◌%◌, ◌==◌, List, [], ◌∷◌, ◌++◌, if◌then◌else◌}
 use Rattle.wire_sched.specs.declared.rule.Piece.{Piece}
-use Rattle.wire_sched.specs.Hands.{IsRising}
+use Rattle.wire_sched.specs.Views.{IsRising}
 
 -- the piece of a process, by its number
 abbrev pub piece : ℕ → ℕ → Piece

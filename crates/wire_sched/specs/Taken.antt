@@ -1,19 +1,19 @@
 -- What the passes of a round took, and what is left of it.
 use Rattle.std.specs.Prelude.{◌≡◌, ℕ, zero, suc, ◌+◌, ◌≤◌, List, [], ◌∷◌, ◌++◌, length, map, drop}
 use Rattle.wire_sched.specs.declared.rule.Piece.{Piece}
-use Rattle.wire_sched.specs.declared.rule.Hand.{Hand}
+use Rattle.wire_sched.specs.declared.rule.DequeView.{DequeView}
 use Rattle.wire_sched.specs.declared.round.Round.{Round}
 use Rattle.wire_sched.specs.declared.round.Pass.{Pass}
-use Rattle.wire_sched.specs.Rounds.{ranks_of, workers_of, share_at, own_hand, token_hands, IsPassOf}
+use Rattle.wire_sched.specs.Rounds.{ranks_of, workers_of, share_at, own_view, permit_views, IsPassOf}
 
 -- what was taken of all deques
-abbrev pub all_of : List Hand → List Piece
+abbrev pub all_of : List DequeView → List Piece
 all_of [] = []
 all_of (v ∷ vs) = v.taken ++ all_of vs
 
 -- all that one pass took: of its own deque, and then of each deque as a thief
 abbrev pub taken_by : Pass → List Piece
-taken_by p = (own_hand p).taken ++ all_of (token_hands p)
+taken_by p = (own_view p).taken ++ all_of (permit_views p)
 
 -- it has taken as many pieces as before
 abbrev pub TookNoMore : Pass → Pass → Type 0
@@ -33,7 +33,7 @@ taken_by_all [] = []
 taken_by_all (p ∷ ps) = taken_by p ++ taken_by_all ps
 
 -- what was taken of deque k
-abbrev pub taken_at : ℕ → List Hand → List Piece
+abbrev pub taken_at : ℕ → List DequeView → List Piece
 taken_at k [] = []
 taken_at zero (v ∷ vs) = v.taken
 taken_at (suc k) (v ∷ vs) = taken_at k vs
@@ -41,11 +41,11 @@ taken_at (suc k) (v ∷ vs) = taken_at k vs
 -- what the passes stole of deque k
 abbrev pub stolen : ℕ → List Pass → List Piece
 stolen k [] = []
-stolen k (p ∷ ps) = taken_at k (token_hands p) ++ stolen k ps
+stolen k (p ∷ ps) = taken_at k (permit_views p) ++ stolen k ps
 
 -- all that was taken of deque k: by its own worker, and by thieves
 abbrev pub taken_from : ℕ → List Pass → List Piece
-taken_from k ps = taken_at k (map (λ (p : Pass). own_hand p) ps) ++ stolen k ps
+taken_from k ps = taken_at k (map (λ (p : Pass). own_view p) ps) ++ stolen k ps
 
 -- What is left of deque k. Every take is at the front, so it is the end of what was dealt.
 abbrev pub rest_of : Round → ℕ → List Pass → List Piece

@@ -3,16 +3,16 @@
 ghost use Rattle.std.specs.Prelude.{◌≡◌, ℕ, ◌+◌, ◌-◌, ◌<◌, ◌≤◌, ◌∷◌, [], IfOk, OnOk, IsOkUnless, MatchOption, length, vec_capacity, vec_len};
 ghost use mathlib.Core.Option.{some};
 ghost use lib.ListN.{get_elem?};
-ghost use Rattle.wire_sched.specs.Hands.{hand, Takes};
+ghost use Rattle.wire_sched.specs.Views.{deque_view, Takes};
 ghost use Rattle.wire_sched.specs.Rules.{joined, Finds, IsDrained};
 ghost use Rattle.wire_sched.specs.Shares.{share_of};
-ghost use Rattle.wire_sched.specs.Rounds.{own_hand, MatchTake};
-ghost use Rattle.wire_sched.specs.Deques.{EachPair, IsFilled, IsCut, IsTokenOf, SameDeque, IsStart, CanTake, AreJoined, CanJoinAll, AreGathered};
+ghost use Rattle.wire_sched.specs.Rounds.{own_view, MatchTake};
+ghost use Rattle.wire_sched.specs.Deques.{EachPair, IsFilled, IsCut, IsPermitOf, SameDeque, IsStart, CanTake, AreJoined, CanJoinAll, AreGathered};
 ghost use Rattle.crossbeam_deque.specs.Handles as deque;
 ghost use Rattle.crossbeam_deque.specs.Handles.{view, SamePass, stealer_deque, stealer_flavor, worker_deque, worker_flavor, worker_view};
 
 use crate::round::{Pass, Take};
-use crate::rule::{Cut, Deals, Owner, Piece, Tally, Thief, Token};
+use crate::rule::{Splits, Deals, Owner, Piece, TakesOne, Thief, Permit};
 use crossbeam_deque::Steal;
 use std::alloc::Global;
 use std::mem;
@@ -45,25 +45,25 @@ fn filled(
 }
 
 // One token of a deque.
-fn token_of(own: &mut Owner) -> Token
+fn permit_of(own: &mut Owner) -> Permit
     requires { 1 < (worker_view own.old).parts }
-    ensures token { IsTokenOf own.old result }
+    ensures token { IsPermitOf own.old result }
     ensures same { SameDeque own.old own.new }
-    ensures view { worker_view own.new ≡ hand ((worker_view own.old).parts - 1) (worker_view own.old).below (worker_view own.old).dealt (worker_view own.old).taken }
+    ensures view { worker_view own.new ≡ deque_view ((worker_view own.old).parts - 1) (worker_view own.old).below (worker_view own.old).dealt (worker_view own.old).taken }
 {
-    own.another::<Cut>()
+    own.another::<Splits>()
 }
 
 // One token of each deque.
-pub(crate) fn row(alloc: Global, passes: &mut Vec<Pass>) -> Result<Vec<Token>, Fault>
-    requires { (k : ℕ) (p : Pass) → get_elem? passes.old.items k ≡ some p → 1 < (own_hand p).parts }
+pub(crate) fn row(alloc: Global, passes: &mut Vec<Pass>) -> Result<Vec<Permit>, Fault>
+    requires { (k : ℕ) (p : Pass) → get_elem? passes.old.items k ≡ some p → 1 < (own_view p).parts }
     ensures cut { OnOk result (EachPair IsCut passes.old.items passes.new.items) }
-    ensures tokens { IfOk result (λ row. EachPair (λ p t. IsTokenOf p.own t) passes.old.items row.items) }
+    ensures tokens { IfOk result (λ row. EachPair (λ p t. IsPermitOf p.own t) passes.old.items row.items) }
     ensures memory { IsOkUnless result Fault.Memory }
 {
     let mut row = Vec::with_capacity(alloc, passes.len())?;
     for i in 0..passes.len() {
-        row.push_reserved(token_of(&mut passes[i].own));
+        row.push_reserved(permit_of(&mut passes[i].own));
     }
     Ok(row)
 }
@@ -97,21 +97,21 @@ pub(crate) fn own_from(own: &mut Owner) -> Option<Piece>
     ensures same { SameDeque own.old own.new }
     ensures took { MatchOption result ((worker_view own.new ≡ worker_view own.old) × Finds (worker_view own.old)) (λ x. Takes (worker_view own.old) (x ∷ []) (worker_view own.new)) }
 {
-    own.pop_as::<Tally>()
+    own.pop_as::<TakesOne>()
 }
 
 // Joins a token of a deque into the deque's owner.
-fn join_one(own: &mut Owner, token: Token)
+fn join_one(own: &mut Owner, token: Permit)
     requires token { deque.IsPassOf (worker_deque own.old) token }
     requires part { 0 < (worker_view own.old).parts }
     ensures same { SameDeque own.old own.new }
     ensures view { worker_view own.new ≡ joined (worker_view own.old) (view token) }
 {
-    own.absorb::<Cut>(token);
+    own.absorb::<Splits>(token);
 }
 
 // Joins tokens, one of each deque, into the owners of their deques.
-fn join_row(passes: &mut Vec<Pass>, tokens: Vec<Token>)
+fn join_row(passes: &mut Vec<Pass>, tokens: Vec<Permit>)
     requires { EachPair CanTake passes.old.items tokens.items }
     ensures { AreJoined passes.old.items tokens.items passes.new.items }
 {
@@ -149,14 +149,14 @@ pub(crate) fn drain(own: &mut Owner, left: &mut Vec<Piece>)
 }
 
 // Steals the front piece of a deque.
-pub(crate) fn steal_from(thief: &Thief, token: &mut Token) -> Take
+pub(crate) fn steal_from(thief: &Thief, token: &mut Permit) -> Take
     requires fifo { stealer_flavor thief.now ≡ 0 }
     requires token { deque.IsPassOf (stealer_deque thief.now) token.old }
     requires part { 0 < (view token.old).parts }
     ensures same { SamePass token.old token.new }
     ensures took { MatchTake result (λ x. Takes (view token.old) (x ∷ []) (view token.new)) (view token.new ≡ view token.old) }
 {
-    match thief.steal_as::<Tally>(token) {
+    match thief.steal_as::<TakesOne>(token) {
         Steal::Success(piece) => Take::Got(piece),
         Steal::Empty => Take::Empty,
         Steal::Retry => Take::Again,

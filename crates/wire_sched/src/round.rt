@@ -3,7 +3,7 @@
 ghost use Rattle.std.specs.Prelude.{◌≡◌, ◌<◌, ◌≤◌, [], vec_capacity, vec_len};
 
 use crate::deques::{drain, join_all, own_from, row, start, steal_from};
-use crate::rule::{Owner, Piece, Thief, Token};
+use crate::rule::{Owner, Piece, Thief, Permit};
 use std::alloc::Global;
 use wire_types::Fault;
 
@@ -24,7 +24,7 @@ pub struct Round {
 pub struct Pass {
     pub(crate) worker: usize,
     pub(crate) own: Owner,
-    pub(crate) tokens: Vec<Token>,
+    pub(crate) tokens: Vec<Permit>,
 }
 
 /// What an attempt to steal gives: a piece, that there was none, or that another worker was faster. After `Again` it

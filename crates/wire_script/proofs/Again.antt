@@ -8,8 +8,8 @@ use Rattle.wire_types.specs.declared.Fault.TheVariants.{UnknownName, NotMember}
 use Rattle.wire_types.specs.declared.Call.{Call as Numbered}
 use Rattle.wire_types.specs.declared.Call.TheVariants as call
 use Rattle.wire_lines.specs.Said.{Item, One, Every, Set, Own, Listed, Call, Put, Commit, Fence, Get, GetNow, Publish, Lookup, LookupWait, Unpublish}
-use Rattle.wire_rehearsal.specs.Scripts.{Process, Scripts}
-use Rattle.wire_rehearsal.specs.Canonical.{call_said}
+use Rattle.wire_content.specs.Scripts.{Process, Scripts}
+use Rattle.wire_content.specs.Canonical.{call_said}
 use Rattle.wire_script.specs.FirstPass.{Name, Started, Declared, is_among, number_or_count}
 use Rattle.wire_script.specs.Reads.{Seen, is_proc, proc_number, has_proc, names_it, is_in, places_from, set_members, is_declared_item, is_declared_set, is_declared_call, is_with_caller, call_fault, first_of, fault_in, first_fault, keys_in, names_in, values_in, sets_in, in_calls, first_seen, seen_in, numbered, process_of, scripts_with, scripts_of}
 use Rattle.wire_script.proofs.Changed.{Change, changed_call, changed_process, changed_declaration, no_change, bare_declaration}

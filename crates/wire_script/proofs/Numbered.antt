@@ -6,9 +6,9 @@ use Rattle.std.proofs.lemmas.List.{length-map}
 use Rattle.std.proofs.lemmas.List.Sums.{sum_by-cons}
 use Rattle.std.proofs.lemmas.Option.{slice_get-map}
 use borrow.Author.Tests.{ne_eqb}
-use Rattle.wire_rehearsal.specs.Process.{Process}
-use Rattle.wire_rehearsal.specs.Map.{job_in, job_at, rank_of}
-use Rattle.wire_rehearsal.specs.Scripts.{AreRanked}
+use Rattle.wire_content.specs.Process.{Process}
+use Rattle.wire_content.specs.Map.{job_in, job_at, rank_of}
+use Rattle.wire_content.specs.Scripts.{AreRanked}
 use Rattle.wire_script.specs.FirstPass.{Started, Declared}
 use Rattle.wire_script.specs.Reads.{Seen, process_of}
 use Rattle.wire_script.proofs.Ranked.{JobsFrom, RanksFrom, with_one, counted_once}

@@ -5,7 +5,7 @@ use Rattle.wire_lines.proofs.SaysOnce.{says_once}
 use Rattle.wire_lines.specs.Text.{lines_of}
 use Rattle.wire_script.specs.Statements.{Statement, statements}
 use Rattle.wire_script.specs.FirstPass.{Declared, nothing, judged, Judges, JudgesAll, FirstPass}
-use Rattle.wire_rehearsal.specs.Scripts.{Scripts}
+use Rattle.wire_content.specs.Scripts.{Scripts}
 use Rattle.wire_script.specs.Reads.{second_pass, ReadsShort, ReadsOnce}
 
 judges_once : (d : Declared) (line : Statement) (q r : Result Declared Fault) → Judges d line q → Judges d line r → q ≡ r

@@ -4,7 +4,7 @@ use Rattle.std.specs.Prelude.{◌==◌, ⊤}
 use borrow.Author.Tests.{ltb-true, eqb-true, eq-eqb, ne_eqb}
 use Rattle.std.proofs.lemmas.List.{map-append}
 use Rattle.wire_lines.specs.Said.{Call, Said, Header, Node, Job, Rank, Calls}
-use Rattle.wire_rehearsal.specs.Scripts.{text_at}
+use Rattle.wire_content.specs.Scripts.{text_at}
 use Rattle.wire_script.specs.FirstPass.{Name, Started, Declared, nothing, number_or_count, after, with_call}
 use Rattle.wire_script.proofs.Changed.{IsTaken, Takes, with_calls}
 use Rattle.wire_script.proofs.Seen.{text_at_number}

@@ -6,7 +6,7 @@ use Rattle.std.specs.Str.{bytes_eq}
 use Rattle.std.proofs.lemmas.Slice.Eq.{bytes_eq-Decides}
 use borrow.Author.Tests.{ltb-true, eqb-true, eq-eqb, ne_eqb}
 use Rattle.wire_lines.specs.Said.{Call, Said, Header, Node, Job, Rank, Calls, IsLawful, is_name}
-use Rattle.wire_rehearsal.specs.Scripts.{text_at}
+use Rattle.wire_content.specs.Scripts.{text_at}
 use Rattle.wire_script.specs.Limits.{limits}
 use Rattle.wire_script.specs.FirstPass.{Name, Started, Declared, nothing, is_among, number_or_count, is_short_name, after, with_call}
 use Rattle.wire_script.proofs.Changed.{IsTaken, Runs, ranks_with}

@@ -12,7 +12,7 @@ use Rattle.wire_lines.specs.Said.{Item, One, Every, Set, Own, Listed, Put, Commi
 use Rattle.wire_lines.specs.Said.{Said, Header, Node, Job, Rank, Calls, IsLawfulItem, AreLawful, IsLawfulSet, IsLawful, first_word, other_words, is_word_byte, is_name_byte, is_word, is_name, spelled_proc, spelled_scope, spelled_item, spelled_set, collect_words}
 use Rattle.wire_lines.proofs.Colon.{and_left, and_right}
 use Rattle.wire_script.specs.Statements.{Statement, is_skipped, statements_from, statements}
-use Rattle.wire_rehearsal.specs.Canonical.{line_text}
+use Rattle.wire_content.specs.Canonical.{line_text}
 
 pub both : (a b : Bool) → a ≡ true → b ≡ true → (a && b) ≡ true
 both a b p q = rw (p, q) refl

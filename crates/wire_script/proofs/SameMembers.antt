@@ -10,9 +10,9 @@ use borrow.Author.Tests.{eqb-true, eq-eqb, ne_eqb}
 use Rattle.wire_runs.specs.Fences.{is_member}
 use Rattle.wire_lines.specs.Said.{Item, One, Every, Set, Own, Listed, AreLawful, IsLawfulSet, is_name}
 use Rattle.wire_lines.proofs.Colon.{and_left, and_right}
-use Rattle.wire_rehearsal.specs.Scripts.{Process, Scripts, text_at}
-use Rattle.wire_rehearsal.specs.Canonical as text
-use Rattle.wire_rehearsal.specs.Canonical.{process_at, job_of, members_from, is_whole, process_items, member_items, set_items, set_said}
+use Rattle.wire_content.specs.Scripts.{Process, Scripts, text_at}
+use Rattle.wire_content.specs.Canonical as text
+use Rattle.wire_content.specs.Canonical.{process_at, job_of, members_from, is_whole, process_items, member_items, set_items, set_said}
 use Rattle.wire_script.specs.FirstPass.{Name, Started, Declared, is_among, number_or_count, is_short_name, is_short_item, is_short_set}
 use Rattle.wire_script.specs.Reads.{Seen, is_proc, proc_number, has_proc, names_it, is_in, places_from, set_members, is_declared_item, is_declared_set, process_of, scripts_with}
 use Rattle.wire_script.proofs.Ranked.{IsGood, text_among, number_at, name_at, below_at, rank_most, one_process, first_process}

@@ -15,7 +15,7 @@ use Rattle.wire_types.specs.declared.Fault.TheVariants.{Memory, UnknownName, Not
 use Rattle.wire_types.specs.declared.Call.{Call}
 use Rattle.wire_types.specs.declared.Call.TheVariants.{Fence}
 use Rattle.wire_lines.specs.Said as said
-use Rattle.wire_rehearsal.specs.Scripts.{Process, call_at, calls_in, set_at, name_in, owner_in, AreOwned, AreSets, AreMembers, AreNamed, IsSound}
+use Rattle.wire_content.specs.Scripts.{Process, call_at, calls_in, set_at, name_in, owner_in, AreOwned, AreSets, AreMembers, AreNamed, IsSound}
 use Rattle.wire_script.specs.FirstPass.{Started, Declared, is_among, number_or_count}
 use Rattle.wire_script.specs.Reads.{Seen, seen_in, in_calls, names_in, sets_in, set_members, places_from, is_in, proc_number, has_proc, is_declared_call, is_with_caller, call_fault, first_of, fault_in, first_fault, numbered, process_of, scripts_with, scripts_of, unless_fault, second_pass}
 use Rattle.wire_script.specs.Within.{IsWithinLimits, IsDeclared}

@@ -1,7 +1,7 @@
 -- The canonical text reads back, and tells scripts apart.
 use Rattle.std.specs.Prelude.{◌≡◌, ℕ, ◌≤◌, List, length, Ok}
-use Rattle.wire_rehearsal.specs.Scripts.{Scripts}
-use Rattle.wire_rehearsal.specs.Canonical.{canonical}
+use Rattle.wire_content.specs.Scripts.{Scripts}
+use Rattle.wire_content.specs.Canonical.{canonical}
 use Rattle.wire_script.specs.Limits.{limits}
 use Rattle.wire_script.specs.Reads.{Reads}
 

@@ -8,7 +8,7 @@ use Rattle.wire_types.specs.declared.Call.{Call}
 use Rattle.wire_types.specs.declared.Call.TheVariants.{Put, Commit, Fence, Get, GetNow, Publish, Lookup, LookupWait, Unpublish}
 use Rattle.wire_lines.specs.Text.{lines_of}
 use Rattle.wire_lines.specs.Said as said
-use Rattle.wire_rehearsal.specs.Scripts.{Process, Scripts}
+use Rattle.wire_content.specs.Scripts.{Process, Scripts}
 use Rattle.wire_script.specs.Limits.{limits}
 use Rattle.wire_script.specs.Statements.{statements}
 use Rattle.wire_script.specs.FirstPass.{Name, is_among, number_or_count, Started, Declared, FirstPass}

@@ -1,7 +1,7 @@
 -- What the tables hold while the calls are numbered: for the contracts of private functions. What is read is said in Reads.
 use Rattle.std.specs.Prelude.{◌≡◌, ℕ, ◌+◌, List, [], ◌∷◌, ◌++◌, length, if◌then◌else◌}
 use Rattle.wire_lines.specs.Said as said
-use Rattle.wire_rehearsal.specs.declared.Tables.{Tables}
+use Rattle.wire_content.specs.declared.Tables.{Tables}
 use Rattle.wire_script.specs.FirstPass.{is_among, Started, Declared}
 use Rattle.wire_script.specs.Reads.{Seen, set_members}
 

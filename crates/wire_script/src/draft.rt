@@ -3,7 +3,7 @@
 ghost use Rattle.std.specs.Prelude.{◌≤◌, vec_len};
 
 use wire_lines::CallLine;
-use wire_rehearsal::Texts;
+use wire_content::Texts;
 
 /// A call line, with its number.
 #[derive(Drop)]

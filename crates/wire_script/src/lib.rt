@@ -14,4 +14,4 @@ mod second_pass;
 pub use limits::FILE_BYTES;
 pub use lines::{Cursor, Statement};
 pub use reader::{one_canonical, read, reads_back, reads_once};
-pub use wire_rehearsal::{Process, Scripts, Sets, Texts};
+pub use wire_content::{Process, Scripts, Sets, Texts};

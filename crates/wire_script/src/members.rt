@@ -2,7 +2,7 @@
 
 ghost use Rattle.std.specs.Prelude.{◌≡◌, ◌+◌, ◌≤◌, ◌==◌, ℕ, Some, true, false, map, length, slice_get, IfOk, IfSome, IfNone};
 ghost use Rattle.wire_lines.specs.Shown.{item_by};
-ghost use Rattle.wire_rehearsal.specs.Scripts.{numbers_of};
+ghost use Rattle.wire_content.specs.Scripts.{numbers_of};
 ghost use Rattle.wire_script.specs.Reads as spec;
 ghost use Rattle.wire_script.specs.FirstPass as pass;
 ghost use Rattle.wire_script.specs.Targets.{has_number, is_target, is_any_target, is_declared_target, named_in, target_by};

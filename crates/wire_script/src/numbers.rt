@@ -1,12 +1,12 @@
 //! Numbers for what calls name, as first seen.
 
 ghost use Rattle.std.specs.Prelude.{◌≡◌, ◌+◌, ◌≤◌, ◌<◌, ◌^◌, List, ℕ, length, OnOk, IfOk};
-ghost use Rattle.wire_rehearsal.specs.Scripts.{numbers_of};
+ghost use Rattle.wire_content.specs.Scripts.{numbers_of};
 ghost use Rattle.wire_script.specs.FirstPass.{number_or_count};
 ghost use Rattle.wire_script.specs.Tabled.{with_text, GoesOn};
 
 use std::alloc::{AllocError, Global};
-use wire_rehearsal::{Sets, Texts};
+use wire_content::{Sets, Texts};
 use wire_types::Proc;
 
 /// The number of a text, which is added where it isn't there.

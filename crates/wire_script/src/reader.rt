@@ -10,7 +10,7 @@ use crate::limits::FILE_BYTES;
 use crate::second_pass::scripts_of;
 use std::alloc::Global;
 use wire_lines::line_past;
-use wire_rehearsal::Scripts;
+use wire_content::Scripts;
 use wire_types::Fault;
 
 /// What a file says: its nodes and jobs, and the scripts of its processes. Of the faults of a file the

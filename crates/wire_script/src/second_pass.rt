@@ -16,7 +16,7 @@ use crate::noted::Noted;
 use crate::numbers::{number_set, number_text};
 use std::alloc::{AllocError, Global};
 use wire_lines::{CallLine, ProcName, Set};
-use wire_rehearsal::{Process, Scripts, Sets, Tables, Texts};
+use wire_content::{Process, Scripts, Sets, Tables, Texts};
 use wire_types::{Call, Fault, Proc, Scope};
 
 /// The tables so far, and the sets that were named, with their numbers.

@@ -4,8 +4,8 @@ use Rattle.std.specs.Io.KnownBytes.{Appends}
 use Rattle.wire_types.specs.declared.Fault.{Fault}
 use Rattle.wire_types.specs.Front.{WritesFront}
 use Rattle.wire_types.specs.Outcome.{Ends}
-use Rattle.wire_rehearsal.specs.Scripts.{Scripts}
-use Rattle.wire_rehearsal.specs.Planned.{plan_of}
+use Rattle.wire_content.specs.Scripts.{Scripts}
+use Rattle.wire_content.specs.Planned.{plan_of}
 use Rattle.wire_runs.specs.Races.{IsSettled}
 use Rattle.wire_races.specs.declared.finding.Finding.{Finding}
 use Rattle.wire_races.specs.Findings.{AreFindings}
@@ -14,15 +14,15 @@ use Rattle.wire_marks.specs.Clocks.{Clocks}
 use Rattle.wire_core.specs.EndsAfter.{plain_ends}
 use Rattle.wire_commands.specs.declared.checking.Ended.{Ended}
 use Rattle.wire_commands.specs.declared.checking.Ended.TheVariants.{Clean, Found}
-use Rattle.wire_up.specs.declared.rehearsing.Mode.{Mode}
-use Rattle.wire_commands.specs.Replay.{ReadAs}
+use Rattle.wire_up.specs.declared.replaying.Mode.{Mode}
+use Rattle.wire_commands.specs.Plain.{ReadAs}
 use Rattle.wire_commands.specs.Check.{ended_with}
 use Rattle.wire_report.specs.Report.{report_form}
-use Rattle.wire_up.specs.Rehearse.{Tells, TellsFound, IsRehearsal, WritesOneEnd, BreaksOffRehearsal}
+use Rattle.wire_up.specs.Replay.{Tells, TellsFound, IsReplay, WritesOneEnd, BreaksOffReplay}
 use Rattle.wire_commands.proofs.Checked.{judged_so, done, ended_of}
 
 -- of a settled plan
-pub settled_told : (mode : Mode) (s shown : Scripts) (none : List Finding) (ends : Ends) (text : List ℕ) → none ≡ [] → ((none ≡ []) ↔ IsSettled (plan_of s)) → AreFindings (plan_of s) none → shown ≡ s → ends ≡ plain_ends s → text ≡ report_form mode.json shown ends → IsRehearsal mode s Clean text
+pub settled_told : (mode : Mode) (s shown : Scripts) (none : List Finding) (ends : Ends) (text : List ℕ) → none ≡ [] → ((none ≡ []) ↔ IsSettled (plan_of s)) → AreFindings (plan_of s) none → shown ≡ s → ends ≡ plain_ends s → text ≡ report_form mode.json shown ends → IsReplay mode s Clean text
 settled_told mode s shown (f ∷ fs) ends text is law those same at told = let bad : f ∷ fs ≡ [] = is in absurd (cc)
 settled_told mode s shown [] ends text is law those same at told =
     let step : report_form mode.json shown ends ≡ report_form mode.json s (plain_ends s) = λ i. report_form mode.json (same i) (at i) in
@@ -34,17 +34,17 @@ found_tells mode s [] text some tells = absurd (some refl)
 found_tells mode s (f ∷ fs) text some tells = tells
 
 pub found_told : (mode : Mode) (s : Scripts) (found counted : List Finding) (ended : Ended) (text : List ℕ) → ((found ≡ []) ↔ IsSettled (plan_of s)) → AreFindings (plan_of s) found → found ≢ [] → counted ≡ found → ended ≡ ended_with counted
-    → TellsFound mode.json mode.anyway s found text → IsRehearsal mode s ended text
+    → TellsFound mode.json mode.anyway s found text → IsReplay mode s ended text
 found_told mode s found counted ended text law those some count ends tells =
     record { found = found; judged = judged_so s found counted ended law those count ends; tells = found_tells mode s found text some tells }
 
 -- the rehearsal of the plan of scripts is that of the scripts
-pub rehearsal_too : (mode : Mode) (s plan : Scripts) (r : Result (Ended × Vec ℕ Global) Fault) → plan ≡ s → IfOk r (λ v. IsRehearsal mode plan v.0 v.1.items) → IfOk r (λ v. IsRehearsal mode s v.0 v.1.items)
-rehearsal_too mode s plan r is told = subst (λ t. IfOk r (λ v. IsRehearsal mode t v.0 v.1.items)) is told
+pub rehearsal_too : (mode : Mode) (s plan : Scripts) (r : Result (Ended × Vec ℕ Global) Fault) → plan ≡ s → IfOk r (λ v. IsReplay mode plan v.0 v.1.items) → IfOk r (λ v. IsReplay mode s v.0 v.1.items)
+rehearsal_too mode s plan r is told = subst (λ t. IfOk r (λ v. IsReplay mode t v.0 v.1.items)) is told
 
 -- the front of it went out
-pub rehearsal_broken : (mode : Mode) (coming : Option (List ℕ)) (old new : Option (List ℕ)) (s : Scripts) (ended : Ended) (text shown : List ℕ) (e : Fault) → ReadAs coming s → IsRehearsal mode s ended text → shown ≡ text
-    → WritesFront old new shown e → BreaksOffRehearsal mode coming old new e
+pub rehearsal_broken : (mode : Mode) (coming : Option (List ℕ)) (old new : Option (List ℕ)) (s : Scripts) (ended : Ended) (text shown : List ℕ) (e : Fault) → ReadAs coming s → IsReplay mode s ended text → shown ≡ text
+    → WritesFront old new shown e → BreaksOffReplay mode coming old new e
 rehearsal_broken mode coming old new s ended text shown e read rehearsal is front =
     record { scripts = s; read = read; ended = ended; text = text; rehearsal = rehearsal; wrote = subst (λ t. WritesFront old new t e) is front }
 
@@ -53,7 +53,7 @@ clean_tells : (mode : Mode) (s : Scripts) (found : List Finding) (ended : Ended)
 clean_tells mode s [] ended text ends tells clean = tells
 clean_tells mode s (f ∷ fs) ended text ends tells clean = let bad : Found (length (f ∷ fs)) ≡ Clean = sym ends ∙ clean in absurd (cc)
 
-pub clean_writes : (mode : Mode) (coming old new : Option (List ℕ)) (s : Scripts) (ended : Ended) (text shown : List ℕ) → ReadAs coming s → IsRehearsal mode s ended text → shown ≡ text → Appends old new shown → done ended ≡ done Clean
+pub clean_writes : (mode : Mode) (coming old new : Option (List ℕ)) (s : Scripts) (ended : Ended) (text shown : List ℕ) → ReadAs coming s → IsReplay mode s ended text → shown ≡ text → Appends old new shown → done ended ≡ done Clean
     → WritesOneEnd mode.json coming old new
 clean_writes mode coming old new s ended text shown read rehearsal is wrote at =
     let clean : ended ≡ Clean = ap ended_of at in

@@ -1,1 +1,1 @@
-pub mod Rehearse
+pub mod Replay

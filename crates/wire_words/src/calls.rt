@@ -1,13 +1,13 @@
 //! Calls and processes, and what they are called.
 
 ghost use Rattle.std.specs.Prelude.{◌≡◌, ◌+◌, ◌<◌, ◌≤◌, ◌++◌, decimal, length, OnOk, OnErr, option_copied, vec_capacity};
-ghost use Rattle.wire_rehearsal.specs.Scripts.{call_at};
-ghost use Rattle.wire_rehearsal.specs.Canonical.{process_text};
+ghost use Rattle.wire_content.specs.Scripts.{call_at};
+ghost use Rattle.wire_content.specs.Canonical.{process_text};
 ghost use Rattle.wire_words.specs.Words as spec;
 
 use itoa::Buffer;
 use std::alloc::AllocError;
-use wire_rehearsal::{Process, Scripts};
+use wire_content::{Process, Scripts};
 use wire_types::{Call, CallAt, Proc};
 
 /// Appends a number in decimal. It takes memory only where there is no room for it; the one error is that this

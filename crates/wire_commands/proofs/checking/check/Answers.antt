@@ -3,20 +3,20 @@ use Rattle.wire_commands.proofs.Checked.{writes_findings, both_quiet, breaks_off
 use Rattle.wire_commands.proofs.checking.check.Goals as goal
 
 pub returns-clause-ok : goal.returns-clause-ok
-returns-clause-ok g c = writes_findings _ _ _ c.in_ok-scripts.scripts c.verdict.result c.in_ok-scripts.ensures.ok c.verdict.ensures.ok
+returns-clause-ok g c = writes_findings _ _ _ c.in_ok-scripts.scripts c.check_scripts.result c.in_ok-scripts.ensures.ok c.check_scripts.ensures.ok
 
 pub returns-clause-quiet : goal.returns-clause-quiet
-returns-clause-quiet g c = both_quiet _ _ c.verdict.result c.in_ok-scripts.ensures.quiet c.verdict.ensures.quiet
+returns-clause-quiet g c = both_quiet _ _ c.check_scripts.result c.in_ok-scripts.ensures.quiet c.check_scripts.ensures.quiet
 
 pub returns-clause-one_end : goal.returns-clause-one_end
-returns-clause-one_end g c = clean_one_end _ (g.W.Sink.written c.args.writer.now) (g.W.Sink.written c.verdict.new.writer) c.in_ok-scripts.scripts c.verdict.result c.in_ok-scripts.ensures.ok c.verdict.ensures.ok
+returns-clause-one_end g c = clean_one_end _ (g.W.Sink.written c.args.writer.now) (g.W.Sink.written c.check_scripts.new.writer) c.in_ok-scripts.scripts c.check_scripts.result c.in_ok-scripts.ensures.ok c.check_scripts.ensures.ok
 
 pub returns-clause-err : goal.returns-clause-err
-returns-clause-err g c = breaks_off _ _ _ c.in_ok-scripts.scripts _ _ c.verdict.result c.in_ok-scripts.ensures.ok c.verdict.ensures.err
+returns-clause-err g c = breaks_off _ _ _ c.in_ok-scripts.scripts _ _ c.check_scripts.result c.in_ok-scripts.ensures.ok c.check_scripts.ensures.err
 
 pub returns-clause-read_failed : goal.returns-clause-read_failed
 returns-clause-read_failed g c is =
-    absurd (no_failed_read (g.W.Sink.written c.args.writer.now) (g.W.Sink.written c.verdict.new.writer) c.in_ok-scripts.scripts _ _ c.verdict.result c.verdict.ensures.err is)
+    absurd (no_failed_read (g.W.Sink.written c.args.writer.now) (g.W.Sink.written c.check_scripts.new.writer) c.in_ok-scripts.scripts _ _ c.check_scripts.result c.check_scripts.ensures.err is)
 
 pub returns-clause-unfailed : goal.returns-clause-unfailed
-returns-clause-unfailed g c = err_always c.verdict.result _ (λ e memory read. c.in_ok-scripts.ensures.quiet)
+returns-clause-unfailed g c = err_always c.check_scripts.result _ (λ e memory read. c.in_ok-scripts.ensures.quiet)

@@ -1,5 +1,5 @@
 use Rattle.std.proofs.Common.{inr}
-use Rattle.wire_rehearsal.specs.Scripts.{numbers_of}
+use Rattle.wire_content.specs.Scripts.{numbers_of}
 use Rattle.wire_commands.proofs.Replayed.{handed_on}
 use Rattle.wire_commands.proofs.Followed.{stopped}
 use Rattle.wire_commands.proofs.following.outcome_after.Goals as goal

@@ -1,6 +1,6 @@
 use Rattle.std.proofs.Common.{inl}
 use Rattle.wire_types.specs.Outcome.{ends_of}
-use Rattle.wire_rehearsal.specs.Scripts.{numbers_of}
+use Rattle.wire_content.specs.Scripts.{numbers_of}
 use Rattle.wire_commands.proofs.Replayed.{handed_on, not_ok}
 use Rattle.wire_commands.proofs.Followed.{err_too}
 use Rattle.wire_commands.proofs.Texts.{followed_told}

@@ -1,8 +1,8 @@
 use Rattle.std.proofs.Common.{◌∙◌, ◌<◌, length, get_or, false, sym, ap, arith}
 use Rattle.std.proofs.lemmas.List.{get_or-map, length-map}
 use Rattle.wire_types.specs.declared.Proc.{Proc}
-use Rattle.wire_rehearsal.specs.Scripts.{numbers_of}
-use Rattle.wire_rehearsal.specs.Map.{node_at}
+use Rattle.wire_content.specs.Scripts.{numbers_of}
+use Rattle.wire_content.specs.Map.{node_at}
 use Rattle.wire_fence.proofs.Nodes.{nodes_more}
 use Rattle.wire_fence.proofs.table.nodes_of.Goals as goal
 

@@ -1,7 +1,7 @@
 use Rattle.std.proofs.Common.{◌≡◌, ℕ, ◌<◌, map, length, false, [], get_or}
 use Rattle.wire_runs.specs.Fences.{has_node}
-use Rattle.wire_rehearsal.specs.Scripts.{Scripts, numbers_of, set_at}
-use Rattle.wire_rehearsal.specs.Planned.{plan_of}
+use Rattle.wire_content.specs.Scripts.{Scripts, numbers_of, set_at}
+use Rattle.wire_content.specs.Planned.{plan_of}
 use Rattle.wire_procmap.specs.Map.{map_of}
 use Rattle.wire_fence.proofs.table.nodes_of_sets.Given as goal
 

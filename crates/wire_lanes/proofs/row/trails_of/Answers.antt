@@ -2,7 +2,7 @@ use Rattle.std.proofs.Common.{◌≡◌, length, sym, ap, subst, arith}
 use Rattle.std.proofs.lemmas.Grind.{common_steps}
 use Rattle.std.proofs.lemmas.Option.{none-some}
 use Rattle.wire_types.specs.declared.Proc.{Proc}
-use Rattle.wire_rehearsal.specs.Planned.{plan_of}
+use Rattle.wire_content.specs.Planned.{plan_of}
 use Rattle.wire_lanes.specs.Lanes.{IsLaneOf}
 use Rattle.wire_lanes.proofs.Told.{taking_more, taking_at, tells_all, tells_none}
 use Rattle.wire_lanes.proofs.row.trails_of.Goals as goal

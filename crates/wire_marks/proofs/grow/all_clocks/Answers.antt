@@ -1,4 +1,4 @@
-use Rattle.wire_rehearsal.specs.Planned.{plan_of}
+use Rattle.wire_content.specs.Planned.{plan_of}
 use Rattle.wire_marks.proofs.Growing.{marks_whole}
 use Rattle.wire_marks.proofs.grow.all_clocks.Goals as goal
 

@@ -1,5 +1,5 @@
 use Rattle.std.proofs.Common.{◌<◌, subst, arith}
-use Rattle.wire_rehearsal.specs.Planned.{plan_of}
+use Rattle.wire_content.specs.Planned.{plan_of}
 use Rattle.wire_marks.proofs.Growing.{come_within, left_falls, left_same, next_there, stuck_same}
 use Rattle.wire_marks.proofs.Joining.{growing_added}
 use Rattle.wire_marks.specs.Marking.{next_of, Notes, unmarked}

@@ -2,7 +2,7 @@ use Rattle.std.proofs.Common.{◌≡◌, ◌∙◌, ◌<◌, ℕ, Option, Some, 
 use Rattle.std.specs.Prelude.{option_map, MatchOption}
 use Rattle.std.proofs.lemmas.Bool.{true≢false}
 use Rattle.wire_runs.specs.Plan.{Event, event_of}
-use Rattle.wire_rehearsal.specs.Planned.{plan_of}
+use Rattle.wire_content.specs.Planned.{plan_of}
 use Rattle.wire_marks.specs.Clocks.{marked_count}
 use Rattle.wire_marks.specs.Marking.{next_of, IsStuckAt, IsNextBase}
 use Rattle.wire_marks.specs.Meeting.{AreMarked, IsJoined}

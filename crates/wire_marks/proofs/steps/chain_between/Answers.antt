@@ -2,7 +2,7 @@ use Rattle.std.proofs.Common.{◌∙◌, inl, inr, sym, subst}
 use Rattle.std.proofs.lemmas.List.{append-nil}
 use Rattle.std.proofs.lemmas.Bool.{true≢false}
 use Rattle.wire_runs.specs.Plan.{event_of}
-use Rattle.wire_rehearsal.specs.Planned.{plan_of}
+use Rattle.wire_content.specs.Planned.{plan_of}
 use Rattle.wire_runs.specs.Order.{Live}
 use Rattle.wire_marks.proofs.Growing.{after_live, clock_falls}
 use Rattle.wire_marks.specs.Chain.{IsShown}

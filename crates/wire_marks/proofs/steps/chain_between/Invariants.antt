@@ -1,6 +1,6 @@
 use Rattle.std.proofs.Common.{List, map, reverse, ◌++◌}
 use Rattle.wire_runs.specs.Plan.{Event, event_of, process_count}
-use Rattle.wire_rehearsal.specs.Planned.{plan_of}
+use Rattle.wire_content.specs.Planned.{plan_of}
 use Rattle.wire_marks.specs.Clocks.{LeadsTo, clock_of}
 use Rattle.wire_marks.specs.Chain.{IsShown}
 use Rattle.wire_marks.specs.Marking.{sum_to}

@@ -2,7 +2,7 @@ use Rattle.std.proofs.Common.{◌≡◌, ℕ, Option, Some, None, map, ap, refl}
 use Rattle.std.specs.Prelude.{option_map, slice_get, IfSome}
 use Rattle.wire_runs.specs.Plan.{Event, event_of}
 use Rattle.wire_types.specs.declared.Proc.{Proc}
-use Rattle.wire_rehearsal.specs.Planned.{plan_of}
+use Rattle.wire_content.specs.Planned.{plan_of}
 use Rattle.wire_runs.specs.Order.{Edge}
 use Rattle.wire_marks.specs.Marking.{next_of}
 use Rattle.wire_marks.proofs.Joining.{awaited_edge, arrival_edge}

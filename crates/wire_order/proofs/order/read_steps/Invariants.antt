@@ -1,5 +1,5 @@
 use Rattle.std.proofs.Common.{◌≡◌, ◌+◌, ◌<◌, ◌^◌, length}
-use Rattle.wire_rehearsal.specs.Scripts.{numbers_of}
+use Rattle.wire_content.specs.Scripts.{numbers_of}
 use Rattle.wire_script.specs.Statements.{statements}
 use Rattle.wire_script.specs.Left.{statements_left}
 use Rattle.wire_order.specs.Order.{order_of}

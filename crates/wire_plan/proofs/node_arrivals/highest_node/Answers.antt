@@ -1,7 +1,7 @@
 use Rattle.std.proofs.Common.{◌≤◌, arith, inl, inr}
 use Rattle.std.proofs.lemmas.Bool.{cases_lt}
 use Rattle.wire_runs.specs.Plan.{process_count}
-use Rattle.wire_rehearsal.specs.Planned.{plan_of}
+use Rattle.wire_content.specs.Planned.{plan_of}
 use Rattle.wire_plan.proofs.Bringing.{node_past}
 use Rattle.wire_plan.proofs.node_arrivals.highest_node.Goals as goal
 

@@ -1,6 +1,6 @@
 use Rattle.std.proofs.Common.{ℕ, ◌<◌, ◌≤◌}
 use Rattle.wire_runs.specs.Plan.{node_of}
-use Rattle.wire_rehearsal.specs.Planned.{plan_of}
+use Rattle.wire_content.specs.Planned.{plan_of}
 use Rattle.wire_plan.proofs.node_arrivals.highest_node.Given as goal
 
 abbrev pub invariant-loop-number : goal.invariant-loop-number

@@ -1,5 +1,5 @@
 use Rattle.std.proofs.Common.{arith}
-use Rattle.wire_rehearsal.specs.Planned.{planned_call}
+use Rattle.wire_content.specs.Planned.{planned_call}
 use Rattle.wire_plan.specs.Kinds.{kind_of}
 use Rattle.wire_plan.proofs.Planning.{few_kinds, events_step, numbers_step, starts_step}
 use Rattle.wire_plan.proofs.row.row_of.Goals as goal

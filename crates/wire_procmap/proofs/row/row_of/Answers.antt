@@ -1,5 +1,5 @@
 use Rattle.std.proofs.Common.{◌∙◌, ap, sym}
-use Rattle.wire_rehearsal.specs.Scripts.{Process}
+use Rattle.wire_content.specs.Scripts.{Process}
 use Rattle.wire_procmap.proofs.Rows.{job_there, node_there, row_is}
 use Rattle.wire_procmap.proofs.row.row_of.Goals as goal
 

@@ -1,4 +1,4 @@
-use Rattle.wire_rehearsal.specs.Planned.{plan_of}
+use Rattle.wire_content.specs.Planned.{plan_of}
 use Rattle.wire_runs.proofs.Basics.{event_within}
 use Rattle.wire_races.proofs.key_fates.served_reply.Goals as goal
 

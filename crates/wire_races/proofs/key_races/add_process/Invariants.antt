@@ -1,4 +1,4 @@
-use Rattle.wire_rehearsal.specs.Planned.{plan_of}
+use Rattle.wire_content.specs.Planned.{plan_of}
 use Rattle.wire_races.specs.Adding.{Adds, ToldIn}
 use Rattle.wire_races.specs.KeyRaces.{IsKeyRaceBy}
 use Rattle.wire_races.proofs.key_races.add_process.Given as goal

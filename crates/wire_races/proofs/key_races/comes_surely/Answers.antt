@@ -1,7 +1,7 @@
 use Rattle.std.proofs.Common.{sym, subst}
 use Rattle.std.proofs.lemmas.Bool.{true≢false}
 use Rattle.wire_runs.specs.Plan.{event_of}
-use Rattle.wire_rehearsal.specs.Planned.{plan_of}
+use Rattle.wire_content.specs.Planned.{plan_of}
 use Rattle.wire_races.specs.KeyRaces.{IsSure}
 use Rattle.wire_races.proofs.Deliveries.{surely, first_sure, never_sure}
 use Rattle.wire_races.proofs.key_races.comes_surely.Goals as goal

@@ -1,6 +1,6 @@
 use Rattle.std.proofs.Common.{map}
 use Rattle.wire_runs.specs.Plan.{event_of}
-use Rattle.wire_rehearsal.specs.Planned.{plan_of}
+use Rattle.wire_content.specs.Planned.{plan_of}
 use Rattle.wire_races.proofs.Arrivals.{late_tells, may_live, may_none_after}
 use Rattle.wire_races.proofs.key_races.late_source.Goals as goal
 

@@ -1,4 +1,4 @@
-use Rattle.wire_rehearsal.specs.Planned.{plan_of}
+use Rattle.wire_content.specs.Planned.{plan_of}
 use Rattle.wire_races.proofs.Deliveries.{next_from}
 use Rattle.wire_races.proofs.key_races.next_arrival.Goals as goal
 

@@ -1,4 +1,4 @@
-use Rattle.wire_rehearsal.specs.Planned.{plan_of}
+use Rattle.wire_content.specs.Planned.{plan_of}
 use Rattle.wire_races.proofs.AllKinds.{all_kinds}
 use Rattle.wire_races.proofs.list.all_findings.Goals as goal
 

@@ -1,6 +1,6 @@
 use Rattle.std.proofs.Common.{◌<◌, ◌≤◌, map, length, subst, arith}
 use Rattle.wire_runs.specs.Plan.{event_of}
-use Rattle.wire_rehearsal.specs.Planned.{plan_of}
+use Rattle.wire_content.specs.Planned.{plan_of}
 use Rattle.wire_races.specs.Collected.{IsAdded}
 use Rattle.wire_races.proofs.Lists.{place_at}
 use Rattle.wire_races.proofs.Growing.{adds_none, adds_same}

@@ -2,7 +2,7 @@ use Rattle.std.proofs.Common.{◌∙◌, map, sym}
 use Rattle.std.proofs.lemmas.Bool.{true≢false}
 use Rattle.std.proofs.lemmas.Result.{on_ok_weaker}
 use Rattle.wire_runs.specs.Plan.{event_of}
-use Rattle.wire_rehearsal.specs.Planned.{plan_of}
+use Rattle.wire_content.specs.Planned.{plan_of}
 use Rattle.wire_races.specs.NameRaces.{IsRaceFrom, IsRaceWith}
 use Rattle.wire_races.proofs.Growing.{adds_none, adds_same}
 use Rattle.wire_races.proofs.NameRaces.{from_with, with_from, from_live}

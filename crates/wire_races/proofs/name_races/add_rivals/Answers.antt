@@ -1,6 +1,6 @@
 use Rattle.std.proofs.Common.{◌∙◌, ap, sym, refl, map, subst, option_copied}
 use Rattle.wire_runs.specs.Plan.{event_of}
-use Rattle.wire_rehearsal.specs.Planned.{plan_of}
+use Rattle.wire_content.specs.Planned.{plan_of}
 use Rattle.wire_races.specs.NameRaces.{AreOf, AreRivals}
 use Rattle.wire_races.proofs.Lists.{both_parts, none_there}
 use Rattle.wire_races.proofs.NameRaces.{IsLeft, first_rivals, other_rivals, less_left, none_left}

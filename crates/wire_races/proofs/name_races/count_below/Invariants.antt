@@ -1,6 +1,6 @@
 use Rattle.std.proofs.Common.{◌-◌, ◌≤◌, ℕ, length, map}
 use Rattle.wire_runs.specs.Plan.{event_of}
-use Rattle.wire_rehearsal.specs.Planned.{plan_of}
+use Rattle.wire_content.specs.Planned.{plan_of}
 use Rattle.wire_races.specs.NameRaces.{AreCallsOn, AreOf, IsBelow}
 use Rattle.wire_races.proofs.NameRaces.{IsNarrowed}
 use Rattle.wire_races.proofs.name_races.count_below.Given as goal

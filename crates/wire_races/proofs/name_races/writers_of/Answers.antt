@@ -2,7 +2,7 @@ use Rattle.std.proofs.Common.{◌∙◌, ◌+◌, ap, map, sym, subst, arith}
 use Rattle.std.proofs.lemmas.Bool.{true≢false}
 use Rattle.std.proofs.lemmas.List.{length-map, map-append}
 use Rattle.wire_runs.specs.Plan.{event_of}
-use Rattle.wire_rehearsal.specs.Planned.{plan_of}
+use Rattle.wire_content.specs.Planned.{plan_of}
 use Rattle.wire_runs.specs.EventLists.{AreAll}
 use Rattle.wire_races.proofs.Lists.{place_at}
 use Rattle.wire_races.proofs.Calls.{starts_within, starts_named}
@@ -10,8 +10,8 @@ use Rattle.wire_races.proofs.Rivals.{IsWriterBelow, one_writer, no_writer, every
 use Rattle.wire_races.proofs.name_races.writers_of.Goals as goal
 use Rattle.wire_races.proofs.name_races.writers_of.Goals.{then-writes+in_ok-push, else-writes}
 
-pub writes-requires : goal.writes-requires
-writes-requires c =
+pub is_write-requires : goal.is_write-requires
+is_write-requires c =
     let plan = plan_of c.args.plan.now in
     let calls = c.name_calls-calls.result.now in
     starts_within plan _ (starts_named plan c.args.name _ (c.name_calls-calls.ensures.only c.loop-event.event-index _ (place_at calls c.loop-event.event-index _ c.loop-event-test.true)))
@@ -25,13 +25,13 @@ loop-event-preserved c =
     let n = c.loop-event.event-index in
     let at = place_at calls n _ c.loop-event-test.true in
     let before = map event_of c.loop-event.writers.items in
-    elim c.if-writes.branch [
+    elim c.if-is_write.branch [
       | then-writes+in_ok-push w ↦
           let items = ap (map event_of) w.in_ok-push.ensures.items ∙ map-append event_of c.loop-event.writers.items _ in
           rw w.writers-is (subst (λ l. AreAll (IsWriterBelow plan name (map event_of calls) (n + 1)) l) (sym items)
-          (one_writer plan name (map event_of calls) all n (n + 1) before _ (omega arith) at (sym c.writes.ensures ∙ w.if-writes.true) c.loop-event.invariant))
+          (one_writer plan name (map event_of calls) all n (n + 1) before _ (omega arith) at (sym c.is_write.ensures ∙ w.if-writes.true) c.loop-event.invariant))
       | else-writes w ↦
-          rw w.writers-is (no_writer plan name (map event_of calls) all n (n + 1) before _ (omega arith) at (λ t. true≢false (sym t ∙ sym c.writes.ensures ∙ w.if-writes.false)) c.loop-event.invariant)
+          rw w.writers-is (no_writer plan name (map event_of calls) all n (n + 1) before _ (omega arith) at (λ t. true≢false (sym t ∙ sym c.is_write.ensures ∙ w.if-writes.false)) c.loop-event.invariant)
     ]
 
 pub returns : goal.returns

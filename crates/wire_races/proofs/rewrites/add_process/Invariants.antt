@@ -1,4 +1,4 @@
-use Rattle.wire_rehearsal.specs.Planned.{plan_of}
+use Rattle.wire_content.specs.Planned.{plan_of}
 use Rattle.wire_races.specs.Adding.{Adds, ToldIn}
 use Rattle.wire_races.specs.Rewriting.{IsRewriteBy}
 use Rattle.wire_races.proofs.rewrites.add_process.Given as goal

@@ -1,7 +1,7 @@
 use Rattle.std.proofs.Common.{◌∙◌, ◌++◌, sym, subst, map, List}
 use Rattle.wire_runs.specs.Plan.{event_of}
 use Rattle.wire_types.specs.declared.Event.{Event}
-use Rattle.wire_rehearsal.specs.Planned.{plan_of}
+use Rattle.wire_content.specs.Planned.{plan_of}
 use Rattle.wire_report.specs.Chain.{event_lines}
 use Rattle.wire_report.specs.There.{AreThere}
 use Rattle.wire_report.proofs.Chains.{shown_there, tells_before, tells_after, tells_unordered, if_ok, none_of}

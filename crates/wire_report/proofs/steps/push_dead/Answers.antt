@@ -1,8 +1,8 @@
 use Rattle.std.proofs.Common.{◌∙◌, [], ◌++◌, ap, sym, refl, subst}
 use Rattle.std.proofs.lemmas.List.{append-nil}
 use Rattle.wire_runs.specs.Order.{Live}
-use Rattle.wire_rehearsal.specs.Scripts.{Scripts}
-use Rattle.wire_rehearsal.specs.Planned.{plan_of}
+use Rattle.wire_content.specs.Scripts.{Scripts}
+use Rattle.wire_content.specs.Planned.{plan_of}
 use Rattle.wire_report.specs.Chain.{dead_line, Dead, Alive}
 use Rattle.wire_report.proofs.Chains.{on_ok}
 use Rattle.wire_report.proofs.steps.push_dead.Goals as goal

@@ -2,7 +2,7 @@ use Rattle.std.proofs.Common.{◌≡◌, ◌*◌, ◌≤◌, length, take, vec_c
 use Rattle.std.specs.List.{flat_map}
 use Rattle.wire_words.specs.Chunks.{IsOnItsWay}
 use Rattle.wire_report.specs.Findings.{finding_line}
-use Rattle.wire_report.specs.Lines.{AreWordsOf}
+use Rattle.wire_report.specs.FindingLines.{AreWordsOf}
 use Rattle.wire_report.proofs.streaming.write_lines.Given as goal
 
 -- the lines so far are on their way, and none of them is longer than there is room for

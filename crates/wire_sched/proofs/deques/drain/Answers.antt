@@ -1,11 +1,11 @@
 use Rattle.std.proofs.Common.{List, arith, subst, sym, ◌∙◌}
 use Rattle.crossbeam_deque.specs.Handles.{worker_view}
 use Rattle.wire_sched.specs.declared.rule.Piece.{Piece}
-use Rattle.wire_sched.specs.declared.rule.Hand.{Hand}
+use Rattle.wire_sched.specs.declared.rule.DequeView.{DequeView}
 use Rattle.wire_sched.proofs.Drains.{Draining, drains_more, drains_room, drains_all}
 use Rattle.wire_sched.proofs.deques.drain.Goals as goal
 
-abbrev DrainingTo : Hand → Hand → List Piece → List Piece → Type 0
+abbrev DrainingTo : DequeView → DequeView → List Piece → List Piece → Type 0
 DrainingTo v w before now = Draining v w before now
 
 pub push_reserved-requires : goal.push_reserved-requires

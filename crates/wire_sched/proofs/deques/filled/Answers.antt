@@ -1,7 +1,7 @@
 use Rattle.std.proofs.Common.{◌≡◌, List, [], ◌∷◌, ◌++◌, ap, sym, subst, arith, ◌∙◌}
 use Rattle.wire_sched.specs.declared.rule.Piece.{Piece}
-use Rattle.wire_sched.specs.declared.rule.Hand.{Hand}
-use Rattle.wire_sched.specs.Hands.{hand, all_parts}
+use Rattle.wire_sched.specs.declared.rule.DequeView.{DequeView}
+use Rattle.wire_sched.specs.Views.{deque_view, all_parts}
 use Rattle.wire_sched.specs.Rules.{Puts}
 use Rattle.wire_sched.specs.Deques.{IsFilled}
 use Rattle.wire_sched.proofs.Deals.{begins, deals}
@@ -20,8 +20,8 @@ turns-init c =
 pub push_as-requires-clause-pushes : goal.push_as-requires-clause-pushes
 push_as-requires-clause-pushes c = deals _ _ _ (ap (λ v. v.parts) c.turns.invariant.0.1)
 
-one_more : (v w : Hand) (dealt : List Piece) (x y : Piece) → Puts v (x ∷ []) w → x ≡ y → v ≡ hand all_parts 0 dealt [] → w ≡ hand all_parts 0 (dealt ++ y ∷ []) []
-one_more v w dealt x y puts same before = puts ∙ ap (λ (z : Piece). hand v.parts v.below (v.dealt ++ z ∷ []) v.taken) same ∙ ap (λ (u : Hand). hand u.parts u.below (u.dealt ++ y ∷ []) u.taken) before
+one_more : (v w : DequeView) (dealt : List Piece) (x y : Piece) → Puts v (x ∷ []) w → x ≡ y → v ≡ deque_view all_parts 0 dealt [] → w ≡ deque_view all_parts 0 (dealt ++ y ∷ []) []
+one_more v w dealt x y puts same before = puts ∙ ap (λ (z : Piece). deque_view v.parts v.below (v.dealt ++ z ∷ []) v.taken) same ∙ ap (λ (u : DequeView). deque_view u.parts u.below (u.dealt ++ y ∷ []) u.taken) before
 
 pub turns-preserved : goal.turns-preserved
 turns-preserved c =

@@ -3,14 +3,14 @@ use mathlib.Core.Option.{some}
 use lib.ListN.{get_elem?}
 use Rattle.crossbeam_deque.proofs.Lists.{at_index}
 use Rattle.wire_sched.specs.declared.round.Pass.{Pass}
-use Rattle.wire_sched.specs.Rounds.{Token}
+use Rattle.wire_sched.specs.Rounds.{Permit}
 use Rattle.wire_sched.proofs.Joins.{Rowing, rowing_nothing, rowing_next, rowing_more, rowing_ends}
 use Rattle.wire_sched.proofs.deques.join_row.Goals as goal
 
 pub row-init : goal.row-init
 row-init c = rowing_nothing _ _ c.requires.0
 
-abbrev RowingTo : List Pass → List Pass → List Token → List Token → Type 0
+abbrev RowingTo : List Pass → List Pass → List Permit → List Permit → Type 0
 RowingTo first now all left = Rowing first now all left
 
 pub join_one-requires-clause-token : goal.join_one-requires-clause-token

@@ -1,15 +1,15 @@
 use Rattle.std.proofs.Common.{ℕ, List, set, ◌+◌, ◌<◌, length, arith, subst, sym, refl}
 use Rattle.crossbeam_deque.proofs.Lists.{at_index}
 use Rattle.wire_sched.proofs.Rows.{RowSoFar, row_goes_on, row_ends, row_next}
-use Rattle.wire_sched.specs.Rounds.{Token}
+use Rattle.wire_sched.specs.Rounds.{Permit}
 use Rattle.wire_sched.specs.declared.round.Pass.{Pass}
 use Rattle.wire_sched.proofs.deques.row.Goals as goal
 
-abbrev RowTo : List Pass → List Pass → ℕ → List Token → Type 0
+abbrev RowTo : List Pass → List Pass → ℕ → List Permit → Type 0
 RowTo before now i row = RowSoFar before now row i
 
-pub token_of-requires : goal.token_of-requires
-token_of-requires c =
+pub permit_of-requires : goal.permit_of-requires
+permit_of-requires c =
     let k : c.loop-i.i < length c.loop-i.passes.items = omega (arith, c.loop-i.invariant.0.same_length) in
     c.requires _ _ (row_next _ _ _ _ _ c.loop-i.invariant.0 (at_index _ _ _ k c.index_mut.ensures.value))
 
@@ -17,8 +17,8 @@ pub loop-i-preserved : goal.loop-i-preserved
 loop-i-preserved c =
     let k : c.loop-i.i < length c.loop-i.passes.items = omega (arith, c.loop-i.invariant.0.same_length) in
     let at = at_index _ _ _ k c.index_mut.ensures.value in
-    let q : Pass = record { worker = c.index_mut.result.now.worker; own = c.token_of.new.own; tokens = c.index_mut.result.now.tokens } in
-    let next = row_goes_on c.args.passes.now.items c.loop-i.passes.items c.loop-i.row.items c.loop-i.i c.index_mut.result.now q c.token_of.result c.loop-i.invariant.0 at (refl, c.token_of.ensures.same, refl, c.token_of.ensures.view) c.token_of.ensures.token in
+    let q : Pass = record { worker = c.index_mut.result.now.worker; own = c.permit_of.new.own; tokens = c.index_mut.result.now.tokens } in
+    let next = row_goes_on c.args.passes.now.items c.loop-i.passes.items c.loop-i.row.items c.loop-i.i c.index_mut.result.now q c.permit_of.result c.loop-i.invariant.0 at (refl, c.permit_of.ensures.same, refl, c.permit_of.ensures.view) c.permit_of.ensures.token in
     (subst (RowTo c.args.passes.now.items (set c.loop-i.passes.items c.loop-i.i q) (c.loop-i.i + 1)) (sym c.push_reserved.ensures.items) next, omega arith)
 
 pub returns-clause-cut : goal.returns-clause-cut

@@ -1,5 +1,5 @@
 use Rattle.std.proofs.Common.{◌≡◌, ◌++◌, map, drop}
-use Rattle.wire_rehearsal.specs.Scripts.{numbers_of}
+use Rattle.wire_content.specs.Scripts.{numbers_of}
 use Rattle.wire_script.specs.Reads.{places_from}
 use Rattle.wire_script.specs.Targets.{is_any_target}
 use Rattle.wire_script.specs.Drafted.{started_of}

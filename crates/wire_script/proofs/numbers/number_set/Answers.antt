@@ -1,5 +1,5 @@
 use Rattle.std.proofs.Common.{◌∙◌, ap, refl}
-use Rattle.wire_rehearsal.specs.Scripts.{numbers_of}
+use Rattle.wire_content.specs.Scripts.{numbers_of}
 use Rattle.wire_script.specs.FirstPass.{number_or_count}
 use Rattle.wire_script.proofs.Seen.{known_below, new_past, number_kept, number_pushed}
 use Rattle.wire_script.proofs.numbers.number_set.Goals as goal

@@ -1,6 +1,6 @@
 use Rattle.std.proofs.Common.{map, ◌∙◌, ◌≤◌, ap, sym, refl, arith, length}
 use Rattle.std.proofs.lemmas.Option.{slice_get_read}
-use Rattle.wire_rehearsal.specs.Planned.{plan_of}
+use Rattle.wire_content.specs.Planned.{plan_of}
 use Rattle.wire_runs.specs.Sight.{held, for_others}
 use Rattle.wire_runs.specs.Step.{run}
 use Rattle.wire_core.specs.Seeing.{seen_as, brought_of}

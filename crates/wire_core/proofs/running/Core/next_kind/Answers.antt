@@ -1,6 +1,6 @@
 use Rattle.std.proofs.Common.{◌≤◌, ap, sym, arith}
 use Rattle.wire_runs.specs.Plan.{event_count}
-use Rattle.wire_rehearsal.specs.Planned.{plan_of}
+use Rattle.wire_content.specs.Planned.{plan_of}
 use Rattle.wire_core.specs.Course.{state_of}
 use Rattle.wire_core.proofs.Ranks.{event_past}
 use Rattle.wire_core.proofs.running.Core.next_kind.Goals as goal

@@ -1,5 +1,5 @@
 use Rattle.wire_plan.specs.Kinds.{kind_of}
-use Rattle.wire_rehearsal.specs.Planned.{plan_of}
+use Rattle.wire_content.specs.Planned.{plan_of}
 use Rattle.wire_runs.proofs.Basics.{process_within}
 use Rattle.wire_core.specs.Course.{state_of}
 use Rattle.wire_core.proofs.running.Core.reply.Goals as goal

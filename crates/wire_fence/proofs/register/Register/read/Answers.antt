@@ -4,12 +4,12 @@ use Rattle.std.proofs.lemmas.Grind.{get_or_default_zero}
 use Rattle.std.proofs.lemmas.List.{length-map}
 use Rattle.wire_types.specs.declared.Call.{Call}
 use Rattle.wire_types.specs.declared.Call.TheVariants.{Fence}
-use Rattle.wire_rehearsal.specs.Scripts.{numbers_of, set_at}
-use Rattle.wire_fence.specs.declared.register.Row.{Row}
+use Rattle.wire_content.specs.Scripts.{numbers_of, set_at}
+use Rattle.wire_fence.specs.declared.register.FenceDraft.{FenceDraft}
 use Rattle.wire_fence.specs.Register.{IsCalled, IsAfter}
 use Rattle.wire_fence.proofs.register.Register.read.Goals as goal
 
-after_fence : (sets : List (List ℕ)) (call : Call) (which : ℕ) (collect : Bool) (rows new : List Row) (counts : List ℕ) (before members n : ℕ)
+after_fence : (sets : List (List ℕ)) (call : Call) (which : ℕ) (collect : Bool) (rows new : List FenceDraft) (counts : List ℕ) (before members n : ℕ)
     → call ≡ Fence which collect → before ≡ slice_index_or counts which 0 → members ≡ length (set_at sets which)
     → IsCalled rows which (before + 1) members collect n new → IsAfter sets call rows counts (Some n) new (set counts which (before + 1))
 after_fence sets call which collect rows new counts before members n is count size called =

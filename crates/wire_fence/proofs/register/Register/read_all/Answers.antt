@@ -1,7 +1,7 @@
 use Rattle.std.proofs.Common.{◌∙◌, ◌+◌, ◌<◌, List, Option, ℕ, length, map, Some, slice_get, subst, sym, ap, arith}
 use Rattle.std.proofs.lemmas.Option.{slice_get-get_or}
 use Rattle.std.proofs.lemmas.List.{map_push}
-use Rattle.wire_rehearsal.specs.Scripts.{numbers_of, calls_in}
+use Rattle.wire_content.specs.Scripts.{numbers_of, calls_in}
 use Rattle.wire_fence.proofs.States.{AllRead, all_more_of}
 use Rattle.wire_fence.proofs.register.Register.read_all.Goals as goal
 

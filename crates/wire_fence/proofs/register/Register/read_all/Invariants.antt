@@ -1,5 +1,5 @@
 use Rattle.std.proofs.Common.{map}
-use Rattle.wire_rehearsal.specs.Scripts.{numbers_of}
+use Rattle.wire_content.specs.Scripts.{numbers_of}
 use Rattle.wire_fence.specs.Register.{IsKeyed}
 use Rattle.wire_fence.proofs.States.{AllRead}
 use Rattle.wire_fence.proofs.register.Register.read_all.Given as goal

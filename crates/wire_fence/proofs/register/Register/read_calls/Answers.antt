@@ -5,7 +5,7 @@ use Rattle.wire_runs.specs.Plan.{update}
 use Rattle.wire_types.specs.declared.Call.{Call}
 use Rattle.wire_types.specs.declared.Call.TheVariants.{Put}
 use Rattle.wire_types.specs.declared.Scope.TheVariants.{Local}
-use Rattle.wire_rehearsal.specs.Scripts.{numbers_of}
+use Rattle.wire_content.specs.Scripts.{numbers_of}
 use Rattle.wire_fence.specs.Register.{AreRead}
 use Rattle.wire_fence.proofs.States.{StateOf, state_first, state_more, count_fits}
 use Rattle.wire_fence.proofs.register.Register.read_calls.Goals as goal

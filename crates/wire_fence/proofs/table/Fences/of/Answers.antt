@@ -1,8 +1,8 @@
 use Rattle.std.proofs.Common.{◌≡◌, ◌∙◌, ℕ, ◌<◌, List, length, map, get_or, subst, sym, ap, arith}
 use Rattle.std.proofs.lemmas.List.FromFn.{length-map-range_with_len}
 use Rattle.wire_runs.specs.Fences.{has_node}
-use Rattle.wire_rehearsal.specs.Scripts.{Process, numbers_of, set_at}
-use Rattle.wire_rehearsal.specs.Planned.{plan_of}
+use Rattle.wire_content.specs.Scripts.{Process, numbers_of, set_at}
+use Rattle.wire_content.specs.Planned.{plan_of}
 use Rattle.wire_procmap.specs.Map.{Map, row_count}
 use Rattle.wire_procmap.specs.Rows.{row_of}
 use Rattle.wire_fence.specs.FenceTable.{AreFencesOf}

@@ -1,6 +1,6 @@
 use Rattle.std.proofs.Common.{◌∙◌, ap, sym, subst}
 use Rattle.std.specs.Prelude.{◌≢◌}
-use Rattle.wire_rehearsal.specs.Planned.{plan_of}
+use Rattle.wire_content.specs.Planned.{plan_of}
 use Rattle.wire_races.specs.declared.Fate.TheVariants.{Waits}
 use Rattle.wire_races.specs.Fates.{IsFateOf}
 use Rattle.wire_board.specs.Seats.{BoardIs, next_of}

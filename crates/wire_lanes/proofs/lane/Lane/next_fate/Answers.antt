@@ -4,8 +4,8 @@ use Rattle.std.proofs.lemmas.Option.{none-some}
 use Rattle.wire_types.specs.declared.Proc.{Proc}
 use Rattle.wire_runs.specs.Plan.{Event, event_count}
 use Rattle.wire_runs.specs.Fate.{Waits, HasFate}
-use Rattle.wire_rehearsal.specs.Scripts.{Scripts}
-use Rattle.wire_rehearsal.specs.Planned.{plan_of}
+use Rattle.wire_content.specs.Scripts.{Scripts}
+use Rattle.wire_content.specs.Planned.{plan_of}
 use Rattle.wire_races.specs.Fates.{IsFateOf}
 use Rattle.wire_board.specs.Cuts.{ShowsSources}
 use Rattle.wire_board.specs.Seats.{hold_of}

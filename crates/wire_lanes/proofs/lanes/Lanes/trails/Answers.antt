@@ -1,5 +1,5 @@
 use Rattle.std.proofs.Common.{sym}
-use Rattle.wire_rehearsal.specs.Planned.{plan_of}
+use Rattle.wire_content.specs.Planned.{plan_of}
 use Rattle.wire_lanes.proofs.Told.{told_trails}
 use Rattle.wire_lanes.proofs.lanes.Lanes.trails.Goals as goal
 

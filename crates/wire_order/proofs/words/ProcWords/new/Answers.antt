@@ -2,7 +2,7 @@ use Rattle.std.proofs.Common.{◌≡◌, ◌∙◌, ap, position, get_or, []}
 use Rattle.std.specs.Str.{bytes_eq}
 use Rattle.std.proofs.lemmas.List.{take_all}
 use Rattle.wire_lines.specs.Said.{spelled_proc}
-use Rattle.wire_rehearsal.specs.Canonical.{process_text}
+use Rattle.wire_content.specs.Canonical.{process_text}
 use Rattle.wire_order.proofs.Table.{position_next}
 use Rattle.wire_order.proofs.words.ProcWords.new.Goals as goal
 

@@ -1,6 +1,6 @@
 use Rattle.std.proofs.Common.{◌≡◌, ℕ, List, take, position}
 use Rattle.std.specs.Str.{bytes_eq}
-use Rattle.wire_rehearsal.specs.Canonical.{process_text}
+use Rattle.wire_content.specs.Canonical.{process_text}
 use Rattle.wire_order.specs.Words.{number_in}
 use Rattle.wire_order.proofs.words.ProcWords.new.Given as goal
 

@@ -1,6 +1,6 @@
 use Rattle.std.proofs.Common.{◌≡◌, ◌≤◌, ◌+◌, suc, subst, arith}
 use Rattle.wire_runs.specs.Plan.{process_count}
-use Rattle.wire_rehearsal.specs.Planned.{plan_of}
+use Rattle.wire_content.specs.Planned.{plan_of}
 use Rattle.wire_plan.specs.Tables.{AreListedTo}
 use Rattle.wire_plan.proofs.Tables.{listed_plan}
 use Rattle.wire_plan.proofs.by_number.ByNumber.of.Goals as goal

@@ -1,4 +1,4 @@
-use Rattle.wire_rehearsal.specs.Planned.{plan_of}
+use Rattle.wire_content.specs.Planned.{plan_of}
 use Rattle.wire_plan.specs.Tables.{AreListedTo}
 use Rattle.wire_plan.proofs.by_number.ByNumber.read_all.Given as goal
 

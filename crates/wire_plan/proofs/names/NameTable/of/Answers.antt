@@ -1,4 +1,4 @@
-use Rattle.wire_rehearsal.specs.Planned.{plan_of}
+use Rattle.wire_content.specs.Planned.{plan_of}
 use Rattle.wire_plan.specs.Tables.{events_listed}
 use Rattle.wire_plan.proofs.Tables.{publishes_listed}
 use Rattle.wire_plan.proofs.names.NameTable.of.Goals as goal

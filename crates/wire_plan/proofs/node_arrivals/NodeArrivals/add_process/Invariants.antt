@@ -1,4 +1,4 @@
-use Rattle.wire_rehearsal.specs.Planned.{plan_of}
+use Rattle.wire_content.specs.Planned.{plan_of}
 use Rattle.wire_plan.specs.Bringing.{AreNodeArrivalsTo}
 use Rattle.wire_plan.proofs.node_arrivals.NodeArrivals.add_process.Given as goal
 

@@ -1,6 +1,6 @@
 use Rattle.std.proofs.Common.{◌≤◌, arith}
 use Rattle.wire_runs.specs.Plan.{process_count}
-use Rattle.wire_rehearsal.specs.Planned.{plan_of}
+use Rattle.wire_content.specs.Planned.{plan_of}
 use Rattle.wire_plan.proofs.Bringing.{plan_looked_at}
 use Rattle.wire_plan.proofs.node_arrivals.NodeArrivals.of.Goals as goal
 

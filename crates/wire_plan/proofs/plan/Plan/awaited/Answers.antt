@@ -1,7 +1,7 @@
 use Rattle.std.proofs.Common.{◌∙◌, ap, sym, subst, Some, eq-eqb}
 use Rattle.std.proofs.lemmas.Bool.{true≢false, eqb-true}
 use Rattle.wire_runs.specs.Plan.{event_of}
-use Rattle.wire_rehearsal.specs.Planned.{plan_of}
+use Rattle.wire_content.specs.Planned.{plan_of}
 use Rattle.wire_plan.specs.Kinds.{kind_of}
 use Rattle.wire_plan.specs.Keys.{AreKeysOf}
 use Rattle.wire_plan.specs.Tables.{AreNamesOf}
@@ -16,10 +16,10 @@ returns-then-eq c =
 
 pub returns-else-eq : goal.returns-else-eq
 returns-else-eq c =
-    key_of_other (plan_of c.args.self.now) (event_of c.args.event) c.in-Get.owner c.in-Get.key c.feeding.result
+    key_of_other (plan_of c.args.self.now) (event_of c.args.event) c.in-Get.owner c.in-Get.key c.feeding_commit.result
     (c.kind.ensures ∙ ap (λ k. Some (kind_of c.args.self.now.sets k)) c.in-Get.is)
     (λ same. true≢false (sym (eq-eqb c.in-Get.owner.number c.args.event.proc.number same) ∙ sym c.if-eq.ensures))
-    (c.feeding.ensures (plan_of c.args.self.now) (subst (λ s. AreKeysOf (plan_of s) c.self.inside.index.keys) c.self.view_is c.self.invariant.1.keys))
+    (c.feeding_commit.ensures (plan_of c.args.self.now) (subst (λ s. AreKeysOf (plan_of s) c.self.inside.index.keys) c.self.view_is c.self.invariant.1.keys))
 
 pub returns-in-LookupWait : goal.returns-in-LookupWait
 returns-in-LookupWait c =

@@ -1,5 +1,5 @@
 use Rattle.std.proofs.Common.{subst}
-use Rattle.wire_rehearsal.specs.Planned.{plan_of}
+use Rattle.wire_content.specs.Planned.{plan_of}
 use Rattle.wire_plan.specs.Keys.{AreKeysOf}
 use Rattle.wire_plan.specs.Bringing.{AreNodeArrivals}
 use Rattle.wire_plan.proofs.plan.Plan.next_delivery.Goals as goal

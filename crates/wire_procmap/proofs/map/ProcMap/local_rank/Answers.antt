@@ -1,8 +1,8 @@
 use Rattle.std.proofs.Common.{ap}
-use Rattle.wire_procmap.specs.declared.row.Row.{Row}
+use Rattle.wire_procmap.specs.declared.row.ProcessNumbers.{ProcessNumbers}
 use Rattle.wire_procmap.specs.Rows.{row_of}
 use Rattle.wire_procmap.proofs.map.ProcMap.local_rank.Goals as goal
 
 pub returns : goal.returns
 unfolding row_of
-returns c = λ s is. ap (λ (r : Row). r.local_rank) (c.row.ensures s is)
+returns c = λ s is. ap (λ (r : ProcessNumbers). r.local_rank) (c.row.ensures s is)

@@ -2,7 +2,7 @@ use Rattle.std.proofs.Common.{◌≡◌, ◌<◌, length, arith, refl}
 use mathlib.Core.Option.{some}
 use lib.ListN.{get_elem?}
 use Rattle.crossbeam_deque.proofs.Lists.{at_index}
-use Rattle.wire_sched.specs.Rounds.{IsToken}
+use Rattle.wire_sched.specs.Rounds.{IsPermit}
 use Rattle.wire_sched.proofs.Passes.{token_share, with_token, took_at}
 use Rattle.wire_sched.proofs.Members.{token_piece}
 use Rattle.wire_sched.proofs.round.Round.steal_take.Goals as goal
@@ -15,7 +15,7 @@ token_at c =
     let k : c.args.victim < length c.args.pass.now.tokens.items = omega (arith, c.requires.pass.count, c.requires.victim.0) in
     at_index _ _ _ k c.index_mut.ensures.value
 
-the_token : (c : goal.After-index_mut) → IsToken c.args.self.now c.args.victim c.index.result.now c.index_mut.result.now
+the_token : (c : goal.After-index_mut) → IsPermit c.args.self.now c.args.victim c.index.result.now c.index_mut.result.now
 the_token c =
     c.requires.pass.tokens _ _ _ (at_index _ _ _ c.requires.victim.0 c.index.ensures) (token_at c)
 

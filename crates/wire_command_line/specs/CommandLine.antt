@@ -1,0 +1,103 @@
+-- The command line of `wire_up` as `clap` reads it, and what the words of one ask for.
+use Rattle.std.specs.Prelude.{◌≡◌, ◌⊎◌, Bool, true, false, List, [], ◌∷◌, map, flat_map, option_to_list, unwrap_or, Option, Some, is_some, codes, if◌then◌else◌}
+use Rattle.std.specs.List.{list_all}
+use Rattle.std.specs.Option.{option_map_or}
+use Rattle.std.specs.Str.{bytes_eq}
+use Rattle.clap.specs.Words.{App, Rule, Row, Text, HasKind, kind_of, fault_of, first_of, new_app, new_rule, with_rule, with_subcommand, subcommand_of}
+use Rattle.clap.specs.declared.builder.action.ArgAction.TheVariants.{SetTrue}
+use Rattle.clap.specs.declared.error.Error.{Error}
+use Rattle.clap.specs.declared.error.kind.ErrorKind.TheVariants.{MissingRequiredArgument}
+use Rattle.wire_command_line.specs.declared.wanted.Asked.{Asked}
+
+-- a word of a command's own, which may be left out or not
+abbrev pub optional_word : Text → Rule
+optional_word name = new_rule name
+
+abbrev pub needed_word : Text → Rule
+needed_word name = record (new_rule name) { required = true }
+
+-- an option with a word of its own, and one without
+abbrev pub option_with_word : Text → Rule
+option_with_word name = record (new_rule name) { long = Some name; value_names = 1 }
+
+abbrev pub flag : Text → Rule
+flag name = record (new_rule name) { long = Some name; action = Some SetTrue }
+
+-- the commands
+abbrev pub check_line : App
+check_line = with_rule (new_app (codes "check")) (optional_word (codes "FILE"))
+
+abbrev pub replay_line : App
+replay_line =
+    with_rule (with_rule (with_rule (with_rule (new_app (codes "replay"))
+    (option_with_word (codes "workers"))) (flag (codes "json"))) (flag (codes "anyway"))) (optional_word (codes "FILE"))
+
+abbrev pub follow_line : App
+follow_line = with_rule (with_rule (new_app (codes "follow")) (needed_word (codes "ORDER"))) (optional_word (codes "FILE"))
+
+abbrev pub why_line : App
+why_line =
+    with_rule (with_rule (with_rule (with_rule (with_rule (new_app (codes "why"))
+    (needed_word (codes "P"))) (needed_word (codes "N"))) (needed_word (codes "Q"))) (needed_word (codes "M"))) (optional_word (codes "FILE"))
+
+-- the program: it needs one of the four, and has a version
+abbrev pub program_alone : App
+program_alone = record (new_app (codes "wire_up")) {
+  top = record (new_app (codes "wire_up")).top { has_version = true; subcommand_required = true };
+}
+
+abbrev pub program_line : App
+program_line =
+    with_subcommand (with_subcommand (with_subcommand (with_subcommand program_alone
+    check_line.top) replay_line.top) follow_line.top) why_line.top
+
+-- the words of a command's own that were given, in the order in which they stand
+abbrev pub words_given : List Row → List Text
+words_given rows = flat_map (λ name. option_to_list (first_of name rows))
+    (codes "ORDER" ∷ codes "P" ∷ codes "N" ∷ codes "Q" ∷ codes "M" ∷ codes "FILE" ∷ [])
+
+-- the words without which a command can't be
+abbrev pub needed_by : Text → List Text
+needed_by command =
+    if bytes_eq command (codes "follow") then codes "ORDER" ∷ []
+    else (if bytes_eq command (codes "why") then codes "P" ∷ codes "N" ∷ codes "Q" ∷ codes "M" ∷ [] else [])
+
+-- they are all given
+abbrev pub has_needed : Text → List Row → Bool
+has_needed command rows = list_all (λ name. is_some (first_of name rows)) (needed_by command)
+
+-- a flag was given
+abbrev pub is_set : Text → List Row → Bool
+is_set name rows = option_map_or (λ word. bytes_eq word (codes "true")) (first_of name rows) false
+
+-- the word of `--workers`, `1` where none was given
+abbrev pub workers_word : List Row → Text
+workers_word rows = unwrap_or (first_of (codes "workers") rows) (codes "1")
+
+-- what the matches of a command say
+pub record SaidBy (name : Text) (rows : List Row) (asked : Asked) : Type 0 where
+  pub command : asked.command.now ≡ name
+  pub words : map (λ w. w.now) asked.words.items ≡ words_given rows
+  pub workers : asked.workers.now ≡ workers_word rows
+  pub json : asked.json ≡ is_set (codes "json") rows
+  pub anyway : asked.anyway ≡ is_set (codes "anyway") rows
+
+-- what the words of a command line ask for: `clap` finds no fault in them, and it is what its matches for them say, each
+-- needed word among them
+pub record AsksFor (words : List Text) (asked : Asked) : Type 0 where
+  pub lawful : fault_of program_line words ≡ []
+  pub command : Text
+  pub rows : List Row
+  pub matches : subcommand_of program_line words ≡ Some (command, rows)
+  pub needed : has_needed command rows ≡ true
+  pub says : SaidBy command rows asked
+
+-- they are those of a command with all that it needs
+abbrev pub is_whole : Option (Text × List Row) → Bool
+is_whole met = option_map_or (λ m. has_needed m.0 m.1) met false
+
+-- why the words of a command line are refused: for a fault that `clap` finds, for want of memory, or for want of a word
+abbrev pub RefusedFor : List Text → Error → Type 0
+RefusedFor words e =
+    HasKind (fault_of program_line words) e
+    ⊎ ((kind_of e ≡ MissingRequiredArgument) × (is_whole (subcommand_of program_line words) ≡ false))

@@ -1,0 +1,141 @@
+//! The commands of the command line, as `clap` takes them.
+
+ghost use Rattle.std.specs.Prelude.{◌≡◌, false, codes, IfOk, IsOkAnd};
+ghost use Rattle.clap.specs.Words.{AddsSubcommand, app_of, rule_of};
+ghost use Rattle.clap.specs.declared.builder.command.Command.TheViews.{out-Command as fields_of};
+ghost use Rattle.wire_command_line.specs.CommandLine as spec;
+
+use crate::help::FAULTS_AND_STATUSES;
+use clap::{Arg, ArgAction, Command};
+use std::alloc::{AllocError, Global};
+
+/// What `--version` shows behind the program's name.
+const VERSION: &str = "0.1.0";
+
+/// The file of scripts, which may be left out.
+fn file_argument<'a>(alloc: Global) -> Arg<'a>
+    ensures rule { rule_of result ≡ spec.optional_word (codes "FILE") }
+    ensures local { result.global ≡ false }
+{
+    Arg::new(alloc, "FILE").help("The file of scripts, standard input if not given")
+}
+
+/// A word that has to be given.
+fn needed_argument<'a>(alloc: Global, name: &'a str, help: &'a str) -> Arg<'a>
+    ensures rule { rule_of result ≡ spec.needed_word name.entry.now }
+    ensures local { result.global ≡ false }
+{
+    Arg::new(alloc, name).help(help).required(true)
+}
+
+/// An option without a word of its own.
+fn flag<'a>(alloc: Global, name: &'a str, help: &'a str) -> Arg<'a>
+    ensures rule { rule_of result ≡ spec.flag name.entry.now }
+    ensures local { result.global ≡ false }
+{
+    Arg::new(alloc, name)
+        .long(name)
+        .help(help)
+        .action(ArgAction::SetTrue)
+}
+
+/// The option that says how many workers there are.
+fn workers_argument<'a>(alloc: Global) -> Arg<'a>
+    ensures rule { rule_of result ≡ spec.option_with_word (codes "workers") }
+    ensures local { result.global ≡ false }
+{
+    Arg::new(alloc, "workers")
+        .long("workers")
+        .value_name("N")
+        .help("How many threads run the scripts, 1 to 64 (1 if not given)")
+}
+
+fn check_command<'a>(alloc: Global) -> Result<Command<'a>, AllocError>
+    ensures app { IfOk result (λ c. app_of c ≡ spec.check_line) }
+    ensures local { IfOk result (λ c. (fields_of c).has_globals ≡ false) }
+{
+    Command::new(alloc, "check")
+        .about("Finds every race between the scripts, and every key that is put twice")
+        .arg(file_argument(alloc))
+}
+
+fn replay_command<'a>(alloc: Global) -> Result<Command<'a>, AllocError>
+    ensures app { IfOk result (λ c. app_of c ≡ spec.replay_line) }
+    ensures local { IfOk result (λ c. (fields_of c).has_globals ≡ false) }
+{
+    let json = "Writes JSON instead of lines";
+    let anyway = "Runs scripts with findings too, and shows in which order their steps came";
+    Command::new(alloc, "replay")
+        .about("Runs the scripts if nothing is found in them, and shows what became of every call")
+        .arg(workers_argument(alloc))?
+        .arg(flag(alloc, "json", json))?
+        .arg(flag(alloc, "anyway", anyway))?
+        .arg(file_argument(alloc))
+}
+
+fn follow_command<'a>(alloc: Global) -> Result<Command<'a>, AllocError>
+    ensures app { IfOk result (λ c. app_of c ≡ spec.follow_line) }
+    ensures local { IfOk result (λ c. (fields_of c).has_globals ≡ false) }
+{
+    let order = "The file of the order: each line names the process that takes the next step";
+    Command::new(alloc, "follow")
+        .about("Runs the scripts in the order of a file, and shows what became of every call")
+        .arg(needed_argument(alloc, "ORDER", order))?
+        .arg(file_argument(alloc))
+}
+
+fn why_command<'a>(alloc: Global) -> Result<Command<'a>, AllocError>
+    ensures app { IfOk result (λ c. app_of c ≡ spec.why_line) }
+    ensures local { IfOk result (λ c. (fields_of c).has_globals ≡ false) }
+{
+    let about = "Tells whether a chain of events orders two calls, and shows the chain";
+    let first = "The process of the first call: its job, a colon and its rank, as app:0";
+    let number = "The number of that call among the calls of its process, from 1";
+    Command::new(alloc, "why")
+        .about(about)
+        .arg(needed_argument(alloc, "P", first))?
+        .arg(needed_argument(alloc, "N", number))?
+        .arg(needed_argument(alloc, "Q", "The process of the second call"))?
+        .arg(needed_argument(alloc, "M", "The number of that call"))?
+        .arg(file_argument(alloc))
+}
+
+/// The program without its commands.
+pub(crate) fn program<'a>(alloc: Global) -> Command<'a>
+    ensures app { app_of result ≡ spec.program_alone }
+    ensures local { (fields_of result).has_globals ≡ false }
+{
+    Command::new(alloc, "wire_up")
+        .about(
+            "Rehearses the wire-up of a PMIx job: finds every race between its ranks, and replays it",
+        )
+        .version(VERSION)
+        .after_help(FAULTS_AND_STATUSES)
+        .subcommand_required(true)
+}
+
+/// The program with one more command, where that could be made.
+fn with_command<'a>(
+    line: Command<'a>,
+    made: Result<Command<'a>, AllocError>,
+) -> Result<Command<'a>, AllocError>
+    ensures { IfOk result (λ after. IsOkAnd made.entry (λ command. AddsSubcommand line.entry command after)) }
+{
+    match made {
+        Ok(command) => line.subcommand(command),
+        Err(error) => {
+            drop(line);
+            Err(error)
+        }
+    }
+}
+
+/// The command line of the program.
+pub fn command_line<'a>(alloc: Global) -> Result<Command<'a>, AllocError>
+    ensures { IfOk result (λ c. app_of c ≡ spec.program_line) }
+{
+    let line = with_command(program(alloc), check_command(alloc))?;
+    let line = with_command(line, replay_command(alloc))?;
+    let line = with_command(line, follow_command(alloc))?;
+    with_command(line, why_command(alloc))
+}

@@ -1,0 +1,165 @@
+//! What the words of a command line ask for.
+
+ghost use Rattle.std.specs.Prelude.{◌≡◌, ◌⊎◌, ◌++◌, List, [], map, is_some, option_to_list, true, false, Some, OnOk, IfOk, IfErr, IfSome, IfNone};
+ghost use Rattle.clap.specs.Words.{Row, Text, HasKind, kind_of, fault_of, first_of, found_of, rows_of, subcommand_of, subcommand_rows_of};
+ghost use Rattle.wire_command_line.specs.CommandLine as spec;
+ghost use Rattle.wire_command_line.specs.CommandLine.{AsksFor, RefusedFor, SaidBy};
+ghost use Rattle.wire_command_line.specs.Requests.{text_of};
+
+use crate::commands::{command_line, program};
+use crate::wanted::Asked;
+use clap::error::ErrorKind;
+use clap::{ArgMatches, Error};
+use std::alloc::{AllocError, Global};
+
+/// The word of this name, if it was given.
+pub(crate) fn find_word<'a>(found: &ArgMatches<'a>, name: &str) -> Option<&'a str>
+    ensures { text_of result ≡ first_of name.now (rows_of (found_of found.now)) }
+{
+    found.get_str(name)
+}
+
+/// Whether a word of this name was given.
+fn has_word(found: &ArgMatches<'_>, name: &str) -> bool
+    ensures { result ≡ is_some (first_of name.now (rows_of (found_of found.now))) }
+{
+    found.get_str(name).is_some()
+}
+
+/// Whether a flag was given.
+pub(crate) fn is_set(found: &ArgMatches<'_>, name: &str) -> bool
+    ensures { result ≡ spec.is_set name.now (rows_of (found_of found.now)) }
+{
+    match found.get_str(name) {
+        Some(word) => word == "true",
+        None => false,
+    }
+}
+
+/// Whether a command has all words that it needs.
+fn has_needed(command: &str, found: &ArgMatches<'_>) -> bool
+    ensures { result ≡ spec.has_needed command.now (rows_of (found_of found.now)) }
+{
+    if command == "follow" {
+        has_word(found, "ORDER")
+    } else if command == "why" {
+        has_word(found, "P") && has_word(found, "N") && has_word(found, "Q") && has_word(found, "M")
+    } else {
+        true
+    }
+}
+
+/// Adds the word of this name, if it was given.
+fn add_word<'a>(
+    words: &mut Vec<&'a str>,
+    found: &ArgMatches<'a>,
+    name: &str,
+) -> Result<(), AllocError>
+    ensures { OnOk result (map (λ w. w.now) words.new.items ≡ map (λ w. w.now) words.old.items ++ option_to_list (first_of name.now (rows_of (found_of found.now)))) }
+{
+    if let Some(word) = found.get_str(name) {
+        words.push(word)?;
+    }
+    Ok(())
+}
+
+/// The words of a command's own that were given.
+fn words_given<'a>(alloc: Global, found: &ArgMatches<'a>) -> Result<Vec<&'a str>, AllocError>
+    ensures { IfOk result (λ v. map (λ w. w.now) v.items ≡ spec.words_given (rows_of (found_of found.now))) }
+{
+    let mut words = Vec::new(alloc);
+    add_word(&mut words, found, "ORDER")?;
+    add_word(&mut words, found, "P")?;
+    add_word(&mut words, found, "N")?;
+    add_word(&mut words, found, "Q")?;
+    add_word(&mut words, found, "M")?;
+    add_word(&mut words, found, "FILE")?;
+    Ok(words)
+}
+
+/// The word of `--workers`, `1` where none was given.
+pub(crate) fn workers_given<'a>(found: &ArgMatches<'a>) -> &'a str
+    ensures { result.now ≡ spec.workers_word (rows_of (found_of found.now)) }
+{
+    match found.get_str("workers") {
+        Some(word) => word,
+        None => "1",
+    }
+}
+
+/// What the matches of a command ask for.
+fn asked_by<'a>(
+    alloc: Global,
+    command: &'a str,
+    found: &ArgMatches<'a>,
+) -> Result<Asked<'a>, AllocError>
+    ensures { IfOk result (λ asked. SaidBy command.entry.now (rows_of (found_of found.now)) asked) }
+{
+    Ok(Asked {
+        command,
+        words: words_given(alloc, found)?,
+        workers: workers_given(found),
+        json: is_set(found, "json"),
+        anyway: is_set(found, "anyway"),
+    })
+}
+
+/// The command that the matches name, with its own, where it has all that it needs.
+fn whole<'m, 'a>(matches: &'m ArgMatches<'a>) -> Option<(&'a str, &'m ArgMatches<'a>)>
+    ensures met { IfSome result (λ m. subcommand_rows_of matches.now ≡ Some (m.0.now, rows_of (found_of m.1.now))) }
+    ensures needed { IfSome result (λ m. spec.has_needed m.0.now (rows_of (found_of m.1.now)) ≡ true) }
+    ensures none { IfNone result (spec.is_whole (subcommand_rows_of matches.now) ≡ false) }
+{
+    let (command, found) = matches.subcommand()?;
+    if has_needed(command, found) {
+        Some((command, found))
+    } else {
+        None
+    }
+}
+
+/// The error of a word that is missing.
+pub(crate) fn tell_missing(alloc: Global) -> Result<Error, AllocError>
+    ensures { IfOk result (λ e. kind_of e ≡ ErrorKind.MissingRequiredArgument) }
+{
+    let mut line = program(alloc);
+    let error = line.error(ErrorKind::MissingRequiredArgument, "a word is missing");
+    drop(line);
+    error
+}
+
+/// The matches of `clap` for the words of a command line.
+pub(crate) fn match_words<'a>(alloc: Global, words: &'a [&'a str]) -> Result<ArgMatches<'a>, Error>
+    ensures lawful { OnOk result (fault_of spec.program_line (map (λ w. w.now) words.entry.now) ≡ []) }
+    ensures command { IfOk result (λ m. subcommand_rows_of m ≡ subcommand_of spec.program_line (map (λ w. w.now) words.entry.now)) }
+    ensures err { IfErr result (HasKind (fault_of spec.program_line (map (λ w. w.now) words.entry.now))) }
+{
+    command_line(alloc)?.try_get_matches_from(words)
+}
+
+/// What the command asks for that the matches name.
+fn asked_in<'a>(alloc: Global, matches: &ArgMatches<'a>) -> Result<Asked<'a>, Error>
+    ensures ok { IfOk result (λ asked. (m : Text × List Row) × (subcommand_rows_of matches.now ≡ Some m) × (spec.has_needed m.0 m.1 ≡ true) × SaidBy m.0 m.1 asked) }
+    ensures err { IfErr result (λ e. (kind_of e ≡ ErrorKind.OutOfMemory)
+        ⊎ ((kind_of e ≡ ErrorKind.MissingRequiredArgument) × (spec.is_whole (subcommand_rows_of matches.now) ≡ false))) }
+{
+    match whole(matches) {
+        Some((command, found)) => Ok(asked_by(alloc, command, found)?),
+        None => Err(tell_missing(alloc)?),
+    }
+}
+
+/// What the words of a command line ask for. The first of them is the program's name.
+///
+/// Where it is `Ok`, `clap` finds no fault in the words, and the answer is what its matches for them say, each
+/// word among them that the command needs. An error is one of those that `clap` has for the words, want of memory
+/// among them.
+pub fn asked<'a>(alloc: Global, words: &'a [&'a str]) -> Result<Asked<'a>, Error>
+    ensures ok { IfOk result (λ asked. AsksFor (map (λ w. w.now) words.entry.now) asked) }
+    ensures err { IfErr result (λ e. RefusedFor (map (λ w. w.now) words.entry.now) e) }
+{
+    let matches = match_words(alloc, words)?;
+    let asked = asked_in(alloc, &matches);
+    drop(matches);
+    asked
+}

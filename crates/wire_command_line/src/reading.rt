@@ -1,0 +1,139 @@
+//! The request that the words of a command line make.
+
+ghost use Rattle.std.specs.Prelude.{◌≡◌, ◌≢◌, map, codes, false, Some, None, IfOk, IfErr, IfSome, IfNone, Err};
+ghost use Rattle.clap.specs.Words.{found_of, rows_of, subcommand_rows_of};
+ghost use Rattle.wire_command_line.specs.CommandLine.{has_needed, workers_word};
+ghost use Rattle.wire_command_line.specs.Requests as spec;
+ghost use Rattle.wire_command_line.specs.Requests.{NamesCall, IsRequest, IsRequestBy, IsRequestOf, IsRefusalOf, LacksWorkers};
+ghost use Rattle.wire_command_line.specs.Workers.{workers_said};
+
+use crate::matching::{find_word, is_set, match_words, tell_missing, workers_given};
+use crate::number::workers_of;
+use crate::request::{CallWords, Refusal, Request};
+use clap::ArgMatches;
+use std::alloc::Global;
+
+/// What a command lacks.
+#[derive(Clone, Copy)]
+enum Lack {
+    /// A word that it needs, or its very name.
+    Word,
+    /// A number of workers.
+    Workers,
+}
+
+/// The words of these names as those of a call, where both are given.
+fn read_call<'a>(found: &ArgMatches<'a>, proc: &str, number: &str) -> Option<CallWords<'a>>
+    ensures some { IfSome result (NamesCall proc.now number.now (rows_of (found_of found.now))) }
+    ensures none { IfNone result (spec.has_both proc.now number.now (rows_of (found_of found.now)) ≡ false) }
+{
+    let Some(proc) = find_word(found, proc) else {
+        return None;
+    };
+    let Some(number) = find_word(found, number) else {
+        return None;
+    };
+    Some(CallWords { proc, number })
+}
+
+/// What `replay` is to do, where the word of `--workers` is a number.
+fn read_replay<'a>(found: &ArgMatches<'a>) -> Option<Request<'a>>
+    ensures some { IfSome result (IsRequest (codes "replay") (rows_of (found_of found.now))) }
+    ensures none { IfNone result (workers_said (workers_word (rows_of (found_of found.now))) ≡ None) }
+{
+    let Some(workers) = workers_of(workers_given(found)) else {
+        return None;
+    };
+    Some(Request::Replay {
+        plan: find_word(found, "FILE"),
+        workers,
+        json: is_set(found, "json"),
+        anyway: is_set(found, "anyway"),
+    })
+}
+
+/// What `follow` is to do, where its order is given.
+fn read_follow<'a>(found: &ArgMatches<'a>) -> Option<Request<'a>>
+    ensures some { IfSome result (IsRequest (codes "follow") (rows_of (found_of found.now))) }
+    ensures none { IfNone result (has_needed (codes "follow") (rows_of (found_of found.now)) ≡ false) }
+{
+    let Some(order) = find_word(found, "ORDER") else {
+        return None;
+    };
+    Some(Request::Follow {
+        order,
+        plan: find_word(found, "FILE"),
+    })
+}
+
+/// What `why` is to do, where its two calls are given.
+fn read_why<'a>(found: &ArgMatches<'a>) -> Option<Request<'a>>
+    ensures some { IfSome result (IsRequest (codes "why") (rows_of (found_of found.now))) }
+    ensures none { IfNone result (has_needed (codes "why") (rows_of (found_of found.now)) ≡ false) }
+{
+    let Some(first) = read_call(found, "P", "N") else {
+        return None;
+    };
+    let Some(second) = read_call(found, "Q", "M") else {
+        return None;
+    };
+    Some(Request::Why {
+        first,
+        second,
+        plan: find_word(found, "FILE"),
+    })
+}
+
+/// What the command of this name is to do, where it has all that it needs.
+fn read_command<'a>(name: &str, found: &ArgMatches<'a>) -> Result<Request<'a>, Lack>
+    ensures ok { IfOk result (IsRequest name.now (rows_of (found_of found.now))) }
+    ensures word { result ≡ Err Lack.Word → spec.is_full name.now (rows_of (found_of found.now)) ≡ false }
+    ensures workers { result ≡ Err Lack.Workers
+        → (name.now ≡ codes "replay") × (workers_said (workers_word (rows_of (found_of found.now))) ≡ None) }
+{
+    if name == "check" {
+        let plan = find_word(found, "FILE");
+        return Ok(Request::Check { plan });
+    }
+    if name == "replay" {
+        return read_replay(found).ok_or(Lack::Workers);
+    }
+    if name == "follow" {
+        return read_follow(found).ok_or(Lack::Word);
+    }
+    if name == "why" {
+        return read_why(found).ok_or(Lack::Word);
+    }
+    Err(Lack::Word)
+}
+
+/// What the command is to do that the matches name.
+fn read_matches<'a>(matches: &ArgMatches<'a>) -> Result<Request<'a>, Lack>
+    ensures ok { IfOk result (IsRequestBy (subcommand_rows_of matches.now)) }
+    ensures word { result ≡ Err Lack.Word → spec.is_command (subcommand_rows_of matches.now) ≡ false }
+    ensures workers { result ≡ Err Lack.Workers → LacksWorkers (subcommand_rows_of matches.now) }
+{
+    match matches.subcommand() {
+        Some((name, found)) => read_command(name, found),
+        None => Err(Lack::Word),
+    }
+}
+
+/// What the words of a command line request. The first of them is the program's name.
+///
+/// Where it is `Ok`, `clap` finds no fault in the words, and each word of the request is the one that its matches have by that
+/// name. `Workers` comes only for a `replay` whose word of `--workers` isn't one or more digits. Any other error is one of those
+/// that `clap` has for the words, want of memory among them.
+pub fn read_request<'a>(alloc: Global, words: &'a [&'a str]) -> Result<Request<'a>, Refusal>
+    ensures ok { IfOk result (IsRequestOf (map (λ w. w.now) words.entry.now)) }
+    ensures err { IfErr result (IsRefusalOf (map (λ w. w.now) words.entry.now)) }
+{
+    let matches = match_words(alloc, words)?;
+    let read = read_matches(&matches);
+    drop(matches);
+    match read {
+        Ok(request) => Ok(request),
+        Err(Lack::Workers) => Err(Refusal::Workers),
+        Err(Lack::Word) => Err(Refusal::Usage(tell_missing(alloc)?)),
+    }
+}

@@ -1,0 +1,76 @@
+//! What a command line requests, as a command with all that it needs.
+
+use clap::Error;
+use std::alloc::AllocError;
+
+/// The two words that name a call.
+#[derive(Clone, Copy, Debug)]
+pub struct CallWords<'a> {
+    pub proc: &'a str,
+    /// Its number among the calls of its process.
+    pub number: &'a str,
+}
+
+/// What the program is to do. Without a plan's name, the plan comes from standard input.
+#[derive(Clone, Copy, Debug)]
+pub enum Request<'a> {
+    /// Finds the races of a plan.
+    Check {
+        plan: Option<&'a str>,
+    },
+    /// Runs a plan.
+    Replay {
+        plan: Option<&'a str>,
+        /// 65 for every greater number.
+        workers: usize,
+        /// JSON in place of lines.
+        json: bool,
+        /// Plans in which something is found are run too.
+        anyway: bool,
+    },
+    /// Runs a plan in the order of a file.
+    Follow {
+        order: &'a str,
+        plan: Option<&'a str>,
+    },
+    /// Tells which of two calls is before the other.
+    Why {
+        first: CallWords<'a>,
+        second: CallWords<'a>,
+        plan: Option<&'a str>,
+    },
+}
+
+/// Why a command line requests nothing.
+#[derive(Debug, Drop)]
+pub enum Refusal {
+    /// What `clap` says to the words. Help, the version and want of memory are among it.
+    Usage(Error),
+    /// The word of `--workers` isn't one or more digits.
+    Workers,
+}
+
+impl From<Error> for Refusal {
+    ghost use Rattle.std.specs.Prelude.{◌≡◌};
+    ghost use Rattle.wire_command_line.specs.declared.request.Refusal.TheVariants.{Usage};
+
+    ghost from_gives = { λ error r. r ≡ Usage error };
+
+    fn from(error: Error) -> Refusal {
+        Refusal::Usage(error)
+    }
+}
+
+impl From<AllocError> for Refusal {
+    ghost use Rattle.std.specs.Prelude.{◌≡◌};
+    ghost use Rattle.clap.specs.Words.{kind_of};
+    ghost use Rattle.clap.specs.declared.error.Error.{Error as ClapError};
+    ghost use Rattle.clap.specs.declared.error.kind.ErrorKind.TheVariants.{OutOfMemory};
+    ghost use Rattle.wire_command_line.specs.declared.request.Refusal.TheVariants.{Usage};
+
+    ghost from_gives = { λ _ r. (e : ClapError) × (r ≡ Usage e) × (kind_of e ≡ OutOfMemory) };
+
+    fn from(error: AllocError) -> Refusal {
+        Refusal::Usage(Error::from(error))
+    }
+}

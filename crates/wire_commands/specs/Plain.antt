@@ -1,0 +1,41 @@
+-- What a replay of a file of scripts writes: the report of the plain run of what was to come from the reader.
+use Rattle.std.specs.Prelude.{◌≡◌, ℕ, ◌<◌, List, Option, Ok, Err, IfSome, length, take}
+use Rattle.std.specs.Io.KnownBytes.{Appends}
+use Rattle.wire_types.specs.declared.Fault.{Fault}
+use Rattle.wire_content.specs.Scripts.{Scripts}
+use Rattle.wire_script.specs.Reads.{Reads}
+use Rattle.wire_core.specs.EndsAfter.{plain_ends}
+use Rattle.wire_report.specs.Report.{report}
+
+-- the report of the plain run
+abbrev pub plain_report : Scripts → List ℕ
+plain_report scripts = report scripts (plain_ends scripts)
+
+-- the bytes that were to come from a reader, where that is known
+abbrev pub WereComing : Option (List ℕ) → List ℕ → Type 0
+WereComing coming bytes = IfSome coming (λ all. all ≡ bytes)
+
+-- what was to come read as scripts
+pub record ReadAs (coming : Option (List ℕ)) (scripts : Scripts) : Type 0 where
+  pub bytes : List ℕ
+  pub came : WereComing coming bytes
+  pub reads : Reads bytes (Ok scripts)
+
+-- all of the report of what was to come went out
+pub record WritesReport (coming old new : Option (List ℕ)) : Type 0 where
+  pub scripts : Scripts
+  pub read : ReadAs coming scripts
+  pub wrote : Appends old new (plain_report scripts)
+
+-- exactly the first n bytes of the report of what was to come went out, which aren't all of it
+pub record BreaksOff (coming old new : Option (List ℕ)) (n : ℕ) : Type 0 where
+  pub scripts : Scripts
+  pub read : ReadAs coming scripts
+  pub wrote : Appends old new (take n (plain_report scripts))
+  pub short : n < length (plain_report scripts)
+
+-- the first fault of what was to come
+pub record Refuses (coming : Option (List ℕ)) (fault : Fault) : Type 0 where
+  pub bytes : List ℕ
+  pub came : WereComing coming bytes
+  pub reads : Reads bytes (Err fault)

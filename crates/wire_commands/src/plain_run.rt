@@ -1,0 +1,73 @@
+//! The replay of a file of scripts by one thread.
+
+ghost use Rattle.std.specs.Prelude.{◌≡◌, ◌≢◌, ◌⊎◌, ℕ, Err, OnOk, OnErr, IfOk, IfErr};
+ghost use Rattle.wire_types.specs.declared.Fault.TheVariants.{Memory, Read, Write};
+ghost use Rattle.wire_types.specs.Counting.{one_more};
+ghost use Rattle.wire_commands.specs.Plain.{plain_report, ReadAs, WritesReport, Refuses, BreaksOff};
+
+use crate::reading::read_up_to;
+use std::alloc::Global;
+use wire_core::plain_outcome;
+use wire_plan::Plan;
+use wire_content::Scripts;
+use wire_report::{report_text, write_text};
+use wire_script::{FILE_BYTES, read};
+use wire_types::{Fault, Sink, Source};
+
+/// One byte more than a file may have, so that a longer one is seen to be too long.
+const FILE_BYTES_AND_ONE: usize = FILE_BYTES + 1;
+
+/// The scripts of a file that is read to its end.
+pub fn read_scripts<R: Source>(alloc: Global, reader: &mut R) -> Result<Scripts, Fault>
+    ensures ok { IfOk result (λ scripts. ReadAs (R.coming reader.old) scripts) }
+    ensures quiet { OnOk result (R.failures reader.new ≡ R.failures reader.old) }
+    ensures err { IfErr result (λ e. (e ≡ Memory) ⊎ (e ≡ Read) ⊎ Refuses (R.coming reader.old) e) }
+    ensures read { result ≡ Err Read → R.failures reader.new ≡ one_more (R.failures reader.old) }
+    ensures unfailed { IfErr result (λ e. e ≢ Memory → e ≢ Read → R.failures reader.new ≡ R.failures reader.old) }
+{
+    let bytes = read_up_to(alloc, reader, FILE_BYTES_AND_ONE)?;
+    read(alloc, bytes.as_slice())
+}
+
+/// The report of the plain run of a plan.
+fn report_of(alloc: Global, plan: &Plan) -> Result<Vec<u8>, Fault>
+    ensures ok { IfOk result (λ text. text.items ≡ plain_report plan.now) }
+    ensures err { IfErr result (λ e. e ≡ Memory) }
+{
+    let outcome = plain_outcome(alloc, plan)?;
+    report_text(alloc, plan.scripts(), &outcome, false)
+}
+
+/// The report of the plain run of scripts.
+fn plain_text(alloc: Global, scripts: Scripts) -> Result<Vec<u8>, Fault>
+    ensures ok { IfOk result (λ text. text.items ≡ plain_report scripts) }
+    ensures err { IfErr result (λ e. e ≡ Memory) }
+{
+    let plan = Plan::build(alloc, scripts)?;
+    let text = report_of(alloc, &plan);
+    drop(plan);
+    text
+}
+
+/// Replays a file of scripts: reads it to its end, runs its plan, where at each step the lowest process that can
+/// run takes one, until none can, and then writes what became of every call.
+///
+/// After the fault `Write` the front of the report that it counts is written, after any other fault
+/// nothing. `Memory` may come in place of any other answer. What is said of bytes is said where the
+/// reader and the writer tell theirs.
+pub fn plain<R: Source, W: Sink>(alloc: Global, reader: &mut R, writer: &mut W) -> Result<(), Fault>
+    ensures ok { OnOk result (WritesReport (R.coming reader.old) (W.written writer.old) (W.written writer.new)) }
+    ensures quiet { OnOk result ((R.failures reader.new ≡ R.failures reader.old) × (W.failures writer.new ≡ W.failures writer.old)) }
+
+    // The fault of a file is the first that it has.
+    ensures refused { IfErr result (λ e. e ≢ Memory → e ≢ Read → ((n : ℕ) → e ≢ Write n) → Refuses (R.coming reader.old) e) }
+    ensures read_failed { result ≡ Err Read → R.failures reader.new ≡ one_more (R.failures reader.old) }
+    ensures unfailed { IfErr result (λ e. e ≢ Memory → e ≢ Read → R.failures reader.new ≡ R.failures reader.old) }
+    ensures front { (n : ℕ) → result ≡ Err (Write n) → BreaksOff (R.coming reader.old) (W.written writer.old) (W.written writer.new) n }
+    ensures write_failed { (n : ℕ) → result ≡ Err (Write n) → W.failures writer.new ≡ one_more (W.failures writer.old) }
+    ensures untouched { OnErr result (((n : ℕ) → result ≢ Err (Write n)) → writer.new ≡ writer.old) }
+{
+    let scripts = read_scripts(alloc, reader)?;
+    let text = plain_text(alloc, scripts)?;
+    write_text(writer, text.as_slice())
+}

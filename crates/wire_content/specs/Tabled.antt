@@ -1,0 +1,15 @@
+-- Scripts, put together of their parts.
+use Rattle.std.specs.Prelude.{ℕ, List}
+use Rattle.wire_content.specs.Scripts.{Process, Scripts}
+use Rattle.wire_content.specs.declared.scripts.Tables.{Tables}
+
+abbrev pub scripts_from_parts : List (List ℕ) → List (List ℕ) → Tables → List Process → Scripts
+scripts_from_parts nodes jobs tables processes = record {
+  nodes = nodes;
+  jobs = jobs;
+  keys = tables.keys;
+  names = tables.names;
+  values = tables.values;
+  sets = tables.sets;
+  processes = processes;
+}

@@ -1,0 +1,78 @@
+//! The script of one process.
+
+ghost use Rattle.std.specs.Prelude.{◌≡◌};
+
+use std::marker::Model;
+use wire_types::Call;
+
+/// A process: the numbers of its job and of its node, its rank in the job, and its calls in order.
+#[derive(Drop)]
+pub struct Process {
+    job: u32,
+    rank: u32,
+    node: u32,
+    calls: Vec<Call>,
+}
+
+impl Model for Process {
+    ghost use Rattle.wire_content.specs.Process as spec;
+
+    ghost Value = { spec.Process };
+
+    ghost view = { λ p. record { job = p.job; rank = p.rank; node = p.node; calls = p.calls.items } };
+}
+
+impl Process {
+    pub fn new(job: u32, rank: u32, node: u32, calls: Vec<Call>) -> Process
+        ensures { result ≡ record { job = job; rank = rank; node = node; calls = calls.items } }
+    {
+        Process {
+            job,
+            rank,
+            node,
+            calls,
+        }
+    }
+
+    /// The number of its job.
+    pub fn job(&self) -> u32
+        ensures { result ≡ self.now.job }
+    {
+        self.job
+    }
+
+    /// Its rank in its job, from 0 (PMIX_RANK).
+    pub fn rank(&self) -> u32
+        ensures { result ≡ self.now.rank }
+    {
+        self.rank
+    }
+
+    /// The number of its node.
+    pub fn node(&self) -> u32
+        ensures { result ≡ self.now.node }
+    {
+        self.node
+    }
+
+    pub fn calls(&self) -> &[Call]
+        ensures { result.now ≡ self.now.calls }
+    {
+        self.calls.as_slice()
+    }
+}
+
+impl PartialEq for Process {
+    ghost use Rattle.wire_content.specs.Same.{same_process, processes_alike};
+
+    ghost eq = { same_process };
+
+    ghost laws = { processes_alike };
+
+    fn eq(&self, other: &Process) -> bool {
+        self.job == other.job
+            && self.rank == other.rank
+            && self.node == other.node
+            && self.calls.as_slice() == other.calls.as_slice()
+    }
+}

@@ -1,0 +1,142 @@
+//! The scripts of all processes.
+
+ghost use Rattle.std.specs.Prelude.{◌≡◌};
+ghost use Rattle.wire_content.specs.Scripts.{IsSound};
+ghost use Rattle.wire_content.specs.Tabled.{scripts_from_parts};
+
+use crate::process::Process;
+use crate::sets::Sets;
+use crate::texts::Texts;
+use std::marker::Model;
+
+/// What calls name, numbered as first seen: keys of puts and gets, published names, values of puts and
+/// publishes, and the sets of processes of fences.
+#[derive(Drop)]
+pub struct Tables {
+    pub keys: Texts,
+    pub names: Texts,
+    pub values: Texts,
+    pub sets: Sets,
+}
+
+/// What a file of scripts says: its nodes and jobs as declared, what its calls name, and its processes
+/// in process order, which is the file's job order, then rank.
+#[derive(Drop)]
+pub struct Scripts {
+    nodes: Texts,
+    jobs: Texts,
+    tables: Tables,
+    processes: Vec<Process>,
+}
+
+impl Model for Scripts {
+    ghost use Rattle.wire_content.specs.Scripts as spec;
+    ghost use Rattle.wire_content.specs.Tabled.{scripts_from_parts};
+
+    ghost Value = { spec.Scripts };
+
+    ghost view = { λ s. scripts_from_parts s.nodes s.jobs s.tables s.processes.items };
+
+    ghost invariant = { λ s. spec.IsSound (scripts_from_parts s.nodes s.jobs s.tables s.processes.items) };
+}
+
+impl Scripts {
+    pub fn new(nodes: Texts, jobs: Texts, tables: Tables, processes: Vec<Process>) -> Scripts
+        requires { IsSound (scripts_from_parts nodes jobs tables processes.items) }
+        ensures { result ≡ scripts_from_parts nodes jobs tables processes.items }
+    {
+        Scripts {
+            nodes,
+            jobs,
+            tables,
+            processes,
+        }
+    }
+
+    /// The names of the nodes, by number.
+    pub fn nodes(&self) -> &Texts
+        ensures { result.now ≡ self.now.nodes }
+    {
+        &self.nodes
+    }
+
+    /// The names of the jobs, by number.
+    pub fn jobs(&self) -> &Texts
+        ensures { result.now ≡ self.now.jobs }
+    {
+        &self.jobs
+    }
+
+    /// The keys of puts and gets, by number.
+    pub fn keys(&self) -> &Texts
+        ensures { result.now ≡ self.now.keys }
+    {
+        &self.tables.keys
+    }
+
+    /// The names that are published, looked up and unpublished, by number.
+    pub fn names(&self) -> &Texts
+        ensures { result.now ≡ self.now.names }
+    {
+        &self.tables.names
+    }
+
+    /// The values of puts and publishes, by number.
+    pub fn values(&self) -> &Texts
+        ensures { result.now ≡ self.now.values }
+    {
+        &self.tables.values
+    }
+
+    /// The sets of processes of fences, by number.
+    pub fn sets(&self) -> &Sets
+        ensures { result.now ≡ self.now.sets }
+    {
+        &self.tables.sets
+    }
+
+    /// The processes, in process order: few enough that they, and their calls, can be numbered, the ranks of
+    /// each job counted from 0, each process a member of the fences that it calls, and the owner of each
+    /// get among them.
+    pub fn processes(&self) -> &[Process]
+        ensures processes { result.now ≡ self.now.processes }
+        ensures sound { IsSound self.now }
+    {
+        self.processes.as_slice()
+    }
+}
+
+impl Scripts {
+    ghost use Rattle.std.specs.Prelude.{◌≡◌};
+    ghost use Rattle.wire_content.specs.Same.{same_scripts};
+
+    fn has_same_parts(&self, other: &Scripts) -> bool
+        ensures { result ≡ same_scripts self.now other.now }
+    {
+        self.nodes == other.nodes
+            && self.jobs == other.jobs
+            && self.tables.keys == other.tables.keys
+            && self.tables.names == other.tables.names
+            && self.tables.values == other.tables.values
+            && self.tables.sets == other.tables.sets
+            && self.processes.as_slice() == other.processes.as_slice()
+    }
+}
+
+impl PartialEq for Scripts {
+    ghost use Rattle.std.specs.Prelude.{◌≡◌};
+    ghost use Rattle.std.specs.Bool.{Decides};
+    ghost use Rattle.wire_content.specs.Same.{same_scripts, scripts_alike};
+
+    ghost eq = { same_scripts };
+
+    ghost laws = { scripts_alike };
+
+    /// Whether both say the same, with the same numbers. Takes no memory.
+    fn eq(&self, other: &Scripts) -> bool
+        ensures tested { result ≡ same_scripts self.now other.now }
+        ensures same { Decides result (self.now ≡ other.now) }
+    {
+        self.has_same_parts(other)
+    }
+}

@@ -1,0 +1,24 @@
+use Rattle.std.proofs.Common.{◌≡◌, ◌∙◌, inl, inr, ap, sym, subst, arith}
+use Rattle.std.proofs.lemmas.Bool.{cases_eq, true≢false, OnTrue_at, OnFalse_at}
+use Rattle.wire_content.specs.Planned.{plan_of}
+use Rattle.wire_marks.specs.Marking.{IsStuckAt}
+use Rattle.wire_marks.proofs.Growing.{stuck_same}
+use Rattle.wire_marks.proofs.grow.mark_once.Goals as goal
+use Rattle.wire_marks.proofs.grow.mark_once.Goals.{then-branch, else-branch}
+
+pub loop-number-preserved : goal.loop-number-preserved
+loop-number-preserved c = record {
+  growing = c.in_ok-mark_run.ensures.growing;
+  not_more = let a = c.in_ok-mark_run.ensures.not_more in let b = c.loop-number.invariant.not_more in omega (arith, a, b);
+  falls = elim c.if-branch.branch [
+    | then-branch w ↦ λ t. (let a = OnTrue_at w.if-branch.true c.in_ok-mark_run.ensures.falls in let b = c.loop-number.invariant.not_more in omega (arith, a, b))
+    | else-branch w ↦ λ t. (let a = c.in_ok-mark_run.ensures.not_more in let b = c.loop-number.invariant.falls (sym w.moved-is ∙ t) in omega (arith, a, b))
+  ];
+  stuck = elim c.if-branch.branch [
+    | then-branch w ↦ λ none. absurd (true≢false (sym w.moved-is ∙ none))
+    | else-branch w ↦ λ none p lt. elim (cases_eq p c.loop-number.number) [
+      | inl e ↦ let here : c.new.result.number ≡ c.loop-number.number = ap (λ v. v.number) c.new.ensures in subst (λ q. IsStuckAt (plan_of c.args.plan.now) c.mark_run.new.growth.clocks q) (sym (e ∙ sym here)) c.in_ok-mark_run.ensures.stuck
+      | inr ne ↦ stuck_same (plan_of c.args.plan.now) c.loop-number.growth.clocks c.mark_run.new.growth.clocks p (OnFalse_at w.if-branch.false c.in_ok-mark_run.ensures.same) (c.loop-number.invariant.stuck (sym w.moved-is ∙ none) p (omega (arith, lt, ne)))
+    ]
+  ];
+}

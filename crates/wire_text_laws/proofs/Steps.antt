@@ -1,0 +1,85 @@
+-- The lines of the steps of a run read as an order of these steps.
+use Rattle.std.proofs.Common.{◌≡◌, ◌∙◌, ap, sym, subst, refl, ℕ, ◌+◌, ◌*◌, ◌<◌, ◌≤◌, List, [], ◌∷◌, false, Some, Ok, length, append_assoc, length-append, arith}
+use Rattle.std.specs.Prelude.{⊤}
+use Rattle.std.proofs.lemmas.List.{length-map}
+use borrow.Author.Tests.{le-ltb}
+use Rattle.wire_runs.specs.Plan.{Plan, event_total}
+use Rattle.wire_runs.specs.State.{State, start, next_kind}
+use Rattle.wire_runs.specs.Step.{step, IsInterleaving}
+use Rattle.wire_runs.proofs.Basics.{process_within}
+use Rattle.wire_runs.proofs.Due.{has_event}
+use Rattle.wire_runs.proofs.Length.{runs_end}
+use Rattle.wire_lines.specs.Text.{lines_of, words_of}
+use Rattle.wire_content.specs.Scripts.{Scripts}
+use Rattle.wire_content.specs.Planned.{planned_process, plan_of}
+use Rattle.wire_script.specs.Statements.{is_skipped, statements_from, statements}
+use Rattle.wire_script.specs.FirstPass.{Declared}
+use Rattle.wire_script.specs.Reads.{seen_in, process_of, scripts_of}
+use Rattle.wire_script.proofs.Ranked.{IsGood}
+use Rattle.wire_order.specs.Order.{proc_named, order_of, order_bytes, order_within, order_read}
+use Rattle.wire_words.specs.Words.{name_of}
+use Rattle.wire_report.specs.Unsettled.{step_line}
+use Rattle.wire_text_laws.specs.Again.{steps_text, OrderReadsBack}
+use Rattle.wire_text_laws.proofs.Lines.{line_again, words_again}
+use Rattle.wire_text_laws.proofs.Source.{declared_by}
+use Rattle.wire_text_laws.proofs.Named.{IsStepWord, step_word}
+use Rattle.wire_text_laws.proofs.Length.{few_events}
+
+-- each of some numbers
+abbrev Each : (ℕ → Type 0) → List ℕ → Type 0
+Each P [] = ⊤
+Each P (p ∷ ps) = P p × Each P ps
+
+each_more : (P Q : ℕ → Type 0) → ((p : ℕ) → P p → Q p) → (ps : List ℕ) → Each P ps → Each Q ps
+each_more P Q f [] h = tt
+each_more P Q f (p ∷ ps) h = (f p h.0, each_more P Q f ps h.1)
+
+-- the steps of a run are processes of the plan
+steps_within : (plan : Plan) (s : State) (steps : List ℕ) → IsInterleaving plan s steps → Each (λ p. p < length plan.processes) steps
+steps_within plan s [] h = tt
+steps_within plan s (p ∷ steps) h =
+    let v = has_event plan s p (next_kind plan s p) refl h.0 in
+    (process_within plan p (s.done p) v.0 v.1, steps_within plan (step plan s p) steps h.1)
+
+one_line : (s : Scripts) (n : ℕ) (w : List ℕ) (lines : List (List ℕ)) (p : ℕ) (steps : List ℕ) → words_of w ≡ w ∷ [] → is_skipped (w ∷ []) ≡ false → proc_named s w ≡ Some p
+    → order_of s (statements_from (n + 1) lines) ≡ Ok steps → order_of s (statements_from n (w ∷ lines)) ≡ Ok (p ∷ steps)
+one_line s n w lines p steps words counts named rest = rw (words, counts, named, rest) refl
+
+lines_read : (s : Scripts) (n : ℕ) (steps : List ℕ) → Each (IsStepWord s) steps → order_of s (statements_from n (lines_of (steps_text s steps))) ≡ Ok steps
+lines_read s n [] h = refl
+lines_read s n (p ∷ steps) h =
+    let w = name_of s p in
+    ap (λ t. order_of s (statements_from n (lines_of t))) (append_assoc w (10 ∷ []) (steps_text s steps))
+    ∙ ap (λ l. order_of s (statements_from n l)) (line_again w h.0.word (steps_text s steps))
+    ∙ one_line s n w (lines_of (steps_text s steps)) p steps (words_again w h.0.word) h.0.counts h.0.named (lines_read s (n + 1) steps h.1)
+
+-- a line has at most 74 bytes
+text_short : (s : Scripts) (steps : List ℕ) → Each (IsStepWord s) steps → length (steps_text s steps) ≤ 74 * length steps
+text_short s [] h = omega arith
+text_short s (p ∷ steps) h =
+    let here = h.0.short in
+    let all : length (steps_text s (p ∷ steps)) ≡ length (step_line s p) + length (steps_text s steps) = length-append (step_line s p) (steps_text s steps) in
+    let line : length (step_line s p) ≡ length (name_of s p) + 1 = length-append (name_of s p) (10 ∷ []) in
+    omega (arith, here, all, line, text_short s steps h.1)
+
+read_within : (limit : ℕ) (s : Scripts) (text steps : List ℕ) → length text ≤ limit → order_of s (statements text) ≡ Ok steps → order_within limit s text ≡ Ok steps
+read_within limit s text steps low is = rw (le-ltb limit (length text) low) is
+
+declared_back : (d : Declared) (steps : List ℕ) → IsGood d → event_total (plan_of (scripts_of d)) ≤ 32768 → IsInterleaving (plan_of (scripts_of d)) start steps → order_read (scripts_of d) (steps_text (scripts_of d) steps) ≡ Ok steps
+declared_back d steps g few run =
+    let s = scripts_of d in
+    let count : length (plan_of s).processes ≡ length d.processes = length-map s.processes (planned_process s) ∙ length-map d.processes (process_of d (seen_in d)) in
+    let words = each_more (λ p. p < length (plan_of s).processes) (IsStepWord s) (λ p low. step_word d g p (subst (λ n. p < n) count low)) steps (steps_within (plan_of s) start steps run) in
+    let many = runs_end (plan_of s) steps run in
+    read_within order_bytes s (steps_text s steps) steps (omega (arith, few, many, text_short s steps words)) (lines_read s 1 steps words)
+
+same_steps : (s : Scripts) (text steps others : List ℕ) → order_read s text ≡ Ok steps → order_read s text ≡ Ok others → others ≡ steps
+same_steps s text steps others a b = let is : Ok others ≡ Ok steps = sym b ∙ a in cc
+
+pub order_reads_back : OrderReadsBack
+order_reads_back bytes s steps read run =
+    let r = declared_by bytes s read in
+    let is : order_read s (steps_text s steps) ≡ Ok steps =
+    subst (λ t. order_read t (steps_text t steps) ≡ Ok steps) (sym r.is)
+    (declared_back r.d steps r.good (few_events r.d r.within) (subst (λ t. IsInterleaving (plan_of t) start steps) r.is run)) in
+    record { reads = is; only = λ others e. same_steps s (steps_text s steps) steps others is e }

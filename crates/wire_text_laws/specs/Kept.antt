@@ -1,0 +1,25 @@
+-- What the strings of the JSON forms say of scripts that were read.
+use Rattle.std.specs.Prelude.{◌≡◌, ℕ, List, Ok, map}
+use Rattle.wire_types.specs.declared.Value.{Value}
+use Rattle.wire_content.specs.Scripts.{Scripts, Process}
+use Rattle.wire_content.specs.Canonical.{process_text}
+use Rattle.wire_script.specs.Reads.{Reads}
+use Rattle.wire_races.specs.declared.finding.Finding.{Finding}
+use Rattle.wire_words.specs.Words.{name_of, value_text}
+use Rattle.wire_json.specs.Json.{printed}
+use Rattle.wire_report.specs.Findings.{finding_words}
+
+-- a string has the text as it is: no byte of it is replaced
+abbrev pub IsKept : List ℕ → Type 0
+IsKept text = map printed text ≡ text
+
+-- each text that a JSON form has in a string: a process, a step, what a reply brings, and a finding
+pub record AreKept (s : Scripts) : Type 0 where
+  pub processes : (process : Process) → IsKept (process_text s process)
+  pub steps : (p : ℕ) → IsKept (name_of s p)
+  pub values : (value : Value) → IsKept (value_text s value)
+  pub findings : (finding : Finding) → IsKept (finding_words s finding)
+
+-- of scripts that were read no byte is replaced
+abbrev pub NothingReplaced : Type 0
+NothingReplaced = (bytes : List ℕ) (s : Scripts) → Reads bytes (Ok s) → AreKept s

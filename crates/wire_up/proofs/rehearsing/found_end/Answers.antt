@@ -1,9 +1,0 @@
-use Rattle.wire_rehearsal.specs.Planned.{plan_of}
-use Rattle.wire_up.proofs.Worked.{found_told}
-use Rattle.wire_up.proofs.rehearsing.found_end.Goals as goal
-
-pub returns-clause-ok : goal.returns-clause-ok
-returns-clause-ok g c =
-    let u = c.args.unsettled.now in
-    found_told c.args.mode u.plan u.findings.items c.as_slice.result.now c.with.result c.in_ok-text.text.items (c.settled_exactly.ensures (plan_of u.plan) u.findings.items c.requires.those) c.requires.those c.requires.some c.as_slice.ensures.value c.with.ensures
-    c.in_ok-text.ensures.ok
