@@ -212,10 +212,7 @@ fn judge(
 }
 
 /// The plan of a file as a settled one; `None` where something is found.
-fn settle(
-    rt: &(impl AllocGlobal + Threads + Sync),
-    file: &[u8],
-) -> Result<Option<Settled>, Fault> {
+fn settle(rt: &(impl AllocGlobal + Threads + Sync), file: &[u8]) -> Result<Option<Settled>, Fault> {
     let plan = plan_of_text(rt.alloc(), file)?;
     match judge(rt, &plan) {
         Ok((marks, found)) => match Settled::try_new(plan, marks, found) {

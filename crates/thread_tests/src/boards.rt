@@ -13,10 +13,10 @@ use std::sync::Wait;
 use std::test::Fail;
 use std::thread::{self, Threads, join};
 use wire_board::{Board, Seat};
-use wire_races::{Fate, Settled};
 use wire_core::plain_outcome;
-use wire_sched::{Lanes, OpenGate, Round, work};
 use wire_outcome::outcome_of;
+use wire_races::{Fate, Settled};
+use wire_sched::{Lanes, OpenGate, Round, work};
 use wire_types::{Fault, Outcome, Proc};
 
 /// How often a thread looks before it gives up.

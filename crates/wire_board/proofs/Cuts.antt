@@ -54,20 +54,23 @@ pub record AreTold (plan : Plan) : Type 0 where
   pub some : (y : Event) → (fate : Fate) × HasFate plan y fate
   pub tell : (s : State) → IsReachable plan s → FatesHold plan s
 
-enabled : (plan : Plan) (s : State) (p : ℕ) → AreTold plan → IsReachable plan s → ((x : Event) → Edge plan x (next_event s p) → IsDone s x) → ¬ (HasFate plan (next_event s p) Waits) → is_enabled plan s p ≡ true
+enabled : (plan : Plan) (s : State) (p : ℕ) → AreTold plan → IsReachable plan s → ((x : Event) → Edge plan x (next_event s p) → IsDone s x) → ¬ (HasFate plan (next_event s p) Waits) →
+    is_enabled plan s p ≡ true
 enabled plan s p told r sources comes =
     let f = told.some (next_event s p) in
     ((told.tell s r).enabled p f.0 f.1).1 (sources, λ (e : f.0 ≡ Waits). comes (subst (HasFate plan (next_event s p)) e f.1))
 
 -- the owner of a rank knows that its next event can happen, and so it can
-shown_enabled : (plan : Scripts) (words : List ℕ) (h : Hold) → AreTold (plan_of plan) → (c : IsReachedCut (plan_of plan) words) → Fits plan words h → ShowsNextIn (plan_of plan) h → is_enabled (plan_of plan) c.state h.rank ≡ true
+shown_enabled : (plan : Scripts) (words : List ℕ) (h : Hold) → AreTold (plan_of plan) → (c : IsReachedCut (plan_of plan) words) → Fits plan words h → ShowsNextIn (plan_of plan) h →
+    is_enabled (plan_of plan) c.state h.rank ≡ true
 shown_enabled plan words h told c f shown =
     let same : next_in h ≡ next_event c.state h.rank = λ i. record { proc = h.rank; at = (f.place ∙ sym (c.done h.rank)) i } in
     enabled (plan_of plan) c.state h.rank told c.reached
     (λ x e. let k = shown.sources x (subst (λ y. Edge (plan_of plan) x y) (sym same) e) in let b = f.below x.proc in let d = c.done x.proc in omega (arith, k, b, d))
     (λ w. shown.comes (subst (λ y. HasFate (plan_of plan) y Waits) (sym same) w))
 
-pub reaches : (plan : Scripts) (words : List ℕ) (h : Hold) → AreTold (plan_of plan) → IsReachedCut (plan_of plan) words → Fits plan words h → ShowsNextIn (plan_of plan) h → IsReachedCut (plan_of plan) (set words h.rank (get_or h.known h.rank 0 + 1))
+pub reaches : (plan : Scripts) (words : List ℕ) (h : Hold) → AreTold (plan_of plan) → IsReachedCut (plan_of plan) words → Fits plan words h → ShowsNextIn (plan_of plan) h →
+    IsReachedCut (plan_of plan) (set words h.rank (get_or h.known h.rank 0 + 1))
 reaches plan words h told c f shown =
     subst (λ n. IsReachedCut (plan_of plan) (set words h.rank (n + 1))) (sym f.place)
     (cut_more (plan_of plan) words h.rank f.here c (shown_enabled plan words h told c f shown))

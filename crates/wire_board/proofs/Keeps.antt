@@ -1,5 +1,6 @@
 -- Each kind of step keeps the rule.
-use Rattle.std.proofs.Common.{◌≡◌, ◌≢◌, ℕ, zero, suc, ◌+◌, ◌<◌, ◌≤◌, ◌==◌, Bool, List, [], ◌∷◌, ◌++◌, length, map, take, drop, replicate, set, get_or, refl, sym, ap, ◌∙◌, subst, ⊎_elim, eq-eqb, zero-add, arith, length-set, get_or-set_same, get_or-set_other}
+use Rattle.std.proofs.Common.{◌≡◌, ◌≢◌, ℕ, zero, suc, ◌+◌, ◌<◌, ◌≤◌, ◌==◌, Bool, List, [], ◌∷◌, ◌++◌, length, map, take, drop, replicate, set, get_or, refl, sym, ap, ◌∙◌, subst, ⊎_elim, eq-eqb}
+use Rattle.std.proofs.Common.{zero-add, arith, length-set, get_or-set_same, get_or-set_other}
 use Rattle.std.specs.Prelude.{if◌then◌else◌}
 use Rattle.std.proofs.lemmas.List.{set-get_or, length-replicate}
 use Rattle.std.proofs.lemmas.Bool.Decides.{nat_tests}
@@ -105,7 +106,8 @@ count_map r k n [] = refl
 count_map r k n (h ∷ hs) = ap (λ (c : ℕ). (if h.rank == r then 1 else 0) + c) (count_map r k n hs)
 
 -- one view changed
-fits_set : (P : List Hold → Type 0) (views : List (List Hold)) (by : ℕ) (w : List Hold) → ((j : ℕ) (u : List Hold) → j ≢ by → get_elem? views j ≡ some u → P u) → P w → (j : ℕ) (u : List Hold) → get_elem? (set views by w) j ≡ some u → P u
+fits_set : (P : List Hold → Type 0) (views : List (List Hold)) (by : ℕ) (w : List Hold) → ((j : ℕ) (u : List Hold) → j ≢ by → get_elem? views j ≡ some u → P u) → P w → (j : ℕ) (u : List Hold) →
+    get_elem? (set views by w) j ≡ some u → P u
 fits_set P views by w others mine j u e =
     ⊎_elim
     (λ (x : (j ≡ by) × (w ≡ u)). subst P x.1 mine)
@@ -177,7 +179,8 @@ each_other plan words k n up [] nobody e = tt
 each_other plan words k n up (h ∷ hs) nobody e = (fits_other plan words k n h (ones h.rank k (omega arith)) up e.0, each_other plan words k n up hs (omega arith) e.1)
 
 pub stores : {S : Type 0} (plan : Scripts) (slots id : ℕ) (h : Hold) (carried : List (ℕ × S)) → AreTold (plan_of plan) → ShowsNextIn (plan_of plan) h
-    → Allows (IsKept {S = S} plan) slots id (h ∷ [], carried) h.rank (λ _. get_or h.known h.rank 0 + 1) (λ _. Stored (step slots h.rank (get_or h.known h.rank 0 + 1) 0 none) (h ∷ [], carried) (get_or h.known h.rank 0 + 1))
+    → Allows (IsKept {S = S} plan) slots id (h ∷ [], carried) h.rank (λ _. get_or h.known h.rank 0 + 1)
+    (λ _. Stored (step slots h.rank (get_or h.known h.rank 0 + 1) 0 none) (h ∷ [], carried) (get_or h.known h.rank 0 + 1))
 stores {S} plan slots id h carried told shown s kept sized at small =
     let n = get_or h.known h.rank 0 + 1 in
     let w = learn h.rank n h ∷ [] in
@@ -226,7 +229,8 @@ pub joins : {S : Type 0} (plan : Scripts) (id : ℕ) (v : List Hold) (other : �
 joins plan id v other w s kept at apart there =
     let both = w ++ v in
     let Fine : List Hold → Type 0 = Each (Fits plan s.words) in
-    let was : get_elem? s.views other ≡ some w = ⊎_elim (λ (t : (other ≡ id) × (both ≡ w)). absurd (apart t.0)) (λ (t : (other ≢ id) × (get_elem? s.views other ≡ some w)). t.1) (at_set s.views id other both w there) in
+    let was : get_elem? s.views other ≡ some w = ⊎_elim (λ (t : (other ≡ id) × (both ≡ w)). absurd (apart t.0)) (λ (t : (other ≢ id) × (get_elem? s.views other ≡ some w)). t.1)
+    (at_set s.views id other both w there) in
     let mine = kept.fits id v at in
     let theirs = kept.fits other w was in
     let first = fits_set Fine s.views id both (λ j u _ e. kept.fits j u e) (each_append (Fits plan s.words) w v theirs mine) in

@@ -1,5 +1,6 @@
 -- What the positions that a seat knows show of an event's sources.
-use Rattle.std.proofs.Common.{◌≡◌, ℕ, zero, suc, ◌<◌, List, [], ◌∷◌, ◌++◌, ◌&&◌, Bool, true, false, not, Option, Some, None, ◌↔◌, map, take, drop, length, get_or, refl, sym, ap, ◌∙◌, subst, inl, inr, arith, lt-ltb, ltb-true}
+use Rattle.std.proofs.Common.{◌≡◌, ℕ, zero, suc, ◌<◌, List, [], ◌∷◌, ◌++◌, ◌&&◌, Bool, true, false, not, Option, Some, None, ◌↔◌, map, take, drop, length, get_or, refl, sym, ap, ◌∙◌, subst, inl, inr}
+use Rattle.std.proofs.Common.{arith, lt-ltb, ltb-true}
 use Rattle.std.specs.Prelude.{slice_get, slice_index, option_map, option_to_list, is_some, if◌then◌else◌}
 use Rattle.std.specs.List.{list_all}
 use Rattle.std.proofs.lemmas.Bool.{and_parts, and_from, and_cases, cases_Bool, true≢false}
@@ -88,7 +89,8 @@ none_left known (x ∷ xs) = elim (cases_Bool (shows_event known x)) [
     some_none x e = cc
 
 -- told by the first of those that are left
-pub none_told : (known : List ℕ) (xs ys : List Event) (o : Option CodeEvent) (b : Bool) → is_some o ≡ not b → option_map event_of o ≡ slice_get ys 0 → ys ≡ skip_shown known xs → (b ≡ true) ↔ (list_all (shows_event known) xs ≡ true)
+pub none_told : (known : List ℕ) (xs ys : List Event) (o : Option CodeEvent) (b : Bool) → is_some o ≡ not b → option_map event_of o ≡ slice_get ys 0 → ys ≡ skip_shown known xs →
+    (b ≡ true) ↔ (list_all (shows_event known) xs ≡ true)
 none_told known xs ys None true told first are = (λ _. (none_left known xs).0 (ap (λ zs. slice_get zs 0) (sym are) ∙ sym first), λ _. refl)
 none_told known xs ys None false told first are = absurd (true≢false (sym told))
 none_told known xs ys (Some x) true told first are = absurd (true≢false told)
@@ -102,7 +104,8 @@ none_told known xs ys (Some x) false told first are = (
 
 -- The owner of a rank whose positions show that its next event can happen, told of the plan and the event that the code has
 
-pub shown_from : (own plan : Scripts) (h : Hold) (y : Event) → own ≡ plan → y ≡ next_in h → y.at < event_count (plan_of plan) y.proc → ShowsSources (plan_of plan) h.known y → ¬ (HasFate (plan_of plan) y Waits) → ShowsNextIn (plan_of own) h
+pub shown_from : (own plan : Scripts) (h : Hold) (y : Event) → own ≡ plan → y ≡ next_in h → y.at < event_count (plan_of plan) y.proc → ShowsSources (plan_of plan) h.known y →
+    ¬ (HasFate (plan_of plan) y Waits) → ShowsNextIn (plan_of own) h
 shown_from own plan h y of is there sources comes =
     let P : Scripts × Event → Type 0 = λ t. (t.1.at < event_count (plan_of t.0) t.1.proc) × (ShowsSources (plan_of t.0) h.known t.1) × ¬ (HasFate (plan_of t.0) t.1 Waits) in
     let all : P (own, next_in h) = subst P (λ i. (sym of i, is i)) (there, sources, comes) in

@@ -13,9 +13,9 @@ use atomic_table::{Closed, Table};
 use std::alloc::{AllocError, Global};
 use std::collections::LinkedList;
 use std::marker::Model;
+use wire_content::Scripts;
 use wire_plan::Plan;
 use wire_races::Settled;
-use wire_content::Scripts;
 use wire_types::{Fault, Proc};
 
 /// One atomic word for each process: the number of its events that are done. Between any two steps of any
@@ -70,7 +70,12 @@ impl Board {
     }
 
     // Cuts one seat for each rank off the first token.
-    fn deal(&self, alloc: Global, plan: &Plan, mut first: TableSeat) -> Result<Vec<Seat>, AllocError>
+    fn deal(
+        &self,
+        alloc: Global,
+        plan: &Plan,
+        mut first: TableSeat,
+    ) -> Result<Vec<Seat>, AllocError>
         requires plan { self.now.plan ≡ plan.now }
         requires first { Has self.now (ranks_from self.now 0) first.table_id first.me }
         ensures { IfOk result (λ seats. seats.items ≡ opening_seats self.now) }

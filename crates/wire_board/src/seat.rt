@@ -32,7 +32,11 @@ impl Model for Seat {
 
     ghost view = { λ s. record { board = record { id = s.token.table_id; plan = scripts_in s.token.me.0 }; rank = s.rank.number; known = s.known.items } };
 
-    ghost invariant = { λ s. IsHeld s.token.me (record { board = record { id = s.token.table_id; plan = scripts_in s.token.me.0 }; rank = s.rank.number; known = s.known.items }) };
+    ghost invariant = { λ s. IsHeld s.token.me (record {
+      board = record { id = s.token.table_id; plan = scripts_in s.token.me.0 };
+      rank = s.rank.number;
+      known = s.known.items;
+    }) };
 }
 
 impl Seat {

@@ -13,9 +13,9 @@ use std::alloc::Global;
 use std::sync::Wait;
 use std::thread::Threads;
 use wire_board::{Board, Seat};
+use wire_outcome::outcome_of;
 use wire_races::{Fate, Settled};
 use wire_sched::{Gate, Lanes, Round};
-use wire_outcome::outcome_of;
 use wire_types::{Fault, Outcome, Proc};
 
 /// What a run over a board is given: the settled plan, how many workers, and the gate.

@@ -150,7 +150,8 @@ fn run_beside<R: Threads + Wait + Sync, W: Works + Sync>(
         rt,
         |scope| -> (Vec<Pass>, Pass, usize)
             requires { IsSync R.row × IsSync W.row × IsPassOf (W.dealt works.now) pass × AreFirstPasses (W.dealt works.now) passes.items }
-            ensures { AreFirstPasses (W.dealt works.entry.now) result.0.items × (vec_len result.0 ≡ vec_len passes) × (vec_capacity result.0 ≡ vec_capacity passes) × IsPassOf (W.dealt works.entry.now) result.1 × (worker_of result.1 ≡ worker_of pass) }
+            ensures { AreFirstPasses (W.dealt works.entry.now) result.0.items × (vec_len result.0 ≡ vec_len passes)
+                × (vec_capacity result.0 ≡ vec_capacity passes) × IsPassOf (W.dealt works.entry.now) result.1 × (worker_of result.1 ≡ worker_of pass) }
         {
             let started = start_worker(scope, rt, works, flag, pass);
             let (passes, others) = run_round(rt, works, passes);

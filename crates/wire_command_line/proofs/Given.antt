@@ -6,7 +6,8 @@ use Rattle.clap.specs.Walk.{Text, first_of, rows_of}
 use Rattle.clap.specs.declared.parser.matches.Found.{Found}
 use Rattle.clap.proofs.WalkLemmas.{first_value-rows}
 
-pub word_given : (o : Option (Bor Text)) (found : Found) (name : Text) (w : Option (Bor Text)) → option_map (λ s. s.now) o ≡ first_value found name → o ≡ w → first_of name (rows_of found) ≡ option_map (λ s. s.now) w
+pub word_given : (o : Option (Bor Text)) (found : Found) (name : Text) (w : Option (Bor Text)) → option_map (λ s. s.now) o ≡ first_value found name → o ≡ w →
+    first_of name (rows_of found) ≡ option_map (λ s. s.now) w
 word_given o found name w is at = sym (first_value-rows found name) ∙ sym is ∙ ap (option_map (λ s. s.now)) at
 
 same_there : (o : Option (Bor Text)) → is_some (option_map (λ s. s.now) o) ≡ is_some o

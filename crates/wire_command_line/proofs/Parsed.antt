@@ -18,7 +18,8 @@ pub line_is_free : is_simple_and_free program_line ≡ true
 unfolding clap_on_literals
 line_is_free = refl
 
-pub met : {Z : Type 0} (o : Option (Box SubCommand Z)) (name : Text) (rows : List Row) → Some name ≡ option_map (λ b. (out-SubCommand (box_value b)).name.now) o → Some rows ≡ option_map (λ p. p.1) (subcommand_rows o) → subcommand_rows o ≡ Some (name, rows)
+pub met : {Z : Type 0} (o : Option (Box SubCommand Z)) (name : Text) (rows : List Row) → Some name ≡ option_map (λ b. (out-SubCommand (box_value b)).name.now) o →
+    Some rows ≡ option_map (λ p. p.1) (subcommand_rows o) → subcommand_rows o ≡ Some (name, rows)
 met None name rows n r = let bad : Some name ≡ None = n in cc
 met (Some b) name rows n r =
     let same_name : name ≡ (out-SubCommand (box_value b)).name.now = cc in

@@ -55,7 +55,8 @@ fn add_word<'a>(
     found: &ArgMatches<'a>,
     name: &str,
 ) -> Result<(), AllocError>
-    ensures { OnOk result (map (λ w. w.now) words.new.items ≡ map (λ w. w.now) words.old.items ++ option_to_list (first_of name.now (rows_of (found_of found.now)))) }
+    ensures { OnOk result (map (λ w. w.now) words.new.items ≡ map (λ w. w.now) words.old.items
+        ++ option_to_list (first_of name.now (rows_of (found_of found.now)))) }
 {
     if let Some(word) = found.get_str(name) {
         words.push(word)?;
@@ -139,7 +140,8 @@ pub(crate) fn match_words<'a>(alloc: Global, words: &'a [&'a str]) -> Result<Arg
 
 /// What the command asks for that the matches name.
 fn asked_in<'a>(alloc: Global, matches: &ArgMatches<'a>) -> Result<Asked<'a>, Error>
-    ensures ok { IfOk result (λ asked. (m : Text × List Row) × (subcommand_rows_of matches.now ≡ Some m) × (spec.has_needed m.0 m.1 ≡ true) × SaidBy m.0 m.1 asked) }
+    ensures ok { IfOk result (λ asked. (m : Text × List Row) × (subcommand_rows_of matches.now ≡ Some m) × (spec.has_needed m.0 m.1 ≡ true)
+        × SaidBy m.0 m.1 asked) }
     ensures err { IfErr result (λ e. (kind_of e ≡ ErrorKind.OutOfMemory)
         ⊎ ((kind_of e ≡ ErrorKind.MissingRequiredArgument) × (spec.is_whole (subcommand_rows_of matches.now) ≡ false))) }
 {

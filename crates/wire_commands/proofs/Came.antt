@@ -21,15 +21,18 @@ refuses (Some all) bytes shown e same front reads =
     record { bytes = all; came = refl; reads = reads_limited all (Err e) (subst (λ t. Reads t (Err e)) (same ∙ front) reads) }
 
 -- what the reading of all of them answers
-pub scripts_ok : (coming : Option (List ℕ)) (bytes shown : List ℕ) (r : Result Scripts Fault) → shown ≡ bytes → IfSome coming (λ all. bytes ≡ take 4194305 all) → IfOk r (λ s. Reads shown (Ok s)) → IfOk r (λ s. ReadAs coming s)
+pub scripts_ok : (coming : Option (List ℕ)) (bytes shown : List ℕ) (r : Result Scripts Fault) → shown ≡ bytes → IfSome coming (λ all. bytes ≡ take 4194305 all) → IfOk r (λ s. Reads shown (Ok s)) →
+    IfOk r (λ s. ReadAs coming s)
 scripts_ok coming bytes shown (Ok s) same front reads = read_as coming bytes shown s same front reads
 scripts_ok coming bytes shown (Err e) same front reads = tt
 
-scripts_fault : (coming : Option (List ℕ)) (bytes shown : List ℕ) (e : Fault) → shown ≡ bytes → IfSome coming (λ all. bytes ≡ take 4194305 all) → (e ≡ Memory) ⊎ Reads shown (Err e) → (e ≡ Memory) ⊎ ((e ≡ Read) ⊎ Refuses coming e)
+scripts_fault : (coming : Option (List ℕ)) (bytes shown : List ℕ) (e : Fault) → shown ≡ bytes → IfSome coming (λ all. bytes ≡ take 4194305 all) → (e ≡ Memory) ⊎ Reads shown (Err e) → (e ≡ Memory)
+    ⊎ ((e ≡ Read) ⊎ Refuses coming e)
 scripts_fault coming bytes shown e same front (inl memory) = inl memory
 scripts_fault coming bytes shown e same front (inr reads) = inr (inr (refuses coming bytes shown e same front reads))
 
-pub scripts_err : (coming : Option (List ℕ)) (bytes shown : List ℕ) (r : Result Scripts Fault) → shown ≡ bytes → IfSome coming (λ all. bytes ≡ take 4194305 all) → IfErr r (λ e. (e ≡ Memory) ⊎ Reads shown (Err e)) → IfErr r (λ e. (e ≡ Memory) ⊎ ((e ≡ Read) ⊎ Refuses coming e))
+pub scripts_err : (coming : Option (List ℕ)) (bytes shown : List ℕ) (r : Result Scripts Fault) → shown ≡ bytes → IfSome coming (λ all. bytes ≡ take 4194305 all) →
+    IfErr r (λ e. (e ≡ Memory) ⊎ Reads shown (Err e)) → IfErr r (λ e. (e ≡ Memory) ⊎ ((e ≡ Read) ⊎ Refuses coming e))
 scripts_err coming bytes shown (Ok s) same front reads = tt
 scripts_err coming bytes shown (Err e) same front reads = scripts_fault coming bytes shown e same front reads
 

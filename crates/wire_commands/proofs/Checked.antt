@@ -32,7 +32,8 @@ settled_too s found ended ends law = (
 )
 
 -- what the findings that there are tell
-pub judged_so : (s : Scripts) (found counted : List Finding) (ended : Ended) → ((found ≡ []) ↔ IsSettled (plan_of s)) → AreFindings (plan_of s) found → counted ≡ found → ended ≡ ended_with counted → IsJudged s found ended
+pub judged_so : (s : Scripts) (found counted : List Finding) (ended : Ended) → ((found ≡ []) ↔ IsSettled (plan_of s)) → AreFindings (plan_of s) found → counted ≡ found → ended ≡ ended_with counted →
+    IsJudged s found ended
 judged_so s found counted ended law those count ends =
     let ended_so : ended ≡ ended_with found = ends ∙ ap ended_with count in
     let settled : (ended ≡ Clean) ↔ IsSettled (plan_of s) = settled_too s found ended ended_so law in
@@ -45,26 +46,30 @@ judged_so s found counted ended law those count ends =
     }
 
 -- and what is told of them
-pub judged_told : (s shown : Scripts) (found seen counted : List Finding) (ended : Ended) (text : List ℕ) → ((found ≡ []) ↔ IsSettled (plan_of s)) → AreFindings (plan_of s) found → shown ≡ s → seen ≡ found → counted ≡ found
+pub judged_told : (s shown : Scripts) (found seen counted : List Finding) (ended : Ended) (text : List ℕ) → ((found ≡ []) ↔ IsSettled (plan_of s)) → AreFindings (plan_of s) found → shown ≡ s →
+    seen ≡ found → counted ≡ found
     → text ≡ findings_report shown seen → ended ≡ ended_with counted → IsVerdict s ended text
 judged_told s shown found seen counted ended text law those same is count told ends =
     let all : findings_report shown seen ≡ findings_report s found = λ i. findings_report (same i) (is i) in
     record { found = found; judged = judged_so s found counted ended law those count ends; tells = told ∙ all }
 
 -- all of it went out
-pub told : (s shown : Scripts) (found seen counted : List Finding) (ended : Ended) (old new : Option (List ℕ)) → ((found ≡ []) ↔ IsSettled (plan_of s)) → AreFindings (plan_of s) found → shown ≡ s → seen ≡ found → counted ≡ found
+pub told : (s shown : Scripts) (found seen counted : List Finding) (ended : Ended) (old new : Option (List ℕ)) → ((found ≡ []) ↔ IsSettled (plan_of s)) → AreFindings (plan_of s) found → shown ≡ s →
+    seen ≡ found → counted ≡ found
     → ended ≡ ended_with counted → Appends old new (findings_report shown seen) → WritesVerdict s ended old new
 told s shown found seen counted ended old new law those same is count ends wrote =
     record { text = findings_report shown seen; verdict = judged_told s shown found seen counted ended (findings_report shown seen) law those same is count refl ends; wrote = wrote }
 
 -- the front of it went out
-pub told_front : (s shown : Scripts) (found seen counted : List Finding) (ended : Ended) (old new : Option (List ℕ)) (e : Fault) → ((found ≡ []) ↔ IsSettled (plan_of s)) → AreFindings (plan_of s) found → shown ≡ s → seen ≡ found → counted ≡ found
+pub told_front : (s shown : Scripts) (found seen counted : List Finding) (ended : Ended) (old new : Option (List ℕ)) (e : Fault) → ((found ≡ []) ↔ IsSettled (plan_of s)) →
+    AreFindings (plan_of s) found → shown ≡ s → seen ≡ found → counted ≡ found
     → ended ≡ ended_with counted → WritesFront old new (findings_report shown seen) e → BreaksOffVerdict s old new e
 told_front s shown found seen counted ended old new e law those same is count ends wrote =
     record { ended = ended; text = findings_report shown seen; verdict = judged_told s shown found seen counted ended (findings_report shown seen) law those same is count refl ends; wrote = wrote }
 
 -- a fault of the writing is Memory, or it counts what went out
-pub front_or_none : (e : Fault) (old new : Option (List ℕ)) (text : List ℕ) (A B C : Type 0) → (e ≡ Memory) ⊎ WritesFront old new text e → (e ≡ Memory → A) → (e ≢ Memory → B) → (WritesFront old new text e → C) → ((e ≡ Memory) × A) ⊎ (C × B)
+pub front_or_none : (e : Fault) (old new : Option (List ℕ)) (text : List ℕ) (A B C : Type 0) → (e ≡ Memory) ⊎ WritesFront old new text e → (e ≡ Memory → A) → (e ≢ Memory → B) →
+    (WritesFront old new text e → C) → ((e ≡ Memory) × A) ⊎ (C × B)
 front_or_none e old new text A B C (inl memory) none failed front = inl (memory, none memory)
 front_or_none e old new text A B C (inr wrote) none failed front = inr (front wrote, failed (λ is. let bad : Memory ≡ Write wrote.0 = sym is ∙ wrote.1 in cc))
 
@@ -73,11 +78,13 @@ abbrev pub Ends : Scripts → Option (List ℕ) → Option (List ℕ) → Type 0
 Ends s old new A B e = ((e ≡ Memory) × A) ⊎ (BreaksOffVerdict s old new e × B)
 
 -- what went out of the findings of scripts that were read
-pub writes_findings : (coming old new : Option (List ℕ)) (s : Scripts) (r : Result Ended Fault) → ReadAs coming s → IfOk r (λ ended. WritesVerdict s ended old new) → IfOk r (λ ended. WritesFindings coming ended old new)
+pub writes_findings : (coming old new : Option (List ℕ)) (s : Scripts) (r : Result Ended Fault) → ReadAs coming s → IfOk r (λ ended. WritesVerdict s ended old new) →
+    IfOk r (λ ended. WritesFindings coming ended old new)
 writes_findings coming old new s (Ok ended) read wrote = record { scripts = s; read = read; wrote = wrote }
 writes_findings coming old new s (Err e) read wrote = tt
 
-pub breaks_off : (coming old new : Option (List ℕ)) (s : Scripts) (A B : Type 0) (r : Result Ended Fault) → ReadAs coming s → IfErr r (Ends s old new A B) → IfErr r (λ e. (StopsBeforeFindings coming e × A) ⊎ (BreaksOffFindings coming old new e × B))
+pub breaks_off : (coming old new : Option (List ℕ)) (s : Scripts) (A B : Type 0) (r : Result Ended Fault) → ReadAs coming s → IfErr r (Ends s old new A B) →
+    IfErr r (λ e. (StopsBeforeFindings coming e × A) ⊎ (BreaksOffFindings coming old new e × B))
 breaks_off coming old new s A B (Ok ended) read ends = tt
 breaks_off coming old new s A B (Err e) read (inl (memory, none)) = inl (inl memory, none)
 breaks_off coming old new s A B (Err e) read (inr (front, failed)) = inr (record { scripts = s; read = read; broke = front }, failed)

@@ -23,7 +23,8 @@ is_of_file _ = false
 abbrev IsOfFile : {A : Type 0} → Result A Fault → Type 0
 IsOfFile r = IfErr r (λ f. is_of_file f ≡ true)
 
-five_tests : (a b c e f : Bool) (n : ℕ) (d : Declared) → IsOfFile (if a then Err (BadLine n) else if b then Err (TooLong n) else if c then Err (UnknownName n) else if e then Err (Twice n) else if f then Err (TooMany n) else Ok d)
+five_tests : (a b c e f : Bool) (n : ℕ) (d : Declared) →
+    IsOfFile (if a then Err (BadLine n) else if b then Err (TooLong n) else if c then Err (UnknownName n) else if e then Err (Twice n) else if f then Err (TooMany n) else Ok d)
 five_tests true b c e f n d = refl
 five_tests false true c e f n d = refl
 five_tests false false true e f n d = refl

@@ -1,5 +1,6 @@
 -- From what the parts of following an order answer to what it answers.
-use Rattle.std.proofs.Common.{[], ◌∷◌, ◌+◌, ◌==◌, Bool, true, false, length, count_by, if◌then◌else◌, Vec, Global, ◌≡◌, ◌≢◌, ◌∙◌, ap, subst, sym, refl, ℕ, suc, List, take, ◌⊎◌, inl, inr, Option, Some, None, Result, Ok, Err, IfSome, IfOk, IfErr, OnOk}
+use Rattle.std.proofs.Common.{[], ◌∷◌, ◌+◌, ◌==◌, Bool, true, false, length, count_by, if◌then◌else◌, Vec, Global, ◌≡◌, ◌≢◌, ◌∙◌, ap, subst, sym, refl, ℕ, suc, List, take, ◌⊎◌, inl, inr, Option}
+use Rattle.std.proofs.Common.{Some, None, Result, Ok, Err, IfSome, IfOk, IfErr, OnOk}
 use Rattle.std.specs.Prelude.{nat_lt}
 use Rattle.std.specs.Io.KnownBytes.{Appends}
 use Rattle.wire_types.specs.declared.Fault.{Fault}
@@ -18,12 +19,14 @@ use Rattle.wire_commands.proofs.Texts.{LeadsTo}
 use Rattle.wire_commands.specs.Follow.{OrdersAs, RefusesSteps, StopsAfter, StopsBefore, OrderedAs, WritesFollowed, BreaksOffFollowed}
 
 -- what came of an order, all that was to come reads as
-pub orders_as : (coming : Option (List ℕ)) (bytes shown : List ℕ) (s : Scripts) (steps : List ℕ) → shown ≡ bytes → IfSome coming (λ all. bytes ≡ take 8388609 all) → order_read s shown ≡ Ok steps → OrdersAs coming s steps
+pub orders_as : (coming : Option (List ℕ)) (bytes shown : List ℕ) (s : Scripts) (steps : List ℕ) → shown ≡ bytes → IfSome coming (λ all. bytes ≡ take 8388609 all) → order_read s shown ≡ Ok steps →
+    OrdersAs coming s steps
 orders_as None bytes shown s steps same front reads = record { bytes = shown; came = tt; reads = reads }
 orders_as (Some all) bytes shown s steps same front reads =
     record { bytes = all; came = refl; reads = sym (order_limited s all) ∙ ap (order_read s) (sym (same ∙ front)) ∙ reads }
 
-pub refuses_steps : (coming : Option (List ℕ)) (bytes shown : List ℕ) (s : Scripts) (e : Fault) → shown ≡ bytes → IfSome coming (λ all. bytes ≡ take 8388609 all) → order_read s shown ≡ Err e → RefusesSteps coming s e
+pub refuses_steps : (coming : Option (List ℕ)) (bytes shown : List ℕ) (s : Scripts) (e : Fault) → shown ≡ bytes → IfSome coming (λ all. bytes ≡ take 8388609 all) → order_read s shown ≡ Err e →
+    RefusesSteps coming s e
 refuses_steps None bytes shown s e same front reads = record { bytes = shown; came = tt; reads = reads }
 refuses_steps (Some all) bytes shown s e same front reads =
     record { bytes = all; came = refl; reads = sym (order_limited s all) ∙ ap (order_read s) (sym (same ∙ front)) ∙ reads }
@@ -37,16 +40,19 @@ err_too (Ok x) P Q f p = tt
 err_too (Err e) P Q f p = f e p
 
 -- a read of the order failed, or the order is refused
-pub order_fault : (coming : Option (List ℕ)) (s : Scripts) (e : Fault) (bytes shown : List ℕ) → shown ≡ bytes → IfSome coming (λ all. bytes ≡ take 8388609 all) → (e ≡ Memory) ⊎ (order_read s shown ≡ Err e) → (e ≡ Memory) ⊎ ((e ≡ Read) ⊎ RefusesSteps coming s e)
+pub order_fault : (coming : Option (List ℕ)) (s : Scripts) (e : Fault) (bytes shown : List ℕ) → shown ≡ bytes → IfSome coming (λ all. bytes ≡ take 8388609 all) → (e ≡ Memory)
+    ⊎ (order_read s shown ≡ Err e) → (e ≡ Memory) ⊎ ((e ≡ Read) ⊎ RefusesSteps coming s e)
 order_fault coming s e bytes shown same front (inl memory) = inl memory
 order_fault coming s e bytes shown same front (inr reads) = inr (inr (refuses_steps coming bytes shown s e same front reads))
 
 -- of an order that is read, and of one that isn't
-pub steps_ok : (coming : Option (List ℕ)) (bytes shown : List ℕ) (s : Scripts) (r : Result (Vec Proc Global) Fault) → shown ≡ bytes → IfSome coming (λ all. bytes ≡ take 8388609 all) → IfOk r (λ order. order_read s shown ≡ Ok (numbers_of order.items)) → IfOk r (λ order. OrdersAs coming s (numbers_of order.items))
+pub steps_ok : (coming : Option (List ℕ)) (bytes shown : List ℕ) (s : Scripts) (r : Result (Vec Proc Global) Fault) → shown ≡ bytes → IfSome coming (λ all. bytes ≡ take 8388609 all) →
+    IfOk r (λ order. order_read s shown ≡ Ok (numbers_of order.items)) → IfOk r (λ order. OrdersAs coming s (numbers_of order.items))
 steps_ok coming bytes shown s (Ok order) same front reads = orders_as coming bytes shown s (numbers_of order.items) same front reads
 steps_ok coming bytes shown s (Err e) same front reads = tt
 
-pub steps_err : (coming : Option (List ℕ)) (bytes shown : List ℕ) (s : Scripts) (r : Result (Vec Proc Global) Fault) → shown ≡ bytes → IfSome coming (λ all. bytes ≡ take 8388609 all) → IfErr r (λ e. (e ≡ Memory) ⊎ (order_read s shown ≡ Err e)) → IfErr r (λ e. (e ≡ Memory) ⊎ ((e ≡ Read) ⊎ RefusesSteps coming s e))
+pub steps_err : (coming : Option (List ℕ)) (bytes shown : List ℕ) (s : Scripts) (r : Result (Vec Proc Global) Fault) → shown ≡ bytes → IfSome coming (λ all. bytes ≡ take 8388609 all) →
+    IfErr r (λ e. (e ≡ Memory) ⊎ (order_read s shown ≡ Err e)) → IfErr r (λ e. (e ≡ Memory) ⊎ ((e ≡ Read) ⊎ RefusesSteps coming s e))
 steps_err coming bytes shown s (Ok order) same front reads = tt
 steps_err coming bytes shown s (Err e) same front reads = order_fault coming s e bytes shown same front reads
 
@@ -67,12 +73,14 @@ of_order coming order_coming s e read (inr (inl failed)) = inr (inl failed)
 of_order coming order_coming s e read (inr (inr refuses)) = inr (inr (inr (inl (record { scripts = s; read = read; refuses = refuses }))))
 
 -- the steps of an order that is read, as they are shown
-ordered_as : (coming order_coming : Option (List ℕ)) (s : Scripts) (order shown : List Proc) → shown ≡ order → ReadAs coming s → OrdersAs order_coming s (numbers_of order) → OrderedAs coming order_coming s (numbers_of shown)
+ordered_as : (coming order_coming : Option (List ℕ)) (s : Scripts) (order shown : List Proc) → shown ≡ order → ReadAs coming s → OrdersAs order_coming s (numbers_of order) →
+    OrderedAs coming order_coming s (numbers_of shown)
 ordered_as coming order_coming s order shown same read orders =
     record { read = read; order = subst (λ ps. OrdersAs order_coming s (numbers_of ps)) (sym same) orders }
 
 -- and of the steps
-pub of_steps : (coming order_coming : Option (List ℕ)) (s : Scripts) (order shown : List Proc) (e : Fault) → shown ≡ order → ReadAs coming s → OrdersAs order_coming s (numbers_of order) → (e ≡ Memory) ⊎ StopsAfter s (numbers_of shown) e → StopsBefore coming order_coming e
+pub of_steps : (coming order_coming : Option (List ℕ)) (s : Scripts) (order shown : List Proc) (e : Fault) → shown ≡ order → ReadAs coming s → OrdersAs order_coming s (numbers_of order) → (e ≡ Memory)
+    ⊎ StopsAfter s (numbers_of shown) e → StopsBefore coming order_coming e
 of_steps coming order_coming s order shown e same read orders (inl memory) = inl memory
 of_steps coming order_coming s order shown e same read orders (inr stops) =
     inr (inr (inr (inr (record { scripts = s; steps = numbers_of shown; ordered = ordered_as coming order_coming s order shown same read orders; stops = stops }))))
@@ -82,7 +90,8 @@ pub no_read_of_steps : (s : Scripts) (steps : List ℕ) (e : Fault) → (e ≡ M
 no_read_of_steps s steps e (inl memory) is = let bad : Memory ≡ Read = sym memory ∙ is in cc
 no_read_of_steps s steps e (inr stops) is = let bad : NotReady (suc stops.n) ≡ Read = sym stops.is ∙ is in cc
 
-pub followed_ok : (coming order_coming old new : Option (List ℕ)) (s : Scripts) (order shown : List Proc) (text out : List ℕ) (r : Result (Unit {0}) Fault) → shown ≡ order → ReadAs coming s → OrdersAs order_coming s (numbers_of order) → LeadsTo s (numbers_of shown) text → out ≡ text → OnOk r (Appends old new out) → OnOk r (WritesFollowed coming order_coming old new)
+pub followed_ok : (coming order_coming old new : Option (List ℕ)) (s : Scripts) (order shown : List Proc) (text out : List ℕ) (r : Result (Unit {0}) Fault) → shown ≡ order → ReadAs coming s →
+    OrdersAs order_coming s (numbers_of order) → LeadsTo s (numbers_of shown) text → out ≡ text → OnOk r (Appends old new out) → OnOk r (WritesFollowed coming order_coming old new)
 followed_ok coming order_coming old new s order shown text out (Ok x) same read orders (enabled, is) at wrote =
     record {
       scripts = s;
@@ -93,7 +102,8 @@ followed_ok coming order_coming old new s order shown text out (Ok x) same read 
     }
 followed_ok coming order_coming old new s order shown text out (Err e) same read orders leads at wrote = tt
 
-pub followed_err : (coming order_coming old new : Option (List ℕ)) (s : Scripts) (order shown : List Proc) (text out : List ℕ) (kept failed : Type 0) (r : Result (Unit {0}) Fault) → shown ≡ order → ReadAs coming s → OrdersAs order_coming s (numbers_of order) → LeadsTo s (numbers_of shown) text → out ≡ text → IfErr r (WritesFront old new out) → IfErr r (λ _. failed)
+pub followed_err : (coming order_coming old new : Option (List ℕ)) (s : Scripts) (order shown : List Proc) (text out : List ℕ) (kept failed : Type 0) (r : Result (Unit {0}) Fault) → shown ≡ order →
+    ReadAs coming s → OrdersAs order_coming s (numbers_of order) → LeadsTo s (numbers_of shown) text → out ≡ text → IfErr r (WritesFront old new out) → IfErr r (λ _. failed)
     → IfErr r (λ e. (StopsBefore coming order_coming e × kept) ⊎ (BreaksOffFollowed coming order_coming old new e × failed))
 followed_err coming order_coming old new s order shown text out kept failed (Ok x) same read orders leads at front count = tt
 followed_err coming order_coming old new s order shown text out kept failed (Err e) same read orders (enabled, is) at front count =

@@ -31,7 +31,8 @@ both_there : (s : Scripts) (p n q m : List ℕ) (calls : CallAt × CallAt) → Q
     → (calls.0.call < length (calls_of (plan_of s) calls.0.proc.number)) × (calls.1.call < length (calls_of (plan_of s) calls.1.proc.number))
 both_there s p n q m calls (AsksBoth x y first second is) =
     let same : calls ≡ (x, y) = cc in
-    subst (λ (c : CallAt × CallAt). (c.0.call < length (calls_of (plan_of s) c.0.proc.number)) × (c.1.call < length (calls_of (plan_of s) c.1.proc.number))) (sym same) (named_there s p n x first, named_there s q m y second)
+    subst (λ (c : CallAt × CallAt). (c.0.call < length (calls_of (plan_of s) c.0.proc.number)) × (c.1.call < length (calls_of (plan_of s) c.1.proc.number))) (sym same)
+    (named_there s p n x first, named_there s q m y second)
 both_there s p n q m calls (First wrong is) = let bad : Ok calls ≡ Err (BadOrder 1) = is in absurd (cc)
 both_there s p n q m calls (Second wrong is) = let bad : Ok calls ≡ Err (BadOrder 2) = is in absurd (cc)
 both_there s p n q m calls (Third x first wrong is) = let bad : Ok calls ≡ Err (BadOrder 3) = is in absurd (cc)
@@ -51,7 +52,8 @@ all_there s words (Ok calls) asks = both_there s _ _ _ _ calls asks
 all_there s words (Err e) asks = tt
 
 -- a text that tells the order of the calls that the words name answers them
-pub answered : (s : Scripts) (words : List (List ℕ)) (x y : CallAt) (r : Result (Vec ℕ Global) Fault) → Asks s words (Ok (x, y)) → IfOk r (λ text. IsChainText s x y text.items) → IfOk r (λ text. Answers s words text.items)
+pub answered : (s : Scripts) (words : List (List ℕ)) (x y : CallAt) (r : Result (Vec ℕ Global) Fault) → Asks s words (Ok (x, y)) → IfOk r (λ text. IsChainText s x y text.items) →
+    IfOk r (λ text. Answers s words text.items)
 answered s words x y (Ok text) asks tells = record { x = x; y = y; asks = asks; tells = tells }
 answered s words x y (Err e) asks tells = tt
 
@@ -65,17 +67,20 @@ refused_too shown s words e is refuses = subst (λ t. (e ≡ Memory) ⊎ Asks t 
 pub answers_too : (s plan : Scripts) (words : List (List ℕ)) (r : Result (Vec ℕ Global) Fault) → plan ≡ s → IfOk r (λ text. Answers plan words text.items) → IfOk r (λ text. Answers s words text.items)
 answers_too s plan words r is answers = subst (λ t. IfOk r (λ text. Answers t words text.items)) is answers
 
-pub refuses_too : (s plan : Scripts) (words : List (List ℕ)) (r : Result (Vec ℕ Global) Fault) → plan ≡ s → IfErr r (λ e. (e ≡ Memory) ⊎ Asks plan words (Err e)) → IfErr r (λ e. (e ≡ Memory) ⊎ Asks s words (Err e))
+pub refuses_too : (s plan : Scripts) (words : List (List ℕ)) (r : Result (Vec ℕ Global) Fault) → plan ≡ s → IfErr r (λ e. (e ≡ Memory) ⊎ Asks plan words (Err e)) →
+    IfErr r (λ e. (e ≡ Memory) ⊎ Asks s words (Err e))
 refuses_too s plan words r is refuses = subst (λ t. IfErr r (λ e. (e ≡ Memory) ⊎ Asks t words (Err e))) is refuses
 
 -- all of the answer goes out
-pub answer_ok : (coming : Option (List ℕ)) (words : List (List ℕ)) (old new : Option (List ℕ)) (s : Scripts) (text out : List ℕ) (r : Result (Unit {0}) Fault) → ReadAs coming s → Answers s words text → out ≡ text → OnOk r (Appends old new out) → OnOk r (WritesAnswer coming words old new)
+pub answer_ok : (coming : Option (List ℕ)) (words : List (List ℕ)) (old new : Option (List ℕ)) (s : Scripts) (text out : List ℕ) (r : Result (Unit {0}) Fault) → ReadAs coming s →
+    Answers s words text → out ≡ text → OnOk r (Appends old new out) → OnOk r (WritesAnswer coming words old new)
 answer_ok coming words old new s text out (Ok u) read answers at wrote =
     record { scripts = s; read = read; text = text; answers = answers; wrote = subst (λ t. Appends old new t) at wrote }
 answer_ok coming words old new s text out (Err e) read answers at wrote = tt
 
 -- or the front of it that the fault counts
-pub answer_err : (coming : Option (List ℕ)) (words : List (List ℕ)) (old new : Option (List ℕ)) (s : Scripts) (text out : List ℕ) (kept failed : Type 0) (r : Result (Unit {0}) Fault) → ReadAs coming s → Answers s words text → out ≡ text → IfErr r (WritesFront old new out) → IfErr r (λ _. failed)
+pub answer_err : (coming : Option (List ℕ)) (words : List (List ℕ)) (old new : Option (List ℕ)) (s : Scripts) (text out : List ℕ) (kept failed : Type 0) (r : Result (Unit {0}) Fault) →
+    ReadAs coming s → Answers s words text → out ≡ text → IfErr r (WritesFront old new out) → IfErr r (λ _. failed)
     → IfErr r (λ e. (StopsBeforeAnswer coming words e × kept) ⊎ (BreaksOffAnswer coming words old new e × failed))
 answer_err coming words old new s text out kept failed (Ok u) read answers at front count = tt
 answer_err coming words old new s text out kept failed (Err e) read answers at front count =

@@ -51,12 +51,14 @@ pub memory_no_write : (r : Result (Unit {0}) Fault) (e : Fault) (n : ℕ) → Is
 memory_no_write r e n is memory at = let bad : Memory ≡ Write n = sym memory ∙ same_error r e (Write n) is at in cc
 
 -- the writing of the report of what was read
-pub writes_report : (coming old new : Option (List ℕ)) (s : Scripts) (text : List ℕ) (r : Result (Unit {0}) Fault) → ReadAs coming s → text ≡ plain_report s → OnOk r (Appends old new text) → OnOk r (WritesReport coming old new)
+pub writes_report : (coming old new : Option (List ℕ)) (s : Scripts) (text : List ℕ) (r : Result (Unit {0}) Fault) → ReadAs coming s → text ≡ plain_report s → OnOk r (Appends old new text) →
+    OnOk r (WritesReport coming old new)
 writes_report coming old new s text (Ok x) read is wrote = record { scripts = s; read = read; wrote = subst (λ t. Appends old new t) is wrote }
 writes_report coming old new s text (Err e) read is wrote = tt
 
 -- a fault of the writing counts what went out
-pub breaks_off : (coming old new : Option (List ℕ)) (s : Scripts) (text : List ℕ) (r : Result (Unit {0}) Fault) (n : ℕ) → ReadAs coming s → text ≡ plain_report s → IfErr r (WritesFront old new text) → r ≡ Err (Write n) → BreaksOff coming old new n
+pub breaks_off : (coming old new : Option (List ℕ)) (s : Scripts) (text : List ℕ) (r : Result (Unit {0}) Fault) (n : ℕ) → ReadAs coming s → text ≡ plain_report s → IfErr r (WritesFront old new text) →
+    r ≡ Err (Write n) → BreaksOff coming old new n
 breaks_off coming old new s text (Ok x) n read is front at = let bad : Ok x ≡ Err (Write n) = at in cc
 breaks_off coming old new s text (Err e) n read is (m, carries, (short, front)) at =
     let same : m ≡ n = cc in
@@ -73,12 +75,14 @@ no_read_writing old new text (Ok x) front is = let bad : Ok x ≡ Err Read = is 
 no_read_writing old new text (Err e) (m, carries, (short, front)) is = let bad : Write m ≡ Read = cc in cc
 
 -- the writing refuses no file
-pub not_refused : (coming old new : Option (List ℕ)) (text : List ℕ) (r : Result (Unit {0}) Fault) → IfErr r (WritesFront old new text) → IfErr r (λ e. e ≢ Memory → e ≢ Read → ((n : ℕ) → e ≢ Write n) → Refuses coming e)
+pub not_refused : (coming old new : Option (List ℕ)) (text : List ℕ) (r : Result (Unit {0}) Fault) → IfErr r (WritesFront old new text) →
+    IfErr r (λ e. e ≢ Memory → e ≢ Read → ((n : ℕ) → e ≢ Write n) → Refuses coming e)
 not_refused coming old new text (Ok x) front = tt
 not_refused coming old new text (Err e) (m, carries, (short, front)) = λ memory read not_write. absurd (not_write m carries)
 
 -- a fault that isn't of writing comes before it
-pub untouched : {W : Type 0} (old new : W) (written later : Option (List ℕ)) (text : List ℕ) (r : Result (Unit {0}) Fault) → IfErr r (WritesFront written later text) → OnErr r (((n : ℕ) → r ≢ Err (Write n)) → new ≡ old)
+pub untouched : {W : Type 0} (old new : W) (written later : Option (List ℕ)) (text : List ℕ) (r : Result (Unit {0}) Fault) → IfErr r (WritesFront written later text) →
+    OnErr r (((n : ℕ) → r ≢ Err (Write n)) → new ≡ old)
 untouched old new written later text (Ok x) front = tt
 untouched old new written later text (Err e) (m, carries, (short, front)) = λ none. absurd (none m (ap Err carries))
 

@@ -15,7 +15,8 @@ use Rattle.wire_commands.specs.Plain.{plain_report}
 use Rattle.wire_commands.specs.Follow.{StopsAfter, report_after}
 
 -- the report of the plain run
-pub plain_told : (plan shown : Scripts) (ends : Ends) (r : Result (Vec ℕ Global) Fault) → shown ≡ plan → ends ≡ plain_ends plan → IfOk r (λ text. text.items ≡ report shown ends) → IfOk r (λ text. text.items ≡ plain_report plan)
+pub plain_told : (plan shown : Scripts) (ends : Ends) (r : Result (Vec ℕ Global) Fault) → shown ≡ plan → ends ≡ plain_ends plan → IfOk r (λ text. text.items ≡ report shown ends) →
+    IfOk r (λ text. text.items ≡ plain_report plan)
 plain_told plan shown ends (Ok text) same at told =
     let step : report shown ends ≡ plain_report plan = λ i. report (same i) (at i) in told ∙ step
 plain_told plan shown ends (Err e) same at told = tt
@@ -27,7 +28,8 @@ plain_too s plan r is told = subst (λ t. IfOk r (λ text. text.items ≡ plain_
 abbrev pub LeadsTo : Scripts → List ℕ → List ℕ → Type 0
 LeadsTo s steps text = IsInterleaving (plan_of s) start steps × (text ≡ report_after s steps)
 
-pub followed_told : (plan shown : Scripts) (steps : List ℕ) (ends : Ends) (r : Result (Vec ℕ Global) Fault) → shown ≡ plan → IsInterleaving (plan_of plan) start steps × (ends ≡ outcome (plan_of plan) (run (plan_of plan) steps))
+pub followed_told : (plan shown : Scripts) (steps : List ℕ) (ends : Ends) (r : Result (Vec ℕ Global) Fault) → shown ≡ plan → IsInterleaving (plan_of plan) start steps
+    × (ends ≡ outcome (plan_of plan) (run (plan_of plan) steps))
     → IfOk r (λ text. text.items ≡ report shown ends) → IfOk r (λ text. LeadsTo plan steps text.items)
 followed_told plan shown steps ends (Ok text) same (enabled, at) told =
     let step : report shown ends ≡ report_after plan steps = λ i. report (same i) (at i) in (enabled, told ∙ step)
@@ -37,7 +39,8 @@ pub leads_too : (s plan : Scripts) (steps : List ℕ) (r : Result (Vec ℕ Globa
 leads_too s plan steps r is told = subst (λ t. IfOk r (λ text. LeadsTo t steps text.items)) is told
 
 -- a step that isn't enabled
-pub stops_too : (s plan : Scripts) (steps : List ℕ) (r : Result (Vec ℕ Global) Fault) → plan ≡ s → IfErr r (λ e. (e ≡ Memory) ⊎ StopsAfter plan steps e) → IfErr r (λ e. (e ≡ Memory) ⊎ StopsAfter s steps e)
+pub stops_too : (s plan : Scripts) (steps : List ℕ) (r : Result (Vec ℕ Global) Fault) → plan ≡ s → IfErr r (λ e. (e ≡ Memory) ⊎ StopsAfter plan steps e) →
+    IfErr r (λ e. (e ≡ Memory) ⊎ StopsAfter s steps e)
 stops_too s plan steps r is told = subst (λ t. IfErr r (λ e. (e ≡ Memory) ⊎ StopsAfter t steps e)) is told
 
 -- a call of the scripts

@@ -10,10 +10,10 @@ ghost use Rattle.wire_commands.specs.Why.{Asks, Answers, WritesAnswer, BreaksOff
 
 use crate::plain_run::read_scripts;
 use std::alloc::Global;
+use wire_content::Scripts;
 use wire_marks::Marks;
 use wire_order::{Question, calls_asked};
 use wire_plan::Plan;
-use wire_content::Scripts;
 use wire_report::{chain_text, write_text};
 use wire_types::{CallAt, Fault, Sink, Source};
 
@@ -89,7 +89,8 @@ pub fn why<R: Source, W: Sink>(
 
     // Either nothing was written, or the front of the answer that the fault counts.
     ensures err { IfErr result (λ e. (StopsBeforeAnswer (R.coming reader.old) (map (λ w. w.now) words.entry) e × (writer.new ≡ writer.old))
-        ⊎ (BreaksOffAnswer (R.coming reader.old) (map (λ w. w.now) words.entry) (W.written writer.old) (W.written writer.new) e × (W.failures writer.new ≡ one_more (W.failures writer.old)))) }
+        ⊎ (BreaksOffAnswer (R.coming reader.old) (map (λ w. w.now) words.entry) (W.written writer.old) (W.written writer.new) e
+        × (W.failures writer.new ≡ one_more (W.failures writer.old)))) }
 
     // A failed read is answered only where the reader failed.
     ensures read_failed { result ≡ Err Read → R.failures reader.new ≡ one_more (R.failures reader.old) }

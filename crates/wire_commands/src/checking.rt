@@ -11,11 +11,11 @@ ghost use Rattle.wire_commands.specs.Check.{WritesVerdict, BreaksOffVerdict, Wri
 use crate::plain_run::read_scripts;
 use std::alloc::Global;
 use std::thread::Threads;
+use wire_content::Scripts;
 use wire_marks::Marks;
 use wire_plan::Plan;
 use wire_races::laws::settled_exactly;
 use wire_races::{Finding, finding_list};
-use wire_content::Scripts;
 use wire_report::write_findings;
 use wire_types::{Fault, Sink, Source};
 
@@ -116,7 +116,8 @@ pub fn check<R: Source, W: Sink>(
 
     // Either nothing was written, or the front of the findings that the fault counts.
     ensures err { IfErr result (λ e. (StopsBeforeFindings (R.coming reader.old) e × (writer.new ≡ writer.old))
-        ⊎ (BreaksOffFindings (R.coming reader.old) (W.written writer.old) (W.written writer.new) e × (W.failures writer.new ≡ one_more (W.failures writer.old)))) }
+        ⊎ (BreaksOffFindings (R.coming reader.old) (W.written writer.old) (W.written writer.new) e
+        × (W.failures writer.new ≡ one_more (W.failures writer.old)))) }
 
     // A failed read is answered only where the reader failed.
     ensures read_failed { result ≡ Err Read → R.failures reader.new ≡ one_more (R.failures reader.old) }

@@ -12,13 +12,13 @@ ghost use Rattle.wire_runs.specs.Ends.{outcome};
 ghost use Rattle.wire_commands.specs.Plain.{ReadAs};
 ghost use Rattle.wire_commands.specs.Follow.{WritesFollowed, BreaksOffFollowed, StopsBefore, OrdersAs, RefusesSteps, StopsAfter, report_after};
 
-use crate::reading::read_up_to;
 use crate::plain_run::read_scripts;
+use crate::reading::read_up_to;
 use std::alloc::Global;
+use wire_content::Scripts;
 use wire_core::Core;
 use wire_order::{ORDER_BYTES, read_order};
 use wire_plan::Plan;
-use wire_content::Scripts;
 use wire_report::{report_text, write_text};
 use wire_types::{Fault, Outcome, Proc, Sink, Source};
 
@@ -43,7 +43,8 @@ fn read_steps<O: Source>(
 
 /// What became of every call after these steps.
 fn outcome_after(alloc: Global, plan: &Plan, order: &[Proc]) -> Result<Outcome, Fault>
-    ensures ok { IfOk result (λ o. IsInterleaving (plan_of plan.now) start (numbers_of order.now) × (ends_of o ≡ outcome (plan_of plan.now) (run (plan_of plan.now) (numbers_of order.now)))) }
+    ensures ok { IfOk result (λ o. IsInterleaving (plan_of plan.now) start (numbers_of order.now)
+        × (ends_of o ≡ outcome (plan_of plan.now) (run (plan_of plan.now) (numbers_of order.now)))) }
     ensures err { IfErr result (λ e. (e ≡ Memory) ⊎ StopsAfter plan.now (numbers_of order.now) e) }
 {
     let mut core = Core::new(alloc, plan)?;
@@ -53,7 +54,8 @@ fn outcome_after(alloc: Global, plan: &Plan, order: &[Proc]) -> Result<Outcome, 
 
 /// The report of the state after these steps of a plan.
 fn report_of(alloc: Global, plan: &Plan, order: &[Proc]) -> Result<Vec<u8>, Fault>
-    ensures ok { IfOk result (λ text. IsInterleaving (plan_of plan.now) start (numbers_of order.now) × (text.items ≡ report_after plan.now (numbers_of order.now))) }
+    ensures ok { IfOk result (λ text. IsInterleaving (plan_of plan.now) start (numbers_of order.now)
+        × (text.items ≡ report_after plan.now (numbers_of order.now))) }
     ensures err { IfErr result (λ e. (e ≡ Memory) ⊎ StopsAfter plan.now (numbers_of order.now) e) }
 {
     let outcome = outcome_after(alloc, plan, order)?;
@@ -62,7 +64,8 @@ fn report_of(alloc: Global, plan: &Plan, order: &[Proc]) -> Result<Vec<u8>, Faul
 
 /// The report of the state after these steps of scripts.
 fn followed_text(alloc: Global, scripts: Scripts, order: &[Proc]) -> Result<Vec<u8>, Fault>
-    ensures ok { IfOk result (λ text. IsInterleaving (plan_of scripts) start (numbers_of order.now) × (text.items ≡ report_after scripts (numbers_of order.now))) }
+    ensures ok { IfOk result (λ text. IsInterleaving (plan_of scripts) start (numbers_of order.now)
+        × (text.items ≡ report_after scripts (numbers_of order.now))) }
     ensures err { IfErr result (λ e. (e ≡ Memory) ⊎ StopsAfter scripts (numbers_of order.now) e) }
 {
     let plan = Plan::build(alloc, scripts)?;
@@ -86,16 +89,19 @@ pub fn follow<R: Source, O: Source, W: Sink>(
     writer: &mut W,
 ) -> Result<(), Fault>
     ensures ok { OnOk result (WritesFollowed (R.coming reader.old) (O.coming order_reader.old) (W.written writer.old) (W.written writer.new)) }
-    ensures quiet { OnOk result ((R.failures reader.new ≡ R.failures reader.old) × (O.failures order_reader.new ≡ O.failures order_reader.old) × (W.failures writer.new ≡ W.failures writer.old)) }
+    ensures quiet { OnOk result ((R.failures reader.new ≡ R.failures reader.old) × (O.failures order_reader.new ≡ O.failures order_reader.old)
+        × (W.failures writer.new ≡ W.failures writer.old)) }
 
     // Either nothing was written, or the front of the report that the fault counts.
     ensures err { IfErr result (λ e. (StopsBefore (R.coming reader.old) (O.coming order_reader.old) e × (writer.new ≡ writer.old))
-        ⊎ (BreaksOffFollowed (R.coming reader.old) (O.coming order_reader.old) (W.written writer.old) (W.written writer.new) e × (W.failures writer.new ≡ one_more (W.failures writer.old)))) }
+        ⊎ (BreaksOffFollowed (R.coming reader.old) (O.coming order_reader.old) (W.written writer.old) (W.written writer.new) e
+        × (W.failures writer.new ≡ one_more (W.failures writer.old)))) }
 
     // A failed read is answered only where a reader failed, that of the order only where the file reads.
     ensures read_failed { result ≡ Err Read → (R.failures reader.new ≡ one_more (R.failures reader.old))
         ⊎ ((O.failures order_reader.new ≡ one_more (O.failures order_reader.old)) × (scripts : Scripts) × ReadAs (R.coming reader.old) scripts) }
-    ensures unfailed { IfErr result (λ e. e ≢ Memory → e ≢ Read → (R.failures reader.new ≡ R.failures reader.old) × (O.failures order_reader.new ≡ O.failures order_reader.old)) }
+    ensures unfailed { IfErr result (λ e. e ≢ Memory → e ≢ Read → (R.failures reader.new ≡ R.failures reader.old)
+        × (O.failures order_reader.new ≡ O.failures order_reader.old)) }
 {
     let scripts = read_scripts(alloc, reader)?;
     let order = match read_steps(alloc, &scripts, order_reader) {

@@ -5,8 +5,8 @@
 mod asking;
 mod checking;
 mod following;
-mod reading;
 mod plain_run;
+mod reading;
 
 pub use asking::why;
 pub use checking::{Ended, check};

@@ -7,9 +7,9 @@ ghost use Rattle.wire_commands.specs.Plain.{plain_report, ReadAs, WritesReport, 
 
 use crate::reading::read_up_to;
 use std::alloc::Global;
+use wire_content::Scripts;
 use wire_core::plain_outcome;
 use wire_plan::Plan;
-use wire_content::Scripts;
 use wire_report::{report_text, write_text};
 use wire_script::{FILE_BYTES, read};
 use wire_types::{Fault, Sink, Source};

@@ -22,7 +22,8 @@ abbrev pub same_scripts : Scripts → Scripts → Bool
 same_scripts a b =
     same_texts a.nodes b.nodes
     && (same_texts a.jobs b.jobs
-    && (same_texts a.keys b.keys && (same_texts a.names b.names && (same_texts a.values b.values && (same_texts a.sets b.sets && pointwise same_process a.processes b.processes)))))
+    && (same_texts a.keys b.keys && (same_texts a.names b.names
+    && (same_texts a.values b.values && (same_texts a.sets b.sets && pointwise same_process a.processes b.processes)))))
 
 numbers_alike : IsPartialEquivalence (λ (a b : ℕ). a == b)
 numbers_alike = partial_equiv_from_equiv nat_eq_equiv

@@ -61,7 +61,8 @@ pub record AreSets (processes : List Process) (sets : List (List ℕ)) : Type 0 
 
 -- the set of each fence is there, and its caller is a member
 abbrev pub AreMembers : List Process → List (List ℕ) → Type 0
-AreMembers processes sets = (p c set : ℕ) (collect : Bool) → call_at processes p c ≡ Some (Fence set collect) → (set < length sets) × (is_member (set_at sets set) p ≡ true)
+AreMembers processes sets = (p c set : ℕ) (collect : Bool) → call_at processes p c ≡ Some (Fence set collect) → (set < length sets)
+    × (is_member (set_at sets set) p ≡ true)
 
 -- the owner of the key that a get names
 abbrev pub owner_in : Call → Option ℕ

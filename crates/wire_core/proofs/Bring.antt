@@ -21,7 +21,10 @@ use Rattle.wire_core.specs.Looks.{BringNothing, IsLook, AreLooks, stored_or}
 use Rattle.wire_core.specs.declared.looks.Look.{Look}
 
 -- the three looks at a fence tell whether it has brought its members' data
-pub brings_told : (s : Scripts) (table : FenceTable) (cut : ℕ → ℕ) (p at number node : ℕ) (members : List ℕ) (collect : Bool) → AreFencesOf s table → kind_at (plan_of s) p at ≡ Some (Arrive members collect) → (m : IsMet s table (record { proc = p; at = at }) number) → (complete collects reaches : Bool) → complete ≡ is_complete (plan_of s) cut m.fence.members m.fence.nth → collects ≡ collects_in (fence_at table number) → reaches ≡ reaches_in table node (fence_at table number) → (complete && (collects && reaches)) ≡ brings_at (plan_of s) cut p node at
+pub brings_told : (s : Scripts) (table : FenceTable) (cut : ℕ → ℕ) (p at number node : ℕ) (members : List ℕ) (collect : Bool) → AreFencesOf s table →
+    kind_at (plan_of s) p at ≡ Some (Arrive members collect) → (m : IsMet s table (record { proc = p; at = at }) number) → (complete collects reaches : Bool) →
+    complete ≡ is_complete (plan_of s) cut m.fence.members m.fence.nth → collects ≡ collects_in (fence_at table number) → reaches ≡ reaches_in table node (fence_at table number) →
+    (complete && (collects && reaches)) ≡ brings_at (plan_of s) cut p node at
 brings_told s table cut p at number node members collect fences is m complete collects reaches complete_is collects_is reaches_is =
     let plan = plan_of s in
     let fence = m.fence in
@@ -86,7 +89,9 @@ and_all true = refl
 and_all false = refl
 
 -- an arrival at a fence that doesn't collect, or doesn't reach the node, brings nothing to it in any cut
-pub may_not : (s : Scripts) (table : FenceTable) (p at number node : ℕ) (members : List ℕ) (collect : Bool) → AreFencesOf s table → kind_at (plan_of s) p at ≡ Some (Arrive members collect) → IsMet s table (record { proc = p; at = at }) number → (collects_in (fence_at table number) && reaches_in table node (fence_at table number)) ≡ false → (cut : ℕ → ℕ) → brings_at (plan_of s) cut p node at ≡ false
+pub may_not : (s : Scripts) (table : FenceTable) (p at number node : ℕ) (members : List ℕ) (collect : Bool) → AreFencesOf s table → kind_at (plan_of s) p at ≡ Some (Arrive members collect) →
+    IsMet s table (record { proc = p; at = at }) number → (collects_in (fence_at table number) && reaches_in table node (fence_at table number)) ≡ false → (cut : ℕ → ℕ) →
+    brings_at (plan_of s) cut p node at ≡ false
 may_not s table p at number node members collect fences is m none cut =
     let complete = is_complete (plan_of s) cut m.fence.members m.fence.nth in
     sym (brings_told s table cut p at number node members collect fences is m complete (collects_in (fence_at table number)) (reaches_in table node (fence_at table number)) refl refl refl)
@@ -126,7 +131,8 @@ look_found plan look is = record {
 }
 
 -- with one event more, which brings nothing
-pub look_passed : (plan : Plan) (look : Look) → IsLook plan look → ((cut : ℕ → ℕ) → brings_at plan cut look.owner.number look.node look.seen ≡ false) → IsLook plan (record { owner = look.owner; node = look.node; seen = look.seen + 1; last = look.last; before = look.before })
+pub look_passed : (plan : Plan) (look : Look) → IsLook plan look → ((cut : ℕ → ℕ) → brings_at plan cut look.owner.number look.node look.seen ≡ false) →
+    IsLook plan (record { owner = look.owner; node = look.node; seen = look.seen + 1; last = look.last; before = look.before })
 look_passed plan look is none = record {
   last_seen = let le = is.last_seen in omega (arith, le);
   before_last = is.before_last;
@@ -148,7 +154,8 @@ put_look plan looks i look are is = λ k l at. elim (get_set looks i look k l at
 ]
 
 -- of which process and node it is
-pub look_of : (plan : Plan) (look : Look) (owner : Proc) (node : ℕ) → IsLook plan look → look.owner ≡ owner → look.node ≡ node → BringNothing plan owner.number node look.last look.seen × BringNothing plan owner.number node look.before (look.last - 1)
+pub look_of : (plan : Plan) (look : Look) (owner : Proc) (node : ℕ) → IsLook plan look → look.owner ≡ owner → look.node ≡ node → BringNothing plan owner.number node look.last look.seen
+    × BringNothing plan owner.number node look.before (look.last - 1)
 look_of plan look owner node is own there = (
   subst (λ (o : Proc). BringNothing plan o.number node look.last look.seen) own (subst (λ n. BringNothing plan look.owner.number n look.last look.seen) there is.after),
   subst (λ (o : Proc). BringNothing plan o.number node look.before (look.last - 1)) own (subst (λ n. BringNothing plan look.owner.number n look.before (look.last - 1)) there is.between),

@@ -32,11 +32,13 @@ done_past plan w p legal past =
     omega (arith, within, none)
 
 -- and shows nothing
-pub now_past : (plan : Plan) (w : List ℕ) (q i p key : ℕ) → IsInterleaving plan start w → process_count plan ≤ p → (q == p) ≡ false → seen.Nothing ≡ seen_as plan p (get_now_sees plan (run plan w) q i p key)
+pub now_past : (plan : Plan) (w : List ℕ) (q i p key : ℕ) → IsInterleaving plan start w → process_count plan ≤ p → (q == p) ≡ false →
+    seen.Nothing ≡ seen_as plan p (get_now_sees plan (run plan w) q i p key)
 unfolding event_count kinds
 now_past plan w q i p key legal past other =
     go (same_node plan p q)
-    ∙ ap (λ b. seen_as plan p (cond b (held (own plan p key i)) (cond (same_node plan p q) (served plan p true (stored plan p key ((run plan w).done p))) (held (brought plan (run plan w) p key (node_of plan q)))))) (sym other)
+    ∙ ap (λ b. seen_as plan p (cond b (held (own plan p key i)) (cond (same_node plan p q) (served plan p true (stored plan p key ((run plan w).done p)))
+    (held (brought plan (run plan w) p key (node_of plan q)))))) (sym other)
   where
     none : length (process_kinds (slice_get plan.processes p)) ≡ 0
     none = ap (λ o. length (process_kinds o)) (slice_get_past plan.processes p past)
@@ -54,7 +56,8 @@ held_shown : (plan : Plan) (p : ℕ) (o : Option ℕ) → own_found (option_map 
 held_shown plan p None = refl
 held_shown plan p (Some put) = refl
 
-pub own_shown : (plan : Plan) (s : State) (p key : ℕ) (rank : Rank) → IsRankOf plan s p rank → own_found (option_map (λ put. put.call) (last_put key rank.store.puts)) ≡ seen_as plan p (held (own plan p key (s.done p)))
+pub own_shown : (plan : Plan) (s : State) (p key : ℕ) (rank : Rank) → IsRankOf plan s p rank →
+    own_found (option_map (λ put. put.call) (last_put key rank.store.puts)) ≡ seen_as plan p (held (own plan p key (s.done p)))
 own_shown plan s p key rank told =
     rw told.puts
     (ap own_found (store_tells (kind_at plan p) (calls_at plan p) key (s.done p)).own ∙ held_shown plan p (own plan p key (s.done p)))
@@ -67,13 +70,15 @@ served_shown plan p same (Some put) = go (admits (scope_of plan p put) same)
     go true = refl
     go false = refl
 
-pub stored_shown : (plan : Plan) (s : State) (p key : ℕ) (same : Bool) (rank : Rank) → IsRankOf plan s p rank → store_shows same (last_stored key rank.store.puts) ≡ seen_as plan p (served plan p same (stored plan p key (s.done p)))
+pub stored_shown : (plan : Plan) (s : State) (p key : ℕ) (same : Bool) (rank : Rank) → IsRankOf plan s p rank →
+    store_shows same (last_stored key rank.store.puts) ≡ seen_as plan p (served plan p same (stored plan p key (s.done p)))
 stored_shown plan s p key same rank told =
     rw told.puts
     ((store_tells (kind_at plan p) (calls_at plan p) key (s.done p)).others same ∙ served_shown plan p same (stored plan p key (s.done p)))
 
 -- what another node is shown of what was so before an event
-pub before_shown : (plan : Plan) (s : State) (p key at : ℕ) (rank : Rank) → IsRankOf plan s p rank → at ≤ s.done p → brought_of (store_shows false (last_stored_before key at rank.store.puts)) ≡ seen_as plan p (held (for_others plan p (stored plan p key at)))
+pub before_shown : (plan : Plan) (s : State) (p key at : ℕ) (rank : Rank) → IsRankOf plan s p rank → at ≤ s.done p →
+    brought_of (store_shows false (last_stored_before key at rank.store.puts)) ≡ seen_as plan p (held (for_others plan p (stored plan p key at)))
 before_shown plan s p key at rank told le =
     rw told.puts
     (ap brought_of ((store_tells (kind_at plan p) (calls_at plan p) key (s.done p)).before at le) ∙ go (stored plan p key at))
@@ -95,7 +100,8 @@ event_past plan p n past = slice_get_past (kinds plan p) n past
 pub nobody : (plan : Plan) (s : State) → lowest plan s (process_count plan) ≡ None → IsEnd plan s
 nobody plan s none p = false_from_ne_true _ (λ h. true≢false (sym h ∙ none_enabled plan s (process_count plan) p none (enabled_within plan s p h)))
 
-pub ended_tells : (plan : Plan) (s : State) (found : Option Proc) (ended : Bool) → option_map (λ p. p.number) found ≡ lowest plan s (process_count plan) → is_some found ≡ not ended → IsTrue ended ↔ IsEnd plan s
+pub ended_tells : (plan : Plan) (s : State) (found : Option Proc) (ended : Bool) → option_map (λ p. p.number) found ≡ lowest plan s (process_count plan) → is_some found ≡ not ended →
+    IsTrue ended ↔ IsEnd plan s
 ended_tells plan s None true none is = ((λ _. nobody plan s (sym none)), (λ _. refl))
 ended_tells plan s None false none is = cc
 ended_tells plan s (Some p) true some is = cc

@@ -47,25 +47,30 @@ arriving s state table p number (met, (members, collect, is)) = record {
   nth = met.nth;
 }
 
-pub somebody_missing : (s : Scripts) (state : State) (table : FenceTable) (missing : List ℕ) (p number : ℕ) → ArrivesAt s table (next_event state p) (Some number) → TellsMissing s state.done table missing → 0 < missing_at missing number
+pub somebody_missing : (s : Scripts) (state : State) (table : FenceTable) (missing : List ℕ) (p number : ℕ) → ArrivesAt s table (next_event state p) (Some number) →
+    TellsMissing s state.done table missing → 0 < missing_at missing number
 somebody_missing s state table missing p number at told = arriving_is_missing s state.done table missing number p (arriving s state table p number at) told
 
-pub missing_if : (s : Scripts) (state : State) (table : FenceTable) (missing : List ℕ) (p : ℕ) (fence : Option FenceId) → ArrivesAt s table (next_event state p) (option_map (λ f. f.number) fence) → TellsMissing s state.done table missing → IfSome fence (λ f. 0 < missing_at missing f.number)
+pub missing_if : (s : Scripts) (state : State) (table : FenceTable) (missing : List ℕ) (p : ℕ) (fence : Option FenceId) → ArrivesAt s table (next_event state p) (option_map (λ f. f.number) fence) →
+    TellsMissing s state.done table missing → IfSome fence (λ f. 0 < missing_at missing f.number)
 missing_if s state table missing p None at told = tt
 missing_if s state table missing p (Some fence) at told = somebody_missing s state table missing p fence.number at told
 
-arrived_step : (s : Scripts) (state : State) (table : FenceTable) (missing : List ℕ) (p : ℕ) (fence : Option ℕ) → AreFencesOf s table → ArrivesAt s table (next_event state p) fence → TellsMissing s state.done table missing → TellsMissing s (step (plan_of s) state p).done table (after_arrival fence missing)
+arrived_step : (s : Scripts) (state : State) (table : FenceTable) (missing : List ℕ) (p : ℕ) (fence : Option ℕ) → AreFencesOf s table → ArrivesAt s table (next_event state p) fence →
+    TellsMissing s state.done table missing → TellsMissing s (step (plan_of s) state p).done table (after_arrival fence missing)
 arrived_step s state table missing p None fences at told = other_events_keep s state.done table missing p at told
 arrived_step s state table missing p (Some number) fences at told = arrival_counts s state.done table missing number p fences (arriving s state table p number at) told
 
 -- what stands under a name, as a call and as an event
 module _ (plan : Plan) (x : Event) where
-  published_by : (b : Bool) (o : Option Event) → cond b (after_publish (call_of plan x) (option_map (call_of plan) o)) (option_map (call_of plan) o) ≡ option_map (call_of plan) (cond b (cond (is_some o) o (Some x)) o)
+  published_by : (b : Bool) (o : Option Event) → cond b (after_publish (call_of plan x) (option_map (call_of plan) o)) (option_map (call_of plan) o) ≡ option_map (call_of plan)
+      (cond b (cond (is_some o) o (Some x)) o)
   published_by true None = refl
   published_by true (Some publish) = refl
   published_by false o = refl
 
-  removed_by : (b : Bool) (o : Option Event) → cond b (after_unpublish x.proc (option_map (call_of plan) o)) (option_map (call_of plan) o) ≡ option_map (call_of plan) (cond b (cond (is_publisher x.proc o) None o) o)
+  removed_by : (b : Bool) (o : Option Event) → cond b (after_unpublish x.proc (option_map (call_of plan) o)) (option_map (call_of plan) o) ≡ option_map (call_of plan)
+      (cond b (cond (is_publisher x.proc o) None o) o)
   removed_by true None = refl
   removed_by true (Some publish) = go (publish.proc == x.proc)
     where
@@ -120,7 +125,9 @@ has_name s p at e names sound count is = let b = event_behind s p at e is in go 
     go (Fixed reply) is b q = tt
 
 -- one step
-pub shared_step : (s : Scripts) (state : State) (table : FenceTable) (missing : List ℕ) (names : List (Option CallAt)) (p : ℕ) (fence : Option ℕ) (e : Kind) → IsShared s state table missing names → kind_at (plan_of s) p (state.done p) ≡ Some e → ArrivesAt s table (next_event state p) fence → IsShared s (step (plan_of s) state p) table (after_arrival fence missing) (names_after (call_of (plan_of s) (next_event state p)) (Some e) names)
+pub shared_step : (s : Scripts) (state : State) (table : FenceTable) (missing : List ℕ) (names : List (Option CallAt)) (p : ℕ) (fence : Option ℕ) (e : Kind) → IsShared s state table missing names →
+    kind_at (plan_of s) p (state.done p) ≡ Some e → ArrivesAt s table (next_event state p) fence →
+    IsShared s (step (plan_of s) state p) table (after_arrival fence missing) (names_after (call_of (plan_of s) (next_event state p)) (Some e) names)
 shared_step s state table missing names p fence e shared is at =
     let plan = plan_of s in
     let place = next_event state p in
@@ -131,6 +138,7 @@ shared_step s state table missing names p fence e shared is at =
       arrived = arrived_step s state table missing p fence shared.fences at shared.arrived;
       named = record {
         count = follows.count ∙ shared.named.count;
-        each = λ name. follows.each name ∙ ap (standing_after (call_of plan place) (Some e) name) (shared.named.each name) ∙ standing plan place e name (state.names name) ∙ ap (λ o. option_map (call_of plan) (name_after (state.names name) place o name)) (sym is);
+        each = λ name. follows.each name ∙ ap (standing_after (call_of plan place) (Some e) name) (shared.named.each name) ∙ standing plan place e name (state.names name)
+            ∙ ap (λ o. option_map (call_of plan) (name_after (state.names name) place o name)) (sym is);
       };
     }

@@ -1,5 +1,6 @@
 -- Steps of a core: its ranks stay those of the state that its history leads to.
-use Rattle.std.proofs.Common.{◌≡◌, ◌∙◌, ap, sym, refl, subst, ℕ, zero, suc, ◌+◌, ◌-◌, ◌<◌, ◌≤◌, List, [], ◌∷◌, ◌++◌, length, map, drop, Bool, true, cond, Option, Some, None, arith, ◌⊎◌, inl, inr, append_assoc, count_by}
+use Rattle.std.proofs.Common.{◌≡◌, ◌∙◌, ap, sym, refl, subst, ℕ, zero, suc, ◌+◌, ◌-◌, ◌<◌, ◌≤◌, List, [], ◌∷◌, ◌++◌, length, map, drop, Bool, true, cond, Option, Some, None, arith, ◌⊎◌, inl, inr}
+use Rattle.std.proofs.Common.{append_assoc, count_by}
 use Rattle.std.specs.Prelude.{slice_get, slice_set, vec_capacity, replicate}
 use Rattle.std.proofs.lemmas.Option.{slice_get_within, get_or_from_slice_get, same_Some}
 use Rattle.std.proofs.lemmas.List.{length-map, length-set, length-append}
@@ -56,7 +57,8 @@ count_map f g [] = refl
 count_map f g (x ∷ xs) = sum_by-cons (λ y. cond (f y) 1 0) (g x) (map g xs) ∙ ap (λ n. cond (f (g x)) 1 0 + n) (count_map f g xs) ∙ sym (sum_by-cons (λ y. cond (f (g y)) 1 0) x xs)
 
 -- a process that hasn't begun
-pub new_rank : (plan : Plan) (p : ℕ) (sets : List (List ℕ)) (codes : List CodeKind) (rank : Rank) → map (kind_of sets) codes ≡ kinds plan p → rank.done ≡ 0 → rank.store.puts ≡ [] → rank.store.room ≡ count_by is_put (map (kind_of sets) codes) → rank.replies.items ≡ [] → vec_capacity rank.replies ≡ length codes → IsRankOf plan start p rank
+pub new_rank : (plan : Plan) (p : ℕ) (sets : List (List ℕ)) (codes : List CodeKind) (rank : Rank) → map (kind_of sets) codes ≡ kinds plan p → rank.done ≡ 0 → rank.store.puts ≡ [] →
+    rank.store.room ≡ count_by is_put (map (kind_of sets) codes) → rank.replies.items ≡ [] → vec_capacity rank.replies ≡ length codes → IsRankOf plan start p rank
 unfolding event_count
 new_rank plan p sets codes rank shown done puts room replies space = record {
   done = done;
@@ -107,7 +109,8 @@ left_first plan p n e is =
     ∙ puts_first e (drop (suc n) (kinds plan p))
 
 -- the process that steps
-pub rank_step : (plan : Plan) (s : State) (p : ℕ) (old new : Rank) (e : Kind) (r : Option Reply) → IsRankOf plan s p old → kind_at plan p (s.done p) ≡ Some e → given plan (reply plan s (next_event s p) (Some e)) ≡ replies_in r → IsAdvanced old new (calls_at plan p (s.done p)) e r → IsRankOf plan (step plan s p) p new
+pub rank_step : (plan : Plan) (s : State) (p : ℕ) (old new : Rank) (e : Kind) (r : Option Reply) → IsRankOf plan s p old → kind_at plan p (s.done p) ≡ Some e →
+    given plan (reply plan s (next_event s p) (Some e)) ≡ replies_in r → IsAdvanced old new (calls_at plan p (s.done p)) e r → IsRankOf plan (step plan s p) p new
 rank_step plan s p old new e r told is answered after =
     let same = done_same plan s p in
     let was = told.done in
@@ -139,7 +142,8 @@ rank_step plan s p old new e r told is answered after =
     no_more (x ∷ xs) = ap (λ ys. x ∷ ys) (no_more xs)
 
 -- all processes
-pub ranks_step : (plan : Plan) (s : State) (p : ℕ) (ranks : List Rank) (new : Rank) → AreRanksOf plan s ranks → IsRankOf plan (step plan s p) p new → AreRanksOf plan (step plan s p) (slice_set ranks p new)
+pub ranks_step : (plan : Plan) (s : State) (p : ℕ) (ranks : List Rank) (new : Rank) → AreRanksOf plan s ranks → IsRankOf plan (step plan s p) p new →
+    AreRanksOf plan (step plan s p) (slice_set ranks p new)
 ranks_step plan s p ranks new told now = record {
   count = length-set ranks p new ∙ told.count;
   each = λ q rank is. elim (get_set ranks p new q rank is) [
@@ -161,10 +165,13 @@ run_append plan s [] w = refl
 run_append plan s (p ∷ v) w = run_append plan (step plan s p) v w
 
 -- the course after one step of a process that is enabled
-pub course_step : (scripts : Scripts) (history : List ℕ) (ranks : List Rank) (p : ℕ) (new : Rank) → IsCourse scripts history ranks → is_enabled (plan_of scripts) (run (plan_of scripts) history) p ≡ true → IsRankOf (plan_of scripts) (step (plan_of scripts) (run (plan_of scripts) history) p) p new → IsCourse scripts (history ++ p ∷ []) (slice_set ranks p new)
+pub course_step : (scripts : Scripts) (history : List ℕ) (ranks : List Rank) (p : ℕ) (new : Rank) → IsCourse scripts history ranks →
+    is_enabled (plan_of scripts) (run (plan_of scripts) history) p ≡ true → IsRankOf (plan_of scripts) (step (plan_of scripts) (run (plan_of scripts) history) p) p new →
+    IsCourse scripts (history ++ p ∷ []) (slice_set ranks p new)
 course_step scripts history ranks p new course on now = record {
   legal = legal_push (plan_of scripts) start history p course.legal on;
-  told = subst (λ s. AreRanksOf (plan_of scripts) s (slice_set ranks p new)) (sym (run_push (plan_of scripts) start history p)) (ranks_step (plan_of scripts) (run (plan_of scripts) history) p ranks new course.told now);
+  told = subst (λ s. AreRanksOf (plan_of scripts) s (slice_set ranks p new)) (sym (run_push (plan_of scripts) start history p))
+      (ranks_step (plan_of scripts) (run (plan_of scripts) history) p ranks new course.told now);
 }
 
 -- whether a kind is a put isn't told by the sets
@@ -222,7 +229,8 @@ step_history plan w p legal on =
     omega (arith, longer, one)
 
 -- the plain run goes on with the lowest process that is enabled
-pub ahead_step : (plan : Plan) (h : List ℕ) (p fuel left : ℕ) (all : List ℕ) → lowest plan (run plan h) (process_count plan) ≡ Some p → left ≡ suc fuel → h ++ plain_from plan left (run plan h) ≡ all → (h ++ p ∷ []) ++ plain_from plan fuel (run plan (h ++ p ∷ [])) ≡ all
+pub ahead_step : (plan : Plan) (h : List ℕ) (p fuel left : ℕ) (all : List ℕ) → lowest plan (run plan h) (process_count plan) ≡ Some p → left ≡ suc fuel → h ++ plain_from plan left (run plan h) ≡ all →
+    (h ++ p ∷ []) ++ plain_from plan fuel (run plan (h ++ p ∷ [])) ≡ all
 ahead_step plan h p fuel left all low more is =
     let next : plain_from plan (suc fuel) (run plan h) ≡ p ∷ plain_from plan fuel (step plan (run plan h) p) =
     ap (λ o. go_on o (λ q. plain_from plan fuel (step plan (run plan h) q))) low in

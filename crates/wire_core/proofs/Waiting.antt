@@ -51,14 +51,16 @@ unnamed_still before x name _ other none = none
 
 -- what doesn't come with an event
 module _ (s : Scripts) (table : FenceTable) (x : Event) (p : Proc) (missing : List ℕ) (e : Kind) (is : kind (plan_of s) x ≡ Some e) where
-  no_commit : (fence : Option FenceId) (owner : Proc) → ArrivesAt s table x (option_map (λ f. f.number) fence) → is_same_thing (coming p fence missing e) (wait.Commit owner) ≡ false → owner.number ≡ p.number → Some e ≡ Some Commit → ⊥
+  no_commit : (fence : Option FenceId) (owner : Proc) → ArrivesAt s table x (option_map (λ f. f.number) fence) → is_same_thing (coming p fence missing e) (wait.Commit owner) ≡ false →
+      owner.number ≡ p.number → Some e ≡ Some Commit → ⊥
   no_commit None owner arrives apart same commit =
       let e_is : e ≡ Commit = same_Some _ _ commit in
       true≢false (sym (eq-eqb p.number owner.number (sym same)) ∙ ap (λ k. is_same_thing (coming p None missing k) (wait.Commit owner)) (sym e_is) ∙ apart)
   no_commit (Some fence) owner (met, (members, collect, arrive)) apart same commit =
       let both : Some Commit ≡ Some (Arrive members collect) = sym commit ∙ sym is ∙ arrive in cc
 
-  no_publish : (fence : Option FenceId) (name : ℕ) → ArrivesAt s table x (option_map (λ f. f.number) fence) → is_same_thing (coming p fence missing e) (wait.Publish name) ≡ false → Some e ≡ Some (Publish name) → ⊥
+  no_publish : (fence : Option FenceId) (name : ℕ) → ArrivesAt s table x (option_map (λ f. f.number) fence) → is_same_thing (coming p fence missing e) (wait.Publish name) ≡ false →
+      Some e ≡ Some (Publish name) → ⊥
   no_publish None name arrives apart publish =
       let e_is : e ≡ Publish name = same_Some _ _ publish in
       true≢false (sym (eq-eqb name name refl) ∙ ap (λ k. is_same_thing (coming p None missing k) (wait.Publish name)) (sym e_is) ∙ apart)
@@ -66,10 +68,12 @@ module _ (s : Scripts) (table : FenceTable) (x : Event) (p : Proc) (missing : Li
       let both : Some (Publish name) ≡ Some (Arrive members collect) = sym publish ∙ sym is ∙ arrive in cc
 
   -- a fence that isn't complete, unless its completion comes
-  missing_still : (before : List ℕ) (came : Option FenceId) (fence : FenceId) → missing ≡ after_arrival (option_map (λ f. f.number) came) before → is_same_thing (coming p came missing e) (wait.Fence fence) ≡ false → (missing_at before fence.number == 0) ≡ false → (missing_at missing fence.number == 0) ≡ false
+  missing_still : (before : List ℕ) (came : Option FenceId) (fence : FenceId) → missing ≡ after_arrival (option_map (λ f. f.number) came) before →
+      is_same_thing (coming p came missing e) (wait.Fence fence) ≡ false → (missing_at before fence.number == 0) ≡ false → (missing_at missing fence.number == 0) ≡ false
   missing_still before None fence now apart some = ap (λ xs. missing_at xs fence.number == 0) now ∙ some
   missing_still before (Some came) fence now apart some = elim (cases_eq fence.number came.number) [
-    | inl same ↦ ap (λ n. missing_at missing n == 0) same ∙ cond_both (missing_at missing came.number == 0) (wait.Fence came) wait.Unknown (λ w. is_same_thing w (wait.Fence fence) ≡ false → (missing_at missing came.number == 0) ≡ false)
+    | inl same ↦ ap (λ n. missing_at missing n == 0) same ∙ cond_both (missing_at missing came.number == 0) (wait.Fence came) wait.Unknown (λ w. is_same_thing w (wait.Fence fence) ≡ false →
+        (missing_at missing came.number == 0) ≡ false)
         (λ zero_left h. absurd (true≢false (sym (eq-eqb came.number fence.number (sym same)) ∙ h)))
         (λ left _. left)
         apart
@@ -77,7 +81,8 @@ module _ (s : Scripts) (table : FenceTable) (x : Event) (p : Proc) (missing : Li
   ]
 
 -- whether the fence of an event is complete
-met_complete : (s : Scripts) (table : FenceTable) (cut : ℕ → ℕ) (missing : List ℕ) (x : Event) (number : ℕ) → IsMet s table x number → TellsMissing s cut table missing → (missing_at missing number == 0) ≡ complete_at (plan_of s) cut x
+met_complete : (s : Scripts) (table : FenceTable) (cut : ℕ → ℕ) (missing : List ℕ) (x : Event) (number : ℕ) → IsMet s table x number → TellsMissing s cut table missing →
+    (missing_at missing number == 0) ≡ complete_at (plan_of s) cut x
 met_complete s table cut missing x number met tells =
     complete_is s cut table missing number met.fence tells met.there
     ∙ ap (λ j. is_complete (plan_of s) cut met.fence.members j) (sym met.nth)
@@ -100,7 +105,8 @@ module _ (s : Scripts) (table : FenceTable) (state : State) (missing : List ℕ)
   left = after_arrival (option_map (λ f. f.number) fence) missing
 
   -- what p has stored
-  stored_same : (owner : Proc) (key : ℕ) → is_same_thing (coming p fence left e) (wait.Commit owner) ≡ false → stored (plan_of s) owner.number key (then.done owner.number) ≡ stored (plan_of s) owner.number key (state.done owner.number)
+  stored_same : (owner : Proc) (key : ℕ) → is_same_thing (coming p fence left e) (wait.Commit owner) ≡ false →
+      stored (plan_of s) owner.number key (then.done owner.number) ≡ stored (plan_of s) owner.number key (state.done owner.number)
   stored_same owner key apart = elim (cases_eq owner.number p.number) [
     | inl same ↦
         ap (λ o. stored (plan_of s) o key (then.done o)) same
@@ -111,7 +117,8 @@ module _ (s : Scripts) (table : FenceTable) (state : State) (missing : List ℕ)
   ]
 
   -- the next event of q, which isn't possible
-  still : (q : ℕ) (w : Awaited) → Awaits s table (next_event state q) w → (q ≡ p.number → ⊥) → is_same_thing (coming p fence left e) w ≡ false → is_enabled (plan_of s) state q ≡ false → is_enabled (plan_of s) then q ≡ false
+  still : (q : ℕ) (w : Awaited) → Awaits s table (next_event state q) w → (q ≡ p.number → ⊥) → is_same_thing (coming p fence left e) w ≡ false → is_enabled (plan_of s) state q ≡ false →
+      is_enabled (plan_of s) then q ≡ false
   still q wait.Unknown awaits ne apart off = absurd awaits
   still q wait.Nothing awaits ne apart off = ap (λ y. may_do (plan_of s) then y (kind (plan_of s) y)) (next_same (plan_of s) state p.number q ne) ∙ awaits then state ∙ off
   still q (wait.Publish name) awaits ne apart off =
@@ -124,7 +131,8 @@ module _ (s : Scripts) (table : FenceTable) (state : State) (missing : List ℕ)
       let before = ap (may_do (plan_of s) state (next_event state q)) (sym awaits) ∙ off in
       ap (λ y. may_do (plan_of s) then y (kind (plan_of s) y)) (next_same (plan_of s) state p.number q ne)
       ∙ ap (may_do (plan_of s) then (next_event state q)) awaits
-      ∙ ap (λ o. is_seen (cond (q == owner.number) (held (own (plan_of s) owner.number key (state.done q))) (served (plan_of s) owner.number (same_node (plan_of s) owner.number q) o))) (stored_same owner key apart)
+      ∙ ap (λ o. is_seen (cond (q == owner.number) (held (own (plan_of s) owner.number key (state.done q))) (served (plan_of s) owner.number (same_node (plan_of s) owner.number q) o)))
+      (stored_same owner key apart)
       ∙ before
   still q (wait.Fence f) (met, (members, awaits)) ne apart off =
       let same = next_same (plan_of s) state p.number q ne in
@@ -145,7 +153,10 @@ unknown_after : (comes : Awaited) → after comes wait.Unknown ≡ wait.Unknown
 unknown_after comes = cond_both (is_same_thing comes wait.Unknown) wait.Unknown wait.Unknown (λ w. w ≡ wait.Unknown) (λ _. refl) (λ _. refl)
 
 -- the notes after p's event, of which those are forgotten that await what it brings, and p's own
-pub noted_step : (s : Scripts) (table : FenceTable) (state : State) (missing : List ℕ) (p : Proc) (fence : Option FenceId) (e : Kind) (notes : List Awaited) → kind_at (plan_of s) p.number (state.done p.number) ≡ Some e → ArrivesAt s table (next_event state p.number) (option_map (λ f. f.number) fence) → TellsMissing s state.done table missing → TellsMissing s (step (plan_of s) state p.number).done table (after_arrival (option_map (λ f. f.number) fence) missing) → p.number < process_count (plan_of s) → AreNoted s table state notes → AreNoted s table (step (plan_of s) state p.number) (slice_set (map (after (coming p fence (after_arrival (option_map (λ f. f.number) fence) missing) e)) notes) p.number wait.Unknown)
+pub noted_step : (s : Scripts) (table : FenceTable) (state : State) (missing : List ℕ) (p : Proc) (fence : Option FenceId) (e : Kind) (notes : List Awaited) →
+    kind_at (plan_of s) p.number (state.done p.number) ≡ Some e → ArrivesAt s table (next_event state p.number) (option_map (λ f. f.number) fence) → TellsMissing s state.done table missing →
+    TellsMissing s (step (plan_of s) state p.number).done table (after_arrival (option_map (λ f. f.number) fence) missing) → p.number < process_count (plan_of s) → AreNoted s table state notes →
+    AreNoted s table (step (plan_of s) state p.number) (slice_set (map (after (coming p fence (after_arrival (option_map (λ f. f.number) fence) missing) e)) notes) p.number wait.Unknown)
 noted_step s table state missing p fence e notes is arrives tells tells_then within noted =
     let comes = coming p fence (after_arrival (option_map (λ f. f.number) fence) missing) e in
     let woken = map (after comes) notes in
@@ -155,7 +166,8 @@ noted_step s table state missing p fence e notes is arrives tells tells_then wit
         | inl same ↦
             let count = noted.count in
             let long = length-map notes (after comes) in
-            let here = ap (λ n. slice_index_or (slice_set woken p.number wait.Unknown) n wait.Unknown) same ∙ get_or-set_same woken p.number wait.Unknown wait.Unknown (omega (arith, count, long, within)) in
+            let here = ap (λ n. slice_index_or (slice_set woken p.number wait.Unknown) n wait.Unknown) same
+            ∙ get_or-set_same woken p.number wait.Unknown wait.Unknown (omega (arith, count, long, within)) in
             absurd (true≢false (sym known ∙ ap is_known here))
         | inr other ↦
             let w = slice_index_or notes q wait.Unknown in
@@ -166,7 +178,8 @@ noted_step s table state missing p fence e notes is arrives tells tells_then wit
                   let same : slice_index_or (slice_set woken p.number wait.Unknown) q wait.Unknown ≡ w = here ∙ ap (λ b. cond b wait.Unknown w) f in
                   let before = noted.each q (ap is_known (sym same) ∙ known) in (
                     still s table state missing p fence e is arrives tells tells_then q w before.1 other f before.0,
-                    subst (λ v. Awaits s table (next_event (step (plan_of s) state p.number) q) v) (sym same) (subst (λ y. Awaits s table y w) (sym (next_same (plan_of s) state p.number q other)) before.1),
+                    subst (λ v. Awaits s table (next_event (step (plan_of s) state p.number) q) v) (sym same)
+                        (subst (λ y. Awaits s table y w) (sym (next_same (plan_of s) state p.number q other)) before.1),
                   )
             ]
       ];
@@ -185,7 +198,8 @@ noted_first s table state n count = record {
     nothing (suc n) (suc p) = nothing n p
 
 -- one more note
-pub noted_more : (s : Scripts) (table : FenceTable) (state : State) (notes : List Awaited) (p : ℕ) (w : Awaited) → AreNoted s table state notes → p < process_count (plan_of s) → is_enabled (plan_of s) state p ≡ false → Awaits s table (next_event state p) w → AreNoted s table state (slice_set notes p w)
+pub noted_more : (s : Scripts) (table : FenceTable) (state : State) (notes : List Awaited) (p : ℕ) (w : Awaited) → AreNoted s table state notes → p < process_count (plan_of s) →
+    is_enabled (plan_of s) state p ≡ false → Awaits s table (next_event state p) w → AreNoted s table state (slice_set notes p w)
 noted_more s table state notes p w noted within off awaits = record {
   count = length-set notes p w ∙ noted.count;
   each = λ q known. elim (cases_eq q p) [

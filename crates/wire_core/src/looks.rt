@@ -49,7 +49,8 @@ impl Look {
         ensures owner { result.owner ≡ self.owner }
         ensures node { result.node ≡ self.node }
         ensures seen { result.seen ≡ self.seen + 1 }
-        ensures look { (plan : ThePlan) → IsLook plan self → (may_bring ≡ false → (cut : ℕ → ℕ) → brings_at plan cut self.owner.number self.node self.seen ≡ false) → IsLook plan result }
+        ensures look { (plan : ThePlan) → IsLook plan self →
+            (may_bring ≡ false → (cut : ℕ → ℕ) → brings_at plan cut self.owner.number self.node self.seen ≡ false) → IsLook plan result }
     {
         let seen = self.seen + 1;
         if may_bring {
@@ -165,7 +166,8 @@ impl<'a> Core<'a> {
     fn last_between(&self, owner: Proc, node: u32, from: u32, to: u32) -> Option<u32>
         requires order { from ≤ to }
         requires within { to ≤ event_count (plan_in self.now) owner.number }
-        ensures told { (key : ℕ) → delivered (plan_in self.now) (state_of self.now).done owner.number node key to ≡ stored_or (plan_in self.now) owner.number key result (delivered (plan_in self.now) (state_of self.now).done owner.number node key from) }
+        ensures told { (key : ℕ) → delivered (plan_in self.now) (state_of self.now).done owner.number node key to ≡ stored_or (plan_in self.now) owner.number
+            key result (delivered (plan_in self.now) (state_of self.now).done owner.number node key from) }
         ensures below { IfSome result (λ at. at < to) }
     {
         let mut at = to;
@@ -203,7 +205,8 @@ impl<'a> Core<'a> {
     /// its data to a node.
     pub(crate) fn last_bringing(&self, owner: Proc, node: u32, done: u32) -> Option<u32>
         requires { done ≡ (state_of self.now).done owner.number }
-        ensures told { (key : ℕ) → delivered (plan_in self.now) (state_of self.now).done owner.number node key (event_count (plan_in self.now) owner.number) ≡ stored_at (plan_in self.now) owner.number key result }
+        ensures told { (key : ℕ) → delivered (plan_in self.now) (state_of self.now).done owner.number node key
+            (event_count (plan_in self.now) owner.number) ≡ stored_at (plan_in self.now) owner.number key result }
         ensures done { IfSome result (λ at. at < done) }
     {
         // The steps so far are an interleaving, so no more events are done than there are.

@@ -1,6 +1,7 @@
 //! A plan with the history of its steps.
 
-ghost use Rattle.std.specs.Prelude.{◌≡◌, ◌+◌, ◌<◌, ◌^◌, ◌∷◌, ◌++◌, [], true, Some, None, ℕ, List, length, map, option_map, slice_get, IsTrue, ◌↔◌, IfOk, IfErr, OnOk, OnSome};
+ghost use Rattle.std.specs.Prelude.{◌≡◌, ◌+◌, ◌<◌, ◌^◌, ◌∷◌, ◌++◌, [], true, Some, None, ℕ, List, length, map, option_map, slice_get, IsTrue, ◌↔◌, IfOk, IfErr};
+ghost use Rattle.std.specs.Prelude.{OnOk, OnSome};
 ghost use Rattle.wire_runs.specs.Plan.{event_of, process_count};
 ghost use Rattle.wire_types.specs.Outcome.{ends_of};
 ghost use Rattle.wire_content.specs.Planned.{plan_of};
@@ -168,7 +169,8 @@ impl<'a> Core<'a> {
     /// The reply of the next event of a process, which is of this kind. An arrival at a fence has none.
     fn reply(&self, proc: Proc, kind: Kind) -> Option<Reply>
         requires { next_kind (plan_of self.now.scripts) (state_of self.now) proc.number ≡ Some (kind_of self.now.scripts.sets kind) }
-        ensures { given (plan_of self.now.scripts) (answer (plan_of self.now.scripts) (state_of self.now) (next_event (state_of self.now) proc.number) (Some (kind_of self.now.scripts.sets kind))) ≡ replies_in result }
+        ensures { given (plan_of self.now.scripts) (answer (plan_of self.now.scripts) (state_of self.now) (next_event (state_of self.now) proc.number)
+            (Some (kind_of self.now.scripts.sets kind))) ≡ replies_in result }
     {
         match kind {
             Kind::Put { .. } | Kind::Commit | Kind::Leave { .. } => Some(Reply::bare(
@@ -239,7 +241,11 @@ impl<'a> Core<'a> {
 
     /// Steps the lowest process that is ready, until none is.
     pub fn run_lowest(&mut self)
-        ensures run { self.new ≡ record { scripts = self.old.scripts; history = self.old.history ++ plain_from (plan_of self.old.scripts) (event_total (plan_of self.old.scripts)) (state_of self.old) } }
+        ensures run { self.new ≡ record {
+          scripts = self.old.scripts;
+          history = self.old.history
+              ++ plain_from (plan_of self.old.scripts) (event_total (plan_of self.old.scripts)) (state_of self.old);
+        } }
         ensures ended { IsEnd (plan_of self.new.scripts) (state_of self.new) }
     {
         // The steps so far are an interleaving, which bounds those to come.
@@ -256,7 +262,8 @@ impl<'a> Core<'a> {
     pub fn follow(&mut self, order: &[Proc]) -> Result<(), Fault>
         ensures ok { OnOk result (Follows self.old (map (λ p. p.number) order.now) self.new) }
         ensures err { IfErr result (λ e. StopsAt self.old (map (λ p. p.number) order.now) self.new e) }
-        ensures settled { self.old.history ≡ [] → IsSettled (plan_in self.new) → IsEnd (plan_in self.new) (state_of self.new) → state_of self.new ≡ run (plan_in self.new) (plain_run (plan_in self.new)) }
+        ensures settled { self.old.history ≡ [] → IsSettled (plan_in self.new) → IsEnd (plan_in self.new) (state_of self.new) →
+            state_of self.new ≡ run (plan_in self.new) (plain_run (plan_in self.new)) }
     {
         for (step, proc) in order.iter().enumerate() {
             if !self.ready(*proc) {

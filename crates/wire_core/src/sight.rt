@@ -16,7 +16,8 @@ use wire_types::Proc;
 impl<'a> Core<'a> {
     /// What a process sees of its own key.
     fn own_seen(&self, proc: Proc, key: u32) -> Seen
-        ensures { result ≡ seen_as (plan_of self.now.scripts) proc.number (held (own (plan_of self.now.scripts) proc.number key ((state_of self.now).done proc.number))) }
+        ensures { result ≡ seen_as (plan_of self.now.scripts) proc.number
+            (held (own (plan_of self.now.scripts) proc.number key ((state_of self.now).done proc.number))) }
     {
         match self.ranks.get(proc.index()) {
             None => Seen::Nothing,
@@ -30,7 +31,9 @@ impl<'a> Core<'a> {
     /// What a process sees of another's key.
     fn other_seen(&self, reader: Proc, owner: Proc, key: u32) -> Seen
         requires { reader.number < process_count (plan_of self.now.scripts) }
-        ensures { result ≡ seen_as (plan_of self.now.scripts) owner.number (served (plan_of self.now.scripts) owner.number (same_node (plan_of self.now.scripts) owner.number reader.number) (stored (plan_of self.now.scripts) owner.number key ((state_of self.now).done owner.number))) }
+        ensures { result ≡ seen_as (plan_of self.now.scripts) owner.number
+            (served (plan_of self.now.scripts) owner.number (same_node (plan_of self.now.scripts) owner.number reader.number)
+            (stored (plan_of self.now.scripts) owner.number key ((state_of self.now).done owner.number))) }
     {
         match self.ranks.get(owner.index()) {
             None => Seen::Nothing,
@@ -44,7 +47,8 @@ impl<'a> Core<'a> {
     /// What the next event of a process sees of a key, as a get that waits.
     pub(crate) fn seen_by(&self, reader: Proc, owner: Proc, key: u32) -> Seen
         requires { reader.number < process_count (plan_of self.now.scripts) }
-        ensures { result ≡ seen_as (plan_of self.now.scripts) owner.number (get_sees (plan_of self.now.scripts) (state_of self.now).done reader.number ((state_of self.now).done reader.number) owner.number key) }
+        ensures { result ≡ seen_as (plan_of self.now.scripts) owner.number
+            (get_sees (plan_of self.now.scripts) (state_of self.now).done reader.number ((state_of self.now).done reader.number) owner.number key) }
     {
         if reader == owner {
             return self.own_seen(owner, key);
@@ -55,7 +59,8 @@ impl<'a> Core<'a> {
     /// What the next event of a process sees of a key, as a get that is answered at once.
     pub(crate) fn seen_now(&self, reader: Proc, owner: Proc, key: u32) -> Seen
         requires { reader.number < process_count (plan_in self.now) }
-        ensures { result ≡ seen_as (plan_in self.now) owner.number (get_now_sees (plan_in self.now) (state_of self.now) reader.number ((state_of self.now).done reader.number) owner.number key) }
+        ensures { result ≡ seen_as (plan_in self.now) owner.number
+            (get_now_sees (plan_in self.now) (state_of self.now) reader.number ((state_of self.now).done reader.number) owner.number key) }
     {
         if reader == owner {
             return self.own_seen(owner, key);

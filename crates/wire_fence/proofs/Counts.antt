@@ -94,7 +94,8 @@ count_without f g p same (x ∷ xs) none = elim (cases_Bool (x == p)) [
 ]
 
 -- a member more passes
-pub count_one_more : (f g : ℕ → Bool) (p : ℕ) → ((m : ℕ) → (m ≡ p → ⊥) → f m ≡ g m) → f p ≡ false → g p ≡ true → (members : List ℕ) → AreDistinct members → is_member members p ≡ true → count_by g members ≡ suc (count_by f members)
+pub count_one_more : (f g : ℕ → Bool) (p : ℕ) → ((m : ℕ) → (m ≡ p → ⊥) → f m ≡ g m) → f p ≡ false → g p ≡ true → (members : List ℕ) → AreDistinct members → is_member members p ≡ true →
+    count_by g members ≡ suc (count_by f members)
 count_one_more f g p same before after [] distinct member = absurd (true≢false (sym member))
 count_one_more f g p same before after (x ∷ xs) distinct member = elim (cases_Bool (x == p)) [
   | inl here ↦
@@ -135,7 +136,8 @@ and_false true = refl
 and_false false = refl
 
 -- a member is asked besides
-pub all_one_more : (f g : ℕ → Bool) (p : ℕ) (b : Bool) → ((m : ℕ) → (m ≡ p → ⊥) → f m ≡ g m) → f p ≡ true → g p ≡ b → (members : List ℕ) → is_member members p ≡ true → list_all g members ≡ (list_all f members && b)
+pub all_one_more : (f g : ℕ → Bool) (p : ℕ) (b : Bool) → ((m : ℕ) → (m ≡ p → ⊥) → f m ≡ g m) → f p ≡ true → g p ≡ b → (members : List ℕ) → is_member members p ≡ true →
+    list_all g members ≡ (list_all f members && b)
 all_one_more f g p true same before after members member =
     all_same g f (λ m. elim (cases_eq m p) [
       | inl here ↦ ap g here ∙ after ∙ sym (ap f here ∙ before)

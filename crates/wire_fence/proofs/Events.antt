@@ -1,5 +1,6 @@
 -- The events of calls: a process arrives at fences as often as it calls them.
-use Rattle.std.proofs.Common.{◌≡◌, ◌∙◌, ℕ, zero, suc, ◌+◌, ◌<◌, List, [], ◌∷◌, ◌++◌, map, take, drop, length, Bool, true, false, cond, ◌&&◌, ◌==◌, Option, Some, None, option_map, slice_get, refl, sym, ap, inl, inr, arith, add-one, length-append}
+use Rattle.std.proofs.Common.{◌≡◌, ◌∙◌, ℕ, zero, suc, ◌+◌, ◌<◌, List, [], ◌∷◌, ◌++◌, map, take, drop, length, Bool, true, false, cond, ◌&&◌, ◌==◌, Option, Some, None, option_map, slice_get, refl}
+use Rattle.std.proofs.Common.{sym, ap, inl, inr, arith, add-one, length-append}
 use Rattle.std.specs.Prelude.{⊤}
 use Rattle.std.specs.Str.{bytes_eq}
 use Rattle.std.specs.Cmp.Lexicographic.{bytes_decides}
@@ -7,7 +8,8 @@ use Rattle.std.proofs.lemmas.Bool.{cases_eq, cond_both, eq-eqb, ne_eqb, false_fr
 use Rattle.std.proofs.lemmas.Option.{none-some, same_Some, slice_get-map, slice_get-get_or}
 use Rattle.std.proofs.lemmas.List.{map-append}
 use Rattle.std.proofs.lemmas.List.Sums.{sum_by_push}
-use Rattle.wire_runs.specs.Plan.{Plan, Kind, Put, Commit, Arrive, Leave, Get, GetNow, Publish, Lookup, LookupWait, Unpublish, Fixed, CallPut, CallCommit, CallFence, CallGet, CallGetNow, CallPublish, CallLookup, CallLookupWait, CallUnpublish, CallFixed, set_of, kinds_of, process_kinds, kinds, kind_at, event_count}
+use Rattle.wire_runs.specs.Plan.{Plan, Kind, Put, Commit, Arrive, Leave, Get, GetNow, Publish, Lookup, LookupWait, Unpublish, Fixed, CallPut, CallCommit, CallFence, CallGet, CallGetNow, CallPublish}
+use Rattle.wire_runs.specs.Plan.{CallLookup, CallLookupWait, CallUnpublish, CallFixed, set_of, kinds_of, process_kinds, kinds, kind_at, event_count}
 use Rattle.wire_runs.specs.Plan as plan
 use Rattle.wire_runs.specs.Fences.{arrivals_with, arrivals, collects_with, collects}
 use Rattle.wire_types.specs.declared.Call.{Call}
@@ -113,7 +115,8 @@ events_more s p c k is =
     ∙ ap length (events-append (map (planned_call s) (take c (written_calls s p))) (planned_call s k ∷ []))
     ∙ length-append (kinds_of (map (planned_call s) (take c (written_calls s p)))) (kinds_of (planned_call s k ∷ []))
 
-event_of_call : (s : Scripts) (p c i : ℕ) (k : Call) → slice_get (written_calls s p) c ≡ Some k → kind_at (plan_of s) p (events_to s p c + i) ≡ slice_get (kinds_of (planned_call s k ∷ map (planned_call s) (drop (suc c) (written_calls s p)))) i
+event_of_call : (s : Scripts) (p c i : ℕ) (k : Call) → slice_get (written_calls s p) c ≡ Some k →
+    kind_at (plan_of s) p (events_to s p c + i) ≡ slice_get (kinds_of (planned_call s k ∷ map (planned_call s) (drop (suc c) (written_calls s p)))) i
 event_of_call s p c i k is =
     let front = take c (written_calls s p) in
     let rest = drop (suc c) (written_calls s p) in
@@ -149,13 +152,15 @@ module _ (s : Scripts) (p set j : ℕ) (sound : IsSound s) (low : set < length s
     pub arrive : arrivals (plan_of s) p (set_at s.sets set) (events_to s p c) ≡ fence_count set (take c (written_calls s p))
     pub say : collects (plan_of s) p (set_at s.sets set) j (events_to s p c) ≡ says_to set j (written_calls s p) c
 
-  count_more : (c : ℕ) (k : Call) → slice_get (written_calls s p) c ≡ Some k → fence_count set (take (suc c) (written_calls s p)) ≡ fence_count set (take c (written_calls s p)) + cond (is_over set k) 1 0
+  count_more : (c : ℕ) (k : Call) → slice_get (written_calls s p) c ≡ Some k →
+      fence_count set (take (suc c) (written_calls s p)) ≡ fence_count set (take c (written_calls s p)) + cond (is_over set k) 1 0
   count_more c k is =
       ap (fence_count set) (take_get (written_calls s p) c k is)
       ∙ sum_by_push (λ x. cond (is_over set x) 1 0) (take c (written_calls s p)) k
 
   -- a call that is no fence
-  plain_agrees : (c : ℕ) (k : Call) → slice_get (written_calls s p) c ≡ Some k → IsPlain (planned_call s k) → is_over set k ≡ false → ((n : ℕ) (before : Bool) → says_with set j n before (Some k) ≡ before) → Agrees c → Agrees (suc c)
+  plain_agrees : (c : ℕ) (k : Call) → slice_get (written_calls s p) c ≡ Some k → IsPlain (planned_call s k) → is_over set k ≡ false →
+      ((n : ℕ) (before : Bool) → says_with set j n before (Some k) ≡ before) → Agrees c → Agrees (suc c)
   plain_agrees c k is plain over silent agrees =
       let e = plain_event (planned_call s k) plain in
       let members = set_at s.sets set in
@@ -177,7 +182,8 @@ module _ (s : Scripts) (p set j : ℕ) (sound : IsSound s) (low : set < length s
             ∙ ap (collects_with members j (arrivals (plan_of s) p members (events_to s p c)) (collects (plan_of s) p members j (events_to s p c))) here
             ∙ e.says members j (arrivals (plan_of s) p members (events_to s p c)) (collects (plan_of s) p members j (events_to s p c))
             ∙ agrees.say
-            ∙ sym (ap (says_with set j (fence_count set (take c (written_calls s p))) (says_to set j (written_calls s p) c)) is ∙ silent (fence_count set (take c (written_calls s p))) (says_to set j (written_calls s p) c));
+            ∙ sym (ap (says_with set j (fence_count set (take c (written_calls s p))) (says_to set j (written_calls s p) c)) is
+            ∙ silent (fence_count set (take c (written_calls s p))) (says_to set j (written_calls s p) c));
       }
     where
       add_none : (n : ℕ) → n ≡ n + 0
@@ -190,8 +196,10 @@ module _ (s : Scripts) (p set j : ℕ) (sound : IsSound s) (low : set < length s
       let there = (sound.members p c other collect is).0 in
       let same = sets_compare s other set sound there low in
       let two : events_to s p (suc c) ≡ suc (suc (events_to s p c)) = events_more s p c (call.Fence other collect) is ∙ plus_two (events_to s p c) in
-      let here : kind_at (plan_of s) p (events_to s p c) ≡ Some (Arrive others collect) = ap (kind_at (plan_of s) p) (add_none (events_to s p c)) ∙ event_of_call s p c 0 (call.Fence other collect) is in
-      let next : kind_at (plan_of s) p (suc (events_to s p c)) ≡ Some (Leave others) = ap (kind_at (plan_of s) p) (sym (add-one (events_to s p c))) ∙ event_of_call s p c 1 (call.Fence other collect) is in
+      let here : kind_at (plan_of s) p (events_to s p c) ≡ Some (Arrive others collect) = ap (kind_at (plan_of s) p) (add_none (events_to s p c))
+      ∙ event_of_call s p c 0 (call.Fence other collect) is in
+      let next : kind_at (plan_of s) p (suc (events_to s p c)) ≡ Some (Leave others) = ap (kind_at (plan_of s) p) (sym (add-one (events_to s p c)))
+      ∙ event_of_call s p c 1 (call.Fence other collect) is in
       let before = arrivals (plan_of s) p members (events_to s p c) in
       let said = collects (plan_of s) p members j (events_to s p c) in
       let count = fence_count set (take c (written_calls s p)) in
@@ -238,14 +246,21 @@ module _ (s : Scripts) (p set j : ℕ) (sound : IsSound s) (low : set < length s
             ∙ sym (ap (says_with set j (fence_count set (take c (written_calls s p))) (says_to set j (written_calls s p) c)) is);
       }
   agrees_more c (Some (call.Fence other collect)) is agrees = fence_agrees c other collect is agrees
-  agrees_more c (Some (call.Put scope key value)) is agrees = plain_agrees c (call.Put scope key value) is (unless_plain (is_reserved (text_at s.keys key)) (bare BadParam) (CallPut key scope) tt) refl (λ _ _. refl) agrees
+  agrees_more c (Some (call.Put scope key value)) is agrees = plain_agrees c (call.Put scope key value) is (unless_plain (is_reserved (text_at s.keys key)) (bare BadParam) (CallPut key scope) tt) refl
+      (λ _ _. refl) agrees
   agrees_more c (Some call.Commit) is agrees = plain_agrees c call.Commit is tt refl (λ _ _. refl) agrees
-  agrees_more c (Some (call.Get owner key)) is agrees = plain_agrees c (call.Get owner key) is (unless_plain (is_reserved (text_at s.keys key)) (reply_of_key s owner.number key) (CallGet owner.number key) tt) refl (λ _ _. refl) agrees
-  agrees_more c (Some (call.GetNow owner key)) is agrees = plain_agrees c (call.GetNow owner key) is (unless_plain (is_reserved (text_at s.keys key)) (reply_of_key s owner.number key) (CallGetNow owner.number key) tt) refl (λ _ _. refl) agrees
-  agrees_more c (Some (call.Publish name value)) is agrees = plain_agrees c (call.Publish name value) is (unless_plain (is_reserved (text_at s.names name)) (bare BadParam) (CallPublish name) tt) refl (λ _ _. refl) agrees
-  agrees_more c (Some (call.Lookup name)) is agrees = plain_agrees c (call.Lookup name) is (unless_plain (is_reserved (text_at s.names name)) (bare BadParam) (CallLookup name) tt) refl (λ _ _. refl) agrees
-  agrees_more c (Some (call.LookupWait name)) is agrees = plain_agrees c (call.LookupWait name) is (unless_plain (is_reserved (text_at s.names name)) (bare BadParam) (CallLookupWait name) tt) refl (λ _ _. refl) agrees
-  agrees_more c (Some (call.Unpublish name)) is agrees = plain_agrees c (call.Unpublish name) is (unless_plain (is_reserved (text_at s.names name)) (bare BadParam) (CallUnpublish name) tt) refl (λ _ _. refl) agrees
+  agrees_more c (Some (call.Get owner key)) is agrees = plain_agrees c (call.Get owner key) is
+      (unless_plain (is_reserved (text_at s.keys key)) (reply_of_key s owner.number key) (CallGet owner.number key) tt) refl (λ _ _. refl) agrees
+  agrees_more c (Some (call.GetNow owner key)) is agrees = plain_agrees c (call.GetNow owner key) is
+      (unless_plain (is_reserved (text_at s.keys key)) (reply_of_key s owner.number key) (CallGetNow owner.number key) tt) refl (λ _ _. refl) agrees
+  agrees_more c (Some (call.Publish name value)) is agrees = plain_agrees c (call.Publish name value) is (unless_plain (is_reserved (text_at s.names name)) (bare BadParam) (CallPublish name) tt) refl
+      (λ _ _. refl) agrees
+  agrees_more c (Some (call.Lookup name)) is agrees = plain_agrees c (call.Lookup name) is (unless_plain (is_reserved (text_at s.names name)) (bare BadParam) (CallLookup name) tt) refl (λ _ _. refl)
+      agrees
+  agrees_more c (Some (call.LookupWait name)) is agrees = plain_agrees c (call.LookupWait name) is (unless_plain (is_reserved (text_at s.names name)) (bare BadParam) (CallLookupWait name) tt) refl
+      (λ _ _. refl) agrees
+  agrees_more c (Some (call.Unpublish name)) is agrees = plain_agrees c (call.Unpublish name) is (unless_plain (is_reserved (text_at s.names name)) (bare BadParam) (CallUnpublish name) tt) refl
+      (λ _ _. refl) agrees
 
   pub agree : (c : ℕ) → Agrees c
   agree zero = record { arrive = refl; say = refl }
@@ -262,8 +277,10 @@ all_events s p = count_is s p ∙ ap (λ calls. length (kinds_of (map (planned_c
     take_whole [] = refl
     take_whole {A = A} (x ∷ xs) = ap (λ (ys : List A). x ∷ ys) (take_whole xs)
 
-pub all_arrivals : (s : Scripts) (p set : ℕ) → IsSound s → set < length s.sets → arrivals (plan_of s) p (set_at s.sets set) (event_count (plan_of s) p) ≡ fence_count set (take (length (written_calls s p)) (written_calls s p))
+pub all_arrivals : (s : Scripts) (p set : ℕ) → IsSound s → set < length s.sets →
+    arrivals (plan_of s) p (set_at s.sets set) (event_count (plan_of s) p) ≡ fence_count set (take (length (written_calls s p)) (written_calls s p))
 all_arrivals s p set sound low = ap (arrivals (plan_of s) p (set_at s.sets set)) (all_events s p) ∙ (agree s p set 0 sound low (length (written_calls s p))).arrive
 
-pub all_say : (s : Scripts) (p set j : ℕ) → IsSound s → set < length s.sets → collects (plan_of s) p (set_at s.sets set) j (event_count (plan_of s) p) ≡ says_to set j (written_calls s p) (length (written_calls s p))
+pub all_say : (s : Scripts) (p set j : ℕ) → IsSound s → set < length s.sets →
+    collects (plan_of s) p (set_at s.sets set) j (event_count (plan_of s) p) ≡ says_to set j (written_calls s p) (length (written_calls s p))
 all_say s p set j sound low = ap (collects (plan_of s) p (set_at s.sets set) j) (all_events s p) ∙ (agree s p set j sound low (length (written_calls s p))).say

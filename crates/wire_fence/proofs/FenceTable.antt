@@ -1,5 +1,6 @@
 -- The table of fences, once all calls are read.
-use Rattle.std.proofs.Common.{◌≡◌, ◌∙◌, ℕ, zero, suc, ◌+◌, ◌<◌, List, [], ◌∷◌, map, take, length, Bool, true, cond, ◌==◌, nat_lt, nat_le, count_by, Option, Some, None, option_map, slice_get, get_or, refl, sym, ap, subst, inl, inr, arith}
+use Rattle.std.proofs.Common.{◌≡◌, ◌∙◌, ℕ, zero, suc, ◌+◌, ◌<◌, List, [], ◌∷◌, map, take, length, Bool, true, cond, ◌==◌, nat_lt, nat_le, count_by, Option, Some, None, option_map, slice_get, get_or}
+use Rattle.std.proofs.Common.{refl, sym, ap, subst, inl, inr, arith}
 use Rattle.std.specs.List.{list_all}
 use Rattle.std.proofs.lemmas.Bool.{cases_eq, cases_lt, eq-eqb, ne_eqb, lt-ltb, le-ltb, ltb-true, and_parts}
 use Rattle.std.proofs.lemmas.Option.{none-some, same_Some, slice_get-map, slice_get-get_or, slice_get_within, slice_get_past}
@@ -40,16 +41,19 @@ info_is s sound row is =
     let full : (row.missing == 0) ≡ is_full (plan_of s) members row.nth =
     none_missing row.missing (count_by (λ m. nat_le row.nth (read_count s (all_calls s) m row.set)) members) (length members) is.missing
     ∙ all_by_count (λ m. nat_le row.nth (read_count s (all_calls s) m row.set)) members
-    ∙ all_same (λ m. nat_le row.nth (read_count s (all_calls s) m row.set)) (λ m. nat_le row.nth (arrivals (plan_of s) m members (event_count (plan_of s) m))) (λ m. ap (nat_le row.nth) (sym (all_arrivals s m row.set sound is.of_set))) members
+    ∙ all_same (λ m. nat_le row.nth (read_count s (all_calls s) m row.set)) (λ m. nat_le row.nth (arrivals (plan_of s) m members (event_count (plan_of s) m)))
+    (λ m. ap (nat_le row.nth) (sym (all_arrivals s m row.set sound is.of_set))) members
     in
     let says : row.collects ≡ is_collecting (plan_of s) members row.nth =
     is.collects
-    ∙ all_same (λ m. says_to row.set row.nth (written_calls s m) (all_calls s m)) (λ m. collects (plan_of s) m members row.nth (event_count (plan_of s) m)) (λ m. sym (all_say s m row.set row.nth sound is.of_set)) members
+    ∙ all_same (λ m. says_to row.set row.nth (written_calls s m) (all_calls s m)) (λ m. collects (plan_of s) m members row.nth (event_count (plan_of s) m))
+    (λ m. sym (all_say s m row.set row.nth sound is.of_set)) members
     in
     λ t. record { set = row.set; nth = row.nth; members = members; full = full t; collects = says t }
 
 -- the row of a fence of the table
-row_at : (s : Scripts) (rows : List FenceDraft) (number : ℕ) (fence : FenceInfo) → slice_get (map (info_of s.sets) rows) number ≡ Some fence → (row : FenceDraft) × (slice_get rows number ≡ Some row) × (info_of s.sets row ≡ fence)
+row_at : (s : Scripts) (rows : List FenceDraft) (number : ℕ) (fence : FenceInfo) → slice_get (map (info_of s.sets) rows) number ≡ Some fence → (row : FenceDraft) × (slice_get rows number ≡ Some row)
+    × (info_of s.sets row ≡ fence)
 row_at s rows number fence there = go (slice_get rows number) refl (sym (slice_get-map (info_of s.sets) rows number) ∙ there)
   where
     go : (o : Option FenceDraft) → slice_get rows number ≡ o → option_map (info_of s.sets) o ≡ Some fence → (row : FenceDraft) × (slice_get rows number ≡ Some row) × (info_of s.sets row ≡ fence)
@@ -62,11 +66,13 @@ has_row s rows number fence there =
     record { row = at.0; there = at.1; of_set = ap (λ (f : FenceInfo). f.set) at.2; is_nth = ap (λ (f : FenceInfo). f.nth) at.2 }
 
 -- a number is only where a fence call is
-fence_call : (rows : List FenceDraft) (calls : List Call) (c number : ℕ) (o : Option Call) (found : Option ℕ) → IsNumber rows calls c o found → found ≡ Some number → (k : ℕ) × (collect : Bool) × (o ≡ Some (Fence k collect))
+fence_call : (rows : List FenceDraft) (calls : List Call) (c number : ℕ) (o : Option Call) (found : Option ℕ) → IsNumber rows calls c o found → found ≡ Some number → (k : ℕ) × (collect : Bool)
+    × (o ≡ Some (Fence k collect))
 fence_call rows calls c number (Some (Fence k collect)) found is there = (k, collect, refl)
 fence_call rows calls c number _ found is there = absurd (none-some number (sym is ∙ there))
 
-module _ (s : Scripts) (sound : IsSound s) (rows : List FenceDraft) (numbers : List (List (Option ℕ))) (nodes : List (List Bool)) (are : AreRead s (read_to s (length s.processes)) rows) (numbered : AreAllNumbers rows s.processes numbers (length s.processes)) where
+module _ (s : Scripts) (sound : IsSound s) (rows : List FenceDraft) (numbers : List (List (Option ℕ))) (nodes : List (List Bool)) (are : AreRead s (read_to s (length s.processes)) rows)
+    (numbered : AreAllNumbers rows s.processes numbers (length s.processes)) where
   abbrev table : FenceTable
   table = record { fences = map (info_of s.sets) rows; numbers = numbers; nodes = nodes }
 

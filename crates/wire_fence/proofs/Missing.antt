@@ -23,7 +23,9 @@ pub cut_other : (cut : ℕ → ℕ) (p v m : ℕ) → (m ≡ p → ⊥) → upda
 cut_other cut p v m other = ap (λ b. cond b v (cut m)) (ne_eqb m p other)
 
 -- where p's event changes nothing at a fence
-arrived_same : (s : Scripts) (cut : ℕ → ℕ) (p : ℕ) (fence : FenceInfo) → nat_le fence.nth (arrivals (plan_of s) p fence.members (suc (cut p))) ≡ nat_le fence.nth (arrivals (plan_of s) p fence.members (cut p)) → arrived s (update cut p (suc (cut p))) fence ≡ arrived s cut fence
+arrived_same : (s : Scripts) (cut : ℕ → ℕ) (p : ℕ) (fence : FenceInfo) →
+    nat_le fence.nth (arrivals (plan_of s) p fence.members (suc (cut p))) ≡ nat_le fence.nth (arrivals (plan_of s) p fence.members (cut p)) →
+    arrived s (update cut p (suc (cut p))) fence ≡ arrived s cut fence
 arrived_same s cut p fence same =
     count_same (λ m. nat_le fence.nth (arrivals (plan_of s) m fence.members (update cut p (suc (cut p)) m))) (λ m. nat_le fence.nth (arrivals (plan_of s) m fence.members (cut m)))
     (λ m. elim (cases_eq m p) [
@@ -55,10 +57,12 @@ somebody_is_missing s cut table missing number p fence there member before tells
     omega (arith, short, sum)
 
 -- the arrival is counted
-arrival_step : (s : Scripts) (p n : ℕ) (members others : List ℕ) (collect : Bool) → kind_at (plan_of s) p n ≡ Some (Arrive others collect) → arrivals (plan_of s) p members (suc n) ≡ cond (bytes_eq others members) (suc (arrivals (plan_of s) p members n)) (arrivals (plan_of s) p members n)
+arrival_step : (s : Scripts) (p n : ℕ) (members others : List ℕ) (collect : Bool) → kind_at (plan_of s) p n ≡ Some (Arrive others collect) →
+    arrivals (plan_of s) p members (suc n) ≡ cond (bytes_eq others members) (suc (arrivals (plan_of s) p members n)) (arrivals (plan_of s) p members n)
 arrival_step s p n members others collect is = ap (arrivals_with members (arrivals (plan_of s) p members n)) is
 
-arrives_next : (s : Scripts) (cut : ℕ → ℕ) (table : FenceTable) (number p : ℕ) (arriving : IsArriving s cut table number p) → suc (arrivals (plan_of s) p arriving.fence.members (cut p)) ≡ arriving.fence.nth
+arrives_next : (s : Scripts) (cut : ℕ → ℕ) (table : FenceTable) (number p : ℕ) (arriving : IsArriving s cut table number p) →
+    suc (arrivals (plan_of s) p arriving.fence.members (cut p)) ≡ arriving.fence.nth
 arrives_next s cut table number p arriving =
     let members = arriving.fence.members in
     sym (
@@ -67,7 +71,8 @@ arrives_next s cut table number p arriving =
     )
     ∙ arriving.nth
 
-not_yet : (s : Scripts) (cut : ℕ → ℕ) (table : FenceTable) (number p : ℕ) (arriving : IsArriving s cut table number p) → nat_le arriving.fence.nth (arrivals (plan_of s) p arriving.fence.members (cut p)) ≡ false
+not_yet : (s : Scripts) (cut : ℕ → ℕ) (table : FenceTable) (number p : ℕ) (arriving : IsArriving s cut table number p) →
+    nat_le arriving.fence.nth (arrivals (plan_of s) p arriving.fence.members (cut p)) ≡ false
 not_yet s cut table number p arriving =
     let next = arrives_next s cut table number p arriving in
     lt-leb arriving.fence.nth (arrivals (plan_of s) p arriving.fence.members (cut p)) (omega (arith, next))
@@ -81,7 +86,8 @@ members_distinct : (s : Scripts) (fence : FenceInfo) → IsSound s → IsFence s
 members_distinct s fence sound is =
     subst AreDistinct (sym (ap (λ (f : FenceInfo). f.members) is.is)) (canonical_distinct (set_at s.sets fence.set) (set_canonical s fence.set sound is.of_set))
 
-arrived_more : (s : Scripts) (cut : ℕ → ℕ) (table : FenceTable) (number p : ℕ) → AreFencesOf s table → (arriving : IsArriving s cut table number p) → arrived s (update cut p (suc (cut p))) arriving.fence ≡ suc (arrived s cut arriving.fence)
+arrived_more : (s : Scripts) (cut : ℕ → ℕ) (table : FenceTable) (number p : ℕ) → AreFencesOf s table → (arriving : IsArriving s cut table number p) →
+    arrived s (update cut p (suc (cut p))) arriving.fence ≡ suc (arrived s cut arriving.fence)
 arrived_more s cut table number p fences arriving =
     let fence = arriving.fence in
     count_one_more
@@ -102,7 +108,8 @@ le_same j n other = elim (cases_lt n j) [
   | inr le ↦ le-leb j (suc n) (omega (arith, le)) ∙ sym (le-leb j n le)
 ]
 
-same_fence : (s : Scripts) (table : FenceTable) (m n : ℕ) (f g : FenceInfo) → AreFencesOf s table → fence_at table m ≡ Some f → fence_at table n ≡ Some g → f.members ≡ g.members → f.nth ≡ g.nth → m ≡ n
+same_fence : (s : Scripts) (table : FenceTable) (m n : ℕ) (f g : FenceInfo) → AreFencesOf s table → fence_at table m ≡ Some f → fence_at table n ≡ Some g → f.members ≡ g.members → f.nth ≡ g.nth →
+    m ≡ n
 same_fence s table m n f g fences at_m at_n members nth =
     let is_f = fences.each m f at_m in
     let is_g = fences.each n g at_n in
@@ -110,7 +117,8 @@ same_fence s table m n f g fences at_m at_n members nth =
     let same : f ≡ g = is_f.is ∙ ap (λ a. fence_over s a f.nth) sets ∙ ap (fence_over s g.set) nth ∙ sym is_g.is in
     fences.once m n g (at_m ∙ ap Some same) at_n
 
-arrived_elsewhere : (s : Scripts) (cut : ℕ → ℕ) (table : FenceTable) (number other p : ℕ) (fence : FenceInfo) → AreFencesOf s table → IsArriving s cut table number p → fence_at table other ≡ Some fence → (other ≡ number → ⊥) → arrived s (update cut p (suc (cut p))) fence ≡ arrived s cut fence
+arrived_elsewhere : (s : Scripts) (cut : ℕ → ℕ) (table : FenceTable) (number other p : ℕ) (fence : FenceInfo) → AreFencesOf s table → IsArriving s cut table number p →
+    fence_at table other ≡ Some fence → (other ≡ number → ⊥) → arrived s (update cut p (suc (cut p))) fence ≡ arrived s cut fence
 arrived_elsewhere s cut table number other p fence fences arriving there ne =
     let before = arrivals (plan_of s) p fence.members (cut p) in
     arrived_same s cut p fence (
@@ -155,7 +163,8 @@ pub none_arrived : (s : Scripts) (fence : FenceInfo) → 0 < fence.nth → arriv
 none_arrived s fence from_one = count_none (λ m. nat_le fence.nth 0) (λ m. lt-leb fence.nth 0 from_one) fence.members
 
 -- nobody is missing at a fence that is complete
-pub complete_is : (s : Scripts) (cut : ℕ → ℕ) (table : FenceTable) (missing : List ℕ) (number : ℕ) (fence : FenceInfo) → TellsMissing s cut table missing → fence_at table number ≡ Some fence → (missing_at missing number == 0) ≡ is_complete (plan_of s) cut fence.members fence.nth
+pub complete_is : (s : Scripts) (cut : ℕ → ℕ) (table : FenceTable) (missing : List ℕ) (number : ℕ) (fence : FenceInfo) → TellsMissing s cut table missing → fence_at table number ≡ Some fence →
+    (missing_at missing number == 0) ≡ is_complete (plan_of s) cut fence.members fence.nth
 complete_is s cut table missing number fence tells there =
     none_missing (missing_at missing number) (arrived s cut fence) (length fence.members) (tells.each number fence there)
     ∙ all_by_count (λ m. nat_le fence.nth (arrivals (plan_of s) m fence.members (cut m))) fence.members
@@ -173,7 +182,8 @@ tells_first s table missing fences is = record {
       let nobody = none_arrived s fence (fences.each number fence there).from_one in
       let size : missing_at missing number ≡ length fence.members =
       ap (λ xs. missing_at xs number) is
-      ∙ get_or_from_slice_get (map (λ (f : FenceInfo). length f.members) table.fences) number (length fence.members) 0 (slice_get-map (λ (f : FenceInfo). length f.members) table.fences number ∙ ap (option_map (λ (f : FenceInfo). length f.members)) there)
+      ∙ get_or_from_slice_get (map (λ (f : FenceInfo). length f.members) table.fences) number (length fence.members) 0
+      (slice_get-map (λ (f : FenceInfo). length f.members) table.fences number ∙ ap (option_map (λ (f : FenceInfo). length f.members)) there)
       in
       omega (arith, nobody, size);
 }

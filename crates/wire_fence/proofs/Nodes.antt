@@ -18,7 +18,8 @@ node_is s m = ap process_node (slice_get-map (planned_process s) s.processes m) 
     go (Some process) = refl
 
 -- one member more
-pub nodes_more : (s : Scripts) (members : List ℕ) (i node found : ℕ) (before now : Bool) → i < length members → before ≡ has_node (plan_of s) (take i members) node → found ≡ node_at s.processes (get_or members i 0) → now ≡ (before || (found == node)) → now ≡ has_node (plan_of s) (take (i + 1) members) node
+pub nodes_more : (s : Scripts) (members : List ℕ) (i node found : ℕ) (before now : Bool) → i < length members → before ≡ has_node (plan_of s) (take i members) node →
+    found ≡ node_at s.processes (get_or members i 0) → now ≡ (before || (found == node)) → now ≡ has_node (plan_of s) (take (i + 1) members) node
 nodes_more s members i node found before now low was is marked =
     marked
     ∙ ap (λ b. b || (found == node)) was

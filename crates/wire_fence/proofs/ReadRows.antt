@@ -1,5 +1,6 @@
 -- What one more call does to the rows that are read.
-use Rattle.std.proofs.Common.{◌≡◌, ◌∙◌, ℕ, zero, suc, ◌+◌, ◌<◌, ◌≤◌, List, [], ◌∷◌, ◌++◌, take, length, Bool, true, false, cond, ◌&&◌, ◌==◌, nat_le, Option, Some, None, slice_get, ◌⊎◌, refl, sym, ap, subst, inl, inr, arith, length-append, add-one}
+use Rattle.std.proofs.Common.{◌≡◌, ◌∙◌, ℕ, zero, suc, ◌+◌, ◌<◌, ◌≤◌, List, [], ◌∷◌, ◌++◌, take, length, Bool, true, false, cond, ◌&&◌, ◌==◌, nat_le, Option, Some, None, slice_get, ◌⊎◌, refl, sym, ap}
+use Rattle.std.proofs.Common.{subst, inl, inr, arith, length-append, add-one}
 use Rattle.std.proofs.lemmas.Bool.{cases_Bool, cases_eq, cases_lt, eqb-true, eq-eqb, ne_eqb, le-leb, lt-leb, leb-true, and_parts, false_from_ne_true, true≢false}
 use Rattle.std.proofs.lemmas.Option.{none-some, same_Some}
 use Rattle.std.proofs.lemmas.List.{length-set}
@@ -19,7 +20,8 @@ use Rattle.wire_fence.proofs.Events.{take_get, set_canonical}
 use Rattle.wire_fence.proofs.Missing.{cut_here, cut_other, le_same}
 
 -- one more call of a list
-pub count_call : (calls : List Call) (n set_of_row : ℕ) (call : Call) → slice_get calls n ≡ Some call → fence_count set_of_row (take (suc n) calls) ≡ fence_count set_of_row (take n calls) + cond (is_over set_of_row call) 1 0
+pub count_call : (calls : List Call) (n set_of_row : ℕ) (call : Call) → slice_get calls n ≡ Some call →
+    fence_count set_of_row (take (suc n) calls) ≡ fence_count set_of_row (take n calls) + cond (is_over set_of_row call) 1 0
 count_call calls n set_of_row call is =
     ap (fence_count set_of_row) (take_get calls n call is)
     ∙ sum_by_push (λ x. cond (is_over set_of_row x) 1 0) (take n calls) call
@@ -29,7 +31,8 @@ pub says_none : (set_of_row j : ℕ) (calls : List Call) (n : ℕ) → fence_cou
 says_none set_of_row j calls zero low = refl
 says_none set_of_row j calls (suc n) low = go (slice_get calls n) refl (says_none set_of_row j calls n)
   where
-    go : (o : Option Call) → slice_get calls n ≡ o → (fence_count set_of_row (take n calls) < j → says_to set_of_row j calls n ≡ true) → says_with set_of_row j (fence_count set_of_row (take n calls)) (says_to set_of_row j calls n) o ≡ true
+    go : (o : Option Call) → slice_get calls n ≡ o → (fence_count set_of_row (take n calls) < j → says_to set_of_row j calls n ≡ true) →
+        says_with set_of_row j (fence_count set_of_row (take n calls)) (says_to set_of_row j calls n) o ≡ true
     go (Some (Fence other collect)) is ih =
         let more = count_call calls n set_of_row (Fence other collect) is in
         elim (cases_Bool (other == set_of_row)) [
@@ -53,7 +56,8 @@ says_none set_of_row j calls (suc n) low = go (slice_get calls n) refl (says_non
         past (x ∷ xs) (suc k) e = ap (λ ys. x ∷ ys) (past xs k e)
 
 -- reading that doesn't change what is counted changes nothing
-pub read_same : (s : Scripts) (read now : ℕ → ℕ) (rows : List FenceDraft) → ((m set_of_row : ℕ) → read_count s now m set_of_row ≡ read_count s read m set_of_row) → ((m set_of_row j : ℕ) → says_to set_of_row j (written_calls s m) (now m) ≡ says_to set_of_row j (written_calls s m) (read m)) → AreRead s read rows → AreRead s now rows
+pub read_same : (s : Scripts) (read now : ℕ → ℕ) (rows : List FenceDraft) → ((m set_of_row : ℕ) → read_count s now m set_of_row ≡ read_count s read m set_of_row) →
+    ((m set_of_row j : ℕ) → says_to set_of_row j (written_calls s m) (now m) ≡ says_to set_of_row j (written_calls s m) (read m)) → AreRead s read rows → AreRead s now rows
 read_same s read now rows counts says are = record {
   each = λ number row there.
       let is = are.each number row there in
@@ -61,9 +65,11 @@ read_same s read now rows counts says are = record {
         of_set = is.of_set;
         from_one = is.from_one;
         missing =
-            ap (λ n. row.missing + n) (count_same (λ m. nat_le row.nth (read_count s now m row.set)) (λ m. nat_le row.nth (read_count s read m row.set)) (λ m. ap (nat_le row.nth) (counts m row.set)) (set_at s.sets row.set))
+            ap (λ n. row.missing + n) (count_same (λ m. nat_le row.nth (read_count s now m row.set)) (λ m. nat_le row.nth (read_count s read m row.set)) (λ m. ap (nat_le row.nth) (counts m row.set))
+            (set_at s.sets row.set))
             ∙ is.missing;
-        collects = is.collects ∙ sym (all_same (λ m. says_to row.set row.nth (written_calls s m) (now m)) (λ m. says_to row.set row.nth (written_calls s m) (read m)) (λ m. says m row.set row.nth) (set_at s.sets row.set));
+        collects = is.collects ∙ sym (all_same (λ m. says_to row.set row.nth (written_calls s m) (now m)) (λ m. says_to row.set row.nth (written_calls s m) (read m)) (λ m. says m row.set row.nth)
+            (set_at s.sets row.set));
       };
   once = are.once;
   there = λ m set_of_row nth low from_one le. are.there m set_of_row nth low from_one (subst (λ k. nth ≤ k) (counts m set_of_row) le);
@@ -114,7 +120,8 @@ module _ (s : Scripts) (sound : IsSound s) (read : ℕ → ℕ) (p n set_of_call
       plus_none : (k : ℕ) → k ≡ k + 0
       plus_none k = omega arith
 
-  says_after : (set_of_row nth : ℕ) → says_to set_of_row nth (written_calls s p) (after p) ≡ cond ((set_of_call == set_of_row) && (suc (fence_count set_of_row (take n (written_calls s p))) == nth)) collect (says_to set_of_row nth (written_calls s p) n)
+  says_after : (set_of_row nth : ℕ) → says_to set_of_row nth (written_calls s p) (after p) ≡ cond ((set_of_call == set_of_row) && (suc (fence_count set_of_row (take n (written_calls s p))) == nth))
+      collect (says_to set_of_row nth (written_calls s p) n)
   says_after set_of_row nth =
       ap (says_to set_of_row nth (written_calls s p)) (cut_here read p (suc n))
       ∙ ap (says_with set_of_row nth (fence_count set_of_row (take n (written_calls s p))) (says_to set_of_row nth (written_calls s p) n)) is
@@ -122,7 +129,8 @@ module _ (s : Scripts) (sound : IsSound s) (read : ℕ → ℕ) (p n set_of_call
   says_before : (set_of_row nth : ℕ) → says_to set_of_row nth (written_calls s p) (before p) ≡ says_to set_of_row nth (written_calls s p) n
   says_before set_of_row nth = ap (says_to set_of_row nth (written_calls s p)) (cut_here read p n)
 
-  others_say : (set_of_row nth : ℕ) → ((set_of_row ≡ set_of_call) × (nth ≡ suc count) → ⊥) → says_to set_of_row nth (written_calls s p) (before p) ≡ says_to set_of_row nth (written_calls s p) (after p)
+  others_say : (set_of_row nth : ℕ) → ((set_of_row ≡ set_of_call) × (nth ≡ suc count) → ⊥) →
+      says_to set_of_row nth (written_calls s p) (before p) ≡ says_to set_of_row nth (written_calls s p) (after p)
   others_say set_of_row nth other =
       let fails : ((set_of_call == set_of_row) && (suc (fence_count set_of_row (take n (written_calls s p))) == nth)) ≡ false =
       false_from_ne_true ((set_of_call == set_of_row) && (suc (fence_count set_of_row (take n (written_calls s p))) == nth)) (λ t.
@@ -168,7 +176,8 @@ module _ (s : Scripts) (sound : IsSound s) (read : ℕ → ℕ) (p n set_of_call
       let counted_after : read_count s after p row.set ≡ suc count = ap (read_count s after p) of_set ∙ count_here in
       let not_yet : nat_le row.nth (read_count s before p row.set) ≡ false = lt-leb row.nth (read_count s before p row.set) (omega (arith, counted_before, is_nth)) in
       let now : nat_le row.nth (read_count s after p row.set) ≡ true = le-leb row.nth (read_count s after p row.set) (omega (arith, counted_after, is_nth)) in
-      let one_more = count_one_more (λ m. nat_le row.nth (read_count s before m row.set)) (λ m. nat_le row.nth (read_count s after m row.set)) p (λ m ne. ap (nat_le row.nth) (count_elsewhere m row.set ne)) not_yet now members distinct member in
+      let one_more = count_one_more (λ m. nat_le row.nth (read_count s before m row.set)) (λ m. nat_le row.nth (read_count s after m row.set)) p
+      (λ m ne. ap (nat_le row.nth) (count_elsewhere m row.set ne)) not_yet now members distinct member in
       let le = count_by-le-length (λ m. nat_le row.nth (read_count s after m row.set)) members in
       let sum = was.missing in
       let passes : says_to row.set row.nth (written_calls s p) (before p) ≡ true =
@@ -176,7 +185,11 @@ module _ (s : Scripts) (sound : IsSound s) (read : ℕ → ℕ) (p n set_of_call
       in
       let says : says_to row.set row.nth (written_calls s p) (after p) ≡ collect =
       says_after row.set row.nth
-      ∙ rw (eq-eqb set_of_call row.set (sym of_set), eq-eqb (suc (fence_count row.set (take n (written_calls s p)))) row.nth (ap (λ k. suc (fence_count k (take n (written_calls s p)))) of_set ∙ sym is_nth)) refl
+      ∙ rw (
+        eq-eqb set_of_call row.set (sym of_set),
+        eq-eqb (suc (fence_count row.set (take n (written_calls s p)))) row.nth (ap (λ k. suc (fence_count k (take n (written_calls s p)))) of_set
+            ∙ sym is_nth),
+      ) refl
       in
       record {
         of_set = was.of_set;
@@ -184,7 +197,8 @@ module _ (s : Scripts) (sound : IsSound s) (read : ℕ → ℕ) (p n set_of_call
         missing = omega (arith, one_more, le, sum);
         collects =
             ap (λ b. b && collect) was.collects
-            ∙ sym (all_one_more (λ m. says_to row.set row.nth (written_calls s m) (before m)) (λ m. says_to row.set row.nth (written_calls s m) (after m)) p collect (λ m ne. ap (says_to row.set row.nth (written_calls s m)) (elsewhere m ne)) passes says members member);
+            ∙ sym (all_one_more (λ m. says_to row.set row.nth (written_calls s m) (before m)) (λ m. says_to row.set row.nth (written_calls s m) (after m)) p collect
+            (λ m ne. ap (says_to row.set row.nth (written_calls s m)) (elsewhere m ne)) passes says members member);
       }
 
   -- a fence that nobody has called
@@ -203,11 +217,13 @@ module _ (s : Scripts) (sound : IsSound s) (read : ℕ → ℕ) (p n set_of_call
         of_set = there;
         from_one = omega arith;
         missing = omega (arith, nobody);
-        collects = sym (all_pass (λ m. says_to set_of_call (suc count) (written_calls s m) (before m)) (λ m. says_none set_of_call (suc count) (written_calls s m) (before m) (low m)) (set_at s.sets set_of_call));
+        collects = sym (all_pass (λ m. says_to set_of_call (suc count) (written_calls s m) (before m)) (λ m. says_none set_of_call (suc count) (written_calls s m) (before m) (low m))
+            (set_at s.sets set_of_call));
       }
 
   -- the fences that are there afterwards
-  there_after : (rows new : List FenceDraft) (number : ℕ) → AreRead s before rows → ((m k nth : ℕ) → HasRow rows m k nth → HasRow new m k nth) → HasRow new number set_of_call (suc count) → (m set_of_row nth : ℕ) → set_of_row < length s.sets → 0 < nth → nth ≤ read_count s after m set_of_row → (number : ℕ) × HasRow new number set_of_row nth
+  there_after : (rows new : List FenceDraft) (number : ℕ) → AreRead s before rows → ((m k nth : ℕ) → HasRow rows m k nth → HasRow new m k nth) → HasRow new number set_of_call (suc count) →
+      (m set_of_row nth : ℕ) → set_of_row < length s.sets → 0 < nth → nth ≤ read_count s after m set_of_row → (number : ℕ) × HasRow new number set_of_row nth
   there_after rows new number are kept here m set_of_row nth low from_one le = elim (cases_Bool (nat_le nth (read_count s before m set_of_row))) [
     | inl t ↦ let has = are.there m set_of_row nth low from_one (leb-true nth (read_count s before m set_of_row) t) in (has.0, kept has.0 set_of_row nth has.1)
     | inr f ↦
@@ -229,7 +245,8 @@ module _ (s : Scripts) (sound : IsSound s) (read : ℕ → ℕ) (p n set_of_call
   ]
 
 -- the rows by their numbers, where one is written or one comes last
-set_at_number : (rows : List FenceDraft) (number : ℕ) (row : FenceDraft) (m : ℕ) (x : FenceDraft) → slice_get (set rows number row) m ≡ Some x → ((m ≡ number) × (x ≡ row)) ⊎ (slice_get rows m ≡ Some x)
+set_at_number : (rows : List FenceDraft) (number : ℕ) (row : FenceDraft) (m : ℕ) (x : FenceDraft) → slice_get (set rows number row) m ≡ Some x → ((m ≡ number) × (x ≡ row))
+    ⊎ (slice_get rows m ≡ Some x)
 set_at_number [] number row m x h = absurd (none-some x h)
 set_at_number (y ∷ rows) zero row zero x h = inl (refl, same_Some x row (sym h))
 set_at_number (y ∷ rows) zero row (suc m) x h = inr h
@@ -270,7 +287,8 @@ push_new [] row = refl
 push_new (y ∷ rows) row = push_new rows row
 
 -- each row keeps its place
-pub kept_row : (rows new : List FenceDraft) (set_of_call nth members number : ℕ) (collect : Bool) → IsCalled rows set_of_call nth members collect number new → (m k j : ℕ) → HasRow rows m k j → HasRow new m k j
+pub kept_row : (rows new : List FenceDraft) (set_of_call nth members number : ℕ) (collect : Bool) → IsCalled rows set_of_call nth members collect number new → (m k j : ℕ) → HasRow rows m k j →
+    HasRow new m k j
 kept_row rows new set_of_call nth members number collect (Again row there of_set is_nth made) m k j has = elim (cases_eq m number) [
   | inl here ↦
       let same : has.row ≡ row = same_Some has.row row (sym has.there ∙ ap (slice_get rows) here ∙ there) in
@@ -307,7 +325,8 @@ row_of_call rows new set_of_call nth members number collect (Again row there of_
 }
 row_of_call rows new set_of_call nth members number collect (First last none made) = record {
   row = called collect (record { set = set_of_call; nth = nth; missing = members; collects = true });
-  there = ap (λ xs. slice_get xs number) made ∙ ap (slice_get (rows ++ called collect (record { set = set_of_call; nth = nth; missing = members; collects = true }) ∷ [])) last ∙ push_new rows (called collect (record { set = set_of_call; nth = nth; missing = members; collects = true }));
+  there = ap (λ xs. slice_get xs number) made ∙ ap (slice_get (rows ++ called collect (record { set = set_of_call; nth = nth; missing = members; collects = true }) ∷ [])) last
+      ∙ push_new rows (called collect (record { set = set_of_call; nth = nth; missing = members; collects = true }));
   of_set = refl;
   is_nth = refl;
 }
@@ -321,22 +340,28 @@ few_rows rows new set_of_call nth members number collect (First last none made) 
     omega (arith, more)
 
 -- a row that is there afterwards was there, or is the call's own
-row_before : (rows new : List FenceDraft) (set_of_call nth members number : ℕ) (collect : Bool) → IsCalled rows set_of_call nth members collect number new → (m k j : ℕ) → HasRow new m k j → HasRow rows m k j ⊎ ((m ≡ number) × ((k ≡ set_of_call) × (j ≡ nth)))
-row_before rows new set_of_call nth members number collect (Again row there of_set is_nth made) m k j has = elim (set_at_number rows number (called collect row) m has.row (ap (λ xs. slice_get xs m) (sym made) ∙ has.there)) [
-  | inl here ↦ inr (here.0, (sym has.of_set ∙ ap (λ (r : FenceDraft). r.set) here.1 ∙ of_set, sym has.is_nth ∙ ap (λ (r : FenceDraft). r.nth) here.1 ∙ is_nth))
-  | inr old ↦ inl (record { row = has.row; there = old; of_set = has.of_set; is_nth = has.is_nth })
-]
-row_before rows new set_of_call nth members number collect (First last none made) m k j has = elim (push_at rows (called collect (record { set = set_of_call; nth = nth; missing = members; collects = true })) m has.row (ap (λ xs. slice_get xs m) (sym made) ∙ has.there)) [
-  | inl here ↦ inr (here.0 ∙ sym last, (sym has.of_set ∙ ap (λ (r : FenceDraft). r.set) here.1, sym has.is_nth ∙ ap (λ (r : FenceDraft). r.nth) here.1))
-  | inr old ↦ inl (record { row = has.row; there = old; of_set = has.of_set; is_nth = has.is_nth })
-]
+row_before : (rows new : List FenceDraft) (set_of_call nth members number : ℕ) (collect : Bool) → IsCalled rows set_of_call nth members collect number new → (m k j : ℕ) → HasRow new m k j →
+    HasRow rows m k j ⊎ ((m ≡ number) × ((k ≡ set_of_call) × (j ≡ nth)))
+row_before rows new set_of_call nth members number collect (Again row there of_set is_nth made) m k j has = elim
+    (set_at_number rows number (called collect row) m has.row (ap (λ xs. slice_get xs m) (sym made) ∙ has.there)) [
+      | inl here ↦ inr (here.0, (sym has.of_set ∙ ap (λ (r : FenceDraft). r.set) here.1 ∙ of_set, sym has.is_nth ∙ ap (λ (r : FenceDraft). r.nth) here.1 ∙ is_nth))
+      | inr old ↦ inl (record { row = has.row; there = old; of_set = has.of_set; is_nth = has.is_nth })
+    ]
+row_before rows new set_of_call nth members number collect (First last none made) m k j has = elim
+    (push_at rows (called collect (record { set = set_of_call; nth = nth; missing = members; collects = true })) m has.row (ap (λ xs. slice_get xs m) (sym made) ∙ has.there)) [
+      | inl here ↦ inr (here.0 ∙ sym last, (sym has.of_set ∙ ap (λ (r : FenceDraft). r.set) here.1, sym has.is_nth ∙ ap (λ (r : FenceDraft). r.nth) here.1))
+      | inr old ↦ inl (record { row = has.row; there = old; of_set = has.of_set; is_nth = has.is_nth })
+    ]
 
 -- a row that was there with the call's set and number is the call's own
-same_place : (s : Scripts) (read : ℕ → ℕ) (rows new : List FenceDraft) (set_of_call nth members number : ℕ) (collect : Bool) → AreRead s read rows → IsCalled rows set_of_call nth members collect number new → (m : ℕ) → HasRow rows m set_of_call nth → m ≡ number
-same_place s read rows new set_of_call nth members number collect are (Again row there of_set is_nth made) m has = are.once m number set_of_call nth has (record { row = row; there = there; of_set = of_set; is_nth = is_nth })
+same_place : (s : Scripts) (read : ℕ → ℕ) (rows new : List FenceDraft) (set_of_call nth members number : ℕ) (collect : Bool) → AreRead s read rows →
+    IsCalled rows set_of_call nth members collect number new → (m : ℕ) → HasRow rows m set_of_call nth → m ≡ number
+same_place s read rows new set_of_call nth members number collect are (Again row there of_set is_nth made) m has = are.once m number set_of_call nth has
+    (record { row = row; there = there; of_set = of_set; is_nth = is_nth })
 same_place s read rows new set_of_call nth members number collect are (First last none made) m has = absurd (none m has)
 
-once_after : (s : Scripts) (read : ℕ → ℕ) (rows new : List FenceDraft) (set_of_call nth members number : ℕ) (collect : Bool) → AreRead s read rows → IsCalled rows set_of_call nth members collect number new → (m n k j : ℕ) → HasRow new m k j → HasRow new n k j → m ≡ n
+once_after : (s : Scripts) (read : ℕ → ℕ) (rows new : List FenceDraft) (set_of_call nth members number : ℕ) (collect : Bool) → AreRead s read rows →
+    IsCalled rows set_of_call nth members collect number new → (m n k j : ℕ) → HasRow new m k j → HasRow new n k j → m ≡ n
 once_after s read rows new set_of_call nth members number collect are call m n k j at_m at_n = elim (row_before rows new set_of_call nth members number collect call m k j at_m) [
   | inl old_m ↦
       elim (row_before rows new set_of_call nth members number collect call n k j at_n) [
@@ -354,42 +379,53 @@ once_after s read rows new set_of_call nth members number collect are call m n k
     renamed xs i a b c d e f has = record { row = has.row; there = has.there; of_set = has.of_set ∙ e; is_nth = has.is_nth ∙ f }
 
 -- one more fence call is read
-each_after : (s : Scripts) (sound : IsSound s) (read : ℕ → ℕ) (p n set_of_call : ℕ) (collect : Bool) (is : slice_get (written_calls s p) n ≡ Some (Fence set_of_call collect)) (rows new : List FenceDraft) (number : ℕ) → AreRead s (update read p n) rows → IsCalled rows set_of_call (suc (fence_count set_of_call (take n (written_calls s p)))) (length (set_at s.sets set_of_call)) collect number new → (m : ℕ) (row : FenceDraft) → slice_get new m ≡ Some row → IsRead s (update read p (suc n)) row
-each_after s sound read p n set_of_call collect is rows new number are (Again row there of_set is_nth made) m x at_m = elim (set_at_number rows number (called collect row) m x (ap (λ xs. slice_get xs m) (sym made) ∙ at_m)) [
-  | inl here ↦ subst (IsRead s (update read p (suc n))) (sym here.1) (called_row s sound read p n set_of_call collect is row of_set is_nth (are.each number row there))
-  | inr old ↦
-      elim (cases_eq m number) [
-        | inl same ↦
-            let new_row : x ≡ called collect row = same_Some x (called collect row) (sym at_m ∙ ap (λ xs. slice_get xs m) made ∙ ap (slice_get (set rows number (called collect row))) same ∙ set_there rows number row (called collect row) there) in
-            subst (IsRead s (update read p (suc n))) (sym new_row) (called_row s sound read p n set_of_call collect is row of_set is_nth (are.each number row there))
-        | inr ne ↦
-            other_row s sound read p n set_of_call collect is x
-            (λ both. ne (are.once m number set_of_call (suc (fence_count set_of_call (take n (written_calls s p)))) (record { row = x; there = old; of_set = both.0; is_nth = both.1 }) (record { row = row; there = there; of_set = of_set; is_nth = is_nth })))
-            (are.each m x old)
-      ]
-]
+each_after : (s : Scripts) (sound : IsSound s) (read : ℕ → ℕ) (p n set_of_call : ℕ) (collect : Bool) (is : slice_get (written_calls s p) n ≡ Some (Fence set_of_call collect))
+    (rows new : List FenceDraft) (number : ℕ) → AreRead s (update read p n) rows →
+    IsCalled rows set_of_call (suc (fence_count set_of_call (take n (written_calls s p)))) (length (set_at s.sets set_of_call)) collect number new → (m : ℕ) (row : FenceDraft) →
+    slice_get new m ≡ Some row → IsRead s (update read p (suc n)) row
+each_after s sound read p n set_of_call collect is rows new number are (Again row there of_set is_nth made) m x at_m = elim
+    (set_at_number rows number (called collect row) m x (ap (λ xs. slice_get xs m) (sym made) ∙ at_m)) [
+      | inl here ↦ subst (IsRead s (update read p (suc n))) (sym here.1) (called_row s sound read p n set_of_call collect is row of_set is_nth (are.each number row there))
+      | inr old ↦
+          elim (cases_eq m number) [
+            | inl same ↦
+                let new_row : x ≡ called collect row = same_Some x (called collect row)
+                (sym at_m ∙ ap (λ xs. slice_get xs m) made ∙ ap (slice_get (set rows number (called collect row))) same ∙ set_there rows number row (called collect row) there) in
+                subst (IsRead s (update read p (suc n))) (sym new_row) (called_row s sound read p n set_of_call collect is row of_set is_nth (are.each number row there))
+            | inr ne ↦
+                other_row s sound read p n set_of_call collect is x
+                (λ both. ne (are.once m number set_of_call (suc (fence_count set_of_call (take n (written_calls s p)))) (record { row = x; there = old; of_set = both.0; is_nth = both.1 })
+                (record { row = row; there = there; of_set = of_set; is_nth = is_nth })))
+                (are.each m x old)
+          ]
+    ]
 each_after s sound read p n set_of_call collect is rows new number are (First last none made) m x at_m =
     let first : FenceDraft = record { set = set_of_call; nth = suc (fence_count set_of_call (take n (written_calls s p))); missing = length (set_at s.sets set_of_call); collects = true } in
     elim (push_at rows (called collect first) m x (ap (λ xs. slice_get xs m) (sym made) ∙ at_m)) [
-      | inl here ↦ subst (IsRead s (update read p (suc n))) (sym here.1) (called_row s sound read p n set_of_call collect is first refl refl (blank_row s sound read p n set_of_call collect is rows are none))
+      | inl here ↦ subst (IsRead s (update read p (suc n))) (sym here.1)
+          (called_row s sound read p n set_of_call collect is first refl refl (blank_row s sound read p n set_of_call collect is rows are none))
       | inr old ↦
           other_row s sound read p n set_of_call collect is x
           (λ both. none m (record { row = x; there = old; of_set = both.0; is_nth = both.1 }))
           (are.each m x old)
     ]
 
-pub read_fence : (s : Scripts) (sound : IsSound s) (read : ℕ → ℕ) (p n set_of_call : ℕ) (collect : Bool) (is : slice_get (written_calls s p) n ≡ Some (Fence set_of_call collect)) (rows new : List FenceDraft) (number : ℕ) → AreRead s (update read p n) rows → IsCalled rows set_of_call (suc (fence_count set_of_call (take n (written_calls s p)))) (length (set_at s.sets set_of_call)) collect number new → AreRead s (update read p (suc n)) new
+pub read_fence : (s : Scripts) (sound : IsSound s) (read : ℕ → ℕ) (p n set_of_call : ℕ) (collect : Bool) (is : slice_get (written_calls s p) n ≡ Some (Fence set_of_call collect))
+    (rows new : List FenceDraft) (number : ℕ) → AreRead s (update read p n) rows →
+    IsCalled rows set_of_call (suc (fence_count set_of_call (take n (written_calls s p)))) (length (set_at s.sets set_of_call)) collect number new → AreRead s (update read p (suc n)) new
 read_fence s sound read p n set_of_call collect is rows new number are call =
     let nth = suc (fence_count set_of_call (take n (written_calls s p))) in
     let members = length (set_at s.sets set_of_call) in
     record {
       each = each_after s sound read p n set_of_call collect is rows new number are call;
       once = once_after s (update read p n) rows new set_of_call nth members number collect are call;
-      there = there_after s sound read p n set_of_call collect is rows new number are (kept_row rows new set_of_call nth members number collect call) (row_of_call rows new set_of_call nth members number collect call);
+      there = there_after s sound read p n set_of_call collect is rows new number are (kept_row rows new set_of_call nth members number collect call)
+          (row_of_call rows new set_of_call nth members number collect call);
     }
 
 -- one more call is read that is no fence
-pub read_other : (s : Scripts) (read : ℕ → ℕ) (p n : ℕ) (call : Call) (rows : List FenceDraft) → slice_get (written_calls s p) n ≡ Some call → ((k : ℕ) → is_over k call ≡ false) → ((k j m : ℕ) (b : Bool) → says_with k j m b (Some call) ≡ b) → AreRead s (update read p n) rows → AreRead s (update read p (suc n)) rows
+pub read_other : (s : Scripts) (read : ℕ → ℕ) (p n : ℕ) (call : Call) (rows : List FenceDraft) → slice_get (written_calls s p) n ≡ Some call → ((k : ℕ) → is_over k call ≡ false) →
+    ((k j m : ℕ) (b : Bool) → says_with k j m b (Some call) ≡ b) → AreRead s (update read p n) rows → AreRead s (update read p (suc n)) rows
 read_other s read p n call rows is over silent are =
     read_same s (update read p n) (update read p (suc n)) rows
     (λ m k. elim (cases_eq m p) [

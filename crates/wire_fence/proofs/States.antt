@@ -1,5 +1,6 @@
 -- How far the reading of calls has come.
-use Rattle.std.proofs.Common.{◌≡◌, ◌∙◌, ℕ, zero, suc, ◌+◌, ◌<◌, ◌≤◌, List, [], ◌∷◌, ◌++◌, take, replicate, length, Bool, true, false, cond, nat_lt, Option, Some, None, slice_get, get_or, refl, sym, ap, subst, inl, inr, arith, add-one}
+use Rattle.std.proofs.Common.{◌≡◌, ◌∙◌, ℕ, zero, suc, ◌+◌, ◌<◌, ◌≤◌, List, [], ◌∷◌, ◌++◌, take, replicate, length, Bool, true, false, cond, nat_lt, Option, Some, None, slice_get, get_or, refl, sym}
+use Rattle.std.proofs.Common.{ap, subst, inl, inr, arith, add-one}
 use Rattle.std.proofs.lemmas.Bool.{cases_eq, cases_lt, eq-eqb, ne_eqb, lt-ltb, le-ltb}
 use Rattle.std.proofs.lemmas.Option.{none-some, slice_get-get_or}
 use Rattle.std.proofs.lemmas.List.{get_or-set_same, get_or-set_other, length-set, get_or_append_left, get_or_push, length_push, get_or_past, get_or-replicate, length-replicate}
@@ -26,7 +27,8 @@ pub record StateOf (first rows : List FenceDraft) (sets : List (List ℕ)) (call
   pub kept : (m k j : ℕ) → HasRow first m k j → HasRow rows m k j
   pub read : (s : Scripts) (p : ℕ) (read : ℕ → ℕ) → IsSound s → sets ≡ s.sets → calls ≡ written_calls s p → read p ≡ 0 → AreRead s read first → AreRead s (update read p n) rows
 
-pub state_first : (rows : List FenceDraft) (sets : List (List ℕ)) (calls : List Call) (counts : List ℕ) (numbers : List (Option ℕ)) (size : ℕ) → size ≡ length sets → counts ≡ replicate size 0 → numbers ≡ [] → StateOf rows rows sets calls counts numbers 0
+pub state_first : (rows : List FenceDraft) (sets : List (List ℕ)) (calls : List Call) (counts : List ℕ) (numbers : List (Option ℕ)) (size : ℕ) → size ≡ length sets → counts ≡ replicate size 0 →
+    numbers ≡ [] → StateOf rows rows sets calls counts numbers 0
 state_first rows sets calls counts numbers size size_is zeros none = record {
   few = omega arith;
   len = ap length zeros ∙ length-replicate size 0 ∙ size_is;
@@ -43,17 +45,20 @@ state_first rows sets calls counts numbers size size_is zeros none = record {
 }
 
 -- the numbers of earlier calls stay
-number_kept : (rows new : List FenceDraft) (calls : List Call) (c : ℕ) (o : Option Call) (number : Option ℕ) → ((m k j : ℕ) → HasRow rows m k j → HasRow new m k j) → IsNumber rows calls c o number → IsNumber new calls c o number
+number_kept : (rows new : List FenceDraft) (calls : List Call) (c : ℕ) (o : Option Call) (number : Option ℕ) → ((m k j : ℕ) → HasRow rows m k j → HasRow new m k j) → IsNumber rows calls c o number →
+    IsNumber new calls c o number
 number_kept rows new calls c (Some (Fence other collect)) number kept is = (is.0, is.1, kept is.0 other (fence_count other (take (suc c) calls)) is.2)
 number_kept rows new calls c _ number kept is = is
 
-pub numbers_kept : (rows new : List FenceDraft) (calls : List Call) (numbers : List (Option ℕ)) (n : ℕ) → ((m k j : ℕ) → HasRow rows m k j → HasRow new m k j) → AreNumbers rows calls numbers n → AreNumbers new calls numbers n
+pub numbers_kept : (rows new : List FenceDraft) (calls : List Call) (numbers : List (Option ℕ)) (n : ℕ) → ((m k j : ℕ) → HasRow rows m k j → HasRow new m k j) → AreNumbers rows calls numbers n →
+    AreNumbers new calls numbers n
 numbers_kept rows new calls numbers n kept are = record {
   count = are.count;
   each = λ c low. number_kept rows new calls c (slice_get calls c) (get_or numbers c None) kept (are.each c low);
 }
 
-numbers_more : (rows new : List FenceDraft) (calls : List Call) (numbers : List (Option ℕ)) (n : ℕ) (number : Option ℕ) → ((m k j : ℕ) → HasRow rows m k j → HasRow new m k j) → AreNumbers rows calls numbers n → IsNumber new calls n (slice_get calls n) number → AreNumbers new calls (numbers ++ number ∷ []) (suc n)
+numbers_more : (rows new : List FenceDraft) (calls : List Call) (numbers : List (Option ℕ)) (n : ℕ) (number : Option ℕ) → ((m k j : ℕ) → HasRow rows m k j → HasRow new m k j) →
+    AreNumbers rows calls numbers n → IsNumber new calls n (slice_get calls n) number → AreNumbers new calls (numbers ++ number ∷ []) (suc n)
 numbers_more rows new calls numbers n number kept are is = record {
   count = length_push numbers number ∙ add-one (length numbers) ∙ ap suc are.count;
   each = λ c low. elim (cases_eq c n) [
@@ -69,7 +74,10 @@ numbers_more rows new calls numbers n number kept are is = record {
 }
 
 -- a fence call more
-state_fence : (first rows new : List FenceDraft) (sets : List (List ℕ)) (calls : List Call) (counts now : List ℕ) (numbers : List (Option ℕ)) (number : Option ℕ) (n other at : ℕ) (collect : Bool) → StateOf first rows sets calls counts numbers n → slice_get calls n ≡ Some (Fence other collect) → other < length sets → number ≡ Some at → IsCalled rows other (get_or counts other 0 + 1) (length (set_at sets other)) collect at new → now ≡ set counts other (get_or counts other 0 + 1) → StateOf first new sets calls now (numbers ++ number ∷ []) (suc n)
+state_fence : (first rows new : List FenceDraft) (sets : List (List ℕ)) (calls : List Call) (counts now : List ℕ) (numbers : List (Option ℕ)) (number : Option ℕ) (n other at : ℕ) (collect : Bool) →
+    StateOf first rows sets calls counts numbers n → slice_get calls n ≡ Some (Fence other collect) → other < length sets → number ≡ Some at →
+    IsCalled rows other (get_or counts other 0 + 1) (length (set_at sets other)) collect at new → now ≡ set counts other (get_or counts other 0 + 1) →
+    StateOf first new sets calls now (numbers ++ number ∷ []) (suc n)
 state_fence first rows new sets calls counts now numbers number n other at collect state is within number_is call now_is =
     let count : get_or counts other 0 ≡ fence_count other (take n calls) = state.counted other within in
     let nth : get_or counts other 0 + 1 ≡ suc (fence_count other (take n calls)) = add-one (get_or counts other 0) ∙ ap suc count in
@@ -110,7 +118,8 @@ state_fence first rows new sets calls counts now numbers number n other at colle
       read = λ s p read sound same_sets same_calls nothing are.
           read_fence s sound read p n other collect (ap (λ xs. slice_get xs n) (sym same_calls) ∙ is) rows new at
           (state.read s p read sound same_sets same_calls nothing are)
-          (subst (λ xs. IsCalled rows other (suc (fence_count other (take n xs))) (length (set_at s.sets other)) collect at new) same_calls (subst (λ xs. IsCalled rows other (suc (fence_count other (take n calls))) (length (set_at xs other)) collect at new) same_sets called));
+          (subst (λ xs. IsCalled rows other (suc (fence_count other (take n xs))) (length (set_at s.sets other)) collect at new) same_calls
+          (subst (λ xs. IsCalled rows other (suc (fence_count other (take n calls))) (length (set_at xs other)) collect at new) same_sets called));
     }
   where
     plus_none : (k : ℕ) → k ≡ k + 0
@@ -123,7 +132,9 @@ state_fence first rows new sets calls counts now numbers number n other at colle
     over_other k m ne = ne_eqb k m (λ e. ne (sym e))
 
 -- a call more that is no fence
-state_other : (first rows new : List FenceDraft) (sets : List (List ℕ)) (calls : List Call) (counts now : List ℕ) (numbers : List (Option ℕ)) (number : Option ℕ) (n : ℕ) (call : Call) → StateOf first rows sets calls counts numbers n → slice_get calls n ≡ Some call → ((k : ℕ) → is_over k call ≡ false) → ((k j m : ℕ) (b : Bool) → says_with k j m b (Some call) ≡ b) → IsNumber new calls n (Some call) number → new ≡ rows → now ≡ counts → StateOf first new sets calls now (numbers ++ number ∷ []) (suc n)
+state_other : (first rows new : List FenceDraft) (sets : List (List ℕ)) (calls : List Call) (counts now : List ℕ) (numbers : List (Option ℕ)) (number : Option ℕ) (n : ℕ) (call : Call) →
+    StateOf first rows sets calls counts numbers n → slice_get calls n ≡ Some call → ((k : ℕ) → is_over k call ≡ false) → ((k j m : ℕ) (b : Bool) → says_with k j m b (Some call) ≡ b) →
+    IsNumber new calls n (Some call) number → new ≡ rows → now ≡ counts → StateOf first new sets calls now (numbers ++ number ∷ []) (suc n)
 state_other first rows new sets calls counts now numbers number n call state is over silent number_is new_is now_is =
     let few = state.few in
     let same = ap length new_is in
@@ -136,7 +147,8 @@ state_other first rows new sets calls counts now numbers number n call state is 
           ∙ plus_none (fence_count k (take n calls))
           ∙ ap (λ b. fence_count k (take n calls) + cond b 1 0) (sym (over k))
           ∙ sym (count_call calls n k call is);
-      numbered = numbers_more rows new calls numbers n number (λ m k j has. subst (λ xs. HasRow xs m k j) (sym new_is) has) state.numbered (subst (λ o. IsNumber new calls n o number) (sym is) number_is);
+      numbered = numbers_more rows new calls numbers n number (λ m k j has. subst (λ xs. HasRow xs m k j) (sym new_is) has) state.numbered
+          (subst (λ o. IsNumber new calls n o number) (sym is) number_is);
       kept = λ m k j has. subst (λ xs. HasRow xs m k j) (sym new_is) (state.kept m k j has);
       read = λ s p read sound same_sets same_calls nothing are.
           subst (AreRead s (update read p (suc n))) (sym new_is)
@@ -146,18 +158,23 @@ state_other first rows new sets calls counts now numbers number n call state is 
     plus_none : (k : ℕ) → k ≡ k + 0
     plus_none k = omega arith
 
-state_step : (first rows new : List FenceDraft) (sets : List (List ℕ)) (calls : List Call) (counts now : List ℕ) (numbers : List (Option ℕ)) (number : Option ℕ) (n : ℕ) (call : Call) → StateOf first rows sets calls counts numbers n → slice_get calls n ≡ Some call → ((k : ℕ) (collect : Bool) → call ≡ Fence k collect → k < length sets) → IsAfter sets call rows counts number new now → StateOf first new sets calls now (numbers ++ number ∷ []) (suc n)
+state_step : (first rows new : List FenceDraft) (sets : List (List ℕ)) (calls : List Call) (counts now : List ℕ) (numbers : List (Option ℕ)) (number : Option ℕ) (n : ℕ) (call : Call) →
+    StateOf first rows sets calls counts numbers n → slice_get calls n ≡ Some call → ((k : ℕ) (collect : Bool) → call ≡ Fence k collect → k < length sets) →
+    IsAfter sets call rows counts number new now → StateOf first new sets calls now (numbers ++ number ∷ []) (suc n)
 state_step first rows new sets calls counts now numbers number n (Fence other collect) state is within after =
     state_fence first rows new sets calls counts now numbers number n other after.0 collect state is (within other collect refl) after.1 after.2 after.3
 state_step first rows new sets calls counts now numbers number n call state is within after =
     state_other first rows new sets calls counts now numbers number n call state is (λ _. refl) (λ _ _ _ _. refl) after.0 after.1 after.2
 
-pub state_more : (first rows new : List FenceDraft) (sets : List (List ℕ)) (calls : List Call) (counts now : List ℕ) (numbers : List (Option ℕ)) (number : Option ℕ) (n : ℕ) (call : Call) → StateOf first rows sets calls counts numbers n → slice_get calls n ≡ Some call → ((k : ℕ) (collect : Bool) → call ≡ Fence k collect → k < length sets) → IsAfter sets call rows counts number new now → StateOf first new sets calls now (numbers ++ number ∷ []) (n + 1)
+pub state_more : (first rows new : List FenceDraft) (sets : List (List ℕ)) (calls : List Call) (counts now : List ℕ) (numbers : List (Option ℕ)) (number : Option ℕ) (n : ℕ) (call : Call) →
+    StateOf first rows sets calls counts numbers n → slice_get calls n ≡ Some call → ((k : ℕ) (collect : Bool) → call ≡ Fence k collect → k < length sets) →
+    IsAfter sets call rows counts number new now → StateOf first new sets calls now (numbers ++ number ∷ []) (n + 1)
 state_more first rows new sets calls counts now numbers number n call state is within after =
     subst (StateOf first new sets calls now (numbers ++ number ∷ [])) (sym (add-one n)) (state_step first rows new sets calls counts now numbers number n call state is within after)
 
 -- each count is below the number of calls
-pub count_fits : (first rows : List FenceDraft) (sets : List (List ℕ)) (calls : List Call) (counts : List ℕ) (numbers : List (Option ℕ)) (n k : ℕ) → StateOf first rows sets calls counts numbers n → n < length calls → get_or counts k 0 < length calls
+pub count_fits : (first rows : List FenceDraft) (sets : List (List ℕ)) (calls : List Call) (counts : List ℕ) (numbers : List (Option ℕ)) (n k : ℕ) → StateOf first rows sets calls counts numbers n →
+    n < length calls → get_or counts k 0 < length calls
 count_fits first rows sets calls counts numbers n k state low = elim (cases_lt k (length sets)) [
   | inl below ↦
       let is = state.counted k below in
@@ -189,12 +206,15 @@ all_first rows sets processes numbers none nothing = record {
     each = λ number row there. absurd (none-some row (ap (λ xs. slice_get xs number) (sym none) ∙ there));
     once = λ m n k j at_m at_n. absurd (none-some at_m.row (ap (λ xs. slice_get xs m) (sym none) ∙ at_m.there));
     there = λ m k j low from_one le.
-        let nobody : fence_count k (take (read_to s 0 m) (written_calls s m)) ≡ 0 = ap (λ b. fence_count k (take (cond b (length (written_calls s m)) 0) (written_calls s m))) (le-ltb m 0 (omega arith)) in
+        let nobody : fence_count k (take (read_to s 0 m) (written_calls s m)) ≡ 0 = ap (λ b. fence_count k (take (cond b (length (written_calls s m)) 0) (written_calls s m)))
+        (le-ltb m 0 (omega arith)) in
         absurd (omega (arith, nobody, le, from_one));
   };
 }
 
-all_numbers_more : (rows new : List FenceDraft) (processes : List Process) (numbers : List (List (Option ℕ))) (more : List (Option ℕ)) (n : ℕ) → ((m k j : ℕ) → HasRow rows m k j → HasRow new m k j) → AreAllNumbers rows processes numbers n → AreNumbers new (calls_in (slice_get processes n)) more (length (calls_in (slice_get processes n))) → AreAllNumbers new processes (numbers ++ more ∷ []) (suc n)
+all_numbers_more : (rows new : List FenceDraft) (processes : List Process) (numbers : List (List (Option ℕ))) (more : List (Option ℕ)) (n : ℕ) → ((m k j : ℕ) → HasRow rows m k j → HasRow new m k j) →
+    AreAllNumbers rows processes numbers n → AreNumbers new (calls_in (slice_get processes n)) more (length (calls_in (slice_get processes n))) →
+    AreAllNumbers new processes (numbers ++ more ∷ []) (suc n)
 all_numbers_more rows new processes numbers more n kept are is = record {
   count = length_push numbers more ∙ add-one (length numbers) ∙ ap suc are.count;
   each = λ p low. elim (cases_eq p n) [
@@ -211,7 +231,8 @@ all_numbers_more rows new processes numbers more n kept are is = record {
   ];
 }
 
-pub all_more : (rows new : List FenceDraft) (sets : List (List ℕ)) (processes : List Process) (numbers : List (List (Option ℕ))) (more : List (Option ℕ)) (n : ℕ) (process : Process) → AllRead rows sets processes numbers n → slice_get processes n ≡ Some process →
+pub all_more : (rows new : List FenceDraft) (sets : List (List ℕ)) (processes : List Process) (numbers : List (List (Option ℕ))) (more : List (Option ℕ)) (n : ℕ) (process : Process) →
+    AllRead rows sets processes numbers n → slice_get processes n ≡ Some process →
     length new ≤ length rows + length process.calls → AreNumbers new process.calls more (length process.calls) → ((m k j : ℕ) → HasRow rows m k j → HasRow new m k j) →
     ((s : Scripts) (p : ℕ) (read : ℕ → ℕ) → IsSound s → sets ≡ s.sets → process.calls ≡ written_calls s p → read p ≡ 0 → AreRead s read rows → AreRead s (update read p (length process.calls)) new) →
     AllRead new sets processes (numbers ++ more ∷ []) (n + 1)
@@ -220,7 +241,8 @@ all_more rows new sets processes numbers more n process all is few are kept read
     record {
       few =
           let was = all.few in
-          let one_more : call_count (take (suc n) processes) ≡ call_count (take n processes) + length process.calls = ap call_count (take_get processes n process is) ∙ sum_by_push (λ (q : Process). length q.calls) (take n processes) process in
+          let one_more : call_count (take (suc n) processes) ≡ call_count (take n processes) + length process.calls = ap call_count (take_get processes n process is)
+          ∙ sum_by_push (λ (q : Process). length q.calls) (take n processes) process in
           omega (arith, was, few, one_more);
       numbered = all_numbers_more rows new processes numbers more n kept all.numbered (subst (λ o. AreNumbers new (calls_in o) more (length (calls_in o))) (sym is) are);
       read = λ s sound same_sets same_processes.
@@ -247,7 +269,8 @@ all_more rows new sets processes numbers more n process all is few are kept read
     ]
 
 -- the same, where the calls that were read are told apart from the process
-pub all_more_of : (rows new : List FenceDraft) (sets : List (List ℕ)) (processes : List Process) (numbers : List (List (Option ℕ))) (more : List (Option ℕ)) (n : ℕ) (process : Process) (calls : List Call) → AllRead rows sets processes numbers n → n < length processes → process ≡ get_or processes n process → calls ≡ process.calls →
+pub all_more_of : (rows new : List FenceDraft) (sets : List (List ℕ)) (processes : List Process) (numbers : List (List (Option ℕ))) (more : List (Option ℕ)) (n : ℕ) (process : Process)
+    (calls : List Call) → AllRead rows sets processes numbers n → n < length processes → process ≡ get_or processes n process → calls ≡ process.calls →
     length new ≤ length rows + length calls → AreNumbers new calls more (length calls) → ((m k j : ℕ) → HasRow rows m k j → HasRow new m k j) →
     ((s : Scripts) (p : ℕ) (read : ℕ → ℕ) → IsSound s → sets ≡ s.sets → calls ≡ written_calls s p → read p ≡ 0 → AreRead s read rows → AreRead s (update read p (length calls)) new) →
     AllRead new sets processes (numbers ++ more ∷ []) (n + 1)
@@ -256,4 +279,5 @@ all_more_of rows new sets processes numbers more n process calls all low is same
     (subst (λ xs. length new ≤ length rows + length xs) same few)
     (subst (λ xs. AreNumbers new xs more (length xs)) same are)
     kept
-    (subst (λ (xs : List Call). (s : Scripts) (p : ℕ) (read : ℕ → ℕ) → IsSound s → sets ≡ s.sets → xs ≡ written_calls s p → read p ≡ 0 → AreRead s read rows → AreRead s (update read p (length xs)) new) same read)
+    (subst (λ (xs : List Call). (s : Scripts) (p : ℕ) (read : ℕ → ℕ) → IsSound s → sets ≡ s.sets → xs ≡ written_calls s p → read p ≡ 0 → AreRead s read rows →
+    AreRead s (update read p (length xs)) new) same read)

@@ -20,7 +20,8 @@ ArrivalCounts = (s : Scripts) (cut : ℕ → ℕ) (table : FenceTable) (missing 
 
 -- somebody is missing at a fence where a member hasn't arrived
 abbrev pub SomebodyIsMissing : Type 0
-SomebodyIsMissing = (s : Scripts) (cut : ℕ → ℕ) (table : FenceTable) (missing : List ℕ) (number p : ℕ) (fence : FenceInfo) → fence_at table number ≡ Some fence →
+SomebodyIsMissing = (s : Scripts) (cut : ℕ → ℕ) (table : FenceTable) (missing : List ℕ) (number p : ℕ) (fence : FenceInfo) →
+    fence_at table number ≡ Some fence →
     is_member fence.members p ≡ true → nat_le fence.nth (arrivals (plan_of s) p fence.members (cut p)) ≡ false →
     TellsMissing s cut table missing → 0 < missing_at missing number
 
@@ -32,4 +33,5 @@ ArrivingIsMissing = (s : Scripts) (cut : ℕ → ℕ) (table : FenceTable) (miss
 -- how often a process arrives at fences over a set is how many fences over it it calls
 abbrev pub CallsAreArrivals : Type 0
 CallsAreArrivals = (s : Scripts) (p c set : ℕ) → IsSound s → set < length s.sets →
-    arrivals (plan_of s) p (set_at s.sets set) (length (kinds_of (map (planned_call s) (take c (written_calls s p))))) ≡ fence_count set (take c (written_calls s p))
+    arrivals (plan_of s) p (set_at s.sets set) (length (kinds_of (map (planned_call s) (take c (written_calls s p))))) ≡ fence_count set
+    (take c (written_calls s p))

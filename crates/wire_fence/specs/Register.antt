@@ -1,5 +1,6 @@
 -- The fences as calls are read, one call after the other: for the contracts of private functions. FenceTable says what a fence is.
-use Rattle.std.specs.Prelude.{◌≡◌, ℕ, suc, ◌+◌, ◌-◌, ◌<◌, ◌≤◌, List, [], ◌∷◌, ◌++◌, Bool, true, ◌&&◌, ◌==◌, Option, Some, None, length, map, take, set, count_by, nat_le, nat_lt, slice_get, slice_index_or, if◌then◌else◌}
+use Rattle.std.specs.Prelude.{◌≡◌, ℕ, suc, ◌+◌, ◌-◌, ◌<◌, ◌≤◌, List, [], ◌∷◌, ◌++◌, Bool, true, ◌&&◌, ◌==◌, Option, Some, None, length, map, take, set}
+use Rattle.std.specs.Prelude.{count_by, nat_le, nat_lt, slice_get, slice_index_or, if◌then◌else◌}
 use Rattle.std.specs.List.{list_all}
 use Rattle.wire_types.specs.declared.Call.{Call}
 use Rattle.wire_types.specs.declared.Call.TheVariants.{Fence}
@@ -39,13 +40,17 @@ pub record HasRow (rows : List FenceDraft) (number set nth : ℕ) : Type 0 where
 
 -- the rows after one more call of the nth fence over a set of so many members, and the number of its row
 pub data IsCalled (rows : List FenceDraft) (set_of_call nth members : ℕ) (collect : Bool) (number : ℕ) (new : List FenceDraft) : Type 0 where
-  Again : (row : FenceDraft) → slice_get rows number ≡ Some row → row.set ≡ set_of_call → row.nth ≡ nth → new ≡ set rows number (called collect row) → IsCalled rows set_of_call nth members collect number new
-  First : number ≡ length rows → ((m : ℕ) → HasRow rows m set_of_call nth → ⊥) → new ≡ rows ++ called collect (record { set = set_of_call; nth = nth; missing = members; collects = true }) ∷ [] → IsCalled rows set_of_call nth members collect number new
+  Again : (row : FenceDraft) → slice_get rows number ≡ Some row → row.set ≡ set_of_call → row.nth ≡ nth → new ≡ set rows number (called collect row) →
+      IsCalled rows set_of_call nth members collect number new
+  First : number ≡ length rows → ((m : ℕ) → HasRow rows m set_of_call nth → ⊥) → new ≡ rows
+      ++ called collect (record { set = set_of_call; nth = nth; missing = members; collects = true }) ∷ [] →
+      IsCalled rows set_of_call nth members collect number new
 
 -- what one more call does to the rows and to the process's counts of fence calls by set, and the number that it gets
 abbrev pub IsAfter : List (List ℕ) → Call → List FenceDraft → List ℕ → Option ℕ → List FenceDraft → List ℕ → Type 0
 IsAfter sets (Fence other collect) rows counts number new now =
-    (n : ℕ) × (number ≡ Some n) × IsCalled rows other (slice_index_or counts other 0 + 1) (length (set_at sets other)) collect n new × (now ≡ set counts other (slice_index_or counts other 0 + 1))
+    (n : ℕ) × (number ≡ Some n) × IsCalled rows other (slice_index_or counts other 0 + 1) (length (set_at sets other)) collect n new
+    × (now ≡ set counts other (slice_index_or counts other 0 + 1))
 IsAfter sets _ rows counts number new now = (number ≡ None) × (new ≡ rows) × (now ≡ counts)
 
 -- how many of a process's calls are read

@@ -104,7 +104,8 @@ impl Register {
         requires counts { (n : ℕ) → slice_index_or counts.old.items n 0 + 1 < 2 ^ 64 }
         requires within { (set : ℕ) (collect : _) → call ≡ TheFence set collect → set < length counts.old.items }
         ensures keyed { OnOk result (IsKeyed self.new) }
-        ensures after { IfOk result (λ number. IsAfter (map (λ v. numbers_of v.items) sets.now) call self.old.rows.items counts.old.items number self.new.rows.items counts.new.items) }
+        ensures after { IfOk result (λ number. IsAfter (map (λ v. numbers_of v.items) sets.now) call self.old.rows.items counts.old.items number
+            self.new.rows.items counts.new.items) }
     {
         let Call::Fence { set, collect } = call else {
             return Ok(None);
@@ -130,7 +131,8 @@ impl Register {
         ensures numbers { IfOk result (λ numbers. AreNumbers self.new.rows.items calls.now numbers.items (length calls.now)) }
         ensures kept { OnOk result ((m k j : ℕ) → HasRow self.old.rows.items m k j → HasRow self.new.rows.items m k j) }
         ensures read { OnOk result ((s : Scripts) (p : ℕ) (read : ℕ → ℕ) → IsSound s → map (λ v. numbers_of v.items) sets.now ≡ s.sets
-            → calls.now ≡ written_calls s p → read p ≡ 0 → AreRead s read self.old.rows.items → AreRead s (update read p (length calls.now)) self.new.rows.items) }
+            → calls.now ≡ written_calls s p → read p ≡ 0 → AreRead s read self.old.rows.items →
+            AreRead s (update read p (length calls.now)) self.new.rows.items) }
     {
         let mut counts = vec![in alloc; 0; sets.len()]?;
         let mut numbers = Vec::with_capacity(alloc, calls.len())?;

@@ -8,11 +8,11 @@ ghost use Rattle.wire_content.specs.Planned.{plan_of};
 ghost use Rattle.wire_procmap.specs.Map.{map_of, row_count};
 ghost use Rattle.wire_fence.specs.FenceTable.{FenceInfo, AreFencesOf, fence_at, members_in, full_in, collects_in, reaches_in, fence_number as the_fence_number};
 
-use crate::register::{Register, FenceDraft, members_of};
+use crate::register::{FenceDraft, Register, members_of};
 use std::alloc::{AllocError, Global};
 use std::marker::Model;
-use wire_procmap::ProcMap;
 use wire_content::{Scripts, Sets};
+use wire_procmap::ProcMap;
 use wire_types::{CallAt, Fault, Proc};
 
 /// A fence, by its number.
@@ -91,7 +91,8 @@ fn nodes_of_sets(
     requires { (set k : ℕ) → k < length (set_at (map_list (λ v. numbers_of v.items) sets.now) set)
         → slice_index_or (set_at (map_list (λ v. numbers_of v.items) sets.now) set) k 0 < row_count map.now }
     ensures { IfOk result (λ nodes. (s : TheScripts) (set node : ℕ) → map.now ≡ map_of s
-        → slice_index_or (slice_index_or (map_list (λ v. v.items) nodes.items) set []) node false ≡ has_node (plan_of s) (set_at (map_list (λ v. numbers_of v.items) sets.now) set) node) }
+        → slice_index_or (slice_index_or (map_list (λ v. v.items) nodes.items) set []) node false ≡ has_node (plan_of s)
+        (set_at (map_list (λ v. numbers_of v.items) sets.now) set) node) }
 {
     let mut nodes = Vec::with_capacity(alloc, sets.len())?;
     for set in 0..sets.len() {
@@ -113,7 +114,11 @@ fn is_reached(nodes: &[Vec<bool>], set: usize, node: usize) -> bool
 }
 
 // How many members the fence of each row has.
-fn sizes_of(alloc: Global, sets: &[Vec<Proc>], rows: &[FenceDraft]) -> Result<Vec<usize>, AllocError>
+fn sizes_of(
+    alloc: Global,
+    sets: &[Vec<Proc>],
+    rows: &[FenceDraft],
+) -> Result<Vec<usize>, AllocError>
     ensures { IfOk result (λ sizes. sizes.items ≡ map_list (λ row. length (set_at (map_list (λ v. numbers_of v.items) sets.now) row.set)) rows.now) }
 {
     let mut sizes = Vec::with_capacity(alloc, rows.len())?;
@@ -199,7 +204,8 @@ impl Fences {
     /// Whether a member of the fence is on the node.
     pub fn reaches(&self, fence: FenceId, node: u32) -> bool
         ensures told { result ≡ reaches_in self.now node (fence_at self.now fence.number) }
-        ensures reached { (s : TheScripts) (info : FenceInfo) → AreFencesOf s self.now → fence_at self.now fence.number ≡ Some info → result ≡ has_node (plan_of s) info.members node }
+        ensures reached { (s : TheScripts) (info : FenceInfo) → AreFencesOf s self.now → fence_at self.now fence.number ≡ Some info →
+            result ≡ has_node (plan_of s) info.members node }
     {
         match self.rows.get(fence.number as usize) {
             Some(row) => is_reached(&self.nodes, row.set as usize, node as usize),

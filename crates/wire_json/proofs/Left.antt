@@ -22,7 +22,8 @@ no_call s calls ends out all none =
     all_made out (calls_data s calls ends) all
     (elim none [ inl e ↦ ap (λ t. calls_data s t ends) e | inr e ↦ ap (λ t. calls_data s calls t) e ∙ calls_after s calls ])
 
-pub no_rank : {R : Type 0} (s : Scripts) (processes : List Process) (f : R → List CallEnd) (rows : List R) (out all : List Data) → (processes ≡ []) ⊎ (rows ≡ []) → out ++ ranks_data s processes (map f rows) ≡ all → out ≡ all
+pub no_rank : {R : Type 0} (s : Scripts) (processes : List Process) (f : R → List CallEnd) (rows : List R) (out all : List Data) → (processes ≡ []) ⊎ (rows ≡ []) → out
+    ++ ranks_data s processes (map f rows) ≡ all → out ≡ all
 no_rank s processes f rows out all none =
     all_made out (ranks_data s processes (map f rows)) all
     (elim none [ inl e ↦ ap (λ t. ranks_data s t (map f rows)) e | inr e ↦ ap (λ t. ranks_data s processes (map f t)) e ∙ ranks_after s processes ])

@@ -83,7 +83,8 @@ call_is s call end = go (replied_value end)
     v : escape (verb_text call) ≡ verb_text call
     v = plain_verb call
 
-    go : (b : Value) → compact_text (reply_data s b (end_word end) (verb_text call)) ≡ codes "{\"reply\":\"" ++ end_word end ++ codes "\"" ++ json.value_member s b ++ codes ",\"verb\":\"" ++ verb_text call ++ codes "\"}"
+    go : (b : Value) → compact_text (reply_data s b (end_word end) (verb_text call)) ≡ codes "{\"reply\":\"" ++ end_word end ++ codes "\"" ++ json.value_member s b
+        ++ codes ",\"verb\":\"" ++ verb_text call ++ codes "\"}"
     go value.Nothing = bare_is (end_word end) (verb_text call) r v
     go (value.Put place) = valued_is (end_word end) (value_text s (value.Put place)) (verb_text call) r v
     go (value.Published place) = valued_is (end_word end) (value_text s (value.Published place)) (verb_text call) r v
@@ -122,13 +123,15 @@ findings_are lines =
     (λ i. (codes "{\"findings\":" ++ (found i ++ codes "}")) ++ codes "\n")
     ∙ of_findings (codes "{\"findings\":") (bracketed (map quoted lines)) (codes "}") (codes "\n")
 
-unsettled_is : (s : Scripts) (ends : Ends) (order : List ℕ) → compact_text (unsettled_data (strings_data (map (name_of s) order)) (ranks_data s s.processes ends.rows) ends.waiting) ++ codes "\n" ≡ json.json_unsettled s ends order
+unsettled_is : (s : Scripts) (ends : Ends) (order : List ℕ) → compact_text (unsettled_data (strings_data (map (name_of s) order)) (ranks_data s s.processes ends.rows) ends.waiting)
+    ++ codes "\n" ≡ json.json_unsettled s ends order
 unfolding serde_json_on_literals
 unsettled_is s ends order =
     let steps = list_is (strings_data (map (name_of s) order)) ∙ ap bracketed (steps_are s order) in
     let ranks = list_is (ranks_data s s.processes ends.rows) ∙ ap bracketed (ranks_are s s.processes ends.rows) in
     (λ i. (codes "{\"order\":" ++ (steps i ++ (codes ",\"ranks\":" ++ (ranks i ++ (codes ",\"unsettled\":true,\"waiting\":" ++ (decimal ends.waiting ++ codes "}")))))) ++ codes "\n")
-    ∙ of_unsettled (codes "{\"order\":") (bracketed (map (λ p. quoted (name_of s p)) order)) (codes ",") (codes "\"ranks\":") (bracketed (json.json_ranks s s.processes ends.rows)) (codes ",\"unsettled\":true,") (codes "\"waiting\":") (decimal ends.waiting) (codes "}") (codes "\n")
+    ∙ of_unsettled (codes "{\"order\":") (bracketed (map (λ p. quoted (name_of s p)) order)) (codes ",") (codes "\"ranks\":") (bracketed (json.json_ranks s s.processes ends.rows))
+    (codes ",\"unsettled\":true,") (codes "\"waiting\":") (decimal ends.waiting) (codes "}") (codes "\n")
 
 -- no tree has a float
 strings_plain : (texts : List (List ℕ)) → items_have_float (items_of (strings_data texts)) ≡ false
@@ -164,7 +167,8 @@ module _ (tree : Data) (text : List ℕ) (told : has_float tree ≡ false → te
       let whole : tree ≡ findings_data (strings_data lines) = is ∙ ap findings_data are in
       told (ap has_float whole ∙ ap (λ x. x || false) (strings_plain lines)) ∙ ap (λ t. compact_text t ++ codes "\n") whole ∙ findings_are lines
 
-  pub unsettled_told : (s : Scripts) (ends : Ends) (order : List ℕ) (steps ranks : List Data) → tree ≡ unsettled_data steps ranks ends.waiting → steps ≡ strings_data (map (name_of s) order) → ranks ≡ ranks_data s s.processes ends.rows → text ≡ json.json_unsettled s ends order
+  pub unsettled_told : (s : Scripts) (ends : Ends) (order : List ℕ) (steps ranks : List Data) → tree ≡ unsettled_data steps ranks ends.waiting → steps ≡ strings_data (map (name_of s) order) →
+      ranks ≡ ranks_data s s.processes ends.rows → text ≡ json.json_unsettled s ends order
   unsettled_told s ends order steps ranks is in_order are =
       let names : List (List ℕ) = map (name_of s) order in
       let whole : tree ≡ unsettled_data (strings_data names) (ranks_data s s.processes ends.rows) ends.waiting = is ∙ (λ i. unsettled_data (in_order i) (are i) ends.waiting) in

@@ -80,4 +80,5 @@ json_findings lines = codes "{\"findings\":" ++ bracketed (map quoted lines) ++ 
 -- an unsettled replay: the processes of its steps, and its report
 abbrev pub json_unsettled : Scripts → Ends → List ℕ → List ℕ
 json_unsettled scripts ends order =
-    codes "{\"order\":" ++ bracketed (map (λ p. quoted (name_of scripts p)) order) ++ codes "," ++ ranks_member scripts ends ++ codes ",\"unsettled\":true," ++ waiting_member ends ++ codes "}\n"
+    codes "{\"order\":" ++ bracketed (map (λ p. quoted (name_of scripts p)) order) ++ codes "," ++ ranks_member scripts ends ++ codes ",\"unsettled\":true,"
+    ++ waiting_member ends ++ codes "}\n"

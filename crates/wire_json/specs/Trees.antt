@@ -27,7 +27,8 @@ bare_data reply verb = object (member (codes "reply") (string reply) (member (co
 
 -- a call whose reply brings something
 abbrev pub valued_data : List ℕ → List ℕ → List ℕ → Data
-valued_data reply value verb = object (member (codes "reply") (string reply) (member (codes "value") (string value) (member (codes "verb") (string verb) no_members)))
+valued_data reply value verb = object (member (codes "reply") (string reply)
+    (member (codes "value") (string value) (member (codes "verb") (string verb) no_members)))
 
 -- a call whose reply brings this
 abbrev pub reply_data : Scripts → Value → List ℕ → List ℕ → Data
@@ -43,7 +44,8 @@ calls_data scripts _ _ = []
 
 abbrev pub rank_data : Scripts → Process → List CallEnd → Data
 rank_data scripts process ends =
-    object (member (codes "calls") (list_data (calls_data scripts process.calls ends)) (member (codes "proc") (text_data (process_text scripts process)) no_members))
+    object (member (codes "calls") (list_data (calls_data scripts process.calls ends))
+    (member (codes "proc") (text_data (process_text scripts process)) no_members))
 
 abbrev pub ranks_data : Scripts → List Process → List (List CallEnd) → List Data
 ranks_data scripts (process ∷ processes) (row ∷ rows) = rank_data scripts process row ∷ ranks_data scripts processes rows

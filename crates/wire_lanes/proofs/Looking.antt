@@ -1,5 +1,6 @@
 -- What a lane's seat shows once it has read words.
-use Rattle.std.proofs.Common.{◌≡◌, ◌∙◌, ◌⊎◌, ap, sym, refl, subst, inl, inr, ℕ, zero, suc, ◌<◌, ◌≤◌, List, [], ◌∷◌, true, false, Option, Some, None, IfSome, get_or, set, length, arith, lt-ltb, ltb-true}
+use Rattle.std.proofs.Common.{◌≡◌, ◌∙◌, ◌⊎◌, ap, sym, refl, subst, inl, inr, ℕ, zero, suc, ◌<◌, ◌≤◌, List, [], ◌∷◌, true, false, Option, Some, None, IfSome, get_or, set, length, arith, lt-ltb}
+use Rattle.std.proofs.Common.{ltb-true}
 use Rattle.std.specs.Prelude.{slice_get, slice_index, slice_set}
 use Rattle.std.proofs.lemmas.Bool.{cases_Bool, true≢false}
 use Rattle.std.proofs.lemmas.Option.{same_Some, IfSome_then}
@@ -35,7 +36,8 @@ raised_set (x ∷ xs) (suc k) n le zero = omega arith
 raised_set (x ∷ xs) (suc k) n le (suc j) = raised_set xs k n le j
 
 -- one word was read
-pub read_word : (seat new : SeatIs) (trail : List Fate) (k n : ℕ) → new ≡ record { board = seat.board; rank = seat.rank; known = slice_set seat.known k n } → slice_index seat.known k ≤ n → (k ≡ seat.rank → n ≡ place_of seat) → HasRead (record { seat = seat; trail = trail }) (record { seat = new; trail = trail })
+pub read_word : (seat new : SeatIs) (trail : List Fate) (k n : ℕ) → new ≡ record { board = seat.board; rank = seat.rank; known = slice_set seat.known k n } → slice_index seat.known k ≤ n →
+    (k ≡ seat.rank → n ≡ place_of seat) → HasRead (record { seat = seat; trail = trail }) (record { seat = new; trail = trail })
 read_word seat new trail k n is rises own = subst (λ s. HasRead (record { seat = seat; trail = trail }) (record { seat = s; trail = trail })) (sym is) (record {
   board = refl;
   rank = refl;
@@ -121,7 +123,8 @@ left_none plan seat [] none left = λ x e. elim (left.all x e) [ inl s ↦ ltb-t
 left_none plan seat (y ∷ ys) none left = nothing_at 0 y (sym none)
 
 -- where one that is left isn't done, they aren't
-pub left_head : (plan : Plan) (seat : SeatIs) (xs : List Event) (x : Event) → slice_get xs 0 ≡ Some x → shows_event seat.known x ≡ false → AreLeft plan seat xs → ShowsSources plan seat.known (next_of seat) → ⊥
+pub left_head : (plan : Plan) (seat : SeatIs) (xs : List Event) (x : Event) → slice_get xs 0 ≡ Some x → shows_event seat.known x ≡ false → AreLeft plan seat xs →
+    ShowsSources plan seat.known (next_of seat) → ⊥
 left_head plan seat xs x at no_ left shown =
     let lt = shown x (left.only 0 x at) in
     true≢false (sym (lt-ltb x.at (slice_index seat.known x.proc) lt) ∙ no_)
@@ -141,11 +144,14 @@ skip_shorter known (y ∷ zs) ys x at t is =
     omega (arith, e, le)
 
 -- what the type of a lane keeps, where its seat reads a word
-pub kept_looking : {A : Type 0} (board : BoardIs) (settled : Scripts) (seat new : SeatIs) (k n : ℕ) (trail : List Fate) (capacity : ℕ) (events : A → List Event) (noted : Option A) → IsLane board settled seat trail capacity → IfSome noted (λ s. AreLeft (plan_of settled) seat (events s))
-    → new ≡ record { board = seat.board; rank = seat.rank; known = slice_set seat.known k n } → slice_index seat.known k ≤ n → (k ≡ seat.rank → n ≡ place_of seat) → IsLane board settled new trail capacity × IfSome noted (λ s. AreLeft (plan_of settled) new (events s))
+pub kept_looking : {A : Type 0} (board : BoardIs) (settled : Scripts) (seat new : SeatIs) (k n : ℕ) (trail : List Fate) (capacity : ℕ) (events : A → List Event) (noted : Option A) →
+    IsLane board settled seat trail capacity → IfSome noted (λ s. AreLeft (plan_of settled) seat (events s))
+    → new ≡ record { board = seat.board; rank = seat.rank; known = slice_set seat.known k n } → slice_index seat.known k ≤ n → (k ≡ seat.rank → n ≡ place_of seat) →
+    IsLane board settled new trail capacity × IfSome noted (λ s. AreLeft (plan_of settled) new (events s))
 kept_looking board settled seat new k n trail capacity events noted kept left is rises own = (
   kept_reading board settled seat new k n trail capacity kept is own,
-  IfSome_then noted left (λ s are. left_read (plan_of settled) (record { seat = seat; trail = trail }) (record { seat = new; trail = trail }) (events s) (read_word seat new trail k n is rises own) are),
+  IfSome_then noted left (λ s are. left_read (plan_of settled) (record { seat = seat; trail = trail }) (record { seat = new; trail = trail }) (events s) (read_word seat new trail k n is rises own)
+      are),
 )
 
 -- the scripts of a lane, told of the value that contracts see
@@ -157,7 +163,8 @@ pub left_on : (old new : LaneIs) (xs : List Event) → HasRead old new → AreLe
 left_on old new xs r left = subst (λ (b : BoardIs). AreLeft (plan_of b.plan) new.seat xs) (sym r.board) (left_read (plan_of old.seat.board.plan) old new xs r left)
 
 -- the scripts of a lane whose seat has read, and the next event of its rank
-pub next_told : (board : BoardIs) (settled : Scripts) (inside now new : LaneIs) (capacity : ℕ) (y : Event) → IsLane board settled inside.seat inside.trail capacity → inside ≡ now → HasRead now new → y.proc ≡ inside.seat.rank → y.at ≡ length inside.trail → (new.seat.board.plan ≡ settled) × (y ≡ next_of new.seat)
+pub next_told : (board : BoardIs) (settled : Scripts) (inside now new : LaneIs) (capacity : ℕ) (y : Event) → IsLane board settled inside.seat inside.trail capacity → inside ≡ now → HasRead now new →
+    y.proc ≡ inside.seat.rank → y.at ≡ length inside.trail → (new.seat.board.plan ≡ settled) × (y ≡ next_of new.seat)
 next_told board settled inside now new capacity y kept view read here long = (
   plan_still now new settled read (subst (λ (l : LaneIs). l.seat.board.plan ≡ settled) view (lane_plan board settled inside capacity kept)),
   next_still now new y read (subst (λ (l : LaneIs). y ≡ next_of l.seat) view (λ i. record { proc = here i; at = (long ∙ kept.as_long) i })),

@@ -1,5 +1,6 @@
 -- Trails that grow.
-use Rattle.std.proofs.Common.{◌≡◌, ℕ, zero, suc, ◌+◌, ◌-◌, ◌<◌, ◌≤◌, List, [], ◌∷◌, ◌++◌, Some, length, ◌⊎◌, inl, inr, get_or, set, refl, sym, ap, ◌∙◌, subst, arith, append-nil, append_assoc, length-append}
+use Rattle.std.proofs.Common.{◌≡◌, ℕ, zero, suc, ◌+◌, ◌-◌, ◌<◌, ◌≤◌, List, [], ◌∷◌, ◌++◌, Some, length, ◌⊎◌, inl, inr, get_or, set, refl, sym, ap, ◌∙◌, subst, arith, append-nil, append_assoc}
+use Rattle.std.proofs.Common.{length-append}
 use Rattle.std.specs.Prelude.{◌≢◌, slice_get, slice_set}
 use Rattle.std.proofs.lemmas.Bool.{cases_lt}
 use Rattle.std.proofs.lemmas.Option.{same_Some, slice_get-get_or}
@@ -28,10 +29,12 @@ fates_none plan rank trail none = subst (AreFates plan rank) (sym none) (λ i fa
     nothing i fate e = cc
 
 -- the fate of the next event
-pub fates_push : (plan : Plan) (rank : ℕ) (old new : List Fate) (x : Fate) → AreFates plan rank old → IsFateOf plan (record { proc = rank; at = length old }) x × (x ≢ Waits) → new ≡ old ++ x ∷ [] → AreFates plan rank new
+pub fates_push : (plan : Plan) (rank : ℕ) (old new : List Fate) (x : Fate) → AreFates plan rank old → IsFateOf plan (record { proc = rank; at = length old }) x × (x ≢ Waits) → new ≡ old ++ x ∷ [] →
+    AreFates plan rank new
 fates_push plan rank old new x are next is = subst (AreFates plan rank) (sym is) (λ i fate at. elim (get_push old x i fate at) [
   | inl was ↦ are i fate was
-  | inr e ↦ subst (λ n. IsFateOf plan (record { proc = rank; at = n }) fate × (fate ≢ Waits)) (sym e.0) (subst (λ f. IsFateOf plan (record { proc = rank; at = length old }) f × (f ≢ Waits)) (sym e.1) next)
+  | inr e ↦ subst (λ n. IsFateOf plan (record { proc = rank; at = n }) fate × (fate ≢ Waits)) (sym e.0)
+      (subst (λ f. IsFateOf plan (record { proc = rank; at = length old }) f × (f ≢ Waits)) (sym e.1) next)
 ])
 
 -- there are no more of them than the rank has events
@@ -84,7 +87,8 @@ get_set (x ∷ xs) (suc k) zero n own = refl
 get_set (x ∷ xs) (suc k) (suc j) n own = get_set xs k j n (λ same. own (ap suc same))
 
 -- what the type of a lane keeps, where its seat reads a word
-pub kept_reading : (board : BoardIs) (settled : Scripts) (seat new : SeatIs) (k n : ℕ) (trail : List Fate) (capacity : ℕ) → IsLane board settled seat trail capacity → new ≡ record { board = seat.board; rank = seat.rank; known = slice_set seat.known k n } → (k ≡ seat.rank → n ≡ place_of seat) → IsLane board settled new trail capacity
+pub kept_reading : (board : BoardIs) (settled : Scripts) (seat new : SeatIs) (k n : ℕ) (trail : List Fate) (capacity : ℕ) → IsLane board settled seat trail capacity →
+    new ≡ record { board = seat.board; rank = seat.rank; known = slice_set seat.known k n } → (k ≡ seat.rank → n ≡ place_of seat) → IsLane board settled new trail capacity
 kept_reading board settled seat new k n trail capacity kept is own = subst (λ s. IsLane board settled s trail capacity) (sym is) (record {
   board_is = kept.board_is;
   plan_is = kept.plan_is;
@@ -94,7 +98,9 @@ kept_reading board settled seat new k n trail capacity kept is own = subst (λ s
 })
 
 -- and where its next event happens
-pub kept_stepping : (board : BoardIs) (settled : Scripts) (seat new : SeatIs) (trail longer : List Fate) (fate : Fate) (known : List ℕ) (capacity : ℕ) → IsLane board settled seat trail capacity → new ≡ record { board = seat.board; rank = seat.rank; known = known } → place_of new ≡ place_of seat + 1 → longer ≡ trail ++ fate ∷ [] → IsFateOf (plan_of settled) (next_of seat) fate × (fate ≢ Waits) → IsLane board settled new longer capacity
+pub kept_stepping : (board : BoardIs) (settled : Scripts) (seat new : SeatIs) (trail longer : List Fate) (fate : Fate) (known : List ℕ) (capacity : ℕ) → IsLane board settled seat trail capacity →
+    new ≡ record { board = seat.board; rank = seat.rank; known = known } → place_of new ≡ place_of seat + 1 → longer ≡ trail ++ fate ∷ [] → IsFateOf (plan_of settled) (next_of seat) fate
+    × (fate ≢ Waits) → IsLane board settled new longer capacity
 kept_stepping board settled seat new trail longer fate known capacity kept is place more next =
     let long = ap length more ∙ length-append trail (fate ∷ []) in
     let was = kept.as_long in
@@ -110,7 +116,9 @@ kept_stepping board settled seat new trail longer fate known capacity kept is pl
     }
 
 -- each of the first n entries, and the next
-pub fates_more : (plan : Plan) (rank n : ℕ) (trail : List Fate) (x : Fate) → ((i : ℕ) (fate : Fate) → i < n → slice_get trail i ≡ Some fate → IsFateOf plan (record { proc = rank; at = i }) fate × (fate ≢ Waits)) → slice_get trail n ≡ Some x → IsFateOf plan (record { proc = rank; at = n }) x × (x ≢ Waits)
+pub fates_more : (plan : Plan) (rank n : ℕ) (trail : List Fate) (x : Fate) →
+    ((i : ℕ) (fate : Fate) → i < n → slice_get trail i ≡ Some fate → IsFateOf plan (record { proc = rank; at = i }) fate × (fate ≢ Waits)) → slice_get trail n ≡ Some x →
+    IsFateOf plan (record { proc = rank; at = n }) x × (x ≢ Waits)
     → (i : ℕ) (fate : Fate) → i < n + 1 → slice_get trail i ≡ Some fate → IsFateOf plan (record { proc = rank; at = i }) fate × (fate ≢ Waits)
 fates_more plan rank n trail x before here is i fate lt at = elim (cases_lt i n) [
   | inl less ↦ before i fate less at

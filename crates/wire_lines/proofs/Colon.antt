@@ -18,7 +18,8 @@ module _ (s : ℕ) where
       → bs ≡ take (prefix_len (λ b. not (b == s)) bs) bs ++ s ∷ drop (prefix_len (λ b. not (b == s)) bs + 1) bs
   cut_parts [] = λ h. absurd (omega arith)
   cut_parts (b ∷ bs) =
-      elim (b == s) as (λ t. (b == s) ≡ t → cond (not t) (1 + prefix_len (λ b. not (b == s)) bs) 0 < length (b ∷ bs) → b ∷ bs ≡ take (cond (not t) (1 + prefix_len (λ b. not (b == s)) bs) 0) (b ∷ bs) ++ s ∷ drop (cond (not t) (1 + prefix_len (λ b. not (b == s)) bs) 0 + 1) (b ∷ bs)) [
+      elim (b == s) as (λ t. (b == s) ≡ t → cond (not t) (1 + prefix_len (λ b. not (b == s)) bs) 0 < length (b ∷ bs) → b ∷ bs ≡ take (cond (not t) (1 + prefix_len (λ b. not (b == s)) bs) 0) (b ∷ bs)
+      ++ s ∷ drop (cond (not t) (1 + prefix_len (λ b. not (b == s)) bs) 0 + 1) (b ∷ bs)) [
         | true ↦ λ e h. ap (λ x. x ∷ bs) (eqb-true _ _ e)
         | false ↦ λ e h.
             let one : 1 + prefix_len (λ b. not (b == s)) bs ≡ suc (prefix_len (λ b. not (b == s)) bs) = omega arith in
@@ -46,7 +47,8 @@ some_colon (x ∷ xs) ys =
       | false ↦ let h = some_colon xs ys in omega arith
     ]
 
-found : (bs : List ℕ) (t : Bool) (i : ℕ) → t ≡ nat_lt (prefix_len plain bs) (length bs) → Some i ≡ cond t (Some (prefix_len plain bs)) None → (i ≡ prefix_len plain bs) × (prefix_len plain bs < length bs)
+found : (bs : List ℕ) (t : Bool) (i : ℕ) → t ≡ nat_lt (prefix_len plain bs) (length bs) → Some i ≡ cond t (Some (prefix_len plain bs)) None → (i ≡ prefix_len plain bs)
+    × (prefix_len plain bs < length bs)
 found bs true i e s = (let same : i ≡ prefix_len plain bs = cc in same, ltb-true _ _ (sym e))
 found bs false i e s = cc
 

@@ -1,5 +1,6 @@
 -- Items joined by commas.
-use Rattle.std.proofs.Common.{◌≡◌, ◌∙◌, ap, sym, subst, refl, ℕ, ◌+◌, ◌<◌, ◌^◌, List, [], ◌∷◌, ◌++◌, Bool, true, false, cond, length, map, decimal, arith, true≢false, rules, zero, suc, get_or, take, ◌*◌, ◌-◌, codes}
+use Rattle.std.proofs.Common.{◌≡◌, ◌∙◌, ap, sym, subst, refl, ℕ, ◌+◌, ◌<◌, ◌^◌, List, [], ◌∷◌, ◌++◌, Bool, true, false, cond, length, map, decimal, arith, true≢false, rules, zero, suc, get_or, take}
+use Rattle.std.proofs.Common.{◌*◌, ◌-◌, codes}
 use Rattle.std.specs.Prelude.{◌==◌, not, ◌&&◌, ◌||◌}
 use Rattle.std.specs.List.{list_all, slice_split, onto_first, join_with_byte}
 use Rattle.std.specs.Str.{all_ascii_digits}
@@ -31,7 +32,8 @@ split_none (x ∷ xs) h =
 split_front : (xs ys : List ℕ) → list_all no_comma xs ≡ true → slice_split comma (xs ++ 44 ∷ ys) ≡ xs ∷ slice_split comma ys
 split_front [] ys h = refl
 split_front (x ∷ xs) ys h =
-    elim (x == 44) as (λ t. (not t && list_all no_comma xs) ≡ true → cond t ([] ∷ slice_split comma (xs ++ 44 ∷ ys)) (onto_first x (slice_split comma (xs ++ 44 ∷ ys))) ≡ (x ∷ xs) ∷ slice_split comma ys) [
+    elim (x == 44) as (λ t. (not t && list_all no_comma xs) ≡ true →
+    cond t ([] ∷ slice_split comma (xs ++ 44 ∷ ys)) (onto_first x (slice_split comma (xs ++ 44 ∷ ys))) ≡ (x ∷ xs) ∷ slice_split comma ys) [
       | true ↦ λ e. absurd (true≢false (sym e))
       | false ↦ λ e. ap (onto_first x) (split_front xs ys e)
     ] h

@@ -22,7 +22,9 @@ onto_piece b n bs e =
 pub pieces_first : (bs : List ℕ) → position_or_len feed bs < length bs → pieces_of bs ≡ before_first feed bs ∷ pieces_of (after_first feed bs)
 pieces_first [] = λ h. absurd (omega arith)
 pieces_first (b ∷ bs) =
-    elim (b == 10) as (λ t. cond (not t) (1 + position_or_len feed bs) 0 < length (b ∷ bs) → cond t ([] ∷ pieces_of bs) (onto_first b (pieces_of bs)) ≡ take (cond (not t) (1 + position_or_len feed bs) 0) (b ∷ bs) ∷ pieces_of (drop (cond (not t) (1 + position_or_len feed bs) 0 + 1) (b ∷ bs))) [
+    elim (b == 10) as (λ t. cond (not t) (1 + position_or_len feed bs) 0 < length (b ∷ bs) →
+    cond t ([] ∷ pieces_of bs) (onto_first b (pieces_of bs)) ≡ take (cond (not t) (1 + position_or_len feed bs) 0) (b ∷ bs) ∷ pieces_of
+    (drop (cond (not t) (1 + position_or_len feed bs) 0 + 1) (b ∷ bs))) [
       | true ↦ λ h. refl
       | false ↦ λ h. onto_piece b (position_or_len feed bs) bs (pieces_first bs (omega arith))
     ]
@@ -42,7 +44,8 @@ pieces_last (b ∷ bs) = λ h.
     ]
 
 -- a first place that is found
-found : (bs : List ℕ) (t : Bool) (i : ℕ) → t ≡ nat_lt (position_or_len feed bs) (length bs) → Some i ≡ cond t (Some (position_or_len feed bs)) None → (i ≡ position_or_len feed bs) × (position_or_len feed bs < length bs)
+found : (bs : List ℕ) (t : Bool) (i : ℕ) → t ≡ nat_lt (position_or_len feed bs) (length bs) → Some i ≡ cond t (Some (position_or_len feed bs)) None → (i ≡ position_or_len feed bs)
+    × (position_or_len feed bs < length bs)
 found bs true i e s = (let same : i ≡ position_or_len feed bs = cc in same, ltb-true _ _ (sym e))
 found bs false i e s = cc
 

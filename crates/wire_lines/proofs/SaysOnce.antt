@@ -4,7 +4,8 @@ use Rattle.std.specs.Str.{bytes_eq}
 use Rattle.std.proofs.lemmas.Fmt.{decimal_injective}
 use Rattle.std.specs.List.{slice_split}
 use Rattle.wire_lines.specs.Said.{Item, One, Every, Set, Own, Listed, Call, Put, Commit, Fence, Get, GetNow, Publish, Lookup, LookupWait, Unpublish, Said, Header, Node, Job, Rank, Calls}
-use Rattle.wire_lines.specs.Said.{IsLawful, IsLawfulCall, IsLawfulSet, IsLawfulItem, AreLawful, first_word, other_words, first_of_call, others_of_call, collect_words, spelled_proc, spelled_scope, spelled_item, spelled_set, is_name, is_key}
+use Rattle.wire_lines.specs.Said.{IsLawful, IsLawfulCall, IsLawfulSet, IsLawfulItem, AreLawful, first_word, other_words, first_of_call, others_of_call, collect_words, spelled_proc, spelled_scope}
+use Rattle.wire_lines.specs.Said.{spelled_item, spelled_set, is_name, is_key}
 use Rattle.wire_types.specs.declared.Scope.{Scope}
 use Rattle.wire_types.specs.declared.Scope.TheVariants.{Local, Remote, Global}
 use Rattle.wire_lines.specs.Once.{SaysOnce}

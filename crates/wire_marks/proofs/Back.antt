@@ -47,7 +47,8 @@ lowest_skip plan x places z (Some v) not_led h = record {
   ];
 }
 
-pub lowest_take : (plan : Plan) (x : Event) (places : List Event) (z new : Event) (lowest : Option Event) → LeadsTo plan x z → Lowest plan x places lowest → (lowest ≡ Some new) ⊎ (new ≡ z) → ((w : Event) → lowest ≡ Some w → AtMost new w) → AtMost new z → IsLowest plan x (places ++ z ∷ []) new
+pub lowest_take : (plan : Plan) (x : Event) (places : List Event) (z new : Event) (lowest : Option Event) → LeadsTo plan x z → Lowest plan x places lowest → (lowest ≡ Some new) ⊎ (new ≡ z) →
+    ((w : Event) → lowest ≡ Some w → AtMost new w) → AtMost new z → IsLowest plan x (places ++ z ∷ []) new
 lowest_take plan x places z new lowest l h one first second = record {
   source = ⊎_elim (λ e. in_front places (z ∷ []) new (was e).source) (λ e. subst (λ v. IsIn v (places ++ z ∷ [])) (sym e) (in_end places z)) one;
   leads = ⊎_elim (λ e. (was e).leads) (λ e. subst (λ v. LeadsTo plan x v) (sym e) l) one;
@@ -94,7 +95,8 @@ is_step_back plan x y sources z are h = record {
 }
 
 -- one more event of the chain is known
-pub rest_step : (plan : Plan) (x y at z : Event) (chain : List Event) → ((start : List Event) → IsShown plan x at start → IsShown plan x y (start ++ reverse chain)) → IsStepBack plan x at z → (start : List Event) → IsShown plan x z start → IsShown plan x y (start ++ reverse (chain ++ at ∷ []))
+pub rest_step : (plan : Plan) (x y at z : Event) (chain : List Event) → ((start : List Event) → IsShown plan x at start → IsShown plan x y (start ++ reverse chain)) → IsStepBack plan x at z →
+    (start : List Event) → IsShown plan x z start → IsShown plan x y (start ++ reverse (chain ++ at ∷ []))
 rest_step plan x y at z chain rest back start shown =
     let e : (start ++ at ∷ []) ++ reverse chain ≡ start ++ reverse (chain ++ at ∷ []) = rw reverse-append (append_assoc start (at ∷ []) (reverse chain)) in
     subst (λ c. IsShown plan x y c) e (rest (start ++ at ∷ []) (goes_on shown back))
@@ -107,15 +109,20 @@ map_reverse f (x ∷ xs) =
     ∙ (ap (λ l. l ++ f x ∷ []) (map_reverse f xs) ∙ sym (reverse-append (f x ∷ []) (map f xs))))
 
 -- the same, of events
-pub rest_of : (plan : Plan) (x y : Event) (at z : CodeEvent) (chain : List CodeEvent) → ((start : List Event) → IsShown plan x (event_of at) start → IsShown plan x y (start ++ reverse (map event_of chain))) → IsStepBack plan x (event_of at) (event_of z) → (start : List Event) → IsShown plan x (event_of z) start → IsShown plan x y (start ++ reverse (map event_of (chain ++ at ∷ [])))
+pub rest_of : (plan : Plan) (x y : Event) (at z : CodeEvent) (chain : List CodeEvent) →
+    ((start : List Event) → IsShown plan x (event_of at) start → IsShown plan x y (start ++ reverse (map event_of chain))) → IsStepBack plan x (event_of at) (event_of z) → (start : List Event) →
+    IsShown plan x (event_of z) start → IsShown plan x y (start ++ reverse (map event_of (chain ++ at ∷ [])))
 rest_of plan x y at z chain rest back start shown =
     subst (λ l. IsShown plan x y (start ++ reverse l)) (sym (map-append event_of chain (at ∷ []))) (rest_step plan x y (event_of at) (event_of z) (map event_of chain) rest back start shown)
 
 -- the walk has come to x
-pub shown_whole : (plan : Plan) (x y : Event) (last : CodeEvent) (chain : List CodeEvent) → ((start : List Event) → IsShown plan x (event_of last) start → IsShown plan x y (start ++ reverse (map event_of chain))) → x ≡ event_of last → IsShown plan x y (map event_of (reverse (chain ++ last ∷ [])))
+pub shown_whole : (plan : Plan) (x y : Event) (last : CodeEvent) (chain : List CodeEvent) →
+    ((start : List Event) → IsShown plan x (event_of last) start → IsShown plan x y (start ++ reverse (map event_of chain))) → x ≡ event_of last →
+    IsShown plan x y (map event_of (reverse (chain ++ last ∷ [])))
 shown_whole plan x y last chain rest e =
     let first : IsShown plan x (event_of last) (event_of last ∷ []) = subst (λ a. IsShown plan x a (a ∷ [])) e begins in
-    let turned : map event_of (reverse (chain ++ last ∷ [])) ≡ event_of last ∷ reverse (map event_of chain) = ap (map event_of) (reverse-append chain (last ∷ [])) ∙ ap (λ l. event_of last ∷ l) (map_reverse event_of chain) in
+    let turned : map event_of (reverse (chain ++ last ∷ [])) ≡ event_of last ∷ reverse (map event_of chain) = ap (map event_of) (reverse-append chain (last ∷ []))
+    ∙ ap (λ l. event_of last ∷ l) (map_reverse event_of chain) in
     subst (λ l. IsShown plan x y l) (sym turned) (rest (event_of last ∷ []) first)
 
 pub some_event : (o : Option CodeEvent) → IsSome (option_map event_of o) → IsSome o

@@ -79,7 +79,8 @@ module _ (old new : Clocks) (based : AreBased old) (grown : IsGrown old new) whe
     live = λ y lt. sound.live y (let e = count_grown y.proc in omega (arith, lt, e));
     closed = λ x y e lt. (let a = count_grown x.proc in let b = count_grown y.proc in let h = sound.closed x y e (omega (arith, lt, b)) in omega (arith, h, a));
     updates = λ name. subst (λ lists. AreUpdates plan (λ z. z.at < marked_count new z.proc) name (updates_at lists name)) (sym grown.updates)
-        (updates_same plan (λ z. z.at < marked_count old z.proc) (λ z. z.at < marked_count new z.proc) name (updates_at old.updates name) (λ z lt. let e = count_grown z.proc in omega (arith, lt, e)) (λ z lt. let e = count_grown z.proc in omega (arith, lt, e)) (sound.updates name));
+        (updates_same plan (λ z. z.at < marked_count old z.proc) (λ z. z.at < marked_count new z.proc) name (updates_at old.updates name) (λ z lt. let e = count_grown z.proc in omega (arith, lt, e))
+        (λ z lt. let e = count_grown z.proc in omega (arith, lt, e)) (sound.updates name));
     told = λ y lt. same_clock plan y (clock_of old y) (clock_of new y) (λ q. clock_grown y q) (sound.told y (let e = count_grown y.proc in omega (arith, lt, e)));
   }
 
@@ -172,14 +173,16 @@ module _ (plan : Plan) (old new : Clocks) (p n : ℕ) (there : p < process_count
     processes = adds.same ∙ sound.processes;
     based = based_added;
     closed = closed_added;
-    updates = λ name. updates_more plan name (λ z. z.at < marked_count old z.proc) (λ z. z.at < marked_count new z.proc) (next_of old p) marked_up next_marked was_or_next (λ lt. omega (arith, lt)) next_last (updates_at old.updates name) (updates_at new.updates name) (notes name) (sound.updates name);
+    updates = λ name. updates_more plan name (λ z. z.at < marked_count old z.proc) (λ z. z.at < marked_count new z.proc) (next_of old p) marked_up next_marked was_or_next (λ lt. omega (arith, lt))
+        next_last (updates_at old.updates name) (updates_at new.updates name) (notes name) (sound.updates name);
     live = λ y lt. elim (was_or_next y lt) [
       | inl was ↦ sound.live y was
       | inr is ↦ subst (λ z. Live plan z) (sym is) next_live
     ];
     told = λ y lt. elim (was_or_next y lt) [
       | inl was ↦ same_clock plan y (clock_of old y) (clock_of new y) (clock_kept y was) (sound.told y was)
-      | inr is ↦ subst (λ z. IsClock plan z (clock_of new z)) (sym is) (same_clock plan (next_of old p) (λ q. max (base_at old n q) (own_of (next_of old p) q)) (clock_of new (next_of old p)) clock_here next_told)
+      | inr is ↦ subst (λ z. IsClock plan z (clock_of new z)) (sym is)
+          (same_clock plan (next_of old p) (λ q. max (base_at old n q) (own_of (next_of old p) q)) (clock_of new (next_of old p)) clock_here next_told)
     ];
   }
 
@@ -272,7 +275,8 @@ sum_less (suc n) p f g lt less le = elim (cases_eq p n) [
 ]
 
 -- a source has the lower clock
-pub clock_falls : (plan : Plan) (clocks : Clocks) (z y : Event) → AreMarks plan clocks → Live plan y → Edge plan z y → sum_to (process_count plan) (clock_of clocks z) < sum_to (process_count plan) (clock_of clocks y)
+pub clock_falls : (plan : Plan) (clocks : Clocks) (z y : Event) → AreMarks plan clocks → Live plan y → Edge plan z y →
+    sum_to (process_count plan) (clock_of clocks z) < sum_to (process_count plan) (clock_of clocks y)
 clock_falls plan clocks z y m l e =
     sum_less (process_count plan) y.proc (clock_of clocks y) (clock_of clocks z) (event_process plan y.proc y.at (come_within plan y (live_may l)))
     (elim (cases_lt y.at (clock_of clocks z y.proc)) [

@@ -1,5 +1,6 @@
 -- A base of the next event, from its sources: those of a fence's arrivals are joined into one.
-use Rattle.std.proofs.Common.{◌≡◌, ◌⊎◌, inl, inr, ℕ, zero, suc, ◌+◌, ◌<◌, ◌≤◌, ◌^◌, List, [], ◌∷◌, ◌++◌, true, Option, Some, None, length, slice_index, slice_set, max, refl, sym, ap, ◌∙◌, subst, arith}
+use Rattle.std.proofs.Common.{◌≡◌, ◌⊎◌, inl, inr, ℕ, zero, suc, ◌+◌, ◌<◌, ◌≤◌, ◌^◌, List, [], ◌∷◌, ◌++◌, true, Option, Some, None, length, slice_index, slice_set, max, refl, sym, ap, ◌∙◌, subst}
+use Rattle.std.proofs.Common.{arith}
 use Rattle.std.specs.Prelude.{slice_get, option_to_list}
 use Rattle.std.proofs.lemmas.Bool.{cases_eq, cases_lt}
 use Rattle.std.proofs.lemmas.Option.{slice_get_within, same_Some}
@@ -22,7 +23,8 @@ use Rattle.wire_marks.proofs.Growing.{Keeps, grown_keeps, added_keeps, sound_add
 use Rattle.wire_marks.proofs.Leaving.{leave_after}
 
 -- one more place is joined
-pub join_step : (clocks : Clocks) (places : List Event) (k : ℕ) (x : Event) (old new : ℕ → ℕ) → slice_get places k ≡ Some x → IsJoin clocks places k old → ((q : ℕ) → new q ≡ max (old q) (clock_of clocks x q)) → IsJoin clocks places (k + 1) new
+pub join_step : (clocks : Clocks) (places : List Event) (k : ℕ) (x : Event) (old new : ℕ → ℕ) → slice_get places k ≡ Some x → IsJoin clocks places k old →
+    ((q : ℕ) → new q ≡ max (old q) (clock_of clocks x q)) → IsJoin clocks places (k + 1) new
 join_step clocks places k x old new at join each = record {
   from = λ q m lt.
       let e = each q in
@@ -40,7 +42,8 @@ join_step clocks places k x old new at join each = record {
       ];
 }
 
-pub marked_step : (clocks : Clocks) (places : List Event) (k : ℕ) (x : Event) → slice_get places k ≡ Some x → x.at < marked_count clocks x.proc → AreMarked clocks places k → AreMarked clocks places (k + 1)
+pub marked_step : (clocks : Clocks) (places : List Event) (k : ℕ) (x : Event) → slice_get places k ≡ Some x → x.at < marked_count clocks x.proc → AreMarked clocks places k →
+    AreMarked clocks places (k + 1)
 marked_step clocks places k x at there marked = λ j z lt h. elim (cases_eq j k) [
   | inl same ↦ subst (λ v. v.at < marked_count clocks v.proc) (same_Some _ _ (sym at ∙ subst (λ i. slice_get places i ≡ Some z) same h)) there
   | inr ne ↦ marked j z (omega arith) h
@@ -81,7 +84,8 @@ meeting_kept old new places meeting keeps h = record {
 }
 
 -- all arrivals are joined into a base of their own
-pub joined_new : (old new : Clocks) (places : List Event) (n : ℕ) (base : List ℕ) → Keeps old new → n < length new.bases.items → items_at new.bases.items n ≡ base → AreMarked old places (length places) → IsJoin old places (length places) (λ q. slice_index base q) → IsJoined new places n
+pub joined_new : (old new : Clocks) (places : List Event) (n : ℕ) (base : List ℕ) → Keeps old new → n < length new.bases.items → items_at new.bases.items n ≡ base →
+    AreMarked old places (length places) → IsJoin old places (length places) (λ q. slice_index base q) → IsJoined new places n
 joined_new old new places n base keeps there here marked join = record {
   there = there;
   marked = marked_kept old new places (length places) keeps marked;
@@ -99,14 +103,17 @@ joined_new old new places n base keeps there here marked join = record {
 }
 
 -- what is kept of a fence, with the base that was made
-pub meeting_joined : (clocks : Clocks) (places : List Event) (was now : Meeting) (n : ℕ) → now.count ≡ was.count → now.base ≡ Some n → AreMarked clocks places was.count → IsJoined clocks places n → IsMeeting clocks places now
+pub meeting_joined : (clocks : Clocks) (places : List Event) (was now : Meeting) (n : ℕ) → now.count ≡ was.count → now.base ≡ Some n → AreMarked clocks places was.count → IsJoined clocks places n →
+    IsMeeting clocks places now
 meeting_joined clocks places was now n count base marked joined = record {
   marked = subst (λ k. AreMarked clocks places k) (sym count) marked;
   joined = λ m e. subst (λ k. IsJoined clocks places k) (same_Some _ _ (sym base ∙ e)) joined;
 }
 
 -- the meeting of one fence has gone on, and the others are kept
-pub meetings_on : (plan : Plan) (table : FenceTable) (old new : Clocks) (was now : List Meeting) (number : ℕ) (info : FenceInfo) (places : List Event) → Keeps old new → fence_at table number ≡ Some info → AreArrivals plan info.members info.nth places → IsMeetingAt new now number places → AreOthersKept was now number → AreMeetings plan table old was → AreMeetings plan table new now
+pub meetings_on : (plan : Plan) (table : FenceTable) (old new : Clocks) (was now : List Meeting) (number : ℕ) (info : FenceInfo) (places : List Event) → Keeps old new →
+    fence_at table number ≡ Some info → AreArrivals plan info.members info.nth places → IsMeetingAt new now number places → AreOthersKept was now number → AreMeetings plan table old was →
+    AreMeetings plan table new now
 meetings_on plan table old new was now number info places keeps is are here others h = λ n other list f a meeting g. elim (cases_eq n number) [
   | inl e ↦
       let same_info : info ≡ other = same_Some _ _ (sym is ∙ subst (λ k. fence_at table k ≡ Some other) e f) in
@@ -123,24 +130,28 @@ pub meetings_kept : (plan : Plan) (table : FenceTable) (old new : Clocks) (meeti
 meetings_kept plan table old new meetings keeps h = λ n info list f a meeting g. meeting_kept old new list meeting keeps (h n info list f a meeting g)
 
 -- what is kept stays right when an event is marked
-pub growing_added : (plan : Plan) (table : FenceTable) (old new : Clocks) (meetings : List Meeting) (p n : ℕ) → p < process_count plan → AreGrowing plan table old meetings → IsNextBase plan old p n → Adds old new p n → Notes plan (next_of old p) old new → AreGrowing plan table new meetings
+pub growing_added : (plan : Plan) (table : FenceTable) (old new : Clocks) (meetings : List Meeting) (p n : ℕ) → p < process_count plan → AreGrowing plan table old meetings → IsNextBase plan old p n →
+    Adds old new p n → Notes plan (next_of old p) old new → AreGrowing plan table new meetings
 growing_added plan table old new meetings p n there growing next adds notes = record {
   marked = sound_added plan old new p n there growing.marked next adds notes;
   kept = meetings_kept plan table old new meetings (added_keeps plan old new p n there growing.marked next adds) growing.kept;
 }
 
 -- the three parts of a list of sources
-pub awaited_edge : (plan : Plan) (y : Event) (previous awaited : Option Event) (xs : List Event) → AreSources plan y (option_to_list previous ++ (option_to_list awaited ++ xs)) → (z : Event) → awaited ≡ Some z → Edge plan z y
+pub awaited_edge : (plan : Plan) (y : Event) (previous awaited : Option Event) (xs : List Event) → AreSources plan y (option_to_list previous ++ (option_to_list awaited ++ xs)) → (z : Event) →
+    awaited ≡ Some z → Edge plan z y
 awaited_edge plan y None None xs are z e = absurd (cc)
 awaited_edge plan y None (Some s) xs are z e = are.only 0 z e
 awaited_edge plan y (Some p) None xs are z e = absurd (cc)
 awaited_edge plan y (Some p) (Some s) xs are z e = are.only 1 z e
 
-pub previous_edge : (plan : Plan) (y : Event) (previous awaited : Option Event) (xs : List Event) → AreSources plan y (option_to_list previous ++ (option_to_list awaited ++ xs)) → (z : Event) → previous ≡ Some z → Edge plan z y
+pub previous_edge : (plan : Plan) (y : Event) (previous awaited : Option Event) (xs : List Event) → AreSources plan y (option_to_list previous ++ (option_to_list awaited ++ xs)) → (z : Event) →
+    previous ≡ Some z → Edge plan z y
 previous_edge plan y None awaited xs are z e = absurd (cc)
 previous_edge plan y (Some p) awaited xs are z e = are.only 0 z e
 
-pub arrival_edge : (plan : Plan) (y : Event) (previous awaited : Option Event) (xs : List Event) → AreSources plan y (option_to_list previous ++ (option_to_list awaited ++ xs)) → (k : ℕ) (z : Event) → slice_get xs k ≡ Some z → Edge plan z y
+pub arrival_edge : (plan : Plan) (y : Event) (previous awaited : Option Event) (xs : List Event) → AreSources plan y (option_to_list previous ++ (option_to_list awaited ++ xs)) → (k : ℕ) (z : Event) →
+    slice_get xs k ≡ Some z → Edge plan z y
 arrival_edge plan y None None xs are k z e = are.only k z e
 arrival_edge plan y None (Some s) xs are k z e = are.only (suc k) z e
 arrival_edge plan y (Some p) None xs are k z e = are.only (suc k) z e
@@ -158,7 +169,8 @@ part_of (Some p) (Some s) xs z k e = elim (at_head p z (s ∷ xs) k e) [
   | inr r ↦ elim (at_head s z xs r.0 r.2) [ inl same ↦ inr (inl (ap (λ v. Some v) (sym same))) | inr t ↦ inr (inr (t.0, t.2)) ]
 ]
 
-pub source_part : (plan : Plan) (y : Event) (previous awaited : Option Event) (xs : List Event) → AreSources plan y (option_to_list previous ++ (option_to_list awaited ++ xs)) → (z : Event) → Edge plan z y → IsPart previous awaited xs z
+pub source_part : (plan : Plan) (y : Event) (previous awaited : Option Event) (xs : List Event) → AreSources plan y (option_to_list previous ++ (option_to_list awaited ++ xs)) → (z : Event) →
+    Edge plan z y → IsPart previous awaited xs z
 source_part plan y previous awaited xs are z e = let w = are.all z e in part_of previous awaited xs z w.0 w.1
 
 previous_is : (p n : ℕ) (z : Event) → previous_at p n ≡ Some z → (z.proc ≡ p) × (z.at < n)
@@ -170,7 +182,9 @@ previous_marked : (clocks : Clocks) (p : ℕ) (z : Event) → previous_at p (mar
 previous_marked clocks p z e = let h = previous_is p _ z e in subst (λ q. z.at < marked_count clocks q) (sym h.0) h.1
 
 -- the next event is ready
-pub ready_is : (plan : Plan) (clocks : Clocks) (p : ℕ) (previous awaited : Option Event) (xs : List Event) → may_come plan (next_of clocks p) (kind plan (next_of clocks p)) ≡ true → AreSources plan (next_of clocks p) (option_to_list previous ++ (option_to_list awaited ++ xs)) → previous ≡ previous_of (next_of clocks p) → ((z : Event) → awaited ≡ Some z → z.at < marked_count clocks z.proc) → AreMarked clocks xs (length xs) → IsReady plan (marked_count clocks) (next_of clocks p)
+pub ready_is : (plan : Plan) (clocks : Clocks) (p : ℕ) (previous awaited : Option Event) (xs : List Event) → may_come plan (next_of clocks p) (kind plan (next_of clocks p)) ≡ true →
+    AreSources plan (next_of clocks p) (option_to_list previous ++ (option_to_list awaited ++ xs)) → previous ≡ previous_of (next_of clocks p) →
+    ((z : Event) → awaited ≡ Some z → z.at < marked_count clocks z.proc) → AreMarked clocks xs (length xs) → IsReady plan (marked_count clocks) (next_of clocks p)
 ready_is plan clocks p previous awaited xs may are before awaited_marked marked = record {
   comes = may;
   sources = λ z e. elim (source_part plan (next_of clocks p) previous awaited xs are z e) [
@@ -192,7 +206,8 @@ number_of clocks z lt = go (items_at clocks.numbers.items z.proc) z.at lt
     go (x ∷ xs) (suc i) lt = go xs i (omega (arith, lt))
 
 -- what an event counts is counted by each event that counts it
-counted_below : (plan : Plan) (clocks : Clocks) (z w : Event) → AreClocks plan clocks → z.at < marked_count clocks z.proc → w.at < marked_count clocks w.proc → z.at < clock_of clocks w z.proc → (q : ℕ) → clock_of clocks z q ≤ clock_of clocks w q
+counted_below : (plan : Plan) (clocks : Clocks) (z w : Event) → AreClocks plan clocks → z.at < marked_count clocks z.proc → w.at < marked_count clocks w.proc → z.at < clock_of clocks w z.proc →
+    (q : ℕ) → clock_of clocks z q ≤ clock_of clocks w q
 counted_below plan clocks z w sound mz mw lt q = elim (cases_lt (clock_of clocks w q) (clock_of clocks z q)) [
   | inl less ↦ absurd (
       let x : Event = record { proc = q; at = clock_of clocks w q } in
@@ -212,7 +227,8 @@ before_fits clocks (Some z) based = go (number_at clocks z) refl
     go (Some n) e = based.there z n e
 
 -- the base of the event before, raised to the clock of what is awaited
-pub raised_here : (clocks : Clocks) (previous : Option Event) (z : Event) (base : ℕ → ℕ) → ((q : ℕ) → base q ≡ max (base_at clocks (number_before clocks previous) q) (clock_of clocks z q)) → IsRaised clocks previous (Some z) base
+pub raised_here : (clocks : Clocks) (previous : Option Event) (z : Event) (base : ℕ → ℕ) → ((q : ℕ) → base q ≡ max (base_at clocks (number_before clocks previous) q) (clock_of clocks z q)) →
+    IsRaised clocks previous (Some z) base
 raised_here clocks previous z base each = record {
   from = λ q n lt. elim (cases_lt n (base_at clocks (number_before clocks previous) q)) [
     | inl was ↦ inl was
@@ -222,7 +238,9 @@ raised_here clocks previous z base each = record {
   covers = λ w is. inr (λ q. subst (λ v. clock_of clocks v q ≤ base q) (same_Some _ _ is) (let e = each q in omega (arith, e)));
 }
 
-module _ (plan : Plan) (clocks : Clocks) (p : ℕ) (previous awaited : Option Event) (sound : AreClocks plan clocks) (are : AreSources plan (next_of clocks p) (option_to_list previous ++ (option_to_list awaited ++ []))) (before : previous ≡ previous_of (next_of clocks p)) (awaited_marked : (z : Event) → awaited ≡ Some z → z.at < marked_count clocks z.proc) (base : ℕ → ℕ) (raised : IsRaised clocks previous awaited base) where
+module _ (plan : Plan) (clocks : Clocks) (p : ℕ) (previous awaited : Option Event) (sound : AreClocks plan clocks)
+    (are : AreSources plan (next_of clocks p) (option_to_list previous ++ (option_to_list awaited ++ []))) (before : previous ≡ previous_of (next_of clocks p))
+    (awaited_marked : (z : Event) → awaited ≡ Some z → z.at < marked_count clocks z.proc) (base : ℕ → ℕ) (raised : IsRaised clocks previous awaited base) where
   previous_counted : (z : Event) → previous ≡ Some z → z.at < marked_count clocks z.proc
   previous_counted z is = previous_marked clocks p z (sym before ∙ is)
 
@@ -276,7 +294,9 @@ module _ (plan : Plan) (clocks : Clocks) (p : ℕ) (previous awaited : Option Ev
   }
 
 -- the base that a fence's arrivals are joined into
-pub joined_base : (plan : Plan) (clocks : Clocks) (y : Event) (previous awaited : Option Event) (xs : List Event) (n : ℕ) → AreSources plan y (option_to_list previous ++ (option_to_list awaited ++ xs)) → awaited ≡ None → ((z : Event) → previous ≡ Some z → (k : ℕ) × (slice_get xs k ≡ Some z)) → IsJoined clocks xs n → IsBase plan (clock_of clocks) y (base_at clocks n)
+pub joined_base : (plan : Plan) (clocks : Clocks) (y : Event) (previous awaited : Option Event) (xs : List Event) (n : ℕ) →
+    AreSources plan y (option_to_list previous ++ (option_to_list awaited ++ xs)) → awaited ≡ None → ((z : Event) → previous ≡ Some z → (k : ℕ) × (slice_get xs k ≡ Some z)) → IsJoined clocks xs n →
+    IsBase plan (clock_of clocks) y (base_at clocks n)
 joined_base plan clocks y previous awaited xs n are none among joined = record {
   from = λ q m lt. let w = joined.join.from q m lt in (w.1, arrival_edge plan y previous awaited xs are w.0 w.1 w.3, w.4);
   covers = λ q z e. elim (source_part plan y previous awaited xs are z e) [
@@ -292,7 +312,8 @@ joined_base plan clocks y previous awaited xs n are none among joined = record {
     below q z w = let c = joined.join.covers q w.0 z (slice_get_within xs w.0 z w.1) w.1 in omega (arith, c)
 
 -- the same, once bases are added
-pub next_grown : (plan : Plan) (old new : Clocks) (p n : ℕ) → AreBased old → IsGrown old new → IsReady plan (marked_count old) (next_of old p) → suc (marked_count old p) < 2 ^ 32 → n < length new.bases.items → IsBase plan (clock_of old) (next_of old p) (base_at new n) → IsNextBase plan new p n
+pub next_grown : (plan : Plan) (old new : Clocks) (p n : ℕ) → AreBased old → IsGrown old new → IsReady plan (marked_count old) (next_of old p) → suc (marked_count old p) < 2 ^ 32 →
+    n < length new.bases.items → IsBase plan (clock_of old) (next_of old p) (base_at new n) → IsNextBase plan new p n
 next_grown plan old new p n based grown ready few there base = record {
   ready = subst (λ ns. IsReady plan (λ q. length (items_at ns q)) (record { proc = p; at = length (items_at ns p) })) (sym grown.numbers) ready;
   few = let e = count_grown old new based grown p in omega (arith, few, e);
@@ -314,7 +335,8 @@ next_grown plan old new p n based grown ready few there base = record {
     keeps = grown_keeps old new based grown
 
 -- the same of a base that is one by the new clocks
-pub next_joined : (plan : Plan) (old new : Clocks) (p n : ℕ) → AreBased old → IsGrown old new → IsReady plan (marked_count old) (next_of old p) → suc (marked_count old p) < 2 ^ 32 → n < length new.bases.items → IsBase plan (clock_of new) (next_of old p) (base_at new n) → IsNextBase plan new p n
+pub next_joined : (plan : Plan) (old new : Clocks) (p n : ℕ) → AreBased old → IsGrown old new → IsReady plan (marked_count old) (next_of old p) → suc (marked_count old p) < 2 ^ 32 →
+    n < length new.bases.items → IsBase plan (clock_of new) (next_of old p) (base_at new n) → IsNextBase plan new p n
 next_joined plan old new p n based grown ready few there base = record {
   ready = subst (λ ns. IsReady plan (λ q. length (items_at ns q)) (record { proc = p; at = length (items_at ns p) })) (sym grown.numbers) ready;
   few = let e = count_grown old new based grown p in omega (arith, few, e);
@@ -323,7 +345,9 @@ next_joined plan old new p n based grown ready few there base = record {
 }
 
 -- the arrivals that the sources of the end of a fence name are those of that fence
-pub arrivals_at_fence : (s : Scripts) (table : FenceTable) (y : Event) (number : ℕ) (xs : List Event) → IsLeaveOf s table y number → ((members : List ℕ) → kind (plan_of s) y ≡ Some (Leave members) → AreArrivals (plan_of s) members (arrivals (plan_of s) y.proc members y.at) xs) → (info : FenceInfo) × (fence_at table number ≡ Some info) × AreArrivals (plan_of s) info.members info.nth xs
+pub arrivals_at_fence : (s : Scripts) (table : FenceTable) (y : Event) (number : ℕ) (xs : List Event) → IsLeaveOf s table y number →
+    ((members : List ℕ) → kind (plan_of s) y ≡ Some (Leave members) → AreArrivals (plan_of s) members (arrivals (plan_of s) y.proc members y.at) xs) → (info : FenceInfo)
+    × (fence_at table number ≡ Some info) × AreArrivals (plan_of s) info.members info.nth xs
 arrivals_at_fence s table y number xs ends leave =
     let info = ends.met.fence in
     let members : info.members ≡ ends.members = ends.met.members ∙ ap fence_members ends.is in
@@ -332,7 +356,9 @@ arrivals_at_fence s table y number xs ends leave =
     (info, ends.met.there, subst (λ n. AreArrivals (plan_of s) info.members n xs) count given)
 
 -- the event before the end of a fence is among them
-pub previous_among : (s : Scripts) (table : FenceTable) (y : Event) (number : ℕ) (xs : List Event) (previous : Option Event) → IsLeaveOf s table y number → ((members : List ℕ) → kind (plan_of s) y ≡ Some (Leave members) → AreArrivals (plan_of s) members (arrivals (plan_of s) y.proc members y.at) xs) → previous ≡ previous_of y → (z : Event) → previous ≡ Some z → (k : ℕ) × (slice_get xs k ≡ Some z)
+pub previous_among : (s : Scripts) (table : FenceTable) (y : Event) (number : ℕ) (xs : List Event) (previous : Option Event) → IsLeaveOf s table y number →
+    ((members : List ℕ) → kind (plan_of s) y ≡ Some (Leave members) → AreArrivals (plan_of s) members (arrivals (plan_of s) y.proc members y.at) xs) → previous ≡ previous_of y → (z : Event) →
+    previous ≡ Some z → (k : ℕ) × (slice_get xs k ≡ Some z)
 previous_among s table y number xs previous ends leave before z is =
     let members : ends.met.fence.members ≡ ends.members = ends.met.members ∙ ap fence_members ends.is in
     let member : is_member ends.members y.proc ≡ true = subst (λ m. is_member m y.proc ≡ true) members ends.met.member in
@@ -348,7 +374,10 @@ leave_awaits_none plan y members None is h = refl
 leave_awaits_none plan y members (Some z) is h = absurd (no_leave plan y z members is (h.only z refl))
 
 -- a base of the next event that ends no fence
-pub next_unmet : (plan : Plan) (old new : Clocks) (p n : ℕ) (previous awaited : Option Event) → AreClocks plan old → may_come plan (next_of old p) (kind plan (next_of old p)) ≡ true → AreSources plan (next_of old p) (option_to_list previous ++ (option_to_list awaited ++ [])) → previous ≡ previous_of (next_of old p) → ((z : Event) → awaited ≡ Some z → z.at < marked_count old z.proc) → suc (marked_count old p) < 2 ^ 32 → IsGrown old new → n < length new.bases.items → IsRaised old previous awaited (base_at new n) → IsNextBase plan new p n
+pub next_unmet : (plan : Plan) (old new : Clocks) (p n : ℕ) (previous awaited : Option Event) → AreClocks plan old → may_come plan (next_of old p) (kind plan (next_of old p)) ≡ true →
+    AreSources plan (next_of old p) (option_to_list previous ++ (option_to_list awaited ++ [])) → previous ≡ previous_of (next_of old p) →
+    ((z : Event) → awaited ≡ Some z → z.at < marked_count old z.proc) → suc (marked_count old p) < 2 ^ 32 → IsGrown old new → n < length new.bases.items →
+    IsRaised old previous awaited (base_at new n) → IsNextBase plan new p n
 next_unmet plan old new p n previous awaited sound may are before marked few grown there raised =
     next_grown plan old new p n sound.based grown
     (ready_is plan old p previous awaited [] may are before marked (λ k z lt e. absurd (omega (arith, lt))))
@@ -356,12 +385,18 @@ next_unmet plan old new p n previous awaited sound may are before marked few gro
     (raised_base plan old p previous awaited sound are before marked (base_at new n) raised)
 
 -- a base of the next event that ends a fence
-pub next_met : (s : Scripts) (table : FenceTable) (old new : Clocks) (p n number : ℕ) (previous awaited : Option Event) (xs : List Event) → AreBased old → may_come (plan_of s) (next_of old p) (kind (plan_of s) (next_of old p)) ≡ true → AreSources (plan_of s) (next_of old p) (option_to_list previous ++ (option_to_list awaited ++ xs)) → previous ≡ previous_of (next_of old p) → IsAwaited (plan_of s) (next_of old p) awaited → ((members : List ℕ) → kind (plan_of s) (next_of old p) ≡ Some (Leave members) → AreArrivals (plan_of s) members (arrivals (plan_of s) p members (marked_count old p)) xs) → IsLeaveOf s table (next_of old p) number → ((z : Event) → awaited ≡ Some z → z.at < marked_count old z.proc) → suc (marked_count old p) < 2 ^ 32 → IsGrown old new → IsJoined new xs n → IsNextBase (plan_of s) new p n
+pub next_met : (s : Scripts) (table : FenceTable) (old new : Clocks) (p n number : ℕ) (previous awaited : Option Event) (xs : List Event) → AreBased old →
+    may_come (plan_of s) (next_of old p) (kind (plan_of s) (next_of old p)) ≡ true → AreSources (plan_of s) (next_of old p) (option_to_list previous ++ (option_to_list awaited ++ xs)) →
+    previous ≡ previous_of (next_of old p) → IsAwaited (plan_of s) (next_of old p) awaited →
+    ((members : List ℕ) → kind (plan_of s) (next_of old p) ≡ Some (Leave members) → AreArrivals (plan_of s) members (arrivals (plan_of s) p members (marked_count old p)) xs) →
+    IsLeaveOf s table (next_of old p) number → ((z : Event) → awaited ≡ Some z → z.at < marked_count old z.proc) → suc (marked_count old p) < 2 ^ 32 → IsGrown old new → IsJoined new xs n →
+    IsNextBase (plan_of s) new p n
 next_met s table old new p n number previous awaited xs based may are before waits leave ends marked few grown joined =
     next_joined (plan_of s) old new p n based grown
     (ready_is (plan_of s) old p previous awaited xs may are before marked (λ k z lt e. let m = joined.marked k z lt e in let same = count_grown old new based grown z.proc in omega (arith, m, same)))
     few joined.there
-    (joined_base (plan_of s) new (next_of old p) previous awaited xs n are (leave_awaits_none (plan_of s) (next_of old p) ends.members awaited ends.is waits) (previous_among s table (next_of old p) number xs previous ends leave before) joined)
+    (joined_base (plan_of s) new (next_of old p) previous awaited xs n are (leave_awaits_none (plan_of s) (next_of old p) ends.members awaited ends.is waits)
+    (previous_among s table (next_of old p) number xs previous ends leave before) joined)
 
 pub added_none : (meetings : List Meeting) → AreAdded meetings meetings
 added_none meetings = λ n meeting e. inl e
@@ -386,7 +421,8 @@ added_at clocks old new number places added h = λ meeting e. elim (added number
   | inr fresh ↦ nobody_met clocks places meeting fresh
 ]
 
-pub set_at : (clocks : Clocks) (meetings : List Meeting) (number : ℕ) (places : List Event) (now : Meeting) → number < length meetings → IsMeeting clocks places now → IsMeetingAt clocks (slice_set meetings number now) number places
+pub set_at : (clocks : Clocks) (meetings : List Meeting) (number : ℕ) (places : List Event) (now : Meeting) → number < length meetings → IsMeeting clocks places now →
+    IsMeetingAt clocks (slice_set meetings number now) number places
 set_at clocks meetings number places now there h = λ meeting e. subst (λ m. IsMeeting clocks places m) (same_Some _ _ (sym (slice_get-set_same meetings number now there) ∙ e)) h
 
 pub set_others : (old meetings : List Meeting) (number : ℕ) (now : Meeting) → AreAdded old meetings → AreOthersKept old (slice_set meetings number now) number

@@ -3,7 +3,8 @@ use Rattle.std.proofs.Common.{◌≡◌, ◌∙◌, ap, sym, subst, refl, ℕ, z
 use Rattle.std.specs.Prelude.{slice_get}
 use Rattle.std.proofs.lemmas.Bool.{true≢false}
 use Rattle.std.proofs.lemmas.Option.{slice_get_within, same_Some}
-use Rattle.wire_runs.specs.Plan.{Plan, Event, Process, Call, CallPut, CallCommit, CallFence, CallGet, CallGetNow, CallPublish, CallLookup, CallLookupWait, CallUnpublish, CallFixed, Kind, Put, Commit, Arrive, Leave, Get, GetNow, Publish, Lookup, LookupWait, Unpublish, Fixed, set_of, kinds_of, process_kinds, kinds, kind_at}
+use Rattle.wire_runs.specs.Plan.{Plan, Event, Process, Call, CallPut, CallCommit, CallFence, CallGet, CallGetNow, CallPublish, CallLookup, CallLookupWait, CallUnpublish, CallFixed, Kind, Put, Commit}
+use Rattle.wire_runs.specs.Plan.{Arrive, Leave, Get, GetNow, Publish, Lookup, LookupWait, Unpublish, Fixed, set_of, kinds_of, process_kinds, kinds, kind_at}
 use Rattle.wire_runs.specs.Fences.{arrivals, is_member}
 use Rattle.wire_runs.specs.Order.{IsArrival}
 use Rattle.wire_plan.specs.Index.{previous_at}
@@ -37,7 +38,8 @@ led_fence others says es h = record {
   led = λ i members is. behind i members is;
 }
   where
-    behind : (i : ℕ) (members : List ℕ) → slice_get (Arrive others says ∷ (Leave others ∷ es)) (suc i) ≡ Some (Leave members) → (collect : Bool) × (slice_get (Arrive others says ∷ (Leave others ∷ es)) i ≡ Some (Arrive members collect))
+    behind : (i : ℕ) (members : List ℕ) → slice_get (Arrive others says ∷ (Leave others ∷ es)) (suc i) ≡ Some (Leave members) → (collect : Bool)
+        × (slice_get (Arrive others says ∷ (Leave others ∷ es)) i ≡ Some (Arrive members collect))
     behind zero members is = (says, ap (λ ms. Some (Arrive ms says)) (ap members_in (same_Some _ _ is)))
     behind (suc zero) members is = absurd (h.first members is)
     behind (suc (suc i)) members is = h.led i members is
@@ -66,7 +68,8 @@ arrive_before : (plan : Plan) (p i : ℕ) (members : List ℕ) → kind_at plan 
 unfolding kind_at kinds
 arrive_before plan p i members is = (led_in (slice_get plan.processes p)).led i members is
 
-pub leave_after : (plan : Plan) (p n : ℕ) (members : List ℕ) (z : Event) → kind_at plan p n ≡ Some (Leave members) → is_member members p ≡ true → previous_at p n ≡ Some z → IsArrival plan members (arrivals plan p members n) z
+pub leave_after : (plan : Plan) (p n : ℕ) (members : List ℕ) (z : Event) → kind_at plan p n ≡ Some (Leave members) → is_member members p ≡ true → previous_at p n ≡ Some z →
+    IsArrival plan members (arrivals plan p members n) z
 leave_after plan p zero members z is member e = absurd (cc)
 leave_after plan p (suc i) members z is member e =
     let w = arrive_before plan p i members is in

@@ -74,7 +74,8 @@ own_rises z y q e le = elim (cases_lt (own_of y q) (own_of z q)) [
 ]
 
 -- the clock over a base
-pub clock_step : (plan : Plan) (clock : Event → ℕ → ℕ) (y : Event) (base : ℕ → ℕ) → Live plan y → ((z : Event) → Edge plan z y → IsClock plan z (clock z)) → IsBase plan clock y base → IsClock plan y (λ q. max (base q) (own_of y q))
+pub clock_step : (plan : Plan) (clock : Event → ℕ → ℕ) (y : Event) (base : ℕ → ℕ) → Live plan y → ((z : Event) → Edge plan z y → IsClock plan z (clock z)) → IsBase plan clock y base →
+    IsClock plan y (λ q. max (base q) (own_of y q))
 clock_step plan clock y base l clocks b = record { only = only; all = all }
   where
     own_leads : (x : Event) → x.at < own_of y x.proc → LeadsTo plan x y

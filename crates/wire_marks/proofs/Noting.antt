@@ -15,7 +15,8 @@ use Rattle.wire_marks.specs.Updates.{and_newest, newest_first, standing_after, s
 use Rattle.wire_marks.proofs.Tables.{slice_get-append_left}
 
 -- of what has its sources, all that is before it
-pub chain_within : {plan : Plan} (count : ℕ → ℕ) {x y : Event} → ((x y : Event) → Edge plan x y → y.at < count y.proc → x.at < count x.proc) → Before plan x y → y.at < count y.proc → x.at < count x.proc
+pub chain_within : {plan : Plan} (count : ℕ → ℕ) {x y : Event} → ((x y : Event) → Edge plan x y → y.at < count y.proc → x.at < count x.proc) → Before plan x y → y.at < count y.proc →
+    x.at < count x.proc
 chain_within count closed (edge l e m) d = closed _ _ e d
 chain_within count closed (further b e m) d = chain_within count closed b (closed _ _ e d)
 
@@ -41,7 +42,8 @@ none_yet plan holds name never = record {
 }
 
 -- the same of what holds of the same events
-pub updates_same : (plan : Plan) (was now : Event → Type 0) (name : ℕ) (us : List Update) → ((z : Event) → was z → now z) → ((z : Event) → now z → was z) → AreUpdates plan was name us → AreUpdates plan now name us
+pub updates_same : (plan : Plan) (was now : Event → Type 0) (name : ℕ) (us : List Update) → ((z : Event) → was z → now z) → ((z : Event) → now z → was z) → AreUpdates plan was name us →
+    AreUpdates plan now name us
 updates_same plan was now name us there back are = record {
   only = λ k u is. let o = are.only k u is in (there _ o.0, o.1);
   all = λ z h w. are.all z (back z h) w;
@@ -57,7 +59,8 @@ standing_all plan holds name (x ∷ xs) are =
     let last : length (x ∷ xs) - 1 ≡ k = omega arith in
     ap (λ i. standing_after (slice_get (x ∷ xs) i)) last ∙ ap standing_after some ∙ are.standing k _ some
 
-module _ (plan : Plan) (name : ℕ) (was now : Event → Type 0) (z : Event) (up : (y : Event) → was y → now y) (here : now z) (back : (y : Event) → now y → was y ⊎ (y ≡ z)) (new_ : was z → ⊥) (last : (y : Event) → was y → Before plan z y → ⊥) where
+module _ (plan : Plan) (name : ℕ) (was now : Event → Type 0) (z : Event) (up : (y : Event) → was y → now y) (here : now z) (back : (y : Event) → now y → was y ⊎ (y ≡ z)) (new_ : was z → ⊥)
+    (last : (y : Event) → was y → Before plan z y → ⊥) where
   abbrev Writes : Event → Type 0
   Writes y = writes_name plan name y (kind plan y) ≡ true
 
@@ -72,7 +75,8 @@ module _ (plan : Plan) (name : ℕ) (was now : Event → Type 0) (z : Event) (up
     standing = are.standing;
   }
 
-  module _ (us : List Update) (u : Update) (t : Writes z) (is_z : event_of u.event ≡ z) (stands : option_map event_of u.standing ≡ name_after (standing_in us) z (kind plan z) name) (are : AreUpdates plan was name us) where
+  module _ (us : List Update) (u : Update) (t : Writes z) (is_z : event_of u.event ≡ z) (stands : option_map event_of u.standing ≡ name_after (standing_in us) z (kind plan z) name)
+      (are : AreUpdates plan was name us) where
     behind : (k : ℕ) (v : Update) → slice_get us k ≡ Some v → (Before plan (event_of u.event) (event_of v.event) → ⊥) × (event_of v.event ≡ event_of u.event → ⊥)
     behind k v is =
         let w = (are.only k v is).0 in (
@@ -119,8 +123,10 @@ module _ (plan : Plan) (name : ℕ) (was now : Event → Type 0) (z : Event) (up
   ]
 
 -- what is noted of a publish and an unpublish
-module _ (plan : Plan) (z : Event) (n : ℕ) (old new : ℕ → List Update) (u : Update) (is_z : event_of u.event ≡ z) (here : new n ≡ old n ++ u ∷ []) (others : (m : ℕ) → (m ≡ n → ⊥) → new m ≡ old m) where
-  noted_by : (k : Kind) → kind plan z ≡ Some k → ((m : ℕ) → (m ≡ n → ⊥) → writes_name plan m z (Some k) ≡ false) → option_map event_of u.standing ≡ name_after (standing_in (old n)) z (Some k) n → (m : ℕ) → writes_name plan n z (Some k) ≡ true → IsNoted plan z m (old m) (new m)
+module _ (plan : Plan) (z : Event) (n : ℕ) (old new : ℕ → List Update) (u : Update) (is_z : event_of u.event ≡ z) (here : new n ≡ old n ++ u ∷ [])
+    (others : (m : ℕ) → (m ≡ n → ⊥) → new m ≡ old m) where
+  noted_by : (k : Kind) → kind plan z ≡ Some k → ((m : ℕ) → (m ≡ n → ⊥) → writes_name plan m z (Some k) ≡ false) → option_map event_of u.standing ≡ name_after (standing_in (old n)) z (Some k) n →
+      (m : ℕ) → writes_name plan n z (Some k) ≡ true → IsNoted plan z m (old m) (new m)
   noted_by k is never stands m writes = elim (cases_eq m n) [
     | inr ne ↦ record { kept = λ _. others m ne; added = λ t. absurd (true≢false (sym t ∙ ap (writes_name plan m z) is ∙ never m ne)) }
     | inl e ↦ subst (λ i. IsNoted plan z i (old i) (new i)) (sym e) (record {
@@ -129,10 +135,12 @@ module _ (plan : Plan) (z : Event) (n : ℕ) (old new : ℕ → List Update) (u 
     })
   ]
 
-  pub publish_noted : kind plan z ≡ Some (Publish n) → option_map event_of u.standing ≡ (if is_some (standing_in (old n)) then standing_in (old n) else Some z) → (m : ℕ) → IsNoted plan z m (old m) (new m)
+  pub publish_noted : kind plan z ≡ Some (Publish n) → option_map event_of u.standing ≡ (if is_some (standing_in (old n)) then standing_in (old n) else Some z) → (m : ℕ) →
+      IsNoted plan z m (old m) (new m)
   publish_noted is stands m = noted_by (Publish n) is (λ i ne. ne_eqb n i (λ e. ne (sym e))) (stands ∙ sym (cond-true _ _ _ (eq-eqb n n refl))) m (eq-eqb n n refl)
 
-  pub unpublish_noted : kind plan z ≡ Some (Unpublish n) → option_map event_of u.standing ≡ (if is_publisher z.proc (standing_in (old n)) then None else standing_in (old n)) → (m : ℕ) → IsNoted plan z m (old m) (new m)
+  pub unpublish_noted : kind plan z ≡ Some (Unpublish n) → option_map event_of u.standing ≡ (if is_publisher z.proc (standing_in (old n)) then None else standing_in (old n)) → (m : ℕ) →
+      IsNoted plan z m (old m) (new m)
   unpublish_noted is stands m = noted_by (Unpublish n) is (λ i ne. ne_eqb n i (λ e. ne (sym e))) (stands ∙ sym (cond-true _ _ _ (eq-eqb n n refl))) m (eq-eqb n n refl)
 
 -- and of all other events nothing
@@ -150,7 +158,8 @@ reach_more (list ∷ lists) new zero none_there = refl
 reach_more (list ∷ lists) new (suc n) none_there = reach_more lists new n none_there
 
 -- one of the lists has one more
-pub append_here : (lists : List (Vec Update Global)) (i : ℕ) (was now : Vec Update Global) (u : Update) → i < length lists → was ≡ get_or lists i was → now.items ≡ was.items ++ u ∷ [] → get_or (map noted_in (slice_set lists i now)) i [] ≡ get_or (map noted_in lists) i [] ++ u ∷ []
+pub append_here : (lists : List (Vec Update Global)) (i : ℕ) (was now : Vec Update Global) (u : Update) → i < length lists → was ≡ get_or lists i was → now.items ≡ was.items ++ u ∷ [] →
+    get_or (map noted_in (slice_set lists i now)) i [] ≡ get_or (map noted_in lists) i [] ++ u ∷ []
 append_here [] i was now u lt is push = absurd (omega (arith, lt))
 append_here (list ∷ lists) zero was now u lt is push = push ∙ ap (λ (v : Vec Update Global). v.items ++ u ∷ []) is
 append_here (list ∷ lists) (suc i) was now u lt is push = append_here lists i was now u (omega (arith, lt)) is push

@@ -31,12 +31,16 @@ standing_in updates = standing_after (slice_get updates (length updates - 1))
 -- these are the events of which it holds that can change the name, each once; none is before one that stands in front of it; and each has
 -- the publish that stands under the name after those up to it
 pub record AreUpdates (plan : Plan) (holds : Event → Type 0) (name : ℕ) (updates : List Update) : Type 0 where
-  pub only : (k : ℕ) (u : Update) → slice_get updates k ≡ Some u → holds (event_of u.event) × (writes_name plan name (event_of u.event) (kind plan (event_of u.event)) ≡ true)
-  pub all : (z : Event) → holds z → writes_name plan name z (kind plan z) ≡ true → (k : ℕ) × (u : Update) × (slice_get updates k ≡ Some u) × (event_of u.event ≡ z)
-  pub rising : (k l : ℕ) (u v : Update) → k < l → slice_get updates k ≡ Some u → slice_get updates l ≡ Some v → (Before plan (event_of v.event) (event_of u.event) → ⊥) × (event_of u.event ≡ event_of v.event → ⊥)
+  pub only : (k : ℕ) (u : Update) → slice_get updates k ≡ Some u → holds (event_of u.event)
+      × (writes_name plan name (event_of u.event) (kind plan (event_of u.event)) ≡ true)
+  pub all : (z : Event) → holds z → writes_name plan name z (kind plan z) ≡ true → (k : ℕ) × (u : Update) × (slice_get updates k ≡ Some u)
+      × (event_of u.event ≡ z)
+  pub rising : (k l : ℕ) (u v : Update) → k < l → slice_get updates k ≡ Some u → slice_get updates l ≡ Some v →
+      (Before plan (event_of v.event) (event_of u.event) → ⊥) × (event_of u.event ≡ event_of v.event → ⊥)
   pub standing : (k : ℕ) (u : Update) → slice_get updates k ≡ Some u → option_map event_of u.standing ≡ left_by plan name (newest_first updates (suc k))
 
 -- for the contracts of private functions: z is at the end of the list now, if it can change the name
 pub record IsNoted (plan : Plan) (z : Event) (name : ℕ) (old new : List Update) : Type 0 where
   pub kept : writes_name plan name z (kind plan z) ≡ false → new ≡ old
-  pub added : writes_name plan name z (kind plan z) ≡ true → (u : Update) × (event_of u.event ≡ z) × (option_map event_of u.standing ≡ name_after (standing_in old) z (kind plan z) name) × (new ≡ old ++ u ∷ [])
+  pub added : writes_name plan name z (kind plan z) ≡ true → (u : Update) × (event_of u.event ≡ z)
+      × (option_map event_of u.standing ≡ name_after (standing_in old) z (kind plan z) name) × (new ≡ old ++ u ∷ [])

@@ -66,7 +66,8 @@ fn next_base(
     requires growing { AreGrowing (plan_of plan.now) fences.now growth.old.clocks growth.old.meetings.items }
     ensures growing { OnOk result (AreGrowing (plan_of plan.now) fences.now growth.new.clocks growth.new.meetings.items) }
     ensures same { OnOk result (growth.new.clocks.numbers.items ≡ growth.old.clocks.numbers.items) }
-    ensures next { IfOk result (λ o. MatchOption o (IsStuckAt (plan_of plan.now) growth.old.clocks proc.number) (λ n. IsNextBase (plan_of plan.now) growth.new.clocks proc.number n)) }
+    ensures next { IfOk result (λ o. MatchOption o (IsStuckAt (plan_of plan.now) growth.old.clocks proc.number)
+        (λ n. IsNextBase (plan_of plan.now) growth.new.clocks proc.number n)) }
 {
     let at = growth.clocks.marked(proc);
     if at >= plan.event_count(proc) as usize {
@@ -219,7 +220,12 @@ fn mark_way_down(
 
 // Marks what is ready, each process after the one that it waits for, as far as that goes in one round: the
 // passes are then few.
-fn mark_along_waits(alloc: Global, plan: &Plan, fences: &Fences, growth: &mut Growth) -> Result<(), AllocError>
+fn mark_along_waits(
+    alloc: Global,
+    plan: &Plan,
+    fences: &Fences,
+    growth: &mut Growth,
+) -> Result<(), AllocError>
     requires fences { AreFencesOf plan.now fences.now }
     requires growing { AreGrowing (plan_of plan.now) fences.now growth.old.clocks growth.old.meetings.items }
     ensures growing { OnOk result (AreGrowing (plan_of plan.now) fences.now growth.new.clocks growth.new.meetings.items) }

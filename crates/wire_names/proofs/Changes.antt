@@ -9,7 +9,8 @@ use Rattle.wire_names.specs.Names.{after_publish, after_unpublish}
 use Rattle.wire_names.specs.Changes.{NamesFollow}
 
 -- one name has changed
-at_each : (names : List (Option CallAt)) (name other : ℕ) (standing : Option CallAt → Option CallAt) → name < length names → get_or (set names name (standing (get_or names name None))) other None ≡ cond (name == other) (standing (get_or names other None)) (get_or names other None)
+at_each : (names : List (Option CallAt)) (name other : ℕ) (standing : Option CallAt → Option CallAt) → name < length names →
+    get_or (set names name (standing (get_or names name None))) other None ≡ cond (name == other) (standing (get_or names other None)) (get_or names other None)
 at_each names name other standing low = elim (cases_eq name other) [
   | inl same ↦
       ap (λ n. get_or (set names name (standing (get_or names name None))) n None) (sym same)

@@ -29,7 +29,8 @@ not_past word number count is small past call h =
     let low = h.there in
     omega (arith, same, low, past)
 
-pub number_wrong : (s : Scripts) (proc bytes number : List ℕ) (found : Option ℕ) (p count : ℕ) → bytes ≡ proc → Some p ≡ found → found ≡ proc_named s bytes → count ≡ calls_made s p → ((call : ℕ) → IsCallNumber number count call → ⊥) → IsNumberWrong s proc number
+pub number_wrong : (s : Scripts) (proc bytes number : List ℕ) (found : Option ℕ) (p count : ℕ) → bytes ≡ proc → Some p ≡ found → found ≡ proc_named s bytes → count ≡ calls_made s p →
+    ((call : ℕ) → IsCallNumber number count call → ⊥) → IsNumberWrong s proc number
 number_wrong s proc bytes number found p count same here named counted none = record {
   p = p;
   named = ap (proc_named s) (sym same) ∙ sym (here ∙ named);

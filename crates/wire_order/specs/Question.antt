@@ -33,11 +33,13 @@ pub record IsNumberWrong (s : Scripts) (proc number : List ℕ) : Type 0 where
 
 -- what the four words name, or that the lowest wrong one is wrong
 pub data QuestionReads (s : Scripts) (proc number other_proc other_number : List ℕ) (r : Result (CallAt × CallAt) Fault) : Type 0 where
-  Asks : (x y : CallAt) → IsCallNamed s proc number x → IsCallNamed s other_proc other_number y → r ≡ Ok (x, y) → QuestionReads s proc number other_proc other_number r
+  Asks : (x y : CallAt) → IsCallNamed s proc number x → IsCallNamed s other_proc other_number y → r ≡ Ok (x, y) →
+      QuestionReads s proc number other_proc other_number r
   First : IsProcWrong s proc → r ≡ Err (BadOrder 1) → QuestionReads s proc number other_proc other_number r
   Second : IsNumberWrong s proc number → r ≡ Err (BadOrder 2) → QuestionReads s proc number other_proc other_number r
   Third : (x : CallAt) → IsCallNamed s proc number x → IsProcWrong s other_proc → r ≡ Err (BadOrder 3) → QuestionReads s proc number other_proc other_number r
-  Fourth : (x : CallAt) → IsCallNamed s proc number x → IsNumberWrong s other_proc other_number → r ≡ Err (BadOrder 4) → QuestionReads s proc number other_proc other_number r
+  Fourth : (x : CallAt) → IsCallNamed s proc number x → IsNumberWrong s other_proc other_number → r ≡ Err (BadOrder 4) →
+      QuestionReads s proc number other_proc other_number r
 
 -- four words read in one way
 abbrev pub OneQuestion : Type 0

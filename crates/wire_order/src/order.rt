@@ -9,8 +9,8 @@ ghost use Rattle.wire_order.specs.Words.{IsTableOf};
 
 use crate::words::ProcWords;
 use std::alloc::{AllocError, Global};
-use wire_lines::line_past;
 use wire_content::Scripts;
+use wire_lines::line_past;
 use wire_script::Cursor;
 use wire_types::{Fault, Proc};
 

@@ -6,8 +6,8 @@ ghost use Rattle.wire_order.specs.Words.{IsTableOf};
 
 use crate::words::ProcWords;
 use std::alloc::Global;
-use wire_lines::number_of;
 use wire_content::Scripts;
+use wire_lines::number_of;
 use wire_types::{CallAt, Fault, Proc};
 
 /// The four words of a question: whether one call is before another.

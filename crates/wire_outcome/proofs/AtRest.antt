@@ -17,7 +17,8 @@ use Rattle.wire_board.specs.Cuts.{IsReachedCut}
 use Rattle.wire_board.specs.Positions.{hold, next_in, ShowsNextIn}
 
 -- the words show that the next event of an enabled process can happen
-shown_if_enabled : (scripts : Scripts) (words : List ℕ) (c : IsReachedCut (plan_of scripts) words) (p : ℕ) → IsSettled (plan_of scripts) → is_enabled (plan_of scripts) c.state p ≡ true → ShowsNextIn (plan_of scripts) (hold scripts p words)
+shown_if_enabled : (scripts : Scripts) (words : List ℕ) (c : IsReachedCut (plan_of scripts) words) (p : ℕ) → IsSettled (plan_of scripts) → is_enabled (plan_of scripts) c.state p ≡ true →
+    ShowsNextIn (plan_of scripts) (hold scripts p words)
 shown_if_enabled scripts words c p settled on =
     let plan = plan_of scripts in
     let same : next_event c.state p ≡ next_in (hold scripts p words) = λ i. record { proc = p; at = c.done p i } in
@@ -30,7 +31,8 @@ shown_if_enabled scripts words c p settled on =
       comes = λ w. (((fates_tell plan c.state settled c.reached).enabled p Waits (subst (λ y. HasFate plan y Waits) (sym same) w)).0 on).1 refl;
     }
 
-pub end_if_none_shown : (scripts : Scripts) (words : List ℕ) (c : IsReachedCut (plan_of scripts) words) → IsSettled (plan_of scripts) → ((p : ℕ) → p < process_count (plan_of scripts) → ¬ (ShowsNextIn (plan_of scripts) (hold scripts p words))) → IsEnd (plan_of scripts) c.state
+pub end_if_none_shown : (scripts : Scripts) (words : List ℕ) (c : IsReachedCut (plan_of scripts) words) → IsSettled (plan_of scripts) →
+    ((p : ℕ) → p < process_count (plan_of scripts) → ¬ (ShowsNextIn (plan_of scripts) (hold scripts p words))) → IsEnd (plan_of scripts) c.state
 end_if_none_shown scripts words c settled rests p =
     false_from_ne_true _ (λ on. rests p (enabled_within (plan_of scripts) c.state p on) (shown_if_enabled scripts words c p settled on))
 

@@ -1,5 +1,6 @@
 -- What trails tell is what became of the calls.
-use Rattle.std.proofs.Common.{◌≡◌, ◌∙◌, ap, sym, refl, ℕ, zero, suc, ◌-◌, ◌<◌, ◌≤◌, List, [], ◌∷◌, ◌++◌, ◌&&◌, length, map, cond, Bool, true, false, not, Option, Some, None, Vec, Global, arith, inl, inr, lt-ltb, ltb-true}
+use Rattle.std.proofs.Common.{◌≡◌, ◌∙◌, ap, sym, refl, ℕ, zero, suc, ◌-◌, ◌<◌, ◌≤◌, List, [], ◌∷◌, ◌++◌, ◌&&◌, length, map, cond, Bool, true, false, not, Option, Some, None, Vec, Global, arith, inl}
+use Rattle.std.proofs.Common.{inr, lt-ltb, ltb-true}
 use Rattle.std.specs.Prelude.{slice_get, nat_lt, is_some}
 use Rattle.std.proofs.lemmas.Bool.{cases_lt, false_from_ne_true}
 use Rattle.std.proofs.lemmas.Option.{slice_get_past}
@@ -34,7 +35,8 @@ said_given plan (Published publish) = refl
 said_given plan (Reserved reply) = refl
 
 -- fates that tell answers say the same replies
-said_is : (plan : Plan) (trail : List Fate) (answers : List Answer) → length trail ≡ length answers → ((i : ℕ) (fate : Fate) (a : Answer) → slice_get trail i ≡ Some fate → slice_get answers i ≡ Some a → fate ≡ answer_told plan a) → said_in trail ≡ replies_of plan answers
+said_is : (plan : Plan) (trail : List Fate) (answers : List Answer) → length trail ≡ length answers →
+    ((i : ℕ) (fate : Fate) (a : Answer) → slice_get trail i ≡ Some fate → slice_get answers i ≡ Some a → fate ≡ answer_told plan a) → said_in trail ≡ replies_of plan answers
 said_is plan [] [] long each = refl
 said_is plan [] (a ∷ rest) long each = absurd (omega (arith, long))
 said_is plan (f ∷ fates) [] long each = absurd (omega (arith, long))
@@ -44,7 +46,8 @@ said_is plan (f ∷ fates) (a ∷ rest) long each =
     flat_map-cons said_by f fates ∙ (λ i. first i ++ more i) ∙ sym (flat_map-cons (given plan) a rest)
 
 -- the replies of a process in a state that a run came to
-trail_said : (plan : Plan) (s : State) (p : ℕ) (trail : List Fate) → IsSettled plan → IsReachable plan s → AreFates plan p trail → length trail ≡ s.done p → said_in trail ≡ replies_of plan (s.replies p)
+trail_said : (plan : Plan) (s : State) (p : ℕ) (trail : List Fate) → IsSettled plan → IsReachable plan s → AreFates plan p trail → length trail ≡ s.done p →
+    said_in trail ≡ replies_of plan (s.replies p)
 trail_said plan s p trail settled r fates long =
     said_is plan trail (s.replies p) (long ∙ sym ((reachable_known plan settled s r).lengths p))
     (λ i fate a at is. let f = (fates i fate at).0 in f.is ∙ ap (fate_told plan) ((fates_tell plan s settled r).answers (record { proc = p; at = i }) a f.fate is f.has))
@@ -103,7 +106,8 @@ fates_at plan trails p are = go (slice_get trails p) refl
     go (Some trail) e = are.each p trail e
 
 -- what trails tell where no process can go on is the end of the plain run
-pub told_plainly : (scripts : Scripts) (words : List ℕ) (trails : List (Vec Fate Global)) → IsSettled (plan_of scripts) → IsReachedCut (plan_of scripts) words → AreTrails (plan_of scripts) trails → AreAtRest scripts words trails → told_outcome (plan_of scripts) trails ≡ plain_ends scripts
+pub told_plainly : (scripts : Scripts) (words : List ℕ) (trails : List (Vec Fate Global)) → IsSettled (plan_of scripts) → IsReachedCut (plan_of scripts) words → AreTrails (plan_of scripts) trails →
+    AreAtRest scripts words trails → told_outcome (plan_of scripts) trails ≡ plain_ends scripts
 told_plainly scripts words trails settled c are rest =
     let plan = plan_of scripts in
     let n = process_count plan in

@@ -1,5 +1,6 @@
 -- What trails tell of a run that can't go on.
-use Rattle.std.specs.Prelude.{◌≡◌, ℕ, zero, suc, ◌-◌, ◌<◌, List, [], ◌∷◌, ◌++◌, false, Option, Some, None, Vec, length, map, nat_lt, slice_get, slice_index, if◌then◌else◌}
+use Rattle.std.specs.Prelude.{◌≡◌, ℕ, zero, suc, ◌-◌, ◌<◌, List, [], ◌∷◌, ◌++◌, false, Option, Some, None, Vec, length, map, nat_lt, slice_get, slice_index}
+use Rattle.std.specs.Prelude.{if◌then◌else◌}
 use Rattle.std.specs.List.{flat_map}
 use Rattle.std.specs.declared.alloc.Global.{Global}
 use Rattle.wire_types.specs.Outcome.{Ends}
@@ -54,7 +55,8 @@ told_rows plan trails (suc n) = told_rows plan trails n ++ told_row (trail_of tr
 -- how many of them have events that aren't done
 abbrev pub told_waiting : Plan → List (Vec Fate Global) → ℕ → ℕ
 told_waiting plan trails zero = 0
-told_waiting plan trails (suc n) = if nat_lt (length (trail_of trails n)) (event_count plan n) then suc (told_waiting plan trails n) else told_waiting plan trails n
+told_waiting plan trails (suc n) = if nat_lt (length (trail_of trails n)) (event_count plan n) then suc (told_waiting plan trails n) else told_waiting plan
+    trails n
 
 abbrev pub told_outcome : Plan → List (Vec Fate Global) → Ends
 told_outcome plan trails = record { rows = told_rows plan trails (process_count plan); waiting = told_waiting plan trails (process_count plan) }

@@ -15,13 +15,15 @@ use Rattle.wire_plan.specs.Index.{Awaits, AwaitsCommit, AwaitsPublish, IsAwaited
 use Rattle.wire_plan.proofs.KeyFacts.{stores_once}
 
 -- all that is awaited, from what a get awaits and what a waiting lookup does
-all_awaited : (plan : Plan) (y : Event) (found : Option Event) → ((z : Event) (key : ℕ) → kind plan y ≡ Some (Get z.proc key) → z.proc ≢ y.proc → IsPutOnce plan z.proc key → Stores plan z key → found ≡ Some z)
+all_awaited : (plan : Plan) (y : Event) (found : Option Event) → ((z : Event) (key : ℕ) → kind plan y ≡ Some (Get z.proc key) → z.proc ≢ y.proc → IsPutOnce plan z.proc key → Stores plan z key →
+    found ≡ Some z)
     → ((z : Event) (name : ℕ) → kind plan y ≡ Some (LookupWait name) → PublishesOnce plan z name → found ≡ Some z) → (z : Event) → Awaits plan y z → found ≡ Some z
 all_awaited plan y found stored published z (AwaitsCommit key is other once stores) = stored z key is other once stores
 all_awaited plan y found stored published z (AwaitsPublish name is once) = published z name is once
 
 -- an event that is no get of another process's key and no waiting lookup waits for neither
-nothing_awaited : (plan : Plan) (y : Event) → ((z : Event) (key : ℕ) → kind plan y ≡ Some (Get z.proc key) → z.proc ≢ y.proc → ⊥) → ((name : ℕ) → kind plan y ≡ Some (LookupWait name) → ⊥) → IsAwaited plan y None
+nothing_awaited : (plan : Plan) (y : Event) → ((z : Event) (key : ℕ) → kind plan y ≡ Some (Get z.proc key) → z.proc ≢ y.proc → ⊥) → ((name : ℕ) → kind plan y ≡ Some (LookupWait name) → ⊥) →
+    IsAwaited plan y None
 nothing_awaited plan y no_get no_lookup = record {
   only = λ z is. absurd (cc);
   all = all_awaited plan y None (λ z key is other once stores. absurd (no_get z key is other)) (λ z name is once. absurd (no_lookup name is));
@@ -44,14 +46,16 @@ never_waits sets (code.Get owner key) no_get no_lookup = absurd (no_get owner ke
 never_waits sets (code.LookupWait name) no_get no_lookup = absurd (no_lookup name refl)
 never_waits sets _ no_get no_lookup = refl
 
-pub awaits_other : (plan : Plan) (y : Event) (sets : List (List ℕ)) (k : CodeKind) → kind plan y ≡ Some (kind_of sets k) → ((owner : Proc) (key : ℕ) → k ≡ code.Get owner key → ⊥) → ((name : ℕ) → k ≡ code.LookupWait name → ⊥) → IsAwaited plan y None
+pub awaits_other : (plan : Plan) (y : Event) (sets : List (List ℕ)) (k : CodeKind) → kind plan y ≡ Some (kind_of sets k) → ((owner : Proc) (key : ℕ) → k ≡ code.Get owner key → ⊥) →
+    ((name : ℕ) → k ≡ code.LookupWait name → ⊥) → IsAwaited plan y None
 awaits_other plan y sets k is no_get no_lookup = nothing_awaited plan y
     (λ z key other_is other. true≢false (ap may_wait (same_Some _ _ (sym other_is ∙ is)) ∙ never_waits sets k no_get no_lookup))
     (λ name other_is. true≢false (ap may_wait (same_Some _ _ (sym other_is ∙ is)) ∙ never_waits sets k no_get no_lookup))
 
 -- a get of another process's key waits for the commit that stores it, where it is put once
 pub key_of_other : (plan : Plan) (y : Event) (owner : Proc) (key : ℕ) (found : Option CodeEvent) → kind plan y ≡ Some (Get owner.number key) → owner.number ≢ y.proc
-    → MatchOption found ((x : Event) → x.proc ≡ owner.number → IsPutOnce plan owner.number key → Stores plan x key → ⊥) (λ x. (x.proc ≡ owner) × IsPutOnce plan owner.number key × Stores plan (event_of x) key)
+    → MatchOption found ((x : Event) → x.proc ≡ owner.number → IsPutOnce plan owner.number key → Stores plan x key → ⊥)
+    (λ x. (x.proc ≡ owner) × IsPutOnce plan owner.number key × Stores plan (event_of x) key)
     → IsAwaited plan y (option_map event_of found)
 key_of_other plan y owner key None is other none = record {
   only = λ z at. absurd (cc);

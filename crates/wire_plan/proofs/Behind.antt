@@ -1,5 +1,6 @@
 -- The call that an event is part of.
-use Rattle.std.proofs.Common.{ltb, ◌≡◌, ◌∙◌, ap, sym, refl, subst, ℕ, zero, suc, ◌+◌, ◌-◌, ◌<◌, ◌≤◌, List, [], ◌∷◌, ◌++◌, length, map, take, Bool, true, false, cond, Option, Some, None, arith, ◌⊎◌, inl, inr, length-append}
+use Rattle.std.proofs.Common.{ltb, ◌≡◌, ◌∙◌, ap, sym, refl, subst, ℕ, zero, suc, ◌+◌, ◌-◌, ◌<◌, ◌≤◌, List, [], ◌∷◌, ◌++◌, length, map, take, Bool, true, false, cond, Option, Some, None, arith, ◌⊎◌}
+use Rattle.std.proofs.Common.{inl, inr, length-append}
 use Rattle.std.specs.Prelude.{slice_get, option_map}
 use Rattle.std.proofs.lemmas.Bool.{cases_lt, cond_below, cond_above}
 use Rattle.std.proofs.lemmas.Option.{slice_get-map, slice_get_within, same_Some}
@@ -70,7 +71,8 @@ behind s (call ∷ calls) at e is =
           further s call calls at e size refl high (behind s calls (at - size) e later)
     ]
   where
-    further : (s : Scripts) (call : Written) (calls : List Written) (at : ℕ) (e : Kind) (size : ℕ) → size ≡ call_size (planned_call s call) → size ≤ at → IsBehind s calls (at - size) e → IsBehind s (call ∷ calls) at e
+    further : (s : Scripts) (call : Written) (calls : List Written) (at : ℕ) (e : Kind) (size : ℕ) → size ≡ call_size (planned_call s call) → size ≤ at → IsBehind s calls (at - size) e →
+        IsBehind s (call ∷ calls) at e
     further s call calls at e size is high b =
         let longer : start_of s (call ∷ calls) (suc b.c) ≡ call_size (planned_call s call) + start_of s calls b.c =
         ap length (split s call (take b.c calls)) ∙ length-append (events_in s call) (kinds_of (map (planned_call s) (take b.c calls))) in
@@ -103,7 +105,8 @@ start_more s (x ∷ calls) (suc c) call is =
     omega (arith, ih, long, short)
 
 -- the events of a call stand among those of all
-pub stands : (s : Scripts) (calls : List Written) (c i : ℕ) (call : Written) (e : Kind) → slice_get calls c ≡ Some call → slice_get (events_in s call) i ≡ Some e → slice_get (kinds_of (map (planned_call s) calls)) (start_of s calls c + i) ≡ Some e
+pub stands : (s : Scripts) (calls : List Written) (c i : ℕ) (call : Written) (e : Kind) → slice_get calls c ≡ Some call → slice_get (events_in s call) i ≡ Some e →
+    slice_get (kinds_of (map (planned_call s) calls)) (start_of s calls c + i) ≡ Some e
 stands s [] c i call e is here = let lt = slice_get_within [] c call is in absurd (omega (arith, lt))
 stands s (x ∷ calls) zero i call e is here =
     let same = same_Some _ _ is in
@@ -138,7 +141,8 @@ only : {A : Type 0} (x y : A) (i : ℕ) → slice_get (x ∷ []) i ≡ Some y �
 only x y zero is = same_Some _ _ is
 only x y (suc i) is = let lt = slice_get_within [] i y is in absurd (omega (arith, lt))
 
-reserved : (b : Bool) (r : Reply) (call : Call) (e : Kind) (i : ℕ) → slice_get (kinds_of (cond b (CallFixed r) call ∷ [])) i ≡ Some e → (plan.Fixed r ≡ e) ⊎ (slice_get (kinds_of (call ∷ [])) i ≡ Some e)
+reserved : (b : Bool) (r : Reply) (call : Call) (e : Kind) (i : ℕ) → slice_get (kinds_of (cond b (CallFixed r) call ∷ [])) i ≡ Some e → (plan.Fixed r ≡ e)
+    ⊎ (slice_get (kinds_of (call ∷ [])) i ≡ Some e)
 reserved true r call e i is = inl (only _ _ i is)
 reserved false r call e i is = inr is
 
@@ -202,7 +206,8 @@ pub event_behind : (s : Scripts) (p at : ℕ) (e : Kind) → kind_at (plan_of s)
 unfolding kind_at
 event_behind s p at e is = behind s (calls_by s p) at e (ap (λ es. slice_get es at) (sym (events_by s p)) ∙ is)
 
-pub event_stands : (s : Scripts) (p c i : ℕ) (call : Written) (e : Kind) → call_at s.processes p c ≡ Some call → slice_get (events_in s call) i ≡ Some e → kind_at (plan_of s) p (start_of s (calls_by s p) c + i) ≡ Some e
+pub event_stands : (s : Scripts) (p c i : ℕ) (call : Written) (e : Kind) → call_at s.processes p c ≡ Some call → slice_get (events_in s call) i ≡ Some e →
+    kind_at (plan_of s) p (start_of s (calls_by s p) c + i) ≡ Some e
 unfolding kind_at
 event_stands s p c i call e is here = ap (λ es. slice_get es (start_of s (calls_by s p) c + i)) (events_by s p) ∙ stands s (calls_by s p) c i call e is here
 

@@ -99,7 +99,8 @@ module _ (plan : Plan) (p key node from c start : ℕ) (sent : (at : ℕ) → Is
       record { proc = refl; from_there = least at le (omega (arith, lt)); brings = brings_there plan p key node at d }
 
   -- the first arrival that brings data to the node from the commit on delivers, and none does before
-  pub next_found : ((n : ℕ) → from ≤ n → c ≤ n → start ≤ n) → (found : Option CodeEvent) → IsFirstFrom plan p node start found → IsNextDelivery plan p key node from (option_map (λ (e : CodeEvent). e.at) found)
+  pub next_found : ((n : ℕ) → from ≤ n → c ≤ n → start ≤ n) → (found : Option CodeEvent) → IsFirstFrom plan p node start found →
+      IsNextDelivery plan p key node from (option_map (λ (e : CodeEvent). e.at) found)
   next_found least None none = λ at le d. none (here p at) (not_lower least at le d)
   next_found least (Some e) f =
       let a = f.0 in
@@ -110,7 +111,8 @@ module _ (plan : Plan) (p key node from c start : ℕ) (sent : (at : ℕ) → Is
       )
 
 -- p's event number `at` is its arrival at the fence of this number in the table
-module _ (s : Scripts) (table : FenceTable) (fences : AreFencesOf s table) (p at number node : ℕ) (members : List ℕ) (collect : Bool) (is : kind_at (plan_of s) p at ≡ Some (Arrive members collect)) (m : IsMet s table (here p at) number) where
+module _ (s : Scripts) (table : FenceTable) (fences : AreFencesOf s table) (p at number node : ℕ) (members : List ℕ) (collect : Bool) (is : kind_at (plan_of s) p at ≡ Some (Arrive members collect))
+    (m : IsMet s table (here p at) number) where
   over : m.fence ≡ fence_over s m.fence.set m.fence.nth
   over = (fences.each number m.fence m.there).is
 

@@ -20,7 +20,9 @@ canonical : (s : Scripts) (table : FenceTable) (set : ℕ) → AreFencesOf s tab
 canonical s table set fences lt = fences.sound.sets.canonical set (set_at s.sets set) (slice_get-get_or s.sets set _ lt)
 
 -- what is said of an event of a fence call
-module _ (s : Scripts) (table : FenceTable) (fences : AreFencesOf s table) (p at c i set : ℕ) (collect : Bool) (e : Kind) (is : kind_at (plan_of s) p at ≡ Some e) (called : call_at s.processes p c ≡ Some (written.Fence set collect)) (place : at ≡ start_of s (calls_by s p) c + i) (half : is_of_fence (Some e) ≡ true) (members_is : fence_members (Some e) ≡ set_of (set_at s.sets set)) where
+module _ (s : Scripts) (table : FenceTable) (fences : AreFencesOf s table) (p at c i set : ℕ) (collect : Bool) (e : Kind) (is : kind_at (plan_of s) p at ≡ Some e)
+    (called : call_at s.processes p c ≡ Some (written.Fence set collect)) (place : at ≡ start_of s (calls_by s p) c + i) (half : is_of_fence (Some e) ≡ true)
+    (members_is : fence_members (Some e) ≡ set_of (set_at s.sets set)) where
   in_table : IsFenceOf s table p c set
   in_table = fences.calls p c set collect called
 

@@ -77,7 +77,8 @@ lower_less p at z h = elim h [
 ]
 
 -- an event that is no arrival at a fence leaves its list as it is
-other_event : (plan : Plan) (members : List ℕ) (j p at : ℕ) (places : List Event) → (IsArrival plan members j (here p at) → ⊥) → AreAll (λ z. IsArrival plan members j z × IsLower z (here p at)) places → AreAll (λ z. IsArrival plan members j z × IsLower z (here p (suc at))) places
+other_event : (plan : Plan) (members : List ℕ) (j p at : ℕ) (places : List Event) → (IsArrival plan members j (here p at) → ⊥) →
+    AreAll (λ z. IsArrival plan members j z × IsLower z (here p at)) places → AreAll (λ z. IsArrival plan members j z × IsLower z (here p (suc at))) places
 other_event plan members j p at places never are =
     all_same (λ z. IsArrival plan members j z × IsLower z (here p at)) (λ z. IsArrival plan members j z × IsLower z (here p (suc at))) places
     (λ z h. (h.0, lower_more p at z h.1))
@@ -88,11 +89,14 @@ other_event plan members j p at places never are =
     are
 
 -- so does one that is no arrival at all
-pub no_arrival : (s : Scripts) (table : FenceTable) (p at : ℕ) (lists : List (List CodeEvent)) → ((members : List ℕ) (collect : Bool) → kind_at (plan_of s) p at ≡ Some (Arrive members collect) → ⊥) → AreArrivalListsTo s table p at lists → AreArrivalListsTo s table p (suc at) lists
-no_arrival s table p at lists never are number info there = other_event (plan_of s) info.members info.nth p at (arrivals_in lists number) (λ a. never info.members a.collect a.is) (are number info there)
+pub no_arrival : (s : Scripts) (table : FenceTable) (p at : ℕ) (lists : List (List CodeEvent)) → ((members : List ℕ) (collect : Bool) → kind_at (plan_of s) p at ≡ Some (Arrive members collect) → ⊥) →
+    AreArrivalListsTo s table p at lists → AreArrivalListsTo s table p (suc at) lists
+no_arrival s table p at lists never are number info there = other_event (plan_of s) info.members info.nth p at (arrivals_in lists number) (λ a. never info.members a.collect a.is)
+    (are number info there)
 
 -- fences with the same members and the same number among theirs are one
-same_fence : (s : Scripts) (table : FenceTable) → AreFencesOf s table → (m n : ℕ) (a b : FenceInfo) → fence_at table m ≡ Some a → fence_at table n ≡ Some b → a.members ≡ b.members → a.nth ≡ b.nth → m ≡ n
+same_fence : (s : Scripts) (table : FenceTable) → AreFencesOf s table → (m n : ℕ) (a b : FenceInfo) → fence_at table m ≡ Some a → fence_at table n ≡ Some b → a.members ≡ b.members → a.nth ≡ b.nth →
+    m ≡ n
 same_fence s table fences m n a b a_there b_there members nth =
     let a_is = fences.each m a a_there in
     let b_is = fences.each n b b_there in
@@ -103,7 +107,8 @@ same_fence s table fences m n a b a_there b_there members nth =
     fences.once m n a a_there (b_there ∙ ap Some same)
 
 -- the arrival that an event of the plan is
-arrival_met : (s : Scripts) (table : FenceTable) (p at number : ℕ) (members : List ℕ) (collect : Bool) → kind_at (plan_of s) p at ≡ Some (Arrive members collect) → (m : IsMet s table (here p at) number) → IsArrival (plan_of s) m.fence.members m.fence.nth (here p at)
+arrival_met : (s : Scripts) (table : FenceTable) (p at number : ℕ) (members : List ℕ) (collect : Bool) → kind_at (plan_of s) p at ≡ Some (Arrive members collect) →
+    (m : IsMet s table (here p at) number) → IsArrival (plan_of s) m.fence.members m.fence.nth (here p at)
 arrival_met s table p at number members collect is m = record {
   collect = collect;
   is = is ∙ ap (λ ms. Some (Arrive ms collect)) (sym (m.members ∙ ap fence_members is));
@@ -112,7 +117,9 @@ arrival_met s table p at number members collect is m = record {
 }
 
 -- an arrival stands last in the list of its fence
-pub one_arrival : (s : Scripts) (table : FenceTable) (e : CodeEvent) (number : ℕ) (lists new : List (List CodeEvent)) (members : List ℕ) (collect : Bool) → AreFencesOf s table → kind_at (plan_of s) e.proc.number e.at ≡ Some (Arrive members collect) → IsMet s table (event_of e) number → IsAdded number e lists new → AreArrivalListsTo s table e.proc.number e.at lists → AreArrivalListsTo s table e.proc.number (suc e.at) new
+pub one_arrival : (s : Scripts) (table : FenceTable) (e : CodeEvent) (number : ℕ) (lists new : List (List CodeEvent)) (members : List ℕ) (collect : Bool) → AreFencesOf s table →
+    kind_at (plan_of s) e.proc.number e.at ≡ Some (Arrive members collect) → IsMet s table (event_of e) number → IsAdded number e lists new → AreArrivalListsTo s table e.proc.number e.at lists →
+    AreArrivalListsTo s table e.proc.number (suc e.at) new
 one_arrival s table e number lists new members collect fences is m told are n info there =
     let p = e.proc.number in
     let at = e.at in
@@ -120,10 +127,13 @@ one_arrival s table e number lists new members collect fences is m told are n in
     elim (cases_eq n number) [
       | inl same ↦
           let fence : m.fence ≡ info = same_Some _ _ (sym m.there ∙ ap (fence_at table) (sym same) ∙ there) in
-          let arrives : IsArrival plan info.members info.nth (here p at) = subst (λ (f : FenceInfo). IsArrival plan f.members f.nth (here p at)) fence (arrival_met s table p at number members collect is m) in
-          let list : arrivals_in new n ≡ arrivals_in lists n ++ here p at ∷ [] = told n ∙ cond-true (n == number) (arrivals_in lists n ++ here p at ∷ []) (arrivals_in lists n) (eq-eqb n number same) in
+          let arrives : IsArrival plan info.members info.nth (here p at) = subst (λ (f : FenceInfo). IsArrival plan f.members f.nth (here p at)) fence
+          (arrival_met s table p at number members collect is m) in
+          let list : arrivals_in new n ≡ arrivals_in lists n ++ here p at ∷ [] = told n
+          ∙ cond-true (n == number) (arrivals_in lists n ++ here p at ∷ []) (arrivals_in lists n) (eq-eqb n number same) in
           subst (AreAll (λ z. IsArrival plan info.members info.nth z × IsLower z (here p (suc at)))) (sym list) (
-          all_and_one (λ z. IsArrival plan info.members info.nth z × IsLower z (here p at)) (λ z. IsArrival plan info.members info.nth z × IsLower z (here p (suc at))) (arrivals_in lists n) (here p at)
+          all_and_one (λ z. IsArrival plan info.members info.nth z × IsLower z (here p at)) (λ z. IsArrival plan info.members info.nth z × IsLower z (here p (suc at))) (arrivals_in lists n)
+          (here p at)
           (λ z h. h.1)
           (λ z h. (h.0, lower_more p at z h.1))
           (arrives, inr (refl, omega arith))
@@ -142,10 +152,12 @@ one_arrival s table e number lists new members collect fences is m told are n in
     ]
 
 -- after the last event of a process comes the first of the next one
-pub process_done : (s : Scripts) (table : FenceTable) (p : ℕ) (lists : List (List CodeEvent)) → AreArrivalListsTo s table p (event_count (plan_of s) p) lists → AreArrivalListsTo s table (suc p) 0 lists
+pub process_done : (s : Scripts) (table : FenceTable) (p : ℕ) (lists : List (List CodeEvent)) → AreArrivalListsTo s table p (event_count (plan_of s) p) lists →
+    AreArrivalListsTo s table (suc p) 0 lists
 process_done s table p lists are number info there =
     let plan = plan_of s in
-    all_same (λ z. IsArrival plan info.members info.nth z × IsLower z (here p (event_count plan p))) (λ z. IsArrival plan info.members info.nth z × IsLower z (here (suc p) 0)) (arrivals_in lists number)
+    all_same (λ z. IsArrival plan info.members info.nth z × IsLower z (here p (event_count plan p))) (λ z. IsArrival plan info.members info.nth z × IsLower z (here (suc p) 0))
+    (arrivals_in lists number)
     (λ z h. (h.0, elim h.1 [ inl lt ↦ inl (omega (arith, lt)) | inr same ↦ let is = same.0 in inl (omega (arith, is)) ]))
     (λ z h. (
       h.0,
@@ -194,7 +206,8 @@ module _ (s : Scripts) (table : FenceTable) (e : CodeEvent) (number : ℕ) (m : 
       ∙ ap (is_full (plan_of s) members) its_nth
 
 -- one event more in the list of a fence, once there is room
-pub added_shown : {V : Type 0} (view : V → List CodeEvent) (old room : List V) (number : ℕ) (v new : V) (e : CodeEvent) → number < length room → slice_get room number ≡ Some v → view new ≡ view v ++ e ∷ [] → ((n : ℕ) → arrivals_in (map view room) n ≡ arrivals_in (map view old) n) → IsAdded number e (map view old) (map view (set room number new))
+pub added_shown : {V : Type 0} (view : V → List CodeEvent) (old room : List V) (number : ℕ) (v new : V) (e : CodeEvent) → number < length room → slice_get room number ≡ Some v → view new ≡ view v
+    ++ e ∷ [] → ((n : ℕ) → arrivals_in (map view room) n ≡ arrivals_in (map view old) n) → IsAdded number e (map view old) (map view (set room number new))
 added_shown view old room number v new e there is more same n =
     let lists = map view room in
     let list : get_or lists number [] ≡ view v = get_or_from_slice_get lists number (view v) [] (slice_get-map view room number ∙ ap (option_map view) is) in
@@ -208,7 +221,8 @@ is_arrive (Arrive members collect) = true
 is_arrive _ = false
 
 -- an event of another kind is no arrival
-pub other_kind : (sets : List (List ℕ)) (k : CodeKind) → ((members : ℕ) (collect : Bool) → k ≡ code.Arrive members collect → ⊥) → (members : List ℕ) (collect : Bool) → kind_of sets k ≡ Arrive members collect → ⊥
+pub other_kind : (sets : List (List ℕ)) (k : CodeKind) → ((members : ℕ) (collect : Bool) → k ≡ code.Arrive members collect → ⊥) → (members : List ℕ) (collect : Bool) →
+    kind_of sets k ≡ Arrive members collect → ⊥
 other_kind sets (code.Arrive set collect) never members says is = never set collect refl
 other_kind sets (code.Put scope key) never members says is = true≢false (sym (ap is_arrive is))
 other_kind sets code.Commit never members says is = true≢false (sym (ap is_arrive is))

@@ -33,7 +33,8 @@ event_past plan p n le = slice_get_past (kinds plan p) n le
 -- a key that is never put
 pub never_put : (plan : Plan) (p key n : ℕ) → put_count plan p key (event_count plan p) ≡ 0 → own plan p key n ≡ None
 never_put plan p key n h =
-    none_always (own plan p key) (event_count plan p) (own_stays (kind_at plan p) key) (λ m le. ap (own_with key m (own plan p key m)) (event_past plan p m le)) (own_none (kind_at plan p) key (event_count plan p) h) n
+    none_always (own plan p key) (event_count plan p) (own_stays (kind_at plan p) key) (λ m le. ap (own_with key m (own plan p key m)) (event_past plan p m le))
+    (own_none (kind_at plan p) key (event_count plan p) h) n
 
 pub never_put_stored : (plan : Plan) (p key n : ℕ) → put_count plan p key (event_count plan p) ≡ 0 → stored plan p key n ≡ None
 never_put_stored plan p key n h = none_or_some _ (λ s. true≢false (sym (stored_own plan p key n s) ∙ ap is_some (never_put plan p key n h)))
@@ -79,7 +80,8 @@ record IsPutAt (plan : Plan) (p key put : ℕ) : Type 0 where
   pub scope : Scope
   pub is : kind_at plan p put ≡ Some (Put key scope)
 
-own_with_put : (plan : Plan) (p key n put : ℕ) (o : Option ℕ) (e : Option Kind) → kind_at plan p n ≡ e → (o ≡ Some put → IsPutAt plan p key put) → own_with key n o e ≡ Some put → IsPutAt plan p key put
+own_with_put : (plan : Plan) (p key n put : ℕ) (o : Option ℕ) (e : Option Kind) → kind_at plan p n ≡ e → (o ≡ Some put → IsPutAt plan p key put) → own_with key n o e ≡ Some put →
+    IsPutAt plan p key put
 own_with_put plan p key n put o (Some (Put k scope)) is ih =
     cond_both (k == key) (Some n) o (λ v. v ≡ Some put → IsPutAt plan p key put)
     (λ t h. record { scope = scope; is = ap (kind_at plan p) (sym (same_Some n put h)) ∙ is ∙ ap (λ q. Some (Put q scope)) (eqb-true k key t) })
@@ -90,7 +92,8 @@ own_is_put : (plan : Plan) (p key n put : ℕ) → own plan p key n ≡ Some put
 own_is_put plan p key zero put h = absurd (true≢false (sym (ap is_some h)))
 own_is_put plan p key (suc n) put h = own_with_put plan p key n put (own plan p key n) (kind_at plan p n) refl (own_is_put plan p key n put) h
 
-stored_with_put : (plan : Plan) (p key n put : ℕ) (e : Option Kind) → (stored plan p key n ≡ Some put → IsPutAt plan p key put) → stored_with (own plan p key n) (stored plan p key n) e ≡ Some put → IsPutAt plan p key put
+stored_with_put : (plan : Plan) (p key n put : ℕ) (e : Option Kind) → (stored plan p key n ≡ Some put → IsPutAt plan p key put) → stored_with (own plan p key n) (stored plan p key n) e ≡ Some put →
+    IsPutAt plan p key put
 stored_with_put plan p key n put (Some Commit) ih h = own_is_put plan p key n put h
 stored_with_put plan p key n put _ ih h = ih h
 
@@ -126,7 +129,8 @@ some_is None h = absurd (true≢false (sym h))
 some_is (Some a) h = (a, refl)
 
 -- a stored key, put once, goes to other nodes where the scope of the put admits them
-pub sent_where : (plan : Plan) (p key at : ℕ) (row : KeyRow) → IsPutOnce plan p key → IsRowOf plan p key row → admits row.scope false ≡ true → is_some (stored plan p key at) ≡ true → IsSent plan p key at
+pub sent_where : (plan : Plan) (p key at : ℕ) (row : KeyRow) → IsPutOnce plan p key → IsRowOf plan p key row → admits row.scope false ≡ true → is_some (stored plan p key at) ≡ true →
+    IsSent plan p key at
 sent_where plan p key at row once r admitted some =
     let found = some_is (stored plan p key at) some in
     let same = stored_first plan p key row.first at found.0 once r.first found.1 in
@@ -141,7 +145,8 @@ pub sent_stored : (plan : Plan) (p key at : ℕ) → IsSent plan p key at → is
 sent_stored plan p key at sent = ap is_some sent.committed
 
 -- so exactly after the commit that stores it
-pub sent_by_store : (plan : Plan) (p key : ℕ) (row : KeyRow) → IsPutOnce plan p key → IsRowOf plan p key row → admits row.scope false ≡ true → (o : Option ℕ) → IsStore plan p key o → IsSentAfter plan p key o
+pub sent_by_store : (plan : Plan) (p key : ℕ) (row : KeyRow) → IsPutOnce plan p key → IsRowOf plan p key row → admits row.scope false ≡ true → (o : Option ℕ) → IsStore plan p key o →
+    IsSentAfter plan p key o
 sent_by_store plan p key row once r admitted None store = λ at sent. true≢false (sym (sent_stored plan p key at sent) ∙ stored_exactly plan p key at None store)
 sent_by_store plan p key row once r admitted (Some c) store = λ at. (
   λ sent. ltb-true c at (sym (stored_exactly plan p key at (Some c) store) ∙ sent_stored plan p key at sent),
@@ -149,7 +154,10 @@ sent_by_store plan p key row once r admitted (Some c) store = λ at. (
 )
 
 -- the commit that stores a key put once
-pub feeds_where : (plan : Plan) (owner : Proc) (key count : ℕ) (o : Option CodeEvent) → count ≡ put_count plan owner.number key (event_count plan owner.number) → count ≡ 1 → MatchOption o ((x : Event) → x.proc ≡ owner.number → Stores plan x key → ⊥) (λ x. (x.proc ≡ owner) × Stores plan (event_of x) key) → MatchOption o ((x : Event) → x.proc ≡ owner.number → IsPutOnce plan owner.number key → Stores plan x key → ⊥) (λ x. (x.proc ≡ owner) × IsPutOnce plan owner.number key × Stores plan (event_of x) key)
+pub feeds_where : (plan : Plan) (owner : Proc) (key count : ℕ) (o : Option CodeEvent) → count ≡ put_count plan owner.number key (event_count plan owner.number) → count ≡ 1 →
+    MatchOption o ((x : Event) → x.proc ≡ owner.number → Stores plan x key → ⊥) (λ x. (x.proc ≡ owner) × Stores plan (event_of x) key) →
+    MatchOption o ((x : Event) → x.proc ≡ owner.number → IsPutOnce plan owner.number key → Stores plan x key → ⊥)
+    (λ x. (x.proc ≡ owner) × IsPutOnce plan owner.number key × Stores plan (event_of x) key)
 feeds_where plan owner key count None is one h = λ x same once. h x same
 feeds_where plan owner key count (Some at) is one h = (h.0, sym is ∙ one, h.1)
 

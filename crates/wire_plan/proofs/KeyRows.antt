@@ -98,7 +98,9 @@ module _ (kinds : ℕ → Option Kind) (at end : ℕ) where
   next_here : at < end → kinds at ≡ Some Commit → IsNextCommit kinds at end (Some at)
   next_here lt is = (omega arith, lt, is, λ k le below. absurd (omega (arith, le, below)))
 
-  row_kept : (key : ℕ) (o : Option KeyRow) → count_puts kinds key (suc at) ≡ count_puts kinds key at → MatchOption o (count_puts kinds key end ≡ count_puts kinds key (suc at)) (λ row. IsRowFrom kinds key (suc at) end row) → MatchOption o (count_puts kinds key end ≡ count_puts kinds key at) (λ row. IsRowFrom kinds key at end row)
+  row_kept : (key : ℕ) (o : Option KeyRow) → count_puts kinds key (suc at) ≡ count_puts kinds key at →
+      MatchOption o (count_puts kinds key end ≡ count_puts kinds key (suc at)) (λ row. IsRowFrom kinds key (suc at) end row) →
+      MatchOption o (count_puts kinds key end ≡ count_puts kinds key at) (λ row. IsRowFrom kinds key at end row)
   row_kept key None same h = h ∙ same
   row_kept key (Some row) same h = record {
     puts = h.puts ∙ ap (λ n. n + row.puts) same;
@@ -109,12 +111,15 @@ module _ (kinds : ℕ → Option Kind) (at end : ℕ) where
     store = h.store;
   }
 
-  counted : (key : ℕ) (o : Option KeyRow) → MatchOption o (count_puts kinds key end ≡ count_puts kinds key (suc at)) (λ row. IsRowFrom kinds key (suc at) end row) → count_puts kinds key end ≡ count_puts kinds key (suc at) + puts_in o
+  counted : (key : ℕ) (o : Option KeyRow) → MatchOption o (count_puts kinds key end ≡ count_puts kinds key (suc at)) (λ row. IsRowFrom kinds key (suc at) end row) →
+      count_puts kinds key end ≡ count_puts kinds key (suc at) + puts_in o
   counted key None h = omega (arith, h)
   counted key (Some row) h = h.puts
 
   -- a put is the first of its key
-  pub take_put : (key : ℕ) (scope : Scope) (old new : ℕ → Option KeyRow) (commit : Option ℕ) → kinds at ≡ Some (Put key scope) → at < end → new key ≡ Some (record { puts = puts_in (old key) + 1; first = at; scope = scope; store = commit }) → ((q : ℕ) → (q ≡ key → ⊥) → new q ≡ old q) → AreRowsFrom kinds (suc at) end old commit → AreRowsFrom kinds at end new commit
+  pub take_put : (key : ℕ) (scope : Scope) (old new : ℕ → Option KeyRow) (commit : Option ℕ) → kinds at ≡ Some (Put key scope) → at < end →
+      new key ≡ Some (record { puts = puts_in (old key) + 1; first = at; scope = scope; store = commit }) → ((q : ℕ) → (q ≡ key → ⊥) → new q ≡ old q) → AreRowsFrom kinds (suc at) end old commit →
+      AreRowsFrom kinds at end new commit
   take_put key scope old new commit is lt here others h = record {
     each = λ q. elim (cases_eq q key) [
       | inl e ↦ subst (λ k. MatchOption (new k) (count_puts kinds k end ≡ count_puts kinds k at) (λ row. IsRowFrom kinds k at end row)) (sym e)
@@ -162,14 +167,16 @@ module _ (kinds : ℕ → Option Kind) (at end : ℕ) where
   no_commit sets (code.Unpublish n) other h = cc
   no_commit sets (code.Fixed r) other h = cc
 
-  pub take_other : (sets : List (List ℕ)) (k : CodeKind) (rows : ℕ → Option KeyRow) (commit : Option ℕ) → kinds at ≡ Some (kind_of sets k) → ((scope : Scope) (q : ℕ) → k ≡ code.Put scope q → ⊥) → (k ≡ code.Commit → ⊥) → AreRowsFrom kinds (suc at) end rows commit → AreRowsFrom kinds at end rows commit
+  pub take_other : (sets : List (List ℕ)) (k : CodeKind) (rows : ℕ → Option KeyRow) (commit : Option ℕ) → kinds at ≡ Some (kind_of sets k) → ((scope : Scope) (q : ℕ) → k ≡ code.Put scope q → ⊥) →
+      (k ≡ code.Commit → ⊥) → AreRowsFrom kinds (suc at) end rows commit → AreRowsFrom kinds at end rows commit
   take_other sets k rows commit is not_put not_commit h = record {
     each = λ q. row_kept q (rows q) (ap (put_count_with q (count_puts kinds q at)) is ∙ count_kept sets q (count_puts kinds q at) k not_put) (h.each q);
     next = next_kept commit (λ c. no_commit sets k not_commit (sym is ∙ c)) h.next;
   }
 
 -- a row tells of at most as many puts as there are events
-pub puts_few : (kinds : ℕ → Option Kind) (from end : ℕ) (rows : ℕ → Option KeyRow) (commit : Option ℕ) → from ≤ end → AreRowsFrom kinds from end rows commit → (key : ℕ) → puts_in (rows key) + from ≤ end
+pub puts_few : (kinds : ℕ → Option Kind) (from end : ℕ) (rows : ℕ → Option KeyRow) (commit : Option ℕ) → from ≤ end → AreRowsFrom kinds from end rows commit → (key : ℕ) →
+    puts_in (rows key) + from ≤ end
 puts_few kinds from end rows commit le h key = go (rows key) (h.each key)
   where
     go : (o : Option KeyRow) → MatchOption o (count_puts kinds key end ≡ count_puts kinds key from) (λ row. IsRowFrom kinds key from end row) → puts_in o + from ≤ end
@@ -183,7 +190,8 @@ rows_start kinds end rows none_yet = record {
   next = λ k le lt is. omega (arith, le, lt);
 }
 
-stored_as : (plan : Plan) (p key : ℕ) (row : KeyRow) → IsRowFrom (kind_at plan p) key 0 (event_count plan p) row → own_put (kind_at plan p) key row.first ≡ None → (o : Option ℕ) → IsNextCommit (kind_at plan p) row.first (event_count plan p) o → IsStore plan p key o
+stored_as : (plan : Plan) (p key : ℕ) (row : KeyRow) → IsRowFrom (kind_at plan p) key 0 (event_count plan p) row → own_put (kind_at plan p) key row.first ≡ None → (o : Option ℕ) →
+    IsNextCommit (kind_at plan p) row.first (event_count plan p) o → IsStore plan p key o
 stored_as plan p key row r first None next =
     stored_none_up_to (kind_at plan p) key row.first row.scope r.is first (event_count plan p) next (event_count plan p) (omega arith)
 stored_as plan p key row r first (Some c) next = record {
@@ -217,7 +225,8 @@ get_last [] y = refl
 get_last (x ∷ xs) y = get_last xs y
 
 -- the table after the rows of one more process
-pub table_push : (plan : Plan) (rows : List (BTreeMap ℕ KeyRow)) (row : BTreeMap ℕ KeyRow) (n : ℕ) → length rows ≡ n → ((p key : ℕ) → p < n → IsKeyRow plan p key (row_in (slice_get rows p) key)) → ((key : ℕ) → IsKeyRow plan n key (get nat_cmp row key)) → (p key : ℕ) → p < n + 1 → IsKeyRow plan p key (row_in (slice_get (rows ++ row ∷ []) p) key)
+pub table_push : (plan : Plan) (rows : List (BTreeMap ℕ KeyRow)) (row : BTreeMap ℕ KeyRow) (n : ℕ) → length rows ≡ n → ((p key : ℕ) → p < n → IsKeyRow plan p key (row_in (slice_get rows p) key)) →
+    ((key : ℕ) → IsKeyRow plan n key (get nat_cmp row key)) → (p key : ℕ) → p < n + 1 → IsKeyRow plan p key (row_in (slice_get (rows ++ row ∷ []) p) key)
 table_push plan rows row n len each last p key lt = elim (cases_eq p n) [
   | inl e ↦
       subst (λ q. IsKeyRow plan q key (row_in (slice_get (rows ++ row ∷ []) q) key)) (sym e)
@@ -230,7 +239,8 @@ no_process : (plan : Plan) (p key : ℕ) → process_count plan ≤ p → put_co
 unfolding event_count kinds
 no_process plan p key le = ap (λ n. put_count plan p key n) (ap (λ o. length (process_kinds o)) (slice_get_past plan.processes p le))
 
-pub table_done : (plan : Plan) (rows : List (BTreeMap ℕ KeyRow)) → length rows ≡ process_count plan → ((p key : ℕ) → p < process_count plan → IsKeyRow plan p key (row_in (slice_get rows p) key)) → (p key : ℕ) → IsKeyRow plan p key (row_in (slice_get rows p) key)
+pub table_done : (plan : Plan) (rows : List (BTreeMap ℕ KeyRow)) → length rows ≡ process_count plan → ((p key : ℕ) → p < process_count plan → IsKeyRow plan p key (row_in (slice_get rows p) key)) →
+    (p key : ℕ) → IsKeyRow plan p key (row_in (slice_get rows p) key)
 table_done plan rows len each p key = elim (cases_lt p (process_count plan)) [
   | inl lt ↦ each p key lt
   | inr ge ↦ subst (λ o. IsKeyRow plan p key (row_in o key)) (sym (slice_get_past rows p (omega (arith, ge, len)))) (no_process plan p key ge)

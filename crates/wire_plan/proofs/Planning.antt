@@ -1,11 +1,13 @@
 -- The events of calls, one call after another, and those of the processes of a plan.
-use Rattle.std.proofs.Common.{◌≡◌, ◌∙◌, ap, sym, refl, subst, ℕ, zero, suc, ◌+◌, ◌*◌, ◌-◌, ◌^◌, ◌<◌, ◌≤◌, List, [], ◌∷◌, ◌++◌, length, map, take, drop, get_or, add-one, Option, Some, None, inl, inr, length-append, arith, append_assoc}
+use Rattle.std.proofs.Common.{◌≡◌, ◌∙◌, ap, sym, refl, subst, ℕ, zero, suc, ◌+◌, ◌*◌, ◌-◌, ◌^◌, ◌<◌, ◌≤◌, List, [], ◌∷◌, ◌++◌, length, map, take, drop, get_or, add-one, Option, Some, None, inl, inr}
+use Rattle.std.proofs.Common.{length-append, arith, append_assoc}
 use Rattle.std.specs.Prelude.{slice_get, option_map, sum_by, replicate}
 use Rattle.std.proofs.lemmas.Option.{slice_get-map, slice_get_cases}
 use Rattle.std.proofs.lemmas.List.{length-map, drop_more}
 use Rattle.std.proofs.lemmas.List.Sums.{sum_by-cons}
 use Rattle.std.proofs.lemmas.Bool.{cases_lt, cond_below, cond_above}
-use Rattle.wire_runs.specs.Plan.{Plan, Call, CallPut, CallCommit, CallFence, CallGet, CallGetNow, CallPublish, CallLookup, CallLookupWait, CallUnpublish, CallFixed, Kind, kinds_of, process_kinds, process_node, kinds, kind_at, event_count, node_of}
+use Rattle.wire_runs.specs.Plan.{Plan, Call, CallPut, CallCommit, CallFence, CallGet, CallGetNow, CallPublish, CallLookup, CallLookupWait, CallUnpublish, CallFixed, Kind, kinds_of, process_kinds}
+use Rattle.wire_runs.specs.Plan.{process_node, kinds, kind_at, event_count, node_of}
 use Rattle.wire_runs.specs.Plan as plan
 use Rattle.wire_content.specs.Scripts.{Process, Scripts, call_count}
 use Rattle.wire_content.specs.Planned.{planned_call, planned_process, plan_of}
@@ -46,7 +48,8 @@ row_in (Some row) = row
 
 events_row : (s : Scripts) (p : ℕ) → kinds (plan_of s) p ≡ row_in (slice_get (kinds_planned s) p)
 unfolding kinds
-events_row s p = ap process_kinds (slice_get-map (planned_process s) s.processes p) ∙ go (slice_get s.processes p) ∙ ap row_in (sym (slice_get-map (λ q. kinds_of (map (planned_call s) q.calls)) s.processes p))
+events_row s p = ap process_kinds (slice_get-map (planned_process s) s.processes p) ∙ go (slice_get s.processes p)
+    ∙ ap row_in (sym (slice_get-map (λ q. kinds_of (map (planned_call s) q.calls)) s.processes p))
   where
     go : (o : Option Process) → process_kinds (option_map (planned_process s) o) ≡ row_in (option_map (λ q. kinds_of (map (planned_call s) q.calls)) o)
     go None = refl
@@ -152,7 +155,8 @@ add_numbers n call rest old new is =
     no_more (x ∷ xs) = ap (λ ys. x ∷ ys) (no_more xs)
 
 -- so for the rows of a plan
-pub call_shown : {V : Type 0} (view : V → List ℕ) (s : Scripts) (rows : List V) → map view rows ≡ calls_planned s → (p i : ℕ) (row : V) → slice_get rows p ≡ Some row → i < event_count (plan_of s) p → slice_get (view row) i ≡ Some (call_number (calls_of (plan_of s) p) i)
+pub call_shown : {V : Type 0} (view : V → List ℕ) (s : Scripts) (rows : List V) → map view rows ≡ calls_planned s → (p i : ℕ) (row : V) → slice_get rows p ≡ Some row → i < event_count (plan_of s) p →
+    slice_get (view row) i ≡ Some (call_number (calls_of (plan_of s) p) i)
 unfolding event_count kinds
 call_shown view s rows shown p i row is lt =
     let row_is : view row ≡ calls_from 0 (calls_of (plan_of s) p) =
@@ -208,7 +212,8 @@ module _ {V : Type 0} (view : V → List ℕ) (s : Scripts) (rows : List V) (sho
 
 module _ {K : Type 0} (ev : K → Kind) where
   -- one more call, behind the starts of those before it
-  pub add_starts : (call : Call) (rest : List Call) (old new : List ℕ) (kinds more : List K) → map ev more ≡ map ev kinds ++ kinds_of (call ∷ []) → new ≡ old ++ length kinds ∷ [] → old ++ starts_from (length kinds) (call ∷ rest) ≡ new ++ starts_from (length more) rest
+  pub add_starts : (call : Call) (rest : List Call) (old new : List ℕ) (kinds more : List K) → map ev more ≡ map ev kinds ++ kinds_of (call ∷ []) → new ≡ old ++ length kinds ∷ [] → old
+      ++ starts_from (length kinds) (call ∷ rest) ≡ new ++ starts_from (length more) rest
   add_starts call rest old new kinds more grown is =
       let size : length more ≡ length kinds + call_size call =
       sym (length-map more ev) ∙ ap length grown ∙ length-append (map ev kinds) (kinds_of (call ∷ [])) ∙ ap (λ n. n + call_size call) (length-map kinds ev) in
@@ -244,7 +249,8 @@ module _ {K C : Type 0} (ev : K → Kind) (f : C → Call) (calls : List C) (i :
 
   -- and where it starts
   pub starts_step : (kinds more : List K) (old new : List ℕ) → starts_from 0 (map f calls) ≡ old ++ starts_from (length kinds) (map f (drop i calls))
-      → map ev more ≡ map ev kinds ++ kinds_of (f (get_or calls i d) ∷ []) → new ≡ old ++ length kinds ∷ [] → starts_from 0 (map f calls) ≡ new ++ starts_from (length more) (map f (drop (i + 1) calls))
+      → map ev more ≡ map ev kinds ++ kinds_of (f (get_or calls i d) ∷ []) → new ≡ old ++ length kinds ∷ [] → starts_from 0 (map f calls) ≡ new
+      ++ starts_from (length more) (map f (drop (i + 1) calls))
   starts_step kinds more old new before grown is =
       before
       ∙ ap (λ cs. old ++ starts_from (length kinds) cs) one_off
@@ -257,7 +263,8 @@ node_planned s p q is = ap process_node (slice_get-map (planned_process s) s.pro
 
 -- the events of all rows that show them are those of the plan
 pub total_shown : {V : Type 0} (view : V → List Kind) (s : Scripts) (rows : List V) → map view rows ≡ kinds_planned s → sum_by (λ row. length (view row)) rows ≡ event_total (plan_of s)
-total_shown view s rows shown = sym (sum_by-map length view rows) ∙ ap (sum_by length) shown ∙ sum_by-map length (λ p. kinds_of (map (planned_call s) p.calls)) s.processes ∙ sym (sum_by-map (λ process. length (kinds_of process.calls)) (planned_process s) s.processes)
+total_shown view s rows shown = sym (sum_by-map length view rows) ∙ ap (sum_by length) shown ∙ sum_by-map length (λ p. kinds_of (map (planned_call s) p.calls)) s.processes
+    ∙ sym (sum_by-map (λ process. length (kinds_of process.calls)) (planned_process s) s.processes)
   where
     sum_by-map : {A B : Type 0} (f : B → ℕ) (g : A → B) (xs : List A) → sum_by f (map g xs) ≡ sum_by (λ x. f (g x)) xs
     sum_by-map f g [] = refl
@@ -268,7 +275,14 @@ total_fits s few = let le = go s.processes in omega (arith, le, few)
   where
     go : (ps : List Process) → sum_by (λ process. length (kinds_of process.calls)) (map (planned_process s) ps) ≤ 2 * call_count ps
     go [] = omega arith
-    go (p ∷ ps) = omega (arith, go ps, events_few (map (planned_call s) p.calls), length-map p.calls (planned_call s), sum_by-cons (λ q. length q.calls) p ps, sum_by-cons (λ process. length (kinds_of process.calls)) (planned_process s p) (map (planned_process s) ps))
+    go (p ∷ ps) = omega (
+      arith,
+      go ps,
+      events_few (map (planned_call s) p.calls),
+      length-map p.calls (planned_call s),
+      sum_by-cons (λ q. length q.calls) p ps,
+      sum_by-cons (λ process. length (kinds_of process.calls)) (planned_process s p) (map (planned_process s) ps),
+    )
 
 pub sum_same : {X : Type 0} (f g : X → ℕ) (xs : List X) → ((x : X) → f x ≡ g x) → sum_by f xs ≡ sum_by g xs
 sum_same f g [] same = refl

@@ -1,5 +1,6 @@
 -- Lists by number: what is added to one of them, and what the lists of a plan's events say.
-use Rattle.std.proofs.Common.{◌≡◌, ◌≢◌, ◌∙◌, ℕ, zero, suc, ◌<◌, ◌≤◌, List, [], ◌∷◌, ◌++◌, Vec, length, map, get_or, slice_set, slice_get, Option, Some, None, MatchOption, true, false, inl, inr, refl, sym, ap, subst, arith, eq-eqb, eqb-true}
+use Rattle.std.proofs.Common.{◌≡◌, ◌≢◌, ◌∙◌, ℕ, zero, suc, ◌<◌, ◌≤◌, List, [], ◌∷◌, ◌++◌, Vec, length, map, get_or, slice_set, slice_get, Option, Some, None, MatchOption, true, false, inl, inr, refl}
+use Rattle.std.proofs.Common.{sym, ap, subst, arith, eq-eqb, eqb-true}
 use Rattle.std.specs.declared.alloc.Global.{Global}
 use Rattle.std.proofs.lemmas.Bool.{cases_eq, cases_Bool, true≢false}
 use Rattle.std.proofs.lemmas.List.{map_push}
@@ -26,7 +27,8 @@ reach_more (list ∷ lists) new zero none_there = refl
 reach_more (list ∷ lists) new (suc n) none_there = reach_more lists new n none_there
 
 -- one of the lists has one more
-pub append_here : (lists : List (Vec CodeEvent Global)) (i : ℕ) (was now : Vec CodeEvent Global) (e : CodeEvent) → i < length lists → was ≡ get_or lists i was → now.items ≡ was.items ++ e ∷ [] → get_or (map places_in (slice_set lists i now)) i [] ≡ get_or (map places_in lists) i [] ++ event_of e ∷ []
+pub append_here : (lists : List (Vec CodeEvent Global)) (i : ℕ) (was now : Vec CodeEvent Global) (e : CodeEvent) → i < length lists → was ≡ get_or lists i was → now.items ≡ was.items ++ e ∷ [] →
+    get_or (map places_in (slice_set lists i now)) i [] ≡ get_or (map places_in lists) i [] ++ event_of e ∷ []
 append_here [] i was now e lt is push = absurd (omega (arith, lt))
 append_here (list ∷ lists) zero was now e lt is push = ap (map event_of) push ∙ map_push event_of was.items e ∙ ap (λ (v : Vec CodeEvent Global). map event_of v.items ++ event_of e ∷ []) is
 append_here (list ∷ lists) (suc i) was now e lt is push = append_here lists i was now e (omega (arith, lt)) is push
@@ -84,7 +86,8 @@ publish_is : (plan : Plan) (name : ℕ) (x : Event) (o : Option TheEvent) → ki
 publish_is plan name x (Some (Publish n)) is h = is ∙ ap (λ m. Some (Publish m)) (eqb-true n name h)
 publish_is plan name x _ is h = absurd (true≢false (sym h))
 
-pub publishes_listed : (plan : Plan) (name : ℕ) (places : List Event) → AreAll (λ x. is_listed plan Publishes name x (kind plan x) ≡ true) places → AreAll (λ x. kind plan x ≡ Some (Publish name)) places
+pub publishes_listed : (plan : Plan) (name : ℕ) (places : List Event) → AreAll (λ x. is_listed plan Publishes name x (kind plan x) ≡ true) places →
+    AreAll (λ x. kind plan x ≡ Some (Publish name)) places
 publishes_listed plan name places are = all_same _ _ places
     (λ x h. publish_is plan name x (kind plan x) refl h)
     (λ x h. ap (is_listed plan Publishes name x) h ∙ eq-eqb name name refl)
@@ -95,7 +98,8 @@ not_below_itself x (inl lt) = omega (arith, lt)
 not_below_itself x (inr (e, lt)) = omega (arith, lt)
 
 -- the publish of a name that is published once and that nobody unpublishes
-pub once_of : (plan : Plan) (name : ℕ) (publishes takes : List CodeEvent) → AreAll (λ x. kind plan x ≡ Some (Publish name)) (map event_of publishes) → AreAll (λ x. takes_name plan name x (kind plan x) ≡ true) (map event_of takes)
+pub once_of : (plan : Plan) (name : ℕ) (publishes takes : List CodeEvent) → AreAll (λ x. kind plan x ≡ Some (Publish name)) (map event_of publishes) →
+    AreAll (λ x. takes_name plan name x (kind plan x) ≡ true) (map event_of takes)
     → MatchOption (only_of publishes takes) ((x : Event) → PublishesOnce plan x name → ⊥) (λ x. PublishesOnce plan (event_of x) name)
 once_of plan name [] takes ps ts = λ x once. let found = ps.all x once.is in none-some x found.1
 once_of plan name (a ∷ []) [] ps ts = record {

@@ -43,7 +43,9 @@ ends_fence (Some (Leave members)) = inl (members, refl)
 ends_fence None = inr (λ members is. cc)
 ends_fence (Some _) = inr (λ members is. cc)
 
-module _ (plan : Plan) (y : Event) (previous awaited : Option CodeEvent) (came : List CodeEvent) (first : option_map event_of previous ≡ previous_of y) (second : IsAwaited plan y (option_map event_of awaited)) (leave : (members : List ℕ) → kind plan y ≡ Some (Leave members) → AreArrivals plan members (arrivals plan y.proc members y.at) (map event_of came)) (others : ((members : List ℕ) → kind plan y ≡ Some (Leave members) → ⊥) → came ≡ []) where
+module _ (plan : Plan) (y : Event) (previous awaited : Option CodeEvent) (came : List CodeEvent) (first : option_map event_of previous ≡ previous_of y)
+    (second : IsAwaited plan y (option_map event_of awaited)) (leave : (members : List ℕ) → kind plan y ≡ Some (Leave members) →
+    AreArrivals plan members (arrivals plan y.proc members y.at) (map event_of came)) (others : ((members : List ℕ) → kind plan y ≡ Some (Leave members) → ⊥) → came ≡ []) where
   an_arrival : (j : ℕ) (z : Event) → slice_get (map event_of came) j ≡ Some z → Edge plan z y
   an_arrival j z is = elim (ends_fence (kind plan y)) [
     | inl ends ↦ Meets ends.0 ends.1 ((leave ends.0 ends.1).only j z is)

@@ -37,7 +37,8 @@ arrivals_in lists number = map event_of (slice_index_or lists number [])
 
 -- these are the arrivals at each fence of the table, by its number
 abbrev pub AreArrivalLists : Scripts → FenceTable → List (List CodeEvent) → Type 0
-AreArrivalLists s table lists = (number : ℕ) (info : FenceInfo) → fence_at table number ≡ Some info → AreArrivals (plan_of s) info.members info.nth (arrivals_in lists number)
+AreArrivalLists s table lists = (number : ℕ) (info : FenceInfo) → fence_at table number ≡ Some info →
+    AreArrivals (plan_of s) info.members info.nth (arrivals_in lists number)
 
 -- so far, for the contracts of private functions: these are the arrivals that stand before p's event number `at`
 abbrev pub AreArrivalListsTo : Scripts → FenceTable → ℕ → ℕ → List (List CodeEvent) → Type 0

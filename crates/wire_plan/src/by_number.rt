@@ -27,7 +27,8 @@ pub(crate) enum Listing {
 impl Listing {
     // The name that an event is listed under, if it is listed.
     fn number_of(self, kind: Kind) -> Option<u32>
-        ensures { (plan : runs.Plan) (sets : List (List ℕ)) (number : ℕ) (x : runs.Event) → is_listed plan self number x (Some (kind_of sets kind)) ≡ is_number result number }
+        ensures { (plan : runs.Plan) (sets : List (List ℕ)) (number : ℕ) (x : runs.Event) →
+            is_listed plan self number x (Some (kind_of sets kind)) ≡ is_number result number }
     {
         match self {
             Listing::NameCalls => name_called(kind),
@@ -39,7 +40,8 @@ impl Listing {
 
 // The name of a call on a name.
 fn name_called(kind: Kind) -> Option<u32>
-    ensures { (plan : runs.Plan) (sets : List (List ℕ)) (number : ℕ) (x : runs.Event) → is_listed plan Listing.NameCalls number x (Some (kind_of sets kind)) ≡ is_number result number }
+    ensures { (plan : runs.Plan) (sets : List (List ℕ)) (number : ℕ) (x : runs.Event) →
+        is_listed plan Listing.NameCalls number x (Some (kind_of sets kind)) ≡ is_number result number }
 {
     match kind {
         Kind::Publish { name } => Some(name),
@@ -52,7 +54,8 @@ fn name_called(kind: Kind) -> Option<u32>
 
 // The name of a publish.
 fn name_published(kind: Kind) -> Option<u32>
-    ensures { (plan : runs.Plan) (sets : List (List ℕ)) (number : ℕ) (x : runs.Event) → is_listed plan Listing.Publishes number x (Some (kind_of sets kind)) ≡ is_number result number }
+    ensures { (plan : runs.Plan) (sets : List (List ℕ)) (number : ℕ) (x : runs.Event) →
+        is_listed plan Listing.Publishes number x (Some (kind_of sets kind)) ≡ is_number result number }
 {
     match kind {
         Kind::Publish { name } => Some(name),
@@ -62,7 +65,8 @@ fn name_published(kind: Kind) -> Option<u32>
 
 // The name of a call that can take it away.
 fn name_taken(kind: Kind) -> Option<u32>
-    ensures { (plan : runs.Plan) (sets : List (List ℕ)) (number : ℕ) (x : runs.Event) → is_listed plan Listing.Takes number x (Some (kind_of sets kind)) ≡ is_number result number }
+    ensures { (plan : runs.Plan) (sets : List (List ℕ)) (number : ℕ) (x : runs.Event) →
+        is_listed plan Listing.Takes number x (Some (kind_of sets kind)) ≡ is_number result number }
 {
     match kind {
         Kind::Unpublish { name } => Some(name),
@@ -151,7 +155,8 @@ impl ByNumber {
         events: &Events,
         proc: Proc,
     ) -> Result<(), AllocError>
-        ensures { OnOk result (AreListedTo (plan_of events.now) listing proc.number 0 self.old → AreListedTo (plan_of events.now) listing (suc proc.number) 0 self.new) }
+        ensures { OnOk result (AreListedTo (plan_of events.now) listing proc.number 0 self.old →
+            AreListedTo (plan_of events.now) listing (suc proc.number) 0 self.new) }
     {
         for at in 0..events.event_count(proc) {
             let event = Event { proc, at };

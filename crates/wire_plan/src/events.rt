@@ -13,8 +13,8 @@ use crate::kind::Kind;
 use crate::row::{ProcessEvents, row_of};
 use std::alloc::{AllocError, Global};
 use std::marker::Model;
-use wire_procmap::ProcMap;
 use wire_content::Scripts;
+use wire_procmap::ProcMap;
 use wire_types::{CallAt, Event, Fault, Proc};
 
 /// Scripts, with their process map, their fences, and the events of each process.
@@ -35,11 +35,16 @@ impl Model for Events {
 
     ghost view = { λ p. p.scripts };
 
-    ghost invariant = { λ p. AreEventsOf p.scripts (map (λ row. map (kind_of p.scripts.sets) row.kinds.items) p.rows.items) (map (λ row. row.calls.items) p.rows.items) (map (λ row. row.starts.items) p.rows.items) × (p.places ≡ map_of p.scripts) };
+    ghost invariant = { λ p. AreEventsOf p.scripts (map (λ row. map (kind_of p.scripts.sets) row.kinds.items) p.rows.items)
+        (map (λ row. row.calls.items) p.rows.items) (map (λ row. row.starts.items) p.rows.items) × (p.places ≡ map_of p.scripts) };
 }
 
 /// The events of each process.
-fn all_rows(alloc: Global, scripts: &Scripts, places: &ProcMap) -> Result<Vec<ProcessEvents>, AllocError>
+fn all_rows(
+    alloc: Global,
+    scripts: &Scripts,
+    places: &ProcMap,
+) -> Result<Vec<ProcessEvents>, AllocError>
     requires { places.now ≡ map_of scripts.now }
     ensures kinds { IfOk result (λ all. map (λ row. map (kind_of scripts.now.sets) row.kinds.items) all.items ≡ kinds_planned scripts.now) }
     ensures calls { IfOk result (λ all. map (λ row. row.calls.items) all.items ≡ calls_planned scripts.now) }

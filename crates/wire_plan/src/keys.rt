@@ -62,7 +62,9 @@ impl Scan {
     /// Takes the event before those that were taken.
     fn take(&mut self, kind: Kind, at: u32) -> Result<(), AllocError>
         requires { (key : ℕ) → puts_in (get nat_cmp self.old.rows key) + 1 < 2 ^ 32 }
-        ensures { OnOk result ((events : ℕ → Option runs.Kind) (sets : List (List ℕ)) (end : ℕ) → events at ≡ Some (kind_of sets kind) → at < end → AreRowsFrom events (suc at) end (get nat_cmp self.old.rows) self.old.commit → AreRowsFrom events at end (get nat_cmp self.new.rows) self.new.commit) }
+        ensures { OnOk result ((events : ℕ → Option runs.Kind) (sets : List (List ℕ)) (end : ℕ) → events at ≡ Some (kind_of sets kind) → at < end →
+            AreRowsFrom events (suc at) end (get nat_cmp self.old.rows) self.old.commit →
+            AreRowsFrom events at end (get nat_cmp self.new.rows) self.new.commit) }
     {
         match kind {
             Kind::Put { scope, key } => {
@@ -143,7 +145,9 @@ impl KeyTable {
 
     /// The first put of a key by a process; `None` where it never puts the key.
     pub(crate) fn first_put(&self, owner: Proc, key: u32) -> Option<Event>
-        ensures { (plan : Plan) → AreKeysOf plan self.now → MatchOption result (put_count plan owner.number key (event_count plan owner.number) ≡ 0) (λ x. (x.proc ≡ owner) × IsFirstPut plan (event_of x) key) }
+        ensures { (plan : Plan) → AreKeysOf plan self.now →
+            MatchOption result (put_count plan owner.number key (event_count plan owner.number) ≡ 0)
+            (λ x. (x.proc ≡ owner) × IsFirstPut plan (event_of x) key) }
     {
         match self.row(owner, key) {
             Some(row) => Some(Event {
@@ -167,7 +171,8 @@ impl KeyTable {
     /// The commit that first stores a key of a process, which is the first one after the first put;
     /// `None` where none does (PMIx Standard 5.0, Posting Key-Value Pairs).
     pub(crate) fn store_of(&self, owner: Proc, key: u32) -> Option<Event>
-        ensures { (plan : Plan) → AreKeysOf plan self.now → MatchOption result ((x : runs.Event) → x.proc ≡ owner.number → Stores plan x key → ⊥) (λ x. (x.proc ≡ owner) × Stores plan (event_of x) key) }
+        ensures { (plan : Plan) → AreKeysOf plan self.now →
+            MatchOption result ((x : runs.Event) → x.proc ≡ owner.number → Stores plan x key → ⊥) (λ x. (x.proc ≡ owner) × Stores plan (event_of x) key) }
     {
         match self.store(owner, key) {
             Some(at) => Some(Event { proc: owner, at }),
@@ -188,7 +193,9 @@ impl KeyTable {
     /// Whether a get of another process's key isn't ruled out by the owner's script: the owner stores
     /// the key, or puts it more than once.
     pub(crate) fn may_get(&self, owner: Proc, key: u32) -> bool
-        ensures { (plan : Plan) → AreKeysOf plan self.now → result ≡ (is_some (stored plan owner.number key (event_count plan owner.number)) || nat_le 2 (put_count plan owner.number key (event_count plan owner.number))) }
+        ensures { (plan : Plan) → AreKeysOf plan self.now →
+            result ≡ (is_some (stored plan owner.number key (event_count plan owner.number))
+            || nat_le 2 (put_count plan owner.number key (event_count plan owner.number))) }
     {
         self.store(owner, key).is_some() || self.put_count(owner, key) >= 2
     }
@@ -196,7 +203,9 @@ impl KeyTable {
     /// The commit that a get of another process's key waits for: the one that first stores it, where
     /// the key is put once.
     pub(crate) fn feeding_commit(&self, owner: Proc, key: u32) -> Option<Event>
-        ensures { (plan : Plan) → AreKeysOf plan self.now → MatchOption result ((x : runs.Event) → x.proc ≡ owner.number → IsPutOnce plan owner.number key → Stores plan x key → ⊥) (λ x. (x.proc ≡ owner) × IsPutOnce plan owner.number key × Stores plan (event_of x) key) }
+        ensures { (plan : Plan) → AreKeysOf plan self.now →
+            MatchOption result ((x : runs.Event) → x.proc ≡ owner.number → IsPutOnce plan owner.number key → Stores plan x key → ⊥)
+            (λ x. (x.proc ≡ owner) × IsPutOnce plan owner.number key × Stores plan (event_of x) key) }
     {
         if self.put_count(owner, key) == 1 {
             self.store_of(owner, key)

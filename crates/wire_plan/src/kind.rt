@@ -9,9 +9,9 @@ ghost use Rattle.wire_content.specs.Planned.{planned_call, reply_of_key};
 ghost use Rattle.wire_procmap.specs.Map.{map_of};
 ghost use Rattle.wire_plan.specs.Kinds.{kind_of, kinds_after};
 
+use wire_content::Scripts;
 use wire_lines::is_reserved;
 use wire_procmap::ProcMap;
-use wire_content::Scripts;
 use wire_types::{Call, Proc, Reply, Scope, Status};
 
 /// What an event of a process is: one of the events that its calls are made of. Sets of processes, keys

@@ -78,7 +78,8 @@ fn add_event(
 ) -> Result<(), AllocError>
     requires fences { AreFencesOf events.now fences.now }
     requires there { event.at < event_count (plan_of events.now) event.proc.number }
-    ensures { OnOk result (AreArrivalListsTo events.now fences.now event.proc.number event.at (map_list (λ v. v.items) lists.old.items) → AreArrivalListsTo events.now fences.now event.proc.number (suc event.at) (map_list (λ v. v.items) lists.new.items)) }
+    ensures { OnOk result (AreArrivalListsTo events.now fences.now event.proc.number event.at (map_list (λ v. v.items) lists.old.items) →
+        AreArrivalListsTo events.now fences.now event.proc.number (suc event.at) (map_list (λ v. v.items) lists.new.items)) }
 {
     if let Kind::Arrive { .. } = events.kind(event) {
         add_arrival(lists, alloc, fence_at(events, fences, event), event)?;
@@ -95,7 +96,8 @@ fn add_process(
     proc: Proc,
 ) -> Result<(), AllocError>
     requires { AreFencesOf events.now fences.now }
-    ensures { OnOk result (AreArrivalListsTo events.now fences.now proc.number 0 (map_list (λ v. v.items) lists.old.items) → AreArrivalListsTo events.now fences.now (suc proc.number) 0 (map_list (λ v. v.items) lists.new.items)) }
+    ensures { OnOk result (AreArrivalListsTo events.now fences.now proc.number 0 (map_list (λ v. v.items) lists.old.items) →
+        AreArrivalListsTo events.now fences.now (suc proc.number) 0 (map_list (λ v. v.items) lists.new.items)) }
 {
     for at in 0..events.event_count(proc) {
         add_event(lists, alloc, events, fences, Event { proc, at })?;
@@ -122,7 +124,8 @@ impl Meetings {
 
     /// The arrivals at a fence, in process order.
     pub(crate) fn arrivals(&self, fence: FenceId) -> &[Event]
-        ensures { (s : TheScripts) (table : FenceTable) (info : FenceInfo) → AreArrivalLists s table self.now → the_fence_at table fence.number ≡ Some info → AreArrivals (plan_of s) info.members info.nth (map_list event_of result.now) }
+        ensures { (s : TheScripts) (table : FenceTable) (info : FenceInfo) → AreArrivalLists s table self.now → the_fence_at table fence.number ≡ Some info →
+            AreArrivals (plan_of s) info.members info.nth (map_list event_of result.now) }
     {
         match self.arrivals.get(fence.number as usize) {
             Some(list) => list.as_slice(),
@@ -141,7 +144,8 @@ pub(crate) fn arrivals_at<'a>(
     requires fences { AreFencesOf events.now fences.now }
     requires meetings { AreArrivalLists events.now fences.now meetings.now }
     requires half { is_of_fence (kind (plan_of events.now) (event_of event)) ≡ true }
-    ensures { (members : List ℕ) → kind (plan_of events.now) (event_of event) ≡ Some (Leave members) → AreArrivals (plan_of events.now) members (arrivals_of (plan_of events.now) event.proc.number members event.at) (map_list event_of result.now) }
+    ensures { (members : List ℕ) → kind (plan_of events.now) (event_of event) ≡ Some (Leave members) →
+        AreArrivals (plan_of events.now) members (arrivals_of (plan_of events.now) event.proc.number members event.at) (map_list event_of result.now) }
 {
     meetings.arrivals(fence_at(events, fences, event))
 }
@@ -150,7 +154,8 @@ pub(crate) fn arrivals_at<'a>(
 pub(crate) fn is_full(events: &Events, fences: &Fences, event: Event) -> bool
     requires fences { AreFencesOf events.now fences.now }
     requires half { is_of_fence (kind (plan_of events.now) (event_of event)) ≡ true }
-    ensures { (members : List ℕ) → kind (plan_of events.now) (event_of event) ≡ Some (Leave members) → result ≡ is_full_fence (plan_of events.now) members (arrivals_of (plan_of events.now) event.proc.number members event.at) }
+    ensures { (members : List ℕ) → kind (plan_of events.now) (event_of event) ≡ Some (Leave members) →
+        result ≡ is_full_fence (plan_of events.now) members (arrivals_of (plan_of events.now) event.proc.number members event.at) }
 {
     fences.full(fence_at(events, fences, event))
 }

@@ -56,7 +56,8 @@ impl NameTable {
 
     /// The publish of a name that is published once and that nobody unpublishes. None of any other name.
     pub(crate) fn once_published(&self, name: u32) -> Option<Event>
-        ensures { (plan : runs.Plan) → AreNamesOf plan self.now → MatchOption result ((x : runs.Event) → PublishesOnce plan x name → ⊥) (λ x. PublishesOnce plan (event_of x) name) }
+        ensures { (plan : runs.Plan) → AreNamesOf plan self.now →
+            MatchOption result ((x : runs.Event) → PublishesOnce plan x name → ⊥) (λ x. PublishesOnce plan (event_of x) name) }
     {
         only_publish(self.publishes.list(name), self.takes.list(name))
     }

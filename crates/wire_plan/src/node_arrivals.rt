@@ -46,7 +46,8 @@ fn is_lower(x: Event, y: Event) -> bool
 
 // How many events of a list in process order are lower than an event, by bisection.
 fn count_lower(list: &[Event], event: Event) -> usize
-    ensures { IsRising (map event_of list.now) → (k : ℕ) (x : runs.Event) → slice_get (map event_of list.now) k ≡ Some x → is_below x (event_of event) ≡ nat_lt k result }
+    ensures { IsRising (map event_of list.now) → (k : ℕ) (x : runs.Event) → slice_get (map event_of list.now) k ≡ Some x →
+        is_below x (event_of event) ≡ nat_lt k result }
 {
     list.partition_point(|x| is_lower(*x, event))
 }
@@ -71,7 +72,8 @@ impl NodeArrivals {
         event: Event,
     ) -> Result<(), AllocError>
         ensures highest { OnOk result (self.new.highest ≡ self.old.highest) }
-        ensures lists { OnOk result ((n : ℕ) → events_listed self.new.by_node n ≡ with_added ((n == node) && reached) (events_listed self.old.by_node n) (event_of event)) }
+        ensures lists { OnOk result ((n : ℕ) → events_listed self.new.by_node n ≡ with_added ((n == node) && reached) (events_listed self.old.by_node n)
+            (event_of event)) }
     {
         if reached {
             self.by_node.add(alloc, node, event)?;
@@ -88,7 +90,9 @@ impl NodeArrivals {
         event: Event,
     ) -> Result<(), AllocError>
         ensures highest { OnOk result (self.new.highest ≡ self.old.highest) }
-        ensures lists { OnOk result ((n : ℕ) → events_listed self.new.by_node n ≡ with_added (nat_lt n (suc self.old.highest) && reaches_in fences.now n (the_fence_at fences.now fence.number)) (events_listed self.old.by_node n) (event_of event)) }
+        ensures lists { OnOk result ((n : ℕ) → events_listed self.new.by_node n ≡ with_added
+            (nat_lt n (suc self.old.highest) && reaches_in fences.now n (the_fence_at fences.now fence.number)) (events_listed self.old.by_node n)
+            (event_of event)) }
     {
         for number in 0..self.highest as usize + 1 {
             let node = number as u32;
@@ -107,7 +111,8 @@ impl NodeArrivals {
     ) -> Result<(), AllocError>
         requires fences { AreFencesOf events.now fences.now }
         requires there { event.at < event_count (plan_of events.now) event.proc.number }
-        ensures { OnOk result (AreNodeArrivalsTo (plan_of events.now) event.proc.number event.at self.old → AreNodeArrivalsTo (plan_of events.now) event.proc.number (suc event.at) self.new) }
+        ensures { OnOk result (AreNodeArrivalsTo (plan_of events.now) event.proc.number event.at self.old →
+            AreNodeArrivalsTo (plan_of events.now) event.proc.number (suc event.at) self.new) }
     {
         if let Kind::Arrive { .. } = events.kind(event) {
             let fence = fence_at(events, fences, event);
@@ -127,7 +132,8 @@ impl NodeArrivals {
         proc: Proc,
     ) -> Result<(), AllocError>
         requires { AreFencesOf events.now fences.now }
-        ensures { OnOk result (AreNodeArrivalsTo (plan_of events.now) proc.number 0 self.old → AreNodeArrivalsTo (plan_of events.now) (suc proc.number) 0 self.new) }
+        ensures { OnOk result (AreNodeArrivalsTo (plan_of events.now) proc.number 0 self.old →
+            AreNodeArrivalsTo (plan_of events.now) (suc proc.number) 0 self.new) }
     {
         for at in 0..events.event_count(proc) {
             self.add_event(alloc, events, fences, Event { proc, at })?;

@@ -26,9 +26,9 @@ use crate::meetings::{arrivals_at, fence_at, is_full};
 use crate::sources::{Sources, previous_event};
 use std::alloc::Global;
 use std::marker::Model;
+use wire_content::Scripts;
 use wire_fence::{FenceId, Fences};
 use wire_procmap::ProcMap;
-use wire_content::Scripts;
 use wire_types::{CallAt, Event, Fault, Proc};
 
 /// Scripts, with their process map, their fences, the events of each process, and what they wait for.
@@ -276,7 +276,8 @@ impl Plan {
     /// puts once (PMIx Standard 5.0, PMIx_Fence with PMIX_COLLECT_DATA).
     pub fn next_delivery(&self, owner: Proc, key: u32, node: u32, from: u32) -> Option<Event>
         ensures owner { IfSome result (λ e. e.proc ≡ owner) }
-        ensures next { IsPutOnce (plan_of self.now) owner.number key → IsNextDelivery (plan_of self.now) owner.number key node from (option_map (λ e. e.at) result) }
+        ensures next { IsPutOnce (plan_of self.now) owner.number key →
+            IsNextDelivery (plan_of self.now) owner.number key node from (option_map (λ e. e.at) result) }
     {
         next_delivery(
             &self.index.node_arrivals,

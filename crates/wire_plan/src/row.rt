@@ -8,8 +8,8 @@ ghost use Rattle.wire_plan.specs.Kinds.{kind_of, calls_from, starts_from};
 
 use crate::kind::{Kind, first_kind};
 use std::alloc::{AllocError, Global};
-use wire_procmap::ProcMap;
 use wire_content::Scripts;
+use wire_procmap::ProcMap;
 use wire_types::Call;
 
 /// What the events of a process are, in their order, and the number of the call of each; and for each
@@ -43,7 +43,8 @@ fn add_call(
 ) -> Result<(), AllocError>
     requires places { places.now ≡ map_of scripts.now }
     requires few { length row.old.kinds.items < 2 ^ 32 }
-    ensures kinds { OnOk result (map (kind_of scripts.now.sets) row.new.kinds.items ≡ map (kind_of scripts.now.sets) row.old.kinds.items ++ kinds_of (planned_call scripts.now call ∷ [])) }
+    ensures kinds { OnOk result (map (kind_of scripts.now.sets) row.new.kinds.items ≡ map (kind_of scripts.now.sets) row.old.kinds.items
+        ++ kinds_of (planned_call scripts.now call ∷ [])) }
     ensures calls { OnOk result (row.new.calls.items ≡ row.old.calls.items ++ calls_from number (planned_call scripts.now call ∷ [])) }
     ensures starts { OnOk result (row.new.starts.items ≡ row.old.starts.items ++ length row.old.kinds.items ∷ []) }
 {

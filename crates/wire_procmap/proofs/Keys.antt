@@ -23,7 +23,8 @@ spelled : (key word : List ℕ) → is_reserved word ≡ true → bytes_eq key w
 spelled key word r e = sym (ap is_reserved ((bytes_eq-Decides key word).0 e) ∙ r)
 
 -- a test for the spelling of one reserved key
-tested : (key word : List ℕ) (kind rest : KeyKind) → is_reserved word ≡ true → is_reserved_kind kind ≡ true → is_reserved_kind rest ≡ is_reserved key → is_reserved_kind (cond (bytes_eq key word) kind rest) ≡ is_reserved key
+tested : (key word : List ℕ) (kind rest : KeyKind) → is_reserved word ≡ true → is_reserved_kind kind ≡ true → is_reserved_kind rest ≡ is_reserved key →
+    is_reserved_kind (cond (bytes_eq key word) kind rest) ≡ is_reserved key
 tested key word kind rest r k h =
     cond_both (bytes_eq key word) kind rest (λ x. is_reserved_kind x ≡ is_reserved key) (λ e. k ∙ spelled key word r e) (λ _. h)
 
@@ -41,7 +42,10 @@ reserved_of_kind key =
     (tested key (codes "PMIX_HOSTNAME") Hostname _ refl refl (others (is_reserved key))))))
 
 -- by the tests of the spellings
-replied : (processes : List Process) (p : ℕ) (a b c d e other : Bool) → reply_of (row_of processes p) (cond a Rank (cond b LocalRank (cond c NodeRank (cond d JobSize (cond e Hostname (cond other Other Plain)))))) ≡ cond a (success_with (Number (rank_of processes p))) (cond b (success_with (Number (local_rank_of processes p))) (cond c (success_with (Number (node_rank_of processes p))) (cond d (success_with (Number (size_of_job processes (job_at processes p)))) (cond e (success_with (NodeName (node_at processes p))) (bare NotFound)))))
+replied : (processes : List Process) (p : ℕ) (a b c d e other : Bool) →
+    reply_of (row_of processes p) (cond a Rank (cond b LocalRank (cond c NodeRank (cond d JobSize (cond e Hostname (cond other Other Plain)))))) ≡ cond a (success_with (Number (rank_of processes p)))
+    (cond b (success_with (Number (local_rank_of processes p))) (cond c (success_with (Number (node_rank_of processes p)))
+    (cond d (success_with (Number (size_of_job processes (job_at processes p)))) (cond e (success_with (NodeName (node_at processes p))) (bare NotFound)))))
 unfolding row_of
 replied processes p true b c d e other = refl
 replied processes p false true c d e other = refl

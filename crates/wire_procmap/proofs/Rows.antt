@@ -1,5 +1,6 @@
 -- The rows of a map, by their numbers and by their jobs.
-use Rattle.std.proofs.Common.{◌≡◌, ◌∙◌, ap, sym, refl, ℕ, zero, suc, ◌+◌, ◌<◌, ◌≤◌, ◌==◌, ◌&&◌, List, [], Bool, false, cond, None, map, take, length, get_or, count_by, position, add-one, arith, subst, ◌++◌, ◌∷◌}
+use Rattle.std.proofs.Common.{◌≡◌, ◌∙◌, ap, sym, refl, ℕ, zero, suc, ◌+◌, ◌<◌, ◌≤◌, ◌==◌, ◌&&◌, List, [], Bool, false, cond, None, map, take, length, get_or, count_by, position, add-one, arith}
+use Rattle.std.proofs.Common.{subst, ◌++◌, ◌∷◌}
 use Rattle.std.specs.Prelude.{nat_lt}
 use Rattle.std.specs.List.{range_with_len, position_or_len}
 use Rattle.std.proofs.Common.{inl, inr}
@@ -29,11 +30,15 @@ pub node_there : (processes : List Process) (p : ℕ) (d : Process) → p < leng
 node_there processes p d h = ap node_in (slice_get-get_or processes p d h)
 
 -- a row of counts
-pub row_is : (processes : List Process) (p job node rank local_rank node_rank job_size : ℕ) → job ≡ job_at processes p → node ≡ node_at processes p → rank ≡ count_by (λ (q : Process). q.job == job) (take p processes) → local_rank ≡ count_by (λ (q : Process). (q.job == job) && (q.node == node)) (take p processes) → node_rank ≡ count_by (λ (q : Process). q.node == node) (take p processes) → job_size ≡ count_by (λ (q : Process). q.job == job) processes → ◌≡◌ {A = ProcessNumbers} (record { job = job; node = node; rank = rank; local_rank = local_rank; node_rank = node_rank; job_size = job_size }) (row_of processes p)
+pub row_is : (processes : List Process) (p job node rank local_rank node_rank job_size : ℕ) → job ≡ job_at processes p → node ≡ node_at processes p →
+    rank ≡ count_by (λ (q : Process). q.job == job) (take p processes) → local_rank ≡ count_by (λ (q : Process). (q.job == job) && (q.node == node)) (take p processes) →
+    node_rank ≡ count_by (λ (q : Process). q.node == node) (take p processes) → job_size ≡ count_by (λ (q : Process). q.job == job) processes →
+    ◌≡◌ {A = ProcessNumbers} (record { job = job; node = node; rank = rank; local_rank = local_rank; node_rank = node_rank; job_size = job_size }) (row_of processes p)
 unfolding row_of
 row_is processes p job node rank local_rank node_rank job_size of_job of_node ranks locals nodes sizes =
     let rank_is = ranks ∙ ap (λ j. count_by (λ (q : Process). q.job == j) (take p processes)) of_job in
-    let local_is = locals ∙ ap (λ j. count_by (λ (q : Process). (q.job == j) && (q.node == node)) (take p processes)) of_job ∙ ap (λ n. count_by (λ (q : Process). (q.job == job_at processes p) && (q.node == n)) (take p processes)) of_node in
+    let local_is = locals ∙ ap (λ j. count_by (λ (q : Process). (q.job == j) && (q.node == node)) (take p processes)) of_job
+    ∙ ap (λ n. count_by (λ (q : Process). (q.job == job_at processes p) && (q.node == n)) (take p processes)) of_node in
     let node_is = nodes ∙ ap (λ n. count_by (λ (q : Process). q.node == n) (take p processes)) of_node in
     let size_is = sizes ∙ ap (λ j. count_by (λ (q : Process). q.job == j) processes) of_job in
     λ t. record { job = of_job t; node = of_node t; rank = rank_is t; local_rank = local_is t; node_rank = node_is t; job_size = size_is t }
@@ -43,7 +48,8 @@ pub rows_more : (processes : List Process) (n : ℕ) → map (row_of processes) 
 rows_more processes n = map-range_with_len_more (row_of processes) 0 n n (omega arith)
 
 -- the first rows count the jobs of the first processes
-counted : (processes : List Process) (job k : ℕ) → k ≤ length processes → count_by (λ (r : ProcessNumbers). r.job == job) (map (row_of processes) (range_with_len 0 k)) ≡ count_by (λ (q : Process). q.job == job) (take k processes)
+counted : (processes : List Process) (job k : ℕ) → k ≤ length processes →
+    count_by (λ (r : ProcessNumbers). r.job == job) (map (row_of processes) (range_with_len 0 k)) ≡ count_by (λ (q : Process). q.job == job) (take k processes)
 unfolding row_of
 counted processes job zero h = refl
 counted processes job (suc k) h =

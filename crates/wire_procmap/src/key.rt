@@ -4,8 +4,8 @@ ghost use Rattle.std.specs.Prelude.{◌≡◌, map, IfOk};
 ghost use Rattle.wire_procmap.specs.Keys as keys;
 
 use std::alloc::{AllocError, Global};
-use wire_lines::is_reserved;
 use wire_content::Texts;
+use wire_lines::is_reserved;
 
 /// What a get of a key asks of the process map.
 #[derive(Clone, Copy)]

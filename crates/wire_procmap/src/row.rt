@@ -99,7 +99,10 @@ fn row_of(processes: &[Process], index: usize) -> ProcessNumbers
 
 /// The row of each process, in process order.
 #[tactic(auto, using(crate::proofs::Rows::rows_more))]
-pub(crate) fn rows_of(alloc: Global, processes: &[Process]) -> Result<Vec<ProcessNumbers>, AllocError>
+pub(crate) fn rows_of(
+    alloc: Global,
+    processes: &[Process],
+) -> Result<Vec<ProcessNumbers>, AllocError>
     requires { length processes.now < 2 ^ 31 }
     ensures { IfOk result (λ made. made.items ≡ rows.rows_of processes.now) }
 {

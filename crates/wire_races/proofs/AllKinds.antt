@@ -16,7 +16,8 @@ each_kind plan a b c d r k n (NameRace x y name) h =
     let f = NameRace x y name in (n f).1 (inr ((x, y, name, refl), h))
 
 -- one kind after another
-pub all_kinds : (plan : Plan) (a b c d : List Told) (found : List Told) → AllAdded plan IsOfRewrite a b → AllAdded plan IsOfKey b c → AllAdded plan IsOfName c d → AreFound plan d → ((f : Finding) → Tells plan found f ↔ Tells plan d f) → ((lower_name : ℕ → ℕ → Bool) → IsSorted lower_name (all_shown plan found)) → AreFindings plan found
+pub all_kinds : (plan : Plan) (a b c d : List Told) (found : List Told) → AllAdded plan IsOfRewrite a b → AllAdded plan IsOfKey b c → AllAdded plan IsOfName c d → AreFound plan d →
+    ((f : Finding) → Tells plan found f ↔ Tells plan d f) → ((lower_name : ℕ → ℕ → Bool) → IsSorted lower_name (all_shown plan found)) → AreFindings plan found
 all_kinds plan a b c d found r k n only is sorted = λ lower_name. record {
   those = λ f. ((λ h. only f ((is f).0 h)), (λ h. (is f).1 (each_kind plan a b c d r k n f h)));
   sorted = sorted lower_name;

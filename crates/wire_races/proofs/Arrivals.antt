@@ -57,7 +57,8 @@ late_once plan get arrival x y a b =
     let same : y.proc ≡ x.proc = omega (arith, low, high) in
     arrives_once plan y x m j same there a.of_it
 
-pub ended : (plan : Plan) (arrival end : Event) (members : List ℕ) (j : ℕ) → IsArrival plan members j arrival → end.proc ≡ arrival.proc → end.at ≡ suc arrival.at → kind plan end ≡ Some (Leave members) → arrivals plan end.proc members end.at ≡ j
+pub ended : (plan : Plan) (arrival end : Event) (members : List ℕ) (j : ℕ) → IsArrival plan members j arrival → end.proc ≡ arrival.proc → end.at ≡ suc arrival.at →
+    kind plan end ≡ Some (Leave members) → arrivals plan end.proc members end.at ≡ j
 ended plan arrival end members j a proc next is = ap (λ p. arrivals plan p members end.at) proc ∙ ap (arrivals plan arrival.proc members) next ∙ a.nth
 
 -- what is shown of a list of events
@@ -68,17 +69,20 @@ pub item : (events : List CodeEvent) (n : ℕ) (d : CodeEvent) → n < length ev
 item events n d lt = at_shown events n (slice_index_or events n d) (slice_get-get_or events n d lt)
 
 -- one place more
-pub one_more : (holds : Event → Type 0) (places : List Event) (n m : ℕ) (x : Event) → m ≡ suc n → slice_get places n ≡ Some x → ((k : ℕ) (z : Event) → k < n → slice_get places k ≡ Some z → holds z) → holds x → (k : ℕ) (z : Event) → k < m → slice_get places k ≡ Some z → holds z
+pub one_more : (holds : Event → Type 0) (places : List Event) (n m : ℕ) (x : Event) → m ≡ suc n → slice_get places n ≡ Some x → ((k : ℕ) (z : Event) → k < n → slice_get places k ≡ Some z → holds z) →
+    holds x → (k : ℕ) (z : Event) → k < m → slice_get places k ≡ Some z → holds z
 one_more holds places n m x one at before here k z lt is = elim (cases_eq k n) [
   | inl same ↦ subst holds (same_Some _ _ (sym at ∙ subst (λ i. slice_get places i ≡ Some z) same is)) here
   | inr other ↦ before k z (omega (arith, lt, one, other)) is
 ]
 
 -- all places
-pub all_places : (holds : Event → Type 0) (places : List Event) (n : ℕ) → length places ≤ n → ((k : ℕ) (z : Event) → k < n → slice_get places k ≡ Some z → holds z) → (k : ℕ) (z : Event) → slice_get places k ≡ Some z → holds z
+pub all_places : (holds : Event → Type 0) (places : List Event) (n : ℕ) → length places ≤ n → ((k : ℕ) (z : Event) → k < n → slice_get places k ≡ Some z → holds z) → (k : ℕ) (z : Event) →
+    slice_get places k ≡ Some z → holds z
 all_places holds places n le before k z is = before k z (let lt = slice_get_within places k z is in omega (arith, lt, le)) is
 
-module _ (plan : Plan) (get arrival : Event) (fence : Arrives plan arrival) (places : List Event) (those : (members : List ℕ) (j : ℕ) → IsArrival plan members j arrival → AreArrivals plan members j places) where
+module _ (plan : Plan) (get arrival : Event) (fence : Arrives plan arrival) (places : List Event)
+    (those : (members : List ℕ) (j : ℕ) → IsArrival plan members j arrival → AreArrivals plan members j places) where
   are : AreArrivals plan fence.members fence.j places
   are = those fence.members fence.j fence.arrival
 
@@ -159,6 +163,7 @@ module _ (plan : Plan) (get arrival : Event) (fence : Arrives plan arrival) (pla
     (λ s. absurd (first.not_before (sure_before s first.k (event_of x) first.is))),
   )
 
-  pub late_tells : (found : Option CodeEvent) → IsFirstLate plan get places found → AllLive plan places → NoneAfter plan get places → MatchOption found ((x : Event) → IsLate plan get arrival x → ⊥) (λ x. IsLate plan get arrival (event_of x))
+  pub late_tells : (found : Option CodeEvent) → IsFirstLate plan get places found → AllLive plan places → NoneAfter plan get places →
+      MatchOption found ((x : Event) → IsLate plan get arrival x → ⊥) (λ x. IsLate plan get arrival (event_of x))
   late_tells None first alive none_after = λ x l. late_not_before x l first
   late_tells (Some x) first alive none_after = late_there (event_of x) alive none_after first

@@ -3,7 +3,8 @@ use Rattle.std.proofs.Common.{◌≡◌, ◌∙◌, ap, sym, refl, ℕ, zero, su
 use Rattle.std.specs.Prelude.{slice_get, is_some}
 use Rattle.std.proofs.lemmas.Bool.{cases_lt, cond_below, cond_above, true≢false}
 use Rattle.std.proofs.lemmas.Option.{slice_get_within, same_Some}
-use Rattle.wire_runs.specs.Plan.{Plan, Event, Process, Call, CallFence, Kind, Put, Commit, Arrive, Leave, GetNow, Publish, Lookup, LookupWait, Unpublish, kinds_of, kinds, kind_at, kind, event_count, process_kinds}
+use Rattle.wire_runs.specs.Plan.{Plan, Event, Process, Call, CallFence, Kind, Put, Commit, Arrive, Leave, GetNow, Publish, Lookup, LookupWait, Unpublish, kinds_of, kinds, kind_at, kind, event_count}
+use Rattle.wire_runs.specs.Plan.{process_kinds}
 use Rattle.wire_runs.specs.Puts.{own, stored, stored_with}
 use Rattle.wire_types.specs.declared.CallAt.{CallAt}
 use Rattle.wire_runs.specs.Names.{writes_name, calls_name}

@@ -31,7 +31,8 @@ delivering_within : (plan : Plan) (p key node at : ℕ) → IsDelivering plan p 
 delivering_within plan p key node at d = event_within plan p at _ d.arrival.is
 
 -- the next delivery, told by its event
-pub next_from : (plan : Plan) (owner : Proc) (key node from : ℕ) (found : Option CodeEvent) → IfSome found (λ e. e.proc ≡ owner) → IsNextDelivery plan owner.number key node from (option_map (λ e. e.at) found) → IsNextArrival plan owner.number key node from found
+pub next_from : (plan : Plan) (owner : Proc) (key node from : ℕ) (found : Option CodeEvent) → IfSome found (λ e. e.proc ≡ owner) →
+    IsNextDelivery plan owner.number key node from (option_map (λ e. e.at) found) → IsNextArrival plan owner.number key node from found
 next_from plan owner key node from None owned next = next
 next_from plan owner key node from (Some e) owned next = record {
   proc = ap (λ q. q.number) owned;
@@ -115,7 +116,8 @@ module _ (plan : Plan) (get : Event) (owner key : ℕ) (n : IsUnsure plan get ow
   race_late : (f : Finding) → IsKeyRaceBy plan get f → (at : ℕ) × IsLateBy plan get owner key (node_of plan get.proc) at f
   race_late f t = let w = race_with plan get owner key f n.opened.is t in go w.source w.race w.is
     where
-      delivered : (x : Event) → IsRaceOf x get owner key f → (d : Delivery) → Delivers plan owner key (node_of plan get.proc) d → ((z : Event) → IsOf plan d z → ¬ (Before plan get z)) → IsOf plan d x → ¬ (Before plan x get) → ((z : Event) → IsOf plan d z → ¬ (Before plan z get) → x.proc ≤ z.proc) → (at : ℕ) × IsLateBy plan get owner key (node_of plan get.proc) at f
+      delivered : (x : Event) → IsRaceOf x get owner key f → (d : Delivery) → Delivers plan owner key (node_of plan get.proc) d → ((z : Event) → IsOf plan d z → ¬ (Before plan get z)) →
+          IsOf plan d x → ¬ (Before plan x get) → ((z : Event) → IsOf plan d z → ¬ (Before plan z get) → x.proc ≤ z.proc) → (at : ℕ) × IsLateBy plan get owner key (node_of plan get.proc) at f
       delivered x is (ByFence members j) d before_none of_it not_before first = (
         d.brings_it.at,
         record {
@@ -147,7 +149,8 @@ module _ (plan : Plan) (get : Event) (owner key : ℕ) (n : IsUnsure plan get ow
 
 module _ (plan : Plan) (get : Event) (owner key node : ℕ) where
   -- one arrival is looked at
-  pub one_late : (old new : List Told) (at : ℕ) (x : Event) → IsDelivering plan owner key node at → IsLate plan get (here owner at) x → Adds plan old new (IsRaceOf x get owner key) → Adds plan old new (IsLateBy plan get owner key node at)
+  pub one_late : (old new : List Told) (at : ℕ) (x : Event) → IsDelivering plan owner key node at → IsLate plan get (here owner at) x → Adds plan old new (IsRaceOf x get owner key) →
+      Adds plan old new (IsLateBy plan get owner key node at)
   one_late old new at x d l h =
       adds_same plan old new (IsRaceOf x get owner key) (IsLateBy plan get owner key node at)
       (λ f i. record { source = x; delivers = d; late = l; is = i })
@@ -157,7 +160,8 @@ module _ (plan : Plan) (get : Event) (owner key node : ℕ) where
   pub not_late : (found : List Told) (at : ℕ) → ((x : Event) → IsLate plan get (here owner at) x → ⊥) → AreFound plan found → Adds plan found found (IsLateBy plan get owner key node at)
   not_late found at never are = adds_none plan found (IsLateBy plan get owner key node at) are (λ f t. never t.source t.late)
 
-  pub late_more : (old mid new : List Told) (from at next : ℕ) → from ≤ at → next ≡ suc at → ((k : ℕ) → from ≤ k → k < at → IsDelivering plan owner key node k → ⊥) → Adds plan old mid (AreLateBelow plan get owner key node from) → Adds plan mid new (IsLateBy plan get owner key node at) → Adds plan old new (AreLateBelow plan get owner key node next)
+  pub late_more : (old mid new : List Told) (from at next : ℕ) → from ≤ at → next ≡ suc at → ((k : ℕ) → from ≤ k → k < at → IsDelivering plan owner key node k → ⊥) →
+      Adds plan old mid (AreLateBelow plan get owner key node from) → Adds plan mid new (IsLateBy plan get owner key node at) → Adds plan old new (AreLateBelow plan get owner key node next)
   late_more old mid new from at next le one others first second =
       adds_both plan old mid new (AreLateBelow plan get owner key node from) (IsLateBy plan get owner key node at) (AreLateBelow plan get owner key node next)
       (λ f t. let lt = t.1 in (t.0, omega (arith, lt, le, one), t.2))
@@ -172,7 +176,8 @@ module _ (plan : Plan) (get : Event) (owner key node : ℕ) where
       first second
 
   -- where a delivery can't be late, no later one is
-  pub no_later : (from at : ℕ) → ((k : ℕ) → from ≤ k → k < at → IsDelivering plan owner key node k → ⊥) → IsDelivering plan owner key node at → (MayBeLate plan get (here owner at) → ⊥) → (k : ℕ) → from ≤ k → (f : Finding) → IsLateBy plan get owner key node k f → ⊥
+  pub no_later : (from at : ℕ) → ((k : ℕ) → from ≤ k → k < at → IsDelivering plan owner key node k → ⊥) → IsDelivering plan owner key node at → (MayBeLate plan get (here owner at) → ⊥) → (k : ℕ) →
+      from ≤ k → (f : Finding) → IsLateBy plan get owner key node k f → ⊥
   no_later from at others d never k ge f t = elim (cases_lt k at) [
     | inl lt ↦ others k ge lt t.delivers
     | inr le ↦ elim (cases_eq k at) [
@@ -188,14 +193,16 @@ module _ (plan : Plan) (get : Event) (owner key node : ℕ) where
     ]
   ]
 
-  pub late_done : (old new : List Told) (from count : ℕ) → count ≡ event_count plan owner → ((k : ℕ) → from ≤ k → (f : Finding) → IsLateBy plan get owner key node k f → ⊥) → Adds plan old new (AreLateBelow plan get owner key node from) → Adds plan old new (AreLateBelow plan get owner key node count)
+  pub late_done : (old new : List Told) (from count : ℕ) → count ≡ event_count plan owner → ((k : ℕ) → from ≤ k → (f : Finding) → IsLateBy plan get owner key node k f → ⊥) →
+      Adds plan old new (AreLateBelow plan get owner key node from) → Adds plan old new (AreLateBelow plan get owner key node count)
   late_done old new from count is never h =
       adds_same plan old new (AreLateBelow plan get owner key node from) (AreLateBelow plan get owner key node count)
       (λ f t. let lt = delivering_within plan owner key node t.0 t.2.delivers in (t.0, omega (arith, lt, is), t.2))
       (λ f t. elim (cases_lt t.0 from) [ inl lt ↦ (t.0, lt, t.2) | inr ge ↦ absurd (never t.0 ge f t.2) ])
       h
 
-  pub late_whole : (old new : List Told) (from count : ℕ) → count ≡ event_count plan owner → ((k : ℕ) → from ≤ k → IsDelivering plan owner key node k → ⊥) → Adds plan old new (AreLateBelow plan get owner key node from) → Adds plan old new (AreLateBelow plan get owner key node count)
+  pub late_whole : (old new : List Told) (from count : ℕ) → count ≡ event_count plan owner → ((k : ℕ) → from ≤ k → IsDelivering plan owner key node k → ⊥) →
+      Adds plan old new (AreLateBelow plan get owner key node from) → Adds plan old new (AreLateBelow plan get owner key node count)
   late_whole old new from count is later h =
       adds_same plan old new (AreLateBelow plan get owner key node from) (AreLateBelow plan get owner key node count)
       (λ f t. let lt = delivering_within plan owner key node t.0 t.2.delivers in (t.0, omega (arith, lt, is), t.2))

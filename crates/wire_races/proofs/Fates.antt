@@ -47,7 +47,8 @@ module _ (plan : Plan) (y : Event) (past : State) where
         ∙ ap (λ k. fate_told plan (if may_do plan past y k then Says (reply plan past y k) else Waits)) (sym is)
 
 -- a live end of a fence
-pub leave_may : (plan : Plan) (y : Event) (fate_of : Event → Fate) (past : State) (members : List ℕ) → Live plan y → IsPast plan y fate_of past → kind plan y ≡ Some (Leave members) → may_do plan past y (Some (Leave members)) ≡ true
+pub leave_may : (plan : Plan) (y : Event) (fate_of : Event → Fate) (past : State) (members : List ℕ) → Live plan y → IsPast plan y fate_of past → kind plan y ≡ Some (Leave members) →
+    may_do plan past y (Some (Leave members)) ≡ true
 leave_may plan y fate_of past members l is_past is =
     complete_if_arrived plan past.done members (arrivals plan y.proc members y.at) (rw is at (live_may l))
     (λ z a. let e : Edge plan z y = Meets members is a in (is_past.cut z).1 (edge (live_source l e) e l))

@@ -3,7 +3,8 @@ use Rattle.std.proofs.Common.{◌≡◌, ◌∙◌, ap, refl, sym, ℕ, zero, su
 use Rattle.std.specs.Prelude.{slice_get}
 use Rattle.std.proofs.lemmas.Bool.{true≢false}
 use Rattle.std.proofs.lemmas.Option.{slice_get_within, same_Some}
-use Rattle.wire_runs.specs.Plan.{Plan, Event, Call, CallPut, CallCommit, CallFence, CallGet, CallGetNow, CallPublish, CallLookup, CallLookupWait, CallUnpublish, CallFixed, Kind, Arrive, Leave, kinds_of, kinds, kind_at, kind}
+use Rattle.wire_runs.specs.Plan.{Plan, Event, Call, CallPut, CallCommit, CallFence, CallGet, CallGetNow, CallPublish, CallLookup, CallLookupWait, CallUnpublish, CallFixed, Kind, Arrive, Leave}
+use Rattle.wire_runs.specs.Plan.{kinds_of, kinds, kind_at, kind}
 use Rattle.wire_runs.specs.Ends.{call_of, process_calls, first_event}
 use Rattle.wire_races.proofs.Calls.{is_leave, same_events, starts_back}
 

@@ -18,7 +18,8 @@ adds_none plan found those are never = record {
 }
 
 -- the one finding is added
-pub adds_one : (plan : Plan) (old new : List Told) (those : Finding → Type 0) (g : Finding) → AreFound plan old → IsFound plan g → IsAdded plan old new g → those g → ((f : Finding) → those f → f ≡ g) → Adds plan old new those
+pub adds_one : (plan : Plan) (old new : List Told) (those : Finding → Type 0) (g : Finding) → AreFound plan old → IsFound plan g → IsAdded plan old new g → those g →
+    ((f : Finding) → those f → f ≡ g) → Adds plan old new those
 adds_one plan old new those g are is told here one = record {
   found = λ f h. elim ((told f).0 h) [
     | inl was ↦ are f was
@@ -42,7 +43,8 @@ adds_same plan old new a b there back h = record {
 }
 
 -- first these, then those
-pub adds_both : (plan : Plan) (old mid new : List Told) (a b c : Finding → Type 0) → ((f : Finding) → a f → c f) → ((f : Finding) → b f → c f) → ((f : Finding) → c f → a f ⊎ b f) → Adds plan old mid a → Adds plan mid new b → Adds plan old new c
+pub adds_both : (plan : Plan) (old mid new : List Told) (a b c : Finding → Type 0) → ((f : Finding) → a f → c f) → ((f : Finding) → b f → c f) → ((f : Finding) → c f → a f ⊎ b f) →
+    Adds plan old mid a → Adds plan mid new b → Adds plan old new c
 adds_both plan old mid new a b c first second either x y = record {
   found = y.found;
   kept = λ f h. y.kept f (x.kept f h);
@@ -55,7 +57,8 @@ adds_both plan old mid new a b c first second either x y = record {
 
 module _ (plan : Plan) (tells : Event → Finding → Type 0) where
   -- one event more
-  pub one_event : (old mid new : List Told) (p n m : ℕ) → m ≡ suc n → Adds plan old mid (ToldIn tells p n) → Adds plan mid new (tells (record { proc = p; at = n })) → Adds plan old new (ToldIn tells p m)
+  pub one_event : (old mid new : List Told) (p n m : ℕ) → m ≡ suc n → Adds plan old mid (ToldIn tells p n) → Adds plan mid new (tells (record { proc = p; at = n })) →
+      Adds plan old new (ToldIn tells p m)
   one_event old mid new p n m one first second =
       adds_both plan old mid new (ToldIn tells p n) (tells (record { proc = p; at = n })) (ToldIn tells p m)
       (λ f t. let lt = t.3 in (t.0, t.1, t.2, omega (arith, lt, one)))
@@ -67,7 +70,8 @@ module _ (plan : Plan) (tells : Event → Finding → Type 0) where
       first second
 
   -- one process more
-  pub one_process : ((y : Event) (f : Finding) → tells y f → y.at < event_count plan y.proc) → (old mid new : List Told) (n m : ℕ) → m ≡ suc n → Adds plan old mid (ToldBelow tells n) → Adds plan mid new (ToldIn tells n (event_count plan n)) → Adds plan old new (ToldBelow tells m)
+  pub one_process : ((y : Event) (f : Finding) → tells y f → y.at < event_count plan y.proc) → (old mid new : List Told) (n m : ℕ) → m ≡ suc n → Adds plan old mid (ToldBelow tells n) →
+      Adds plan mid new (ToldIn tells n (event_count plan n)) → Adds plan old new (ToldBelow tells m)
   one_process within old mid new n m one first second =
       adds_both plan old mid new (ToldBelow tells n) (ToldIn tells n (event_count plan n)) (ToldBelow tells m)
       (λ f t. let lt = t.2 in (t.0, t.1, omega (arith, lt, one)))
@@ -79,7 +83,9 @@ module _ (plan : Plan) (tells : Event → Finding → Type 0) where
       first second
 
   -- all processes
-  pub all_told : ((y : Event) (f : Finding) → tells y f → y.proc < process_count plan) → (kind : Finding → Type 0) → ((y : Event) (f : Finding) → tells y f → OfKind plan kind f) → ((f : Finding) → OfKind plan kind f → (y : Event) × tells y f) → (old new : List Told) (n : ℕ) → n ≡ process_count plan → Adds plan old new (ToldBelow tells n) → Adds plan old new (OfKind plan kind)
+  pub all_told : ((y : Event) (f : Finding) → tells y f → y.proc < process_count plan) → (kind : Finding → Type 0) → ((y : Event) (f : Finding) → tells y f → OfKind plan kind f) →
+      ((f : Finding) → OfKind plan kind f → (y : Event) × tells y f) → (old new : List Told) (n : ℕ) → n ≡ process_count plan → Adds plan old new (ToldBelow tells n) →
+      Adds plan old new (OfKind plan kind)
   all_told within kind there back old new n all h =
       adds_same plan old new (ToldBelow tells n) (OfKind plan kind)
       (λ f t. there t.0 f t.1)

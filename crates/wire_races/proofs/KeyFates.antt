@@ -49,7 +49,8 @@ before_not_yet plan y s l cut = elim (cases_lt y.at (s.done y.proc)) [
 module _ (plan : Plan) (settled : IsSettled plan) (x : Event) (key : ℕ) (first : IsFirstPut plan x key) where
   -- a first put is the only one
   pub once : IsPutOnce plan x.proc key
-  once = put_once plan settled x.proc key (event_count plan x.proc) (put_exactly plan x.proc key x.at (event_count plan x.proc) first ∙ lt-ltb x.at (event_count plan x.proc) (event_within plan x.proc x.at _ first.is))
+  once = put_once plan settled x.proc key (event_count plan x.proc) (put_exactly plan x.proc key x.at (event_count plan x.proc) first
+      ∙ lt-ltb x.at (event_count plan x.proc) (event_within plan x.proc x.at _ first.is))
 
   own_after : (n : ℕ) → x.at < n → own plan x.proc key n ≡ Some x.at
   own_after n lt = some_is (own plan x.proc key n) x.at (put_exactly plan x.proc key x.at n first ∙ lt-ltb x.at n lt) (λ v e. own_first plan x.proc key x.at n v once first e)
@@ -68,13 +69,15 @@ module _ (plan : Plan) (settled : IsSettled plan) (x : Event) (key : ℕ) (first
   own_hidden n reply le = subst (λ o. GivesSight plan x.proc (held o) reply) (sym (own_before n le))
 
   -- on the owner's node: a commit that is before the event has stored it
-  pub served_after : (y c : Event) (reply : Reply) → c.proc ≡ x.proc → Stores plan c key → Before plan c y → GivesSight plan x.proc (served plan x.proc true (Some x.at)) reply → GivesServed plan y x.proc key reply
+  pub served_after : (y c : Event) (reply : Reply) → c.proc ≡ x.proc → Stores plan c key → Before plan c y → GivesSight plan x.proc (served plan x.proc true (Some x.at)) reply →
+      GivesServed plan y x.proc key reply
   served_after y c reply same stores before g s cut =
       let c' : Event = record { proc = x.proc; at = c.at } in
       let is : c ≡ c' = λ t. record { proc = same t; at = c.at } in
       let st : Stores plan c' key = subst (λ z. Stores plan z key) is stores in
       let done : c.at < s.done x.proc = subst (λ z. z.at < s.done z.proc) is ((cut c).1 before) in
-      subst (λ o. GivesSight plan x.proc (served plan x.proc true o) reply) (sym (stored_is (s.done x.proc) (stored_stays plan x.proc key (suc c.at) (s.done x.proc) (omega (arith, done)) st.something_after))) g
+      subst (λ o. GivesSight plan x.proc (served plan x.proc true o) reply)
+      (sym (stored_is (s.done x.proc) (stored_stays plan x.proc key (suc c.at) (s.done x.proc) (omega (arith, done)) st.something_after))) g
 
   -- and where that commit isn't before the event, nothing is stored
   pub served_before : (y c : Event) (reply : Reply) → c.proc ≡ x.proc → Stores plan c key → (Before plan c y → ⊥) → GivesSight plan x.proc Nothing reply → GivesServed plan y x.proc key reply
@@ -96,7 +99,8 @@ module _ (plan : Plan) (settled : IsSettled plan) (x : Event) (key : ℕ) (first
       subst (λ o. GivesSight plan x.proc (served plan x.proc true o) reply) (sym none) g
 
   -- a get of another's key that waits finds it stored
-  pub get_shown : (y : Event) (reply : Reply) → Live plan y → kind plan y ≡ Some (Get x.proc key) → (y.proc ≡ x.proc → ⊥) → GivesSight plan x.proc (served plan x.proc (same_node plan x.proc y.proc) (Some x.at)) reply → GivesGet plan y x.proc key reply
+  pub get_shown : (y : Event) (reply : Reply) → Live plan y → kind plan y ≡ Some (Get x.proc key) → (y.proc ≡ x.proc → ⊥) →
+      GivesSight plan x.proc (served plan x.proc (same_node plan x.proc y.proc) (Some x.at)) reply → GivesGet plan y x.proc key reply
   get_shown y reply l is other g s cut =
       let some = get_ready plan settled s.done s.done y (λ m. omega arith) (λ z b. (cut z).1 b) (before_closed plan y s cut) (before_not_yet plan y s l cut) l x.proc key is other in
       let sees : get_sees plan s.done y.proc y.at x.proc key ≡ served plan x.proc (same_node plan x.proc y.proc) (Some x.at) =
@@ -121,13 +125,15 @@ module _ (plan : Plan) (settled : IsSettled plan) (x : Event) (key : ℕ) (first
           members = members;
           collect = d.arrival.collect;
           is = d.arrival.is;
-          brings_it = subst (λ i. has_brought plan s.done x.proc (node_of plan y.proc) members i ≡ true) (sym d.arrival.nth) (and_from _ _ complete_now (and_from _ _ d.collecting (and_from _ _ d.member d.reaches)));
+          brings_it = subst (λ i. has_brought plan s.done x.proc (node_of plan y.proc) members i ≡ true) (sym d.arrival.nth)
+              (and_from _ _ complete_now (and_from _ _ d.collecting (and_from _ _ d.member d.reaches)));
           stored_is = d.committed;
           below = event_within plan x.proc d.at _ d.arrival.is;
         } in
         ap (for_others plan x.proc) (delivered_from plan settled s.done x.proc (node_of plan y.proc) key (event_count plan x.proc) d.put b) ∙ cond-true _ _ _ d.admitted ∙ ap Some put
 
-    pub brought_sure : (reply : Reply) → ComesSurely plan x.proc key (node_of plan y.proc) y → GivesSight plan x.proc (Shown x.at) reply → GivesSight plan x.proc (held (brought plan s x.proc key (node_of plan y.proc))) reply
+    pub brought_sure : (reply : Reply) → ComesSurely plan x.proc key (node_of plan y.proc) y → GivesSight plan x.proc (Shown x.at) reply →
+        GivesSight plan x.proc (held (brought plan s x.proc key (node_of plan y.proc))) reply
     brought_sure reply sure = subst (λ o. GivesSight plan x.proc (held o) reply) (sym (came_sure sure.delivery sure.delivers sure.all_before))
 
     -- what was brought was brought by a delivery that surely comes first
@@ -137,7 +143,8 @@ module _ (plan : Plan) (settled : IsSettled plan) (x : Event) (key : ℕ) (first
         node : ℕ
         node = node_of plan y.proc
 
-        by : (v : ℕ) → Bringer plan s.done x.proc (node_of plan y.proc) key (event_count plan x.proc) v → admits (scope_of plan x.proc v) false ≡ true → ComesSurely plan x.proc key (node_of plan y.proc) y
+        by : (v : ℕ) → Bringer plan s.done x.proc (node_of plan y.proc) key (event_count plan x.proc) v → admits (scope_of plan x.proc v) false ≡ true →
+            ComesSurely plan x.proc key (node_of plan y.proc) y
         by v b a =
             let j = arrivals plan x.proc b.members (suc b.at) in
             let p = and_parts _ _ b.brings_it in
@@ -163,17 +170,20 @@ module _ (plan : Plan) (settled : IsSettled plan) (x : Event) (key : ℕ) (first
               all_before = there;
             }
 
-        go : (o : Option ℕ) → delivered plan s.done x.proc (node_of plan y.proc) key (event_count plan x.proc) ≡ o → for_others plan x.proc o ≡ Some u → ComesSurely plan x.proc key (node_of plan y.proc) y
+        go : (o : Option ℕ) → delivered plan s.done x.proc (node_of plan y.proc) key (event_count plan x.proc) ≡ o → for_others plan x.proc o ≡ Some u →
+            ComesSurely plan x.proc key (node_of plan y.proc) y
         go None e h = absurd (true≢false (sym (ap is_some h)))
         go (Some v) e h = elim (cases_Bool (admits (scope_of plan x.proc v) false)) [
           | inl a ↦ by v (bringer plan s.done x.proc (node_of plan y.proc) key (event_count plan x.proc) v e) a
           | inr f ↦ absurd (true≢false (sym (ap is_some h) ∙ ap is_some (cond-false _ _ _ f)))
         ]
 
-    pub brought_unsure : (reply : Reply) → (ComesSurely plan x.proc key (node_of plan y.proc) y → ⊥) → GivesSight plan x.proc Nothing reply → GivesSight plan x.proc (held (brought plan s x.proc key (node_of plan y.proc))) reply
+    pub brought_unsure : (reply : Reply) → (ComesSurely plan x.proc key (node_of plan y.proc) y → ⊥) → GivesSight plan x.proc Nothing reply →
+        GivesSight plan x.proc (held (brought plan s x.proc key (node_of plan y.proc))) reply
     brought_unsure reply not = go (brought plan s x.proc key (node_of plan y.proc)) refl
       where
-        go : (o : Option ℕ) → brought plan s x.proc key (node_of plan y.proc) ≡ o → GivesSight plan x.proc Nothing reply → GivesSight plan x.proc (held (brought plan s x.proc key (node_of plan y.proc))) reply
+        go : (o : Option ℕ) → brought plan s x.proc key (node_of plan y.proc) ≡ o → GivesSight plan x.proc Nothing reply →
+            GivesSight plan x.proc (held (brought plan s x.proc key (node_of plan y.proc))) reply
         go None e g = subst (λ o. GivesSight plan x.proc (held o) reply) (sym e) g
         go (Some u) e g = absurd (not (sure_if_came u e))
 

@@ -108,16 +108,19 @@ lower_one_way x y (inl a) (inr b) = let e = b.0 in omega (arith, a, e)
 lower_one_way x y (inr a) (inl b) = let e = a.0 in omega (arith, b, e)
 lower_one_way x y (inr a) (inr b) = let i = a.1 in let j = b.1 in omega (arith, i, j)
 
-shown_pair : (plan : Plan) (x y : Event) (a b : CallAt) (owner key : ℕ) → a ≡ call_of plan x → b ≡ call_of plan y → first_event plan (call_of plan x) ≡ x → first_event plan (call_of plan y) ≡ y → KeyRace (first_event plan a) (first_event plan b) owner key ≡ KeyRace x y owner key
+shown_pair : (plan : Plan) (x y : Event) (a b : CallAt) (owner key : ℕ) → a ≡ call_of plan x → b ≡ call_of plan y → first_event plan (call_of plan x) ≡ x → first_event plan (call_of plan y) ≡ y →
+    KeyRace (first_event plan a) (first_event plan b) owner key ≡ KeyRace x y owner key
 shown_pair plan x y a b owner key first second x_stands y_stands =
     ap (λ v. KeyRace v (first_event plan b) owner key) (ap (first_event plan) first ∙ x_stands)
     ∙ ap (λ v. KeyRace x v owner key) (ap (first_event plan) second ∙ y_stands)
 
 -- how the race is shown
-pub shown_low : (plan : Plan) (x y : Event) (a b : CallAt) (owner key : ℕ) → IsKeyRace plan x y owner key → a ≡ call_of plan x → b ≡ call_of plan y → IsLower x y → IsRaceOf x y owner key (KeyRace (first_event plan a) (first_event plan b) owner key)
+pub shown_low : (plan : Plan) (x y : Event) (a b : CallAt) (owner key : ℕ) → IsKeyRace plan x y owner key → a ≡ call_of plan x → b ≡ call_of plan y → IsLower x y →
+    IsRaceOf x y owner key (KeyRace (first_event plan a) (first_event plan b) owner key)
 shown_low plan x y a b owner key r first second low = inl (low, shown_pair plan x y a b owner key first second (source_stands plan x y owner key r) (get_stands plan x y owner key r))
 
-pub shown_high : (plan : Plan) (x y : Event) (a b : CallAt) (owner key : ℕ) → IsKeyRace plan x y owner key → a ≡ call_of plan x → b ≡ call_of plan y → (IsLower x y → ⊥) → IsRaceOf x y owner key (KeyRace (first_event plan b) (first_event plan a) owner key)
+pub shown_high : (plan : Plan) (x y : Event) (a b : CallAt) (owner key : ℕ) → IsKeyRace plan x y owner key → a ≡ call_of plan x → b ≡ call_of plan y → (IsLower x y → ⊥) →
+    IsRaceOf x y owner key (KeyRace (first_event plan b) (first_event plan a) owner key)
 shown_high plan x y a b owner key r first second not_low =
     inr (one_lower x y (differ plan x y owner key r) not_low, shown_pair plan y x b a owner key second first (get_stands plan x y owner key r) (source_stands plan x y owner key r))
 
@@ -132,7 +135,8 @@ pub race_found : (plan : Plan) (x y : Event) (owner key : ℕ) (f : Finding) →
 race_found plan x y owner key f r (inl a) = subst (IsFound plan) (sym a.1) (a.0, inl r)
 race_found plan x y owner key f r (inr a) = subst (IsFound plan) (sym a.1) (a.0, inr r)
 
-pub adds_race : (plan : Plan) (old new : List Told) (x y : Event) (owner key : ℕ) (g : Finding) → IsKeyRace plan x y owner key → IsRaceOf x y owner key g → AreFound plan old → IsAdded plan old new g → Adds plan old new (IsRaceOf x y owner key)
+pub adds_race : (plan : Plan) (old new : List Told) (x y : Event) (owner key : ℕ) (g : Finding) → IsKeyRace plan x y owner key → IsRaceOf x y owner key g → AreFound plan old → IsAdded plan old new g →
+    Adds plan old new (IsRaceOf x y owner key)
 adds_race plan old new x y owner key g r is are told =
     adds_one plan old new (IsRaceOf x y owner key) g are (race_found plan x y owner key g r is) told is (λ f h. one_race x y owner key g f is h)
 
@@ -195,14 +199,16 @@ module _ (plan : Plan) (get : Event) (owner key : ℕ) (o : IsOpen plan get owne
     },
   )
 
-  pub adds_node : (old new : List Told) (commit : Event) → commit.proc ≡ owner → Stores plan commit key → IsUnordered plan commit get → Adds plan old new (IsRaceOf commit get owner key) → Adds plan old new (IsKeyRaceBy plan get)
+  pub adds_node : (old new : List Told) (commit : Event) → commit.proc ≡ owner → Stores plan commit key → IsUnordered plan commit get → Adds plan old new (IsRaceOf commit get owner key) →
+      Adds plan old new (IsKeyRaceBy plan get)
   adds_node old new commit p s u h =
       adds_same plan old new (IsRaceOf commit get owner key) (IsKeyRaceBy plan get)
       (λ f i. record { source = commit; owner = owner; key = key; race = node_race commit p s u; is = i })
       (λ f t. let n = only_node f t in subst (λ x. IsRaceOf x get owner key f) (stores_once plan n.source commit key (n.proc ∙ sym p) n.race.stores s) n.is)
       h
 
-  pub ordered_commit : (found : List Told) (commit : Event) → commit.proc ≡ owner → Stores plan commit key → (IsUnordered plan commit get → ⊥) → AreFound plan found → Adds plan found found (IsKeyRaceBy plan get)
+  pub ordered_commit : (found : List Told) (commit : Event) → commit.proc ≡ owner → Stores plan commit key → (IsUnordered plan commit get → ⊥) → AreFound plan found →
+      Adds plan found found (IsKeyRaceBy plan get)
   ordered_commit found commit p s never are =
       adds_none plan found (IsKeyRaceBy plan get) are (λ f t.
       let n = only_node f t in

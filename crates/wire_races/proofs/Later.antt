@@ -61,7 +61,8 @@ pub rewrite_by : (plan : Plan) (f : Finding) → OfKind plan IsOfRewrite f → (
 rewrite_by plan f k = (k.0.1, (k.0.0, subst (IsFound plan) k.0.2 k.1, k.0.2))
 
 -- the finding is added
-pub adds_rewrite : (plan : Plan) (old new : List Told) (x y : Event) (g : Finding) → IsRewrite plan x y → g ≡ Rewrite x y → AreFound plan old → IsAdded plan old new g → Adds plan old new (IsRewriteBy plan y)
+pub adds_rewrite : (plan : Plan) (old new : List Told) (x y : Event) (g : Finding) → IsRewrite plan x y → g ≡ Rewrite x y → AreFound plan old → IsAdded plan old new g →
+    Adds plan old new (IsRewriteBy plan y)
 adds_rewrite plan old new x y g r is are told =
     adds_one plan old new (IsRewriteBy plan y) g are (subst (IsFound plan) (sym is) r) told (x, r, is)
     (λ f t. t.2 ∙ ap (λ z. Rewrite z y) (one_first plan t.0 x y t.1 r) ∙ sym is)

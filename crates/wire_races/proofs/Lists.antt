@@ -80,7 +80,8 @@ in_front calls n k z le e = (
 )
 
 -- calls of processes up to that of the first one, the lower first, are of that process
-pub stretch : (plan : Plan) (name : ℕ) (calls : List CodeEvent) (n : ℕ) (x : CodeEvent) → n ≤ length calls → AreCallsOn plan name (map event_of calls) → slice_get calls 0 ≡ Some x → IsCut (λ z. z.proc ≤ x.proc.number) (map event_of calls) n → AreOf x.proc.number (map event_of (take n calls))
+pub stretch : (plan : Plan) (name : ℕ) (calls : List CodeEvent) (n : ℕ) (x : CodeEvent) → n ≤ length calls → AreCallsOn plan name (map event_of calls) → slice_get calls 0 ≡ Some x →
+    IsCut (λ z. z.proc ≤ x.proc.number) (map event_of calls) n → AreOf x.proc.number (map event_of (take n calls))
 stretch plan name calls n x le are first cut zero z e =
     let here = in_front calls n 0 z le e in
     ap (λ (v : Event). v.proc) (sym (same_Some (event_of x) z (sym (slice_get-map event_of calls 0 ∙ ap (option_map event_of) first) ∙ here.1)))

@@ -74,7 +74,9 @@ module _ (plan : Plan) (settled : IsSettled plan) (clocks : Clocks) (m : AreMark
   newest_at zero z i = absurd i
   newest_at (suc n) z i = go (slice_get us n) refl i (newest_at n z)
     where
-      go : (o : Option Update) → slice_get us n ≡ o → IsIn z (and_newest o (newest_first us n)) → (IsIn z (newest_first us n) → (k : ℕ) × (u : Update) × (k < n) × (slice_get us k ≡ Some u) × (event_of u.event ≡ z)) → (k : ℕ) × (u : Update) × (k < suc n) × (slice_get us k ≡ Some u) × (event_of u.event ≡ z)
+      go : (o : Option Update) → slice_get us n ≡ o → IsIn z (and_newest o (newest_first us n)) →
+          (IsIn z (newest_first us n) → (k : ℕ) × (u : Update) × (k < n) × (slice_get us k ≡ Some u) × (event_of u.event ≡ z)) → (k : ℕ) × (u : Update) × (k < suc n) × (slice_get us k ≡ Some u)
+          × (event_of u.event ≡ z)
       go None e i ih = let w = ih i in let lt = w.2 in (w.0, w.1, omega (arith, lt), w.3, w.4)
       go (Some u) e (inl same) ih = (n, u, omega arith, e, sym same)
       go (Some u) e (inr i) ih = let w = ih i in let lt = w.2 in (w.0, w.1, omega (arith, lt), w.3, w.4)

@@ -95,7 +95,8 @@ among_none name x calls from to f a = let ge = a.above in let lt = a.done in ome
 
 -- the race with one call more
 pub among_more : (plan : Plan) (name : ℕ) (x : Event) (calls : List Event) (from to k : ℕ) (z : Event) (old now new : List Told)
-    → slice_get calls k ≡ Some z → from ≤ k → k < to → IsFound plan (NameRace x z name) → Adds plan old now (IsAmong name x calls from to k) → IsAdded plan now new (NameRace x z name) → Adds plan old new (IsAmong name x calls from to (k + 1))
+    → slice_get calls k ≡ Some z → from ≤ k → k < to → IsFound plan (NameRace x z name) → Adds plan old now (IsAmong name x calls from to k) → IsAdded plan now new (NameRace x z name) →
+    Adds plan old new (IsAmong name x calls from to (k + 1))
 among_more plan name x calls from to k z old now new at ge lt is a told =
     adds_both plan old now new (IsAmong name x calls from to k) (λ f. f ≡ NameRace x z name) (IsAmong name x calls from to (k + 1))
     (λ f m. let done = m.done in record { j = m.j; z = m.z; at = m.at; above = m.above; below = m.below; done = omega (arith, done); is = m.is })
@@ -136,7 +137,8 @@ one_changes plan x y name (low, inl r) never = absurd (never r.x_writes)
 one_changes plan x y name (low, inr r) never = r.x_writes
 
 -- the calls between the borders race with x, and no others
-module _ (plan : Plan) (name : ℕ) (x : Event) (calls : List Event) (from to : ℕ) (on_name : calls_name plan name x (kind plan x) ≡ true) (live : Live plan x) (rivals : AreRivals plan name x calls) (first : IsCut (IsBelow plan x FirstNotBefore) calls from) (last : IsCut (IsBelow plan x FirstAfter) calls to) where
+module _ (plan : Plan) (name : ℕ) (x : Event) (calls : List Event) (from to : ℕ) (on_name : calls_name plan name x (kind plan x) ≡ true) (live : Live plan x) (rivals : AreRivals plan name x calls)
+    (first : IsCut (IsBelow plan x FirstNotBefore) calls from) (last : IsCut (IsBelow plan x FirstAfter) calls to) where
   unordered : (j : ℕ) (z : Event) → slice_get calls j ≡ Some z → from ≤ j → j < to → IsUnordered plan x z
   unordered j z at ge lt = let h = last.below j z lt at in record { live_x = live; live_y = h.0; not_before = h.1; not_after = first.above j z ge at }
 
@@ -205,7 +207,8 @@ with_either plan name x xs ys f r = elim (in_parts xs ys r.y r.there) [
   | inr i ↦ inr (record { y = r.y; there = i; is = r.is; found = r.found })
 ]
 
-pub less_left : (plan : Plan) (name : ℕ) (x : Event) (old now new : List Told) (all xs ys : List Event) → IsLeft plan name x old now all (xs ++ ys) → Adds plan now new (IsRaceWith plan name x xs) → IsLeft plan name x old new all ys
+pub less_left : (plan : Plan) (name : ℕ) (x : Event) (old now new : List Told) (all xs ys : List Event) → IsLeft plan name x old now all (xs ++ ys) → Adds plan now new (IsRaceWith plan name x xs) →
+    IsLeft plan name x old new all ys
 less_left plan name x old now new all xs ys left a f = (
   (λ s. elim s [
     | inl h ↦ elim (a.only f h) [ inl was ↦ (left f).0 (inl was) | inr r ↦ (left f).0 (inr (with_first plan name x xs ys f r)) ]

@@ -3,7 +3,8 @@ use Rattle.std.proofs.Common.{◌≡◌, inl, inr, ℕ, zero, suc, ◌+◌, ◌-
 use Rattle.std.specs.Prelude.{slice_get, option_map, if◌then◌else◌}
 use Rattle.std.proofs.lemmas.Option.{slice_get-map}
 use Rattle.std.proofs.lemmas.Bool.{true≢false, cases_lt, cond_both, eqb-true}
-use Rattle.wire_runs.specs.Plan.{Plan, Event, Kind, Call, kinds_of, set_of, kind, kind_at, kinds, process_kinds, CallPut, CallGet, CallGetNow, CallPublish, CallLookup, CallLookupWait, CallUnpublish, CallFixed}
+use Rattle.wire_runs.specs.Plan.{Plan, Event, Kind, Call, kinds_of, set_of, kind, kind_at, kinds, process_kinds, CallPut, CallGet, CallGetNow, CallPublish, CallLookup, CallLookupWait, CallUnpublish}
+use Rattle.wire_runs.specs.Plan.{CallFixed}
 use Rattle.wire_runs.specs.Plan as plan
 use Rattle.wire_types.specs.declared.Call.{Call as Written}
 use Rattle.wire_types.specs.declared.Call.TheVariants.{Put, Commit, Fence, Get, GetNow, Publish, Lookup, LookupWait, Unpublish}
@@ -25,7 +26,8 @@ module _ (s : Scripts) (name : ℕ) (x : Event) where
   the_one e zero h = h
   the_one e (suc i) h = absurd (true≢false (sym h))
 
-  unless_named : (reserved : Bool) (reply : Reply) (call : Call) (e : Kind) (i : ℕ) → kinds_of (call ∷ []) ≡ e ∷ [] → on_it (slice_get (kinds_of ((if reserved then CallFixed reply else call) ∷ [])) i) ≡ true → on_it (Some e) ≡ true
+  unless_named : (reserved : Bool) (reply : Reply) (call : Call) (e : Kind) (i : ℕ) → kinds_of (call ∷ []) ≡ e ∷ [] →
+      on_it (slice_get (kinds_of ((if reserved then CallFixed reply else call) ∷ [])) i) ≡ true → on_it (Some e) ≡ true
   unless_named reserved reply call e i is =
       cond_both reserved (CallFixed reply) call (λ c. on_it (slice_get (kinds_of (c ∷ [])) i) ≡ true → on_it (Some e) ≡ true)
       (λ t h. absurd (true≢false (sym (the_one (plan.Fixed reply) i h))))
@@ -43,7 +45,8 @@ module _ (s : Scripts) (name : ℕ) (x : Event) where
   written_name (LookupWait n) i h = ap Some (eqb-true n name (unless_named _ _ (CallLookupWait n) (plan.LookupWait n) i refl h))
   written_name (Unpublish n) i h = ap Some (eqb-true n name (unless_named _ _ (CallUnpublish n) (plan.Unpublish n) i refl h))
 
-  written_call : (calls : List Written) (i : ℕ) → on_it (slice_get (kinds_of (map (planned_call s) calls)) i) ≡ true → (c : ℕ) × (call : Written) × (slice_get calls c ≡ Some call) × (name_in call ≡ Some name)
+  written_call : (calls : List Written) (i : ℕ) → on_it (slice_get (kinds_of (map (planned_call s) calls)) i) ≡ true → (c : ℕ) × (call : Written) × (slice_get calls c ≡ Some call)
+      × (name_in call ≡ Some name)
   written_call [] i h = absurd (true≢false (sym h))
   written_call (call ∷ calls) i h =
       let parts = events_first (planned_call s call) (map (planned_call s) calls) in

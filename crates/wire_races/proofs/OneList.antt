@@ -91,7 +91,8 @@ same_told plan (told_as.KeyRace v w p k) (told_as.NameRace x y m) a b e = cc
 same_told plan (told_as.NameRace v w n) (told_as.Rewrite x y) a b e = cc
 same_told plan (told_as.NameRace v w n) (told_as.KeyRace x y q l) a b e = cc
 
-same_list : (plan : Plan) (xs ys : List Told) → ((f : Finding) → Has (all_shown plan xs) f → IsFound plan f) → ((f : Finding) → Has (all_shown plan ys) f → IsFound plan f) → all_shown plan xs ≡ all_shown plan ys → xs ≡ ys
+same_list : (plan : Plan) (xs ys : List Told) → ((f : Finding) → Has (all_shown plan xs) f → IsFound plan f) → ((f : Finding) → Has (all_shown plan ys) f → IsFound plan f) →
+    all_shown plan xs ≡ all_shown plan ys → xs ≡ ys
 same_list plan [] [] a b e = refl
 same_list plan [] (y ∷ ys) a b e = cc
 same_list plan (x ∷ xs) [] a b e = cc

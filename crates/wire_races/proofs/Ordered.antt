@@ -86,14 +86,16 @@ lower_self x y e (inl lt) = let p = ap (λ (z : Event). z.proc) e in omega (arit
 lower_self x y e (inr h) = let i = ap (λ (z : Event). z.at) e in let lt = h.1 in omega (arith, lt, i)
 
 module _ (plan : Plan) (lower_name : ℕ → ℕ → Bool) where
-  pair_lower : (f g : Told) → IsFound plan (shown plan f) → ordering_then (call_cmp (low_call f) (low_call g)) (call_cmp (high_call f) (high_call g)) ≡ Less → IsPairLower (first_event plan (low_call f)) (first_event plan (high_call f)) (first_event plan (low_call g)) (first_event plan (high_call g))
+  pair_lower : (f g : Told) → IsFound plan (shown plan f) → ordering_then (call_cmp (low_call f) (low_call g)) (call_cmp (high_call f) (high_call g)) ≡ Less →
+      IsPairLower (first_event plan (low_call f)) (first_event plan (high_call f)) (first_event plan (low_call g)) (first_event plan (high_call g))
   pair_lower f g a e = elim (less_either (call_cmp (low_call f) (low_call g)) (call_cmp (high_call f) (high_call g)) e) [
     | inl l ↦ inl (call_lower plan (low_call f) (low_call g) (shown_low plan f f refl a) l)
     | inr l ↦ inr (ap (first_event plan) (call_one (low_call f) (low_call g) l.0), call_lower plan (high_call f) (high_call g) (shown_high plan f f refl a) l.1)
   ]
 
   -- rewrites stand by the later put: it has one first put
-  rewrite_lower : (v w x y : CallAt) → IsFound plan (shown plan (Rewrite v w)) → IsFound plan (shown plan (Rewrite x y)) → ordering_then (call_cmp w y) (call_cmp v x) ≡ Less → IsLower (first_event plan w) (first_event plan y)
+  rewrite_lower : (v w x y : CallAt) → IsFound plan (shown plan (Rewrite v w)) → IsFound plan (shown plan (Rewrite x y)) → ordering_then (call_cmp w y) (call_cmp v x) ≡ Less →
+      IsLower (first_event plan w) (first_event plan y)
   rewrite_lower v w x y a b e = elim (less_either (call_cmp w y) (call_cmp v x) e) [
     | inl l ↦ call_lower plan w y (shown_high plan (Rewrite v w) (Rewrite v w) refl a) l
     | inr l ↦ (
@@ -114,7 +116,8 @@ module _ (plan : Plan) (lower_name : ℕ → ℕ → Bool) where
   sooner (NameRace v w n) (KeyRace x y q l) a b e = pair_lower (NameRace v w n) (KeyRace x y q l) a e
   sooner (NameRace v w n) (NameRace x y m) a b e = inl (pair_lower (NameRace v w n) (NameRace x y m) a e)
 
-  first_sooner : (f : Told) (fs : List Told) → IsFound plan (shown plan f) → AreFound plan fs → AllByRecursion (λ g. on standing standing_cmp f g ≡ Less) fs → (g : Finding) → Tells plan fs g → IsSooner lower_name (shown plan f) g
+  first_sooner : (f : Told) (fs : List Told) → IsFound plan (shown plan f) → AreFound plan fs → AllByRecursion (λ g. on standing standing_cmp f g ≡ Less) fs → (g : Finding) → Tells plan fs g →
+      IsSooner lower_name (shown plan f) g
   first_sooner f [] a found all g h = absurd h
   first_sooner f (x ∷ fs) a found all g (inl is) = subst (λ t. IsSooner lower_name (shown plan f) t) (sym is) (sooner f x a (found (shown plan x) (inl refl)) all.0)
   first_sooner f (x ∷ fs) a found all g (inr h) = first_sooner f fs a (λ t i. found t (inr i)) all.1 g h

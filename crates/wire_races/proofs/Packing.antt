@@ -44,7 +44,8 @@ all_more old new (entry ∷ entries) more within =
     λ t. first t ∷ rest t
 
 -- a finding more
-pub one_more : (old new : List Subject) (entries : List Packed) (entry : Packed) (finding : Told) → HasMore old new → AreWithin old entries → told_by new entry ≡ finding → all_told_by new (entries ++ entry ∷ []) ≡ all_told_by old entries ++ finding ∷ []
+pub one_more : (old new : List Subject) (entries : List Packed) (entry : Packed) (finding : Told) → HasMore old new → AreWithin old entries → told_by new entry ≡ finding →
+    all_told_by new (entries ++ entry ∷ []) ≡ all_told_by old entries ++ finding ∷ []
 one_more old new entries entry finding more within is =
     let before = all_more old new entries more within in
     map-append (told_by new) entries (entry ∷ []) ∙ (λ t. before t ++ is t ∷ [])

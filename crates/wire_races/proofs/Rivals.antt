@@ -70,7 +70,8 @@ abbrev pub IsWriterBelow : Plan → ℕ → List Event → ℕ → Event → Typ
 IsWriterBelow plan name calls k z = (j : ℕ) × (j < k) × (slice_get calls j ≡ Some z) × (writes_name plan name z (kind plan z) ≡ true)
 
 module _ (plan : Plan) (name : ℕ) (calls : List Event) (are : AreNameCalls plan name calls) where
-  pub one_writer : (k m : ℕ) (writers : List Event) (x : Event) → m ≡ suc k → slice_get calls k ≡ Some x → writes_name plan name x (kind plan x) ≡ true → AreAll (IsWriterBelow plan name calls k) writers → AreAll (IsWriterBelow plan name calls m) (writers ++ x ∷ [])
+  pub one_writer : (k m : ℕ) (writers : List Event) (x : Event) → m ≡ suc k → slice_get calls k ≡ Some x → writes_name plan name x (kind plan x) ≡ true →
+      AreAll (IsWriterBelow plan name calls k) writers → AreAll (IsWriterBelow plan name calls m) (writers ++ x ∷ [])
   one_writer k m writers x one at writes =
       all_and_one (IsWriterBelow plan name calls k) (IsWriterBelow plan name calls m) writers x
       (λ z w. are.rising w.0 k z x w.1 w.2 at)
@@ -81,7 +82,8 @@ module _ (plan : Plan) (name : ℕ) (calls : List Event) (are : AreNameCalls pla
         | inr other ↦ inl (let lt = w.1 in (w.0, omega (arith, lt, one, other), w.2, w.3))
       ])
 
-  pub no_writer : (k m : ℕ) (writers : List Event) (x : Event) → m ≡ suc k → slice_get calls k ≡ Some x → (writes_name plan name x (kind plan x) ≡ true → ⊥) → AreAll (IsWriterBelow plan name calls k) writers → AreAll (IsWriterBelow plan name calls m) writers
+  pub no_writer : (k m : ℕ) (writers : List Event) (x : Event) → m ≡ suc k → slice_get calls k ≡ Some x → (writes_name plan name x (kind plan x) ≡ true → ⊥) →
+      AreAll (IsWriterBelow plan name calls k) writers → AreAll (IsWriterBelow plan name calls m) writers
   no_writer k m writers x one at never =
       all_same (IsWriterBelow plan name calls k) (IsWriterBelow plan name calls m) writers
       (λ z w. let lt = w.1 in (w.0, omega (arith, lt, one), w.2, w.3))

@@ -37,7 +37,8 @@ piece_of plan those old new empty h = record {
 }
 
 -- one piece more
-pub some_more : (plan : Plan) (done : List (List Told)) (piece : List Told) (old now new : List Told) → Adds plan old now (IsInSome plan done) → Adds plan now new (Tells plan piece) → Adds plan old new (IsInSome plan (done ++ piece ∷ []))
+pub some_more : (plan : Plan) (done : List (List Told)) (piece : List Told) (old now new : List Told) → Adds plan old now (IsInSome plan done) → Adds plan now new (Tells plan piece) →
+    Adds plan old new (IsInSome plan (done ++ piece ∷ []))
 some_more plan done piece old now new =
     adds_both plan old now new (IsInSome plan done) (Tells plan piece) (IsInSome plan (done ++ piece ∷ []))
     (λ f t. (t.0, t.1, in_front done piece t.0 t.1 t.2, t.3))
@@ -74,7 +75,8 @@ pieces_added plan n those kind pieces old new there back are h =
     h)
 
 -- the pieces of the processes tell all races on keys
-pub key_pieces_added : (plan : Plan) (pieces : List (List Told)) (old new : List Told) → ArePieces plan (process_count plan) (IsKeyRaceOf plan) pieces → Adds plan old new (IsInSome plan pieces) → AllAdded plan IsOfKey old new
+pub key_pieces_added : (plan : Plan) (pieces : List (List Told)) (old new : List Told) → ArePieces plan (process_count plan) (IsKeyRaceOf plan) pieces → Adds plan old new (IsInSome plan pieces) →
+    AllAdded plan IsOfKey old new
 key_pieces_added plan pieces old new =
     pieces_added plan (process_count plan) (IsKeyRaceOf plan) IsOfKey pieces old new
     (λ k f t. race_told plan t.0 f t.1)
@@ -83,7 +85,8 @@ key_pieces_added plan pieces old new =
     (by.0.proc, race_below plan by.0 f by.1, (by.0, by.1, refl, race_within plan by.0 f by.1)))
 
 -- the pieces of the names tell all races on names
-pub name_pieces_added : (s : Scripts) → IsSound s → (pieces : List (List Told)) (old new : List Told) → ArePieces (plan_of s) (length s.names) (IsRaceOn (plan_of s)) pieces → Adds (plan_of s) old new (IsInSome (plan_of s) pieces) → AllAdded (plan_of s) IsOfName old new
+pub name_pieces_added : (s : Scripts) → IsSound s → (pieces : List (List Told)) (old new : List Told) → ArePieces (plan_of s) (length s.names) (IsRaceOn (plan_of s)) pieces →
+    Adds (plan_of s) old new (IsInSome (plan_of s) pieces) → AllAdded (plan_of s) IsOfName old new
 name_pieces_added s sound pieces old new =
     let plan = plan_of s in
     pieces_added plan (length s.names) (IsRaceOn plan) IsOfName pieces old new

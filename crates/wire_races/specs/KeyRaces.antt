@@ -116,4 +116,5 @@ pub record IsArrivalFrom (plan : Plan) (p key node from : ℕ) (e : CodeEvent) :
   pub others : (at : ℕ) → from ≤ at → at < e.at → ¬ (IsDelivering plan p key node at)
 
 abbrev pub IsNextArrival : Plan → ℕ → ℕ → ℕ → ℕ → Option CodeEvent → Type 0
-IsNextArrival plan p key node from found = MatchOption found ((at : ℕ) → from ≤ at → ¬ (IsDelivering plan p key node at)) (λ e. IsArrivalFrom plan p key node from e)
+IsNextArrival plan p key node from found = MatchOption found ((at : ℕ) → from ≤ at → ¬ (IsDelivering plan p key node at))
+    (λ e. IsArrivalFrom plan p key node from e)

@@ -46,7 +46,8 @@ IsStretch calls = (p : ℕ) × AreOf p calls
 pub record AreRivals (plan : Plan) (name : ℕ) (x : Event) (calls : List Event) : Type 0 where
   pub calls_on : AreCallsOn plan name calls
   pub higher : (k : ℕ) (z : Event) → slice_get calls k ≡ Some z → x.proc < z.proc
-  pub change : (k : ℕ) (z : Event) → slice_get calls k ≡ Some z → (writes_name plan name x (kind plan x) ≡ true) ⊎ (writes_name plan name z (kind plan z) ≡ true)
+  pub change : (k : ℕ) (z : Event) → slice_get calls k ≡ Some z → (writes_name plan name x (kind plan x) ≡ true)
+      ⊎ (writes_name plan name z (kind plan z) ≡ true)
 
 -- each higher call that races with x is among these
 abbrev pub HasRivals : Plan → ℕ → Event → List Event → Type 0

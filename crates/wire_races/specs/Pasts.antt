@@ -37,7 +37,8 @@ GivesGetNow plan y owner key reply = (s : State) → HasBefore plan y s → Give
 
 -- the reply gives what the owner's server shows on its node in y's past
 abbrev pub GivesServed : Plan → Event → ℕ → ℕ → Reply → Type 0
-GivesServed plan y owner key reply = (s : State) → HasBefore plan y s → GivesSight plan owner (served plan owner true (stored plan owner key (s.done owner))) reply
+GivesServed plan y owner key reply = (s : State) → HasBefore plan y s →
+    GivesSight plan owner (served plan owner true (stored plan owner key (s.done owner))) reply
 
 -- the reply gives what fences have brought to the node of y in its past
 abbrev pub GivesBrought : Plan → Event → ℕ → ℕ → Reply → Type 0

@@ -8,7 +8,9 @@ ghost use Rattle.wire_races.specs.Fates.{IsFateOf};
 ghost use Rattle.wire_races.specs.Pasts.{IsFateInPast};
 
 use crate::key_fates::{get_now_reply, get_reply};
-use crate::name_fates::{lookup_reply, publish_reply, standing_publish, unpublish_reply, waiting_fate};
+use crate::name_fates::{
+    lookup_reply, publish_reply, standing_publish, unpublish_reply, waiting_fate,
+};
 use wire_marks::MarkedPlan;
 use wire_plan::Kind;
 use wire_types::{Event, Reply, Status};
@@ -39,7 +41,10 @@ fn live_fate(marked: &MarkedPlan<'_>, event: Event) -> Fate
         Kind::Get { owner, key } => Fate::Says(get_reply(plan, event, owner, key)),
         Kind::GetNow { owner, key } => Fate::Says(get_now_reply(marked, event, owner, key)),
         Kind::Publish { name } => Fate::Says(publish_reply(standing_publish(marked, event, name))),
-        Kind::Lookup { name } => Fate::Says(lookup_reply(plan, standing_publish(marked, event, name))),
+        Kind::Lookup { name } => Fate::Says(lookup_reply(
+            plan,
+            standing_publish(marked, event, name),
+        )),
         Kind::LookupWait { name } => waiting_fate(plan, standing_publish(marked, event, name)),
         Kind::Unpublish { name } => Fate::Says(unpublish_reply(
             standing_publish(marked, event, name),

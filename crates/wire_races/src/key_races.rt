@@ -15,7 +15,8 @@ ghost use Rattle.wire_races.specs.Collected.{AreFound};
 ghost use Rattle.wire_races.specs.FindingKinds.{IsOfKey, AllAdded};
 ghost use Rattle.wire_races.specs.Adding.{Adds, ToldIn};
 ghost use Rattle.wire_races.specs.Pieces.{IsPiece, ArePieces};
-ghost use Rattle.wire_races.specs.KeyRaces.{IsRaceOf, IsKeyRaceBy, IsKeyRaceOf, IsOpen, Arrives, IsBehindOwn, IsSure, MayBeLate, IsLate, IsLateBy, AreLateBelow, AllLive, NoneAfter, IsFirstLate, IsUnsure, IsNextArrival};
+ghost use Rattle.wire_races.specs.KeyRaces.{IsRaceOf, IsKeyRaceBy, IsKeyRaceOf, IsOpen, Arrives, IsBehindOwn, IsSure, MayBeLate, IsLate, IsLateBy};
+ghost use Rattle.wire_races.specs.KeyRaces.{AreLateBelow, AllLive, NoneAfter, IsFirstLate, IsUnsure, IsNextArrival};
 
 use crate::finding::Finding;
 use crate::found::Found;
@@ -100,7 +101,8 @@ fn end_of(plan: &Plan, arrival: Event) -> Event
     requires { Arrives (plan_of plan.now) (event_of arrival) }
     ensures proc { result.proc ≡ arrival.proc }
     ensures next { result.at ≡ suc arrival.at }
-    ensures leave { (members : List ℕ) (j : ℕ) → IsArrival (plan_of plan.now) members j (event_of arrival) → kind (plan_of plan.now) (event_of result) ≡ Some (Leave members) }
+    ensures leave { (members : List ℕ) (j : ℕ) → IsArrival (plan_of plan.now) members j (event_of arrival) →
+        kind (plan_of plan.now) (event_of result) ≡ Some (Leave members) }
 {
     // Scripts are sound, so the numbers of their events fit.
     let _ = plan.scripts();
@@ -113,7 +115,8 @@ fn end_of(plan: &Plan, arrival: Event) -> Event
 /// The arrivals at the fence of an arrival, in process order.
 fn all_arrivals(plan: &Plan, arrival: Event) -> &[Event]
     requires { Arrives (plan_of plan.now) (event_of arrival) }
-    ensures { (members : List ℕ) (j : ℕ) → IsArrival (plan_of plan.now) members j (event_of arrival) → AreArrivals (plan_of plan.now) members j (map event_of result.now) }
+    ensures { (members : List ℕ) (j : ℕ) → IsArrival (plan_of plan.now) members j (event_of arrival) →
+        AreArrivals (plan_of plan.now) members j (map event_of result.now) }
 {
     plan.sources(end_of(plan, arrival)).arrivals
 }
@@ -207,7 +210,8 @@ fn may_be_late(plan: &Plan, marks: &Marks, get_now: Event, arrival: Event) -> bo
 fn late_source(plan: &Plan, marks: &Marks, get_now: Event, arrival: Event) -> Option<Event>
     requires marks { AreMarks (plan_of plan.now) marks.now }
     requires may { MayBeLate (plan_of plan.now) (event_of get_now) (event_of arrival) }
-    ensures { MatchOption result ((x : runs.Event) → IsLate (plan_of plan.now) (event_of get_now) (event_of arrival) x → ⊥) (λ x. IsLate (plan_of plan.now) (event_of get_now) (event_of arrival) (event_of x)) }
+    ensures { MatchOption result ((x : runs.Event) → IsLate (plan_of plan.now) (event_of get_now) (event_of arrival) x → ⊥)
+        (λ x. IsLate (plan_of plan.now) (event_of get_now) (event_of arrival) (event_of x)) }
 {
     first_not_before(marks, all_arrivals(plan, arrival), get_now)
 }
@@ -248,7 +252,8 @@ fn add_late(
     requires may { MayBeLate (plan_of plan.now) (event_of asked.get_now) (event_of arrival) }
     requires proc { arrival.proc ≡ asked.owner }
     requires delivers { IsDelivering (plan_of plan.now) asked.owner.number asked.key (node_of (plan_of plan.now) asked.get_now.proc.number) arrival.at }
-    ensures { OnOk result (Adds (plan_of plan.now) found.old found.new (IsLateBy (plan_of plan.now) (event_of asked.get_now) asked.owner.number asked.key (node_of (plan_of plan.now) asked.get_now.proc.number) arrival.at)) }
+    ensures { OnOk result (Adds (plan_of plan.now) found.old found.new
+        (IsLateBy (plan_of plan.now) (event_of asked.get_now) asked.owner.number asked.key (node_of (plan_of plan.now) asked.get_now.proc.number) arrival.at)) }
 {
     match late_source(plan, marks, asked.get_now, arrival) {
         Some(source) => add_race(plan, found, source, asked),
@@ -270,7 +275,9 @@ fn add_all_late(
     requires found { AreFound (plan_of plan.now) found.old }
     requires late { IsUnsure (plan_of plan.now) (event_of asked.get_now) asked.owner.number asked.key }
     requires node { node ≡ node_of (plan_of plan.now) asked.get_now.proc.number }
-    ensures { OnOk result (Adds (plan_of plan.now) found.old found.new (AreLateBelow (plan_of plan.now) (event_of asked.get_now) asked.owner.number asked.key (node_of (plan_of plan.now) asked.get_now.proc.number) (event_count (plan_of plan.now) asked.owner.number))) }
+    ensures { OnOk result (Adds (plan_of plan.now) found.old found.new
+        (AreLateBelow (plan_of plan.now) (event_of asked.get_now) asked.owner.number asked.key (node_of (plan_of plan.now) asked.get_now.proc.number)
+        (event_count (plan_of plan.now) asked.owner.number))) }
 {
     let count = plan.event_count(asked.owner);
     let mut from = 0;
@@ -366,7 +373,8 @@ fn add_event(plan: &Plan, marks: &Marks, found: &mut Found, event: Event) -> Res
 fn add_process(plan: &Plan, marks: &Marks, found: &mut Found, proc: Proc) -> Result<(), AllocError>
     requires marks { AreMarks (plan_of plan.now) marks.now }
     requires found { AreFound (plan_of plan.now) found.old }
-    ensures { OnOk result (Adds (plan_of plan.now) found.old found.new (ToldIn (IsKeyRaceBy (plan_of plan.now)) proc.number (event_count (plan_of plan.now) proc.number))) }
+    ensures { OnOk result (Adds (plan_of plan.now) found.old found.new
+        (ToldIn (IsKeyRaceBy (plan_of plan.now)) proc.number (event_count (plan_of plan.now) proc.number))) }
 {
     for at in 0..plan.event_count(proc) {
         add_event(plan, marks, found, Event { proc, at })?;

@@ -12,7 +12,8 @@ use std::alloc::AllocError;
 
 /// Adds the findings of all pieces. The one error is that memory ran out.
 pub(crate) fn add_pieces(found: &mut Found, pieces: Vec<Found>) -> Result<(), AllocError>
-    ensures { OnOk result ((plan : runs.Plan) → AreFound plan found.old → AreAllFound plan pieces.items → Adds plan found.old found.new (IsInSome plan pieces.items)) }
+    ensures { OnOk result ((plan : runs.Plan) → AreFound plan found.old → AreAllFound plan pieces.items →
+        Adds plan found.old found.new (IsInSome plan pieces.items)) }
 {
     for piece in pieces {
         found.append(piece)?;

@@ -19,7 +19,8 @@ use wire_types::{Event, Proc};
 /// The first put of the key that an event of the plan puts again.
 fn first_put_before(plan: &Plan, event: Event) -> Option<Event>
     requires { event.at < event_count (plan_of plan.now) event.proc.number }
-    ensures { MatchOption result ((x : runs.Event) → IsRewrite (plan_of plan.now) x (event_of event) → ⊥) (λ x. IsRewrite (plan_of plan.now) (event_of x) (event_of event)) }
+    ensures { MatchOption result ((x : runs.Event) → IsRewrite (plan_of plan.now) x (event_of event) → ⊥)
+        (λ x. IsRewrite (plan_of plan.now) (event_of x) (event_of event)) }
 {
     match plan.kind(event) {
         Kind::Put { key, .. } => match plan.first_put(event.proc, key) {
@@ -48,7 +49,8 @@ fn add_rewrite(plan: &Plan, found: &mut Found, event: Event) -> Result<(), Alloc
 /// Adds the rewrites of a process.
 fn add_process(plan: &Plan, found: &mut Found, proc: Proc) -> Result<(), AllocError>
     requires { AreFound (plan_of plan.now) found.old }
-    ensures { OnOk result (Adds (plan_of plan.now) found.old found.new (ToldIn (IsRewriteBy (plan_of plan.now)) proc.number (event_count (plan_of plan.now) proc.number))) }
+    ensures { OnOk result (Adds (plan_of plan.now) found.old found.new
+        (ToldIn (IsRewriteBy (plan_of plan.now)) proc.number (event_count (plan_of plan.now) proc.number))) }
 {
     for at in 0..plan.event_count(proc) {
         add_rewrite(plan, found, Event { proc, at })?;

@@ -6,7 +6,9 @@ use Rattle.wire_content.specs.Scripts.{Scripts, Process}
 use Rattle.wire_report.specs.Report.{call_line, lines_from, all_lines}
 
 -- one more line of a process, of its call number i from 0
-pub one_line : (scripts : Scripts) (process : Process) (i n n' : ℕ) (call : Call) (end : CallEnd) (calls calls' : List Call) (ends ends' : List CallEnd) (out out' all : List ℕ) → calls ≡ call ∷ calls' → ends ≡ end ∷ ends' → i ≡ n → n' ≡ n + 1 → out ++ lines_from scripts process (n + 1) calls ends ≡ all → out' ≡ out ++ call_line scripts process (i + 1) call end → out' ++ lines_from scripts process (n' + 1) calls' ends' ≡ all
+pub one_line : (scripts : Scripts) (process : Process) (i n n' : ℕ) (call : Call) (end : CallEnd) (calls calls' : List Call) (ends ends' : List CallEnd) (out out' all : List ℕ) →
+    calls ≡ call ∷ calls' → ends ≡ end ∷ ends' → i ≡ n → n' ≡ n + 1 → out ++ lines_from scripts process (n + 1) calls ends ≡ all → out' ≡ out ++ call_line scripts process (i + 1) call end → out'
+    ++ lines_from scripts process (n' + 1) calls' ends' ≡ all
 one_line scripts process i n n' call end calls calls' ends ends' out out' all first second now next before written =
     rw (next, written, now)
     (append_assoc out (call_line scripts process (n + 1) call end) (lines_from scripts process ((n + 1) + 1) calls' ends')
@@ -18,7 +20,8 @@ lines_after scripts process n [] = refl
 lines_after scripts process n (call ∷ calls) = refl
 
 -- no line is left where no call or no end is left
-pub no_line : (scripts : Scripts) (process : Process) (n : ℕ) (calls : List Call) (ends : List CallEnd) (out all : List ℕ) → (calls ≡ []) ⊎ (ends ≡ []) → out ++ lines_from scripts process n calls ends ≡ all → out ≡ all
+pub no_line : (scripts : Scripts) (process : Process) (n : ℕ) (calls : List Call) (ends : List CallEnd) (out all : List ℕ) → (calls ≡ []) ⊎ (ends ≡ []) → out
+    ++ lines_from scripts process n calls ends ≡ all → out ≡ all
 no_line scripts process n calls ends out all none before =
     sym (append-nil out)
     ∙ ap (λ t. out ++ t) (sym (elim none [ inl e ↦ ap (λ t. lines_from scripts process n t ends) e | inr e ↦ ap (λ t. lines_from scripts process n calls t) e ∙ lines_after scripts process n calls ]))
@@ -29,7 +32,8 @@ rows_after scripts [] = refl
 rows_after scripts (process ∷ processes) = refl
 
 -- no line is left where no process or no row is left
-pub no_row : {R : Type 0} (scripts : Scripts) (processes : List Process) (f : R → List CallEnd) (rows : List R) (out all : List ℕ) → (processes ≡ []) ⊎ (rows ≡ []) → out ++ all_lines scripts processes (map f rows) ≡ all → out ≡ all
+pub no_row : {R : Type 0} (scripts : Scripts) (processes : List Process) (f : R → List CallEnd) (rows : List R) (out all : List ℕ) → (processes ≡ []) ⊎ (rows ≡ []) → out
+    ++ all_lines scripts processes (map f rows) ≡ all → out ≡ all
 no_row scripts processes f rows out all none before =
     sym (append-nil out)
     ∙ ap (λ t. out ++ t) (sym (elim none [ inl e ↦ ap (λ t. all_lines scripts t (map f rows)) e | inr e ↦ ap (λ t. all_lines scripts processes (map f t)) e ∙ rows_after scripts processes ]))

@@ -1,5 +1,6 @@
 -- How long the lines of findings are at most.
-use Rattle.std.proofs.Common.{◌≡◌, ◌∙◌, ap, refl, codes, ◌++◌, ℕ, ◌+◌, ◌*◌, ◌<◌, ◌≤◌, ◌==◌, ◌^◌, ◌∷◌, take, length, Option, Some, None, decimal, slice_get, length-append, length-take, arith, ◌⊎◌, inl, inr}
+use Rattle.std.proofs.Common.{◌≡◌, ◌∙◌, ap, refl, codes, ◌++◌, ℕ, ◌+◌, ◌*◌, ◌<◌, ◌≤◌, ◌==◌, ◌^◌, ◌∷◌, take, length, Option, Some, None, decimal, slice_get, length-append, length-take, arith, ◌⊎◌}
+use Rattle.std.proofs.Common.{inl, inr}
 use Rattle.std.proofs.lemmas.Bool.{cases_lt}
 use Rattle.std.proofs.lemmas.Fmt.{length-decimal-le}
 use Rattle.std.proofs.lemmas.Option.{slice_get_past}
@@ -36,7 +37,8 @@ rank_small s sound p process there =
     omega (arith, sound.ranked.ranks p process there, some, length-take p s.processes, sound.counted.few_processes)
 
 -- and a rank has at most 10
-pub process_short : (s : Scripts) → IsSound s → (p : ℕ) (process : Process) → slice_get s.processes p ≡ Some process → length (text_of_process s (Some process)) ≤ length (text_at s.jobs process.job) + 11
+pub process_short : (s : Scripts) → IsSound s → (p : ℕ) (process : Process) → slice_get s.processes p ≡ Some process →
+    length (text_of_process s (Some process)) ≤ length (text_at s.jobs process.job) + 11
 process_short s sound p process there =
     let rank : process.rank < 2 ^ 31 = rank_small s sound p process there in
     let digits : length (decimal process.rank) ≤ 10 = length-decimal-le 10 process.rank (omega arith) (omega arith) (omega arith) in
@@ -63,9 +65,19 @@ rewrite_short s room first later fits small =
     let key : length (put_key_text s (call_at s.processes later.proc.number later.call)) ≤ fits.longest = put_key_short s fits.longest (call_at s.processes later.proc.number later.call) fits.keys in
     simp length-append (omega (arith, fits.enough, fits.processes first.proc.number, call_digits first small.0, call_digits later small.1))
 
-key_race_short : (s : Scripts) (room : ℕ) (lower higher : CallAt) (owner : Proc) (key : ℕ) → FitsWords s room → AreNumbered lower higher → length (finding_line s (KeyRace lower higher owner key)) ≤ room
+key_race_short : (s : Scripts) (room : ℕ) (lower higher : CallAt) (owner : Proc) (key : ℕ) → FitsWords s room → AreNumbered lower higher →
+    length (finding_line s (KeyRace lower higher owner key)) ≤ room
 key_race_short s room lower higher owner key fits small =
-    simp length-append (omega (arith, fits.enough, fits.processes lower.proc.number, call_digits lower small.0, fits.processes higher.proc.number, call_digits higher small.1, fits.processes owner.number, fits.keys key))
+    simp length-append (omega (
+      arith,
+      fits.enough,
+      fits.processes lower.proc.number,
+      call_digits lower small.0,
+      fits.processes higher.proc.number,
+      call_digits higher small.1,
+      fits.processes owner.number,
+      fits.keys key,
+    ))
 
 name_race_short : (s : Scripts) (room : ℕ) (lower higher : CallAt) (name : ℕ) → FitsWords s room → AreNumbered lower higher → length (finding_line s (NameRace lower higher name)) ≤ room
 name_race_short s room lower higher name fits small =
@@ -98,7 +110,8 @@ pub count_short : (s : Scripts) (room count : ℕ) → HoldsAnyLine s room → r
 count_short s room count holds fits = holds.last count (few_lines room count (some_room s room holds) fits)
 
 -- the words of all processes before the next, and those of the next
-pub one_more_process : (s : Scripts) (i old new : ℕ) (process : Process) → IsSound s → slice_get s.processes i ≡ Some process → ((p : ℕ) → p < i → length (name_of s p) ≤ old) → old ≤ new → length (text_at s.jobs process.job) + 11 ≤ new
+pub one_more_process : (s : Scripts) (i old new : ℕ) (process : Process) → IsSound s → slice_get s.processes i ≡ Some process → ((p : ℕ) → p < i → length (name_of s p) ≤ old) → old ≤ new →
+    length (text_at s.jobs process.job) + 11 ≤ new
     → (p : ℕ) → p < i + 1 → length (name_of s p) ≤ new
 one_more_process s i old new process sound there before grows here p less = go (cases_lt p i)
   where

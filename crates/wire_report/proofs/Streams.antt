@@ -1,5 +1,6 @@
 -- A text that is written in chunks, from one line to the next.
-use Rattle.std.proofs.Common.{◌≡◌, ◌∙◌, ap, sym, refl, subst, ℕ, ◌+◌, ◌*◌, ◌^◌, ◌<◌, ◌≤◌, List, [], ◌++◌, take, length, ◌⊎◌, inl, inr, Option, append_assoc, append-nil, length-append, arith, drop, Result, Ok, Err, OnOk, OnErr, suc, zero, ◌∷◌, Some, slice_get}
+use Rattle.std.proofs.Common.{◌≡◌, ◌∙◌, ap, sym, refl, subst, ℕ, ◌+◌, ◌*◌, ◌^◌, ◌<◌, ◌≤◌, List, [], ◌++◌, take, length, ◌⊎◌, inl, inr, Option, append_assoc, append-nil, length-append, arith, drop}
+use Rattle.std.proofs.Common.{Result, Ok, Err, OnOk, OnErr, suc, zero, ◌∷◌, Some, slice_get}
 use Rattle.std.proofs.lemmas.Option.{same_Some, slice_get_within}
 use Rattle.std.specs.Result.{IsOk}
 use Rattle.std.proofs.lemmas.List.{take-append-le, take-append-drop}
@@ -15,7 +16,8 @@ pub starts : (now : Option (List ℕ)) (chunk : Chunk) → Appends now now [] �
 starts now chunk none empty count = record { front = []; went = none; counted = count; whole = sym empty }
 
 -- more waits
-pub more_waits : (start now : Option (List ℕ)) (before after : Chunk) (text more : List ℕ) → IsOnItsWay start now before text → after.gone ≡ before.gone → after.waiting.items ≡ before.waiting.items ++ more → IsOnItsWay start now after (text ++ more)
+pub more_waits : (start now : Option (List ℕ)) (before after : Chunk) (text more : List ℕ) → IsOnItsWay start now before text → after.gone ≡ before.gone → after.waiting.items ≡ before.waiting.items
+    ++ more → IsOnItsWay start now after (text ++ more)
 more_waits start now before after text more way same appended = record {
   front = way.front;
   went = way.went;
@@ -64,7 +66,8 @@ has_room (Ok x) capacity there wanted room full free fits = refl
 has_room (Err e) capacity there wanted room full free fits = absurd (omega arith)
 
 -- and what fails only where one of two has none
-pub has_both_rooms : {A E : Type 0} (r : Result A E) (capacity there kept wanted room : ℕ) → OnErr r ((capacity < there + wanted) ⊎ (kept < wanted)) → there + room ≤ capacity → room ≤ kept → wanted ≤ room → IsOk r
+pub has_both_rooms : {A E : Type 0} (r : Result A E) (capacity there kept wanted room : ℕ) → OnErr r ((capacity < there + wanted) ⊎ (kept < wanted)) → there + room ≤ capacity → room ≤ kept →
+    wanted ≤ room → IsOk r
 has_both_rooms (Ok x) capacity there kept wanted room full free too fits = refl
 has_both_rooms (Err e) capacity there kept wanted room full free too fits = elim full [ inl here ↦ absurd (omega arith) | inr there ↦ absurd (omega arith) ]
 
@@ -73,6 +76,7 @@ pub still_counted : (room count lines last : ℕ) → room * (count + 1) < 2 ^ 6
 still_counted room count lines last fits short one = grind arith
 
 -- a text that was all there went out
-pub all_sent : {A E : Type 0} (r : Result A E) (start old new : Option (List ℕ)) (before after : Chunk) (text : List ℕ) → IsOnItsWay start old before text → OnOk r (StaysOnItsWay old new before after) → OnOk r (after.waiting.items ≡ []) → OnOk r (Appends start new text)
+pub all_sent : {A E : Type 0} (r : Result A E) (start old new : Option (List ℕ)) (before after : Chunk) (text : List ℕ) → IsOnItsWay start old before text →
+    OnOk r (StaysOnItsWay old new before after) → OnOk r (after.waiting.items ≡ []) → OnOk r (Appends start new text)
 all_sent (Ok x) start old new before after text way stays empty = all_out start new after text (stays start text way) empty
 all_sent (Err e) start old new before after text way stays empty = tt

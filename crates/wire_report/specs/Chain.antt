@@ -60,13 +60,17 @@ pub data IsDeadLine (scripts : Scripts) (x : CallAt) (text : List ℕ) : Type 0 
 -- the dead lines, x's and then y's; a call asked against itself has one
 pub data AreDeadLines (scripts : Scripts) (x y : CallAt) (text : List ℕ) : Type 0 where
   OfOne : x ≡ y → IsDeadLine scripts x text → AreDeadLines scripts x y text
-  OfTwo : (x ≡ y → ⊥) → (first second : List ℕ) → IsDeadLine scripts x first → IsDeadLine scripts y second → text ≡ first ++ second → AreDeadLines scripts x y text
+  OfTwo : (x ≡ y → ⊥) → (first second : List ℕ) → IsDeadLine scripts x first → IsDeadLine scripts y second → text ≡ first ++ second →
+      AreDeadLines scripts x y text
 
 -- the text tells whether call x is before call y, else whether y is before x, and else which of them isn't live
 pub data IsChainText (scripts : Scripts) (x y : CallAt) (text : List ℕ) : Type 0 where
-  TellsBefore : (chain : List Event) → IsCallChain (plan_of scripts) x y chain → text ≡ codes "before\n" ++ event_lines scripts chain → IsChainText scripts x y text
-  TellsAfter : (chain : List Event) → (IsCallBefore (plan_of scripts) x y → ⊥) → IsCallChain (plan_of scripts) y x chain → text ≡ codes "after\n" ++ event_lines scripts chain → IsChainText scripts x y text
-  TellsUnordered : (lines : List ℕ) → (IsCallBefore (plan_of scripts) x y → ⊥) → (IsCallBefore (plan_of scripts) y x → ⊥) → AreDeadLines scripts x y lines → text ≡ codes "unordered\n" ++ lines → IsChainText scripts x y text
+  TellsBefore : (chain : List Event) → IsCallChain (plan_of scripts) x y chain → text ≡ codes "before\n" ++ event_lines scripts chain →
+      IsChainText scripts x y text
+  TellsAfter : (chain : List Event) → (IsCallBefore (plan_of scripts) x y → ⊥) → IsCallChain (plan_of scripts) y x chain → text ≡ codes "after\n"
+      ++ event_lines scripts chain → IsChainText scripts x y text
+  TellsUnordered : (lines : List ℕ) → (IsCallBefore (plan_of scripts) x y → ⊥) → (IsCallBefore (plan_of scripts) y x → ⊥) → AreDeadLines scripts x y lines →
+      text ≡ codes "unordered\n" ++ lines → IsChainText scripts x y text
 
 -- two calls have one text
 abbrev pub OneChainText : Type 0

@@ -18,7 +18,8 @@ put_key_text scripts _ = []
 -- the first put of a key by its process and number, a later put by its number, and the key
 abbrev pub rewrite_text : Scripts → CallAt → CallAt → List ℕ
 rewrite_text scripts first later =
-    call_text scripts first ++ codes " " ++ decimal (later.call + 1) ++ codes " " ++ put_key_text scripts (call_at scripts.processes later.proc.number later.call)
+    call_text scripts first ++ codes " " ++ decimal (later.call + 1) ++ codes " "
+    ++ put_key_text scripts (call_at scripts.processes later.proc.number later.call)
 
 -- two calls, the lower first
 abbrev pub pair_text : Scripts → CallAt → CallAt → List ℕ

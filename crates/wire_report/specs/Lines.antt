@@ -36,7 +36,8 @@ AreWordsOf scripts call words = IfSome call (λ lower. words ≡ race_start scri
 
 -- the words of a race on a key that follow its lower call
 abbrev pub key_race_rest : Scripts → CallAt → ℕ → ℕ → List ℕ
-key_race_rest scripts higher owner key = codes " " ++ call_text scripts higher ++ codes " key " ++ name_of scripts owner ++ codes " " ++ text_at scripts.keys key
+key_race_rest scripts higher owner key = codes " " ++ call_text scripts higher ++ codes " key " ++ name_of scripts owner ++ codes " "
+    ++ text_at scripts.keys key
 
 -- the words of a race on a name that follow its lower call
 abbrev pub name_race_rest : Scripts → CallAt → ℕ → List ℕ

@@ -60,7 +60,8 @@ pub fn write_chain<S: Sink>(
     ensures ok { OnOk result ((text : List ℕ) × IsChainText plan.now x y text × Appends (S.written sink.old) (S.written sink.new) text) }
     ensures quiet { OnOk result (S.failures sink.new ≡ S.failures sink.old) }
     ensures memory { result ≡ Err Memory → sink.new ≡ sink.old }
-    ensures err { IfErr result (λ e. (e ≡ Memory) ⊎ ((text : List ℕ) × IsChainText plan.now x y text × WritesFront (S.written sink.old) (S.written sink.new) text e)) }
+    ensures err { IfErr result (λ e. (e ≡ Memory) ⊎ ((text : List ℕ) × IsChainText plan.now x y text
+        × WritesFront (S.written sink.old) (S.written sink.new) text e)) }
     ensures failed { IfErr result (λ e. e ≢ Memory → S.failures sink.new ≡ one_more (S.failures sink.old)) }
 {
     let text = chain_text(alloc, plan, marks, x, y)?;

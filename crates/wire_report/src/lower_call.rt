@@ -54,7 +54,8 @@ impl LowerCall {
         ensures call { AreWordsOf scripts.now self.new.call self.new.words.items }
         ensures capacity { vec_capacity out.old ≤ vec_capacity out.new }
         ensures words { vec_capacity self.old.words ≤ vec_capacity self.new.words }
-        ensures full { OnErr result ((vec_capacity out.old < length out.old.items + length (race_start scripts.now call)) ⊎ (vec_capacity self.old.words < length (race_start scripts.now call))) }
+        ensures full { OnErr result ((vec_capacity out.old < length out.old.items + length (race_start scripts.now call))
+            ⊎ (vec_capacity self.old.words < length (race_start scripts.now call))) }
     {
         if self.call == Some(call) {
             return out.extend_from_slice(self.words.as_slice());

@@ -12,9 +12,9 @@ ghost use Rattle.wire_report.specs.Chain as spec;
 ghost use Rattle.wire_report.specs.There.{AreThere};
 
 use std::alloc::{AllocError, Global};
+use wire_content::Scripts;
 use wire_marks::Marks;
 use wire_plan::{Kind, Plan};
-use wire_content::Scripts;
 use wire_types::{CallAt, Event, Fault};
 use wire_words::{find_call, push_call, verb};
 

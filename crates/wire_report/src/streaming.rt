@@ -15,8 +15,8 @@ use crate::findings::{findings_text, push_count, push_line_after};
 use crate::lower_call::LowerCall;
 use crate::writing::write_text;
 use std::alloc::Global;
-use wire_races::{Finding, FindingList};
 use wire_content::{Scripts, Texts};
+use wire_races::{Finding, FindingList};
 use wire_types::{Fault, Sink};
 use wire_words::Chunk;
 
@@ -45,7 +45,8 @@ pub fn write_findings<S: Sink>(
     ensures ok { OnOk result (Appends (S.written sink.old) (S.written sink.new) (spec.findings_form json scripts.now findings.now)) }
     ensures quiet { OnOk result (S.failures sink.new ≡ S.failures sink.old) }
     ensures memory { result ≡ Err Memory → sink.new ≡ sink.old }
-    ensures err { IfErr result (λ e. (e ≡ Memory) ⊎ WritesFront (S.written sink.old) (S.written sink.new) (spec.findings_form json scripts.now findings.now) e) }
+    ensures err { IfErr result (λ e. (e ≡ Memory) ⊎ WritesFront (S.written sink.old) (S.written sink.new) (spec.findings_form json scripts.now findings.now)
+        e) }
     ensures failed { IfErr result (λ e. e ≢ Memory → S.failures sink.new ≡ one_more (S.failures sink.old)) }
 {
     if json {
@@ -74,7 +75,8 @@ fn write_json<S: Sink>(
     ensures ok { OnOk result (Appends (S.written sink.old) (S.written sink.new) (spec.findings_form true scripts.now findings.now)) }
     ensures quiet { OnOk result (S.failures sink.new ≡ S.failures sink.old) }
     ensures memory { result ≡ Err Memory → sink.new ≡ sink.old }
-    ensures err { IfErr result (λ e. (e ≡ Memory) ⊎ WritesFront (S.written sink.old) (S.written sink.new) (spec.findings_form true scripts.now findings.now) e) }
+    ensures err { IfErr result (λ e. (e ≡ Memory) ⊎ WritesFront (S.written sink.old) (S.written sink.new) (spec.findings_form true scripts.now findings.now)
+        e) }
     ensures failed { IfErr result (λ e. e ≢ Memory → S.failures sink.new ≡ one_more (S.failures sink.old)) }
 {
     let findings = findings.to_vec(alloc)?;
@@ -96,7 +98,8 @@ fn write_chunks<S: Sink>(
     requires counted { lines.room * (length lines.findings.now + 1) < 2 ^ 64 }
     ensures ok { OnOk result (Appends (S.written sink.old) (S.written sink.new) (spec.findings_report lines.entry.scripts.now lines.entry.findings.now)) }
     ensures quiet { OnOk result (S.failures sink.new ≡ S.failures sink.old) }
-    ensures err { IfErr result (λ n. BreaksAfter (S.written sink.old) (S.written sink.new) (spec.findings_report lines.entry.scripts.now lines.entry.findings.now) n) }
+    ensures err { IfErr result (λ n. BreaksAfter (S.written sink.old) (S.written sink.new)
+        (spec.findings_report lines.entry.scripts.now lines.entry.findings.now) n) }
     ensures failed { OnErr result (S.failures sink.new ≡ one_more (S.failures sink.old)) }
 {
     if let Err(n) = write_lines(chunk, told, lines, sink) {
@@ -122,11 +125,14 @@ fn write_lines<S: Sink>(
     requires told { (told.old.call ≡ None) × (lines.room ≤ vec_capacity told.old.words) }
     requires lines { HoldsAnyLine lines.scripts.now lines.room }
     requires counted { lines.room * (length lines.findings.now + 1) < 2 ^ 64 }
-    ensures ok { OnOk result (IsOnItsWay (S.written sink.old) (S.written sink.new) chunk.new (flat_map (spec.finding_line lines.entry.scripts.now) lines.entry.findings.now)) }
-    ensures short { OnOk result (length (flat_map (spec.finding_line lines.entry.scripts.now) lines.entry.findings.now) ≤ lines.entry.room * length lines.entry.findings.now) }
+    ensures ok { OnOk result (IsOnItsWay (S.written sink.old) (S.written sink.new) chunk.new
+        (flat_map (spec.finding_line lines.entry.scripts.now) lines.entry.findings.now)) }
+    ensures short { OnOk result (length (flat_map (spec.finding_line lines.entry.scripts.now) lines.entry.findings.now) ≤ lines.entry.room * length
+        lines.entry.findings.now) }
     ensures room { lines.entry.room ≤ vec_capacity chunk.new.waiting }
     ensures quiet { OnOk result (S.failures sink.new ≡ S.failures sink.old) }
-    ensures err { IfErr result (λ n. BreaksAfter (S.written sink.old) (S.written sink.new) (flat_map (spec.finding_line lines.entry.scripts.now) lines.entry.findings.now) n) }
+    ensures err { IfErr result (λ n. BreaksAfter (S.written sink.old) (S.written sink.new)
+        (flat_map (spec.finding_line lines.entry.scripts.now) lines.entry.findings.now) n) }
     ensures failed { OnErr result (S.failures sink.new ≡ one_more (S.failures sink.old)) }
 {
     for number in 0..lines.findings.len() {

@@ -11,8 +11,8 @@ ghost use Rattle.wire_report.specs.Unsettled as spec;
 
 use crate::report::push_report;
 use std::alloc::{AllocError, Global};
-use wire_json::unsettled_json;
 use wire_content::Scripts;
+use wire_json::unsettled_json;
 use wire_types::{Fault, Outcome, Proc, Sink, write_out};
 use wire_words::{push_number, push_proc};
 
@@ -48,10 +48,12 @@ pub fn write_unsettled<S: Sink>(
     json: bool,
     sink: &mut S,
 ) -> Result<(), Fault>
-    ensures ok { OnOk result (Appends (S.written sink.old) (S.written sink.new) (spec.unsettled_form json scripts.now (ends_of outcome.now) (numbers_of order.now))) }
+    ensures ok { OnOk result (Appends (S.written sink.old) (S.written sink.new)
+        (spec.unsettled_form json scripts.now (ends_of outcome.now) (numbers_of order.now))) }
     ensures quiet { OnOk result (S.failures sink.new ≡ S.failures sink.old) }
     ensures memory { result ≡ Err Memory → sink.new ≡ sink.old }
-    ensures err { IfErr result (λ e. (e ≡ Memory) ⊎ WritesFront (S.written sink.old) (S.written sink.new) (spec.unsettled_form json scripts.now (ends_of outcome.now) (numbers_of order.now)) e) }
+    ensures err { IfErr result (λ e. (e ≡ Memory) ⊎ WritesFront (S.written sink.old) (S.written sink.new)
+        (spec.unsettled_form json scripts.now (ends_of outcome.now) (numbers_of order.now)) e) }
     ensures failed { IfErr result (λ e. e ≢ Memory → S.failures sink.new ≡ one_more (S.failures sink.old)) }
 {
     let text = unsettled_text(alloc, scripts, outcome, order, json)?;

@@ -68,7 +68,8 @@ pub arrivals_rise : (plan : Plan) (p : ℕ) (members : List ℕ) (n m : ℕ) →
 arrivals_rise plan p members = rises (arrivals plan p members) (λ n. arrivals_with_up members _ (kind_at plan p n))
 
 -- an arrival counts
-pub arrivals_step : (plan : Plan) (p : ℕ) (members : List ℕ) (collect : Bool) (n : ℕ) → kind_at plan p n ≡ Some (Arrive members collect) → arrivals plan p members (suc n) ≡ suc (arrivals plan p members n)
+pub arrivals_step : (plan : Plan) (p : ℕ) (members : List ℕ) (collect : Bool) (n : ℕ) → kind_at plan p n ≡ Some (Arrive members collect) →
+    arrivals plan p members (suc n) ≡ suc (arrivals plan p members n)
 arrivals_step plan p members collect n is =
     ap (arrivals_with members (arrivals plan p members n)) is ∙ cond-true _ _ _ ((bytes_eq-Decides members members).1 refl)
 

@@ -1,5 +1,6 @@
 -- What fences bring, and what a get sees in two cuts that both have all that is before it.
-use Rattle.std.proofs.Common.{◌≡◌, ℕ, zero, suc, ◌<◌, ◌≤◌, List, [], ◌∷◌, Bool, true, false, ◌&&◌, cond, nat_eq, Option, Some, None, is_some, inl, inr, refl, sym, ap, ◌∙◌, subst, arith, eq-eqb, ne_eqb, leb-true, le-leb}
+use Rattle.std.proofs.Common.{◌≡◌, ℕ, zero, suc, ◌<◌, ◌≤◌, List, [], ◌∷◌, Bool, true, false, ◌&&◌, cond, nat_eq, Option, Some, None, is_some, inl, inr, refl, sym, ap, ◌∙◌, subst, arith, eq-eqb}
+use Rattle.std.proofs.Common.{ne_eqb, leb-true, le-leb}
 use Rattle.std.specs.List.{list_all}
 use Rattle.std.proofs.lemmas.Bool.{cond-true, cond-false, cases_eq, cases_lt, cases_Bool, and_parts, and_from, or_cases, or_left, or_right, true≢false}
 use Rattle.wire_runs.specs.Plan.{Plan, Kind, Arrive, Get, GetNow, kind, kind_at, event_count, same_node, Event}
@@ -31,9 +32,19 @@ bringer plan cut t node key (suc n) u h = go (kind_at plan t n) refl h (bringer 
     on : Bringer plan cut t node key n u → Bringer plan cut t node key (suc n) u
     on b = let l = b.below in record { at = b.at; members = b.members; collect = b.collect; is = b.is; brings_it = b.brings_it; stored_is = b.stored_is; below = omega (arith, l) }
 
-    go : (o : Option Kind) → kind_at plan t n ≡ o → delivered_with plan cut t node key n (delivered plan cut t node key n) o ≡ Some u → (delivered plan cut t node key n ≡ Some u → Bringer plan cut t node key n u) → Bringer plan cut t node key (suc n) u
+    go : (o : Option Kind) → kind_at plan t n ≡ o → delivered_with plan cut t node key n (delivered plan cut t node key n) o ≡ Some u →
+        (delivered plan cut t node key n ≡ Some u → Bringer plan cut t node key n u) → Bringer plan cut t node key (suc n) u
     go (Some (Arrive members collect)) e d ih = elim (cases_Bool (has_brought plan cut t node members (arrivals plan t members (suc n)))) [
-      | inl b ↦ record { at = n; members = members; collect = collect; is = e; brings_it = b; stored_is = sym (ap (λ v. stored_at_with v (stored plan t key n) (delivered plan cut t node key n)) b) ∙ d; below = omega arith }
+      | inl b ↦ record {
+        at = n;
+        members = members;
+        collect = collect;
+        is = e;
+        brings_it = b;
+        stored_is = sym (ap (λ v. stored_at_with v (stored plan t key n) (delivered plan cut t node key n)) b)
+            ∙ d;
+        below = omega arith;
+      }
       | inr b ↦ on (ih (sym (ap (λ v. stored_at_with v (stored plan t key n) (delivered plan cut t node key n)) b) ∙ d))
     ]
     go _ e d ih = on (ih d)
@@ -45,12 +56,21 @@ module _ (plan : Plan) (settled : IsSettled plan) where
   delivered_from cut t node key (suc n) u b = elim (cases_eq b.at n) [
     | inl e ↦
         let is : kind_at plan t n ≡ Some (Arrive b.members b.collect) = subst (λ m. kind_at plan t m ≡ Some (Arrive b.members b.collect)) e b.is in
-        let br : has_brought plan cut t node b.members (arrivals plan t b.members (suc n)) ≡ true = subst (λ m. has_brought plan cut t node b.members (arrivals plan t b.members (suc m)) ≡ true) e b.brings_it in
+        let br : has_brought plan cut t node b.members (arrivals plan t b.members (suc n)) ≡ true = subst (λ m. has_brought plan cut t node b.members (arrivals plan t b.members (suc m)) ≡ true) e
+        b.brings_it in
         let st : stored plan t key n ≡ Some u = subst (λ m. stored plan t key m ≡ Some u) e b.stored_is in
         ap (delivered_with plan cut t node key n (delivered plan cut t node key n)) is ∙ ap (λ v. stored_at_with v (stored plan t key n) (delivered plan cut t node key n)) br ∙ st
     | inr ne ↦
         let l = b.below in
-        let rest : Bringer plan cut t node key n u = record { at = b.at; members = b.members; collect = b.collect; is = b.is; brings_it = b.brings_it; stored_is = b.stored_is; below = omega (arith, l, ne) } in
+        let rest : Bringer plan cut t node key n u = record {
+          at = b.at;
+          members = b.members;
+          collect = b.collect;
+          is = b.is;
+          brings_it = b.brings_it;
+          stored_is = b.stored_is;
+          below = omega (arith, l, ne);
+        } in
         let same = stored_fixed plan settled t key b.at n (omega (arith, l, ne)) (ap is_some b.stored_is) ∙ b.stored_is in
         go (kind_at plan t n) (delivered_from cut t node key n u rest) same
   ]
@@ -66,7 +86,8 @@ pub complete_more : (plan : Plan) (cut cut' : ℕ → ℕ) (members : List ℕ) 
 complete_more plan cut cut' members j up =
     list_all_kept _ _ members (λ m t. le-leb _ _ (let a = leb-true _ _ t in let b = arrivals_rise plan m members (cut m) (cut' m) (up m) in omega (arith, a, b)))
 
-pub brings_more : (plan : Plan) (cut cut' : ℕ → ℕ) (t node : ℕ) (members : List ℕ) (j : ℕ) → ((m : ℕ) → cut m ≤ cut' m) → has_brought plan cut t node members j ≡ true → has_brought plan cut' t node members j ≡ true
+pub brings_more : (plan : Plan) (cut cut' : ℕ → ℕ) (t node : ℕ) (members : List ℕ) (j : ℕ) → ((m : ℕ) → cut m ≤ cut' m) → has_brought plan cut t node members j ≡ true →
+    has_brought plan cut' t node members j ≡ true
 brings_more plan cut cut' t node members j up h =
     let b = and_parts _ _ h in
     and_from _ _ (complete_more plan cut cut' members j up b.0) b.1
@@ -92,11 +113,13 @@ rose_with members n (Some (Arrive others collect)) = elim (cases_Bool (same_memb
 rose_with members n _ = λ h. absurd (omega (arith, h))
 
 -- the j-th arrival, where there are so many
-pub nth_arrival : (plan : Plan) (m : ℕ) (members : List ℕ) (j n : ℕ) → 0 < j → j ≤ arrivals plan m members n → is_member members m ≡ true → (i : ℕ) × IsArrival plan members j (record { proc = m; at = i })
+pub nth_arrival : (plan : Plan) (m : ℕ) (members : List ℕ) (j n : ℕ) → 0 < j → j ≤ arrivals plan m members n → is_member members m ≡ true → (i : ℕ)
+    × IsArrival plan members j (record { proc = m; at = i })
 nth_arrival plan m members j zero pos le i = absurd (omega (arith, pos, le))
 nth_arrival plan m members j (suc n) pos le i = elim (cases_lt (arrivals plan m members n) j) [
   | inr ge ↦ nth_arrival plan m members j n pos ge i
-  | inl lt ↦ (let r = rose_with members (arrivals plan m members n) (kind_at plan m n) (omega (arith, lt, le)) in let up = r.2 in (n, record { collect = r.0; is = r.1; member = i; nth = omega (arith, up, le, lt) }))
+  | inl lt ↦ (let r = rose_with members (arrivals plan m members n) (kind_at plan m n) (omega (arith, lt, le)) in let up = r.2 in
+      (n, record { collect = r.0; is = r.1; member = i; nth = omega (arith, up, le, lt) }))
 ]
 
 -- no number has a property of which a least one is absurd
@@ -105,7 +128,8 @@ no_least P f zero m lt pm = absurd (omega (arith, lt))
 no_least P f (suc n) m lt pm = f m pm (λ k below pk. no_least P f n k (omega (arith, lt, below)) pk)
 
 -- a full fence all of whose arrivals are in the cut is complete there
-pub complete_if_arrived : (plan : Plan) (cut : ℕ → ℕ) (members : List ℕ) (j : ℕ) → is_full plan members j ≡ true → ((z : Event) → IsArrival plan members j z → z.at < cut z.proc) → is_complete plan cut members j ≡ true
+pub complete_if_arrived : (plan : Plan) (cut : ℕ → ℕ) (members : List ℕ) (j : ℕ) → is_full plan members j ≡ true → ((z : Event) → IsArrival plan members j z → z.at < cut z.proc) →
+    is_complete plan cut members j ≡ true
 complete_if_arrived plan cut members j full arrived_ =
     list_all_of_members _ members (λ m i. le-leb _ _ (elim (cases_lt 0 j) [
       | inr none ↦ omega (arith, none)
@@ -116,7 +140,8 @@ complete_if_arrived plan cut members j full arrived_ =
           omega (arith, rise, nth))
     ]))
 
-module _ (plan : Plan) (settled : IsSettled plan) (cut later : ℕ → ℕ) (y : Event) (up : (m : ℕ) → cut m ≤ later m) (known : (z : Event) → Before plan z y → z.at < cut z.proc) (closed : ClosedCut plan later) (not_yet : later y.proc ≤ y.at) (live_y : Live plan y) (t key : ℕ) where
+module _ (plan : Plan) (settled : IsSettled plan) (cut later : ℕ → ℕ) (y : Event) (up : (m : ℕ) → cut m ≤ later m) (known : (z : Event) → Before plan z y → z.at < cut z.proc)
+    (closed : ClosedCut plan later) (not_yet : later y.proc ≤ y.at) (live_y : Live plan y) (t key : ℕ) where
   -- nothing stored between the cuts is seen by a get-now on the owner's node
   pub stored_same : kind plan y ≡ Some (GetNow t key) → (y.proc ≡ t → ⊥) → same_node plan t y.proc ≡ true → stored plan t key (later t) ≡ stored plan t key (cut t)
   stored_same is other node = go (stored plan t key (cut t)) (stored plan t key (later t)) refl refl
@@ -158,5 +183,6 @@ module _ (plan : Plan) (settled : IsSettled plan) (cut later : ℕ → ℕ) (y :
   pub get_same : kind plan y ≡ Some (Get t key) → get_sees plan later y.proc y.at t key ≡ get_sees plan cut y.proc y.at t key
   get_same is = elim (cases_eq y.proc t) [
     | inl e ↦ cond-true _ _ _ (eq-eqb y.proc t e) ∙ sym (cond-true _ _ _ (eq-eqb y.proc t e))
-    | inr other ↦ ap (λ v. cond (nat_eq y.proc t) (held (own plan t key y.at)) (served plan t (same_node plan t y.proc) v)) (stored_fixed plan settled t key (cut t) (later t) (up t) (get_ready is other))
+    | inr other ↦ ap (λ v. cond (nat_eq y.proc t) (held (own plan t key y.at)) (served plan t (same_node plan t y.proc) v))
+        (stored_fixed plan settled t key (cut t) (later t) (up t) (get_ready is other))
   ]

@@ -27,12 +27,14 @@ for_others_from plan t (Some v) u =
     (λ f h. cc)
 
 fence_came : (plan : Plan) (s : State) (t key node u : ℕ) → for_others plan t (delivered plan s.done t node key (event_count plan t)) ≡ Some u → Came plan s t key node u
-fence_came plan s t key node u e = let f = for_others_from plan t (delivered plan s.done t node key (event_count plan t)) u e in by_fence (bringer plan s.done t node key (event_count plan t) u f.0) f.1
+fence_came plan s t key node u e = let f = for_others_from plan t (delivered plan s.done t node key (event_count plan t)) u e in
+    by_fence (bringer plan s.done t node key (event_count plan t) u f.0) f.1
 
 came : (plan : Plan) (s : State) (t key node u : ℕ) → brought plan s t key node ≡ Some u → Came plan s t key node u
 came plan s t key node u h = fence_came plan s t key node u h
 
-fence_some : (plan : Plan) → IsSettled plan → (s : State) (t key node u : ℕ) → Bringer plan s.done t node key (event_count plan t) u → admits (scope_of plan t u) false ≡ true → is_some (for_others plan t (delivered plan s.done t node key (event_count plan t))) ≡ true
+fence_some : (plan : Plan) → IsSettled plan → (s : State) (t key node u : ℕ) → Bringer plan s.done t node key (event_count plan t) u → admits (scope_of plan t u) false ≡ true →
+    is_some (for_others plan t (delivered plan s.done t node key (event_count plan t))) ≡ true
 fence_some plan settled s t key node u b a = ap is_some (ap (for_others plan t) (delivered_from plan settled s.done t node key (event_count plan t) u b) ∙ cond-true _ _ _ a)
 
 module _ (plan : Plan) (settled : IsSettled plan) (s : State) (t key node : ℕ) (away : node_of plan t ≡ node → ⊥) where
@@ -50,7 +52,8 @@ module _ (plan : Plan) (settled : IsSettled plan) (s : State) (t key node : ℕ)
       go None e h = absurd (true≢false (sym h))
       go (Some v) e h = sym (came_value v (came plan s t key node v e)) ∙ came_value u c
 
-brings_parts : (plan : Plan) (cut : ℕ → ℕ) (t node : ℕ) (members : List ℕ) (j : ℕ) → has_brought plan cut t node members j ≡ true → (is_complete plan cut members j ≡ true) × (is_collecting plan members j ≡ true) × (is_member members t ≡ true) × (has_node plan members node ≡ true)
+brings_parts : (plan : Plan) (cut : ℕ → ℕ) (t node : ℕ) (members : List ℕ) (j : ℕ) → has_brought plan cut t node members j ≡ true → (is_complete plan cut members j ≡ true)
+    × (is_collecting plan members j ≡ true) × (is_member members t ≡ true) × (has_node plan members node ≡ true)
 brings_parts plan cut t node members j h =
     let a = and_parts _ _ h in
     let b = and_parts _ _ a.1 in
@@ -58,7 +61,8 @@ brings_parts plan cut t node members j h =
     (a.0, b.0, c.0, c.1)
 
 -- of a fence that is complete in the second of two cuts alone, an arrival that isn't done in the first
-late_arrival : (plan : Plan) (cut later_cut : ℕ → ℕ) (members : List ℕ) (j : ℕ) → 0 < j → is_complete plan cut members j ≡ false → is_complete plan later_cut members j ≡ true → (z : Event) × IsArrival plan members j z × (cut z.proc ≤ z.at)
+late_arrival : (plan : Plan) (cut later_cut : ℕ → ℕ) (members : List ℕ) (j : ℕ) → 0 < j → is_complete plan cut members j ≡ false → is_complete plan later_cut members j ≡ true → (z : Event)
+    × IsArrival plan members j z × (cut z.proc ≤ z.at)
 late_arrival plan cut later_cut members j positive incomplete complete =
     let d = differs (λ m. nat_le j (arrivals plan m members (cut m))) (λ m. nat_le j (arrivals plan m members (later_cut m))) members incomplete complete in
     let few = leb-false _ _ d.2 in
@@ -72,13 +76,22 @@ late_arrival plan cut later_cut members j positive incomplete complete =
       ],
     )
 
-module _ (plan : Plan) (settled : IsSettled plan) (s r : State) (y : Event) (up : (m : ℕ) → s.done m ≤ r.done m) (known : (z : Event) → Before plan z y → IsDone s z) (closed : ClosedCut plan r.done) (not_yet : r.done y.proc ≤ y.at) (live_y : Live plan y) (t key : ℕ) (is : kind plan y ≡ Some (GetNow t key)) where
+module _ (plan : Plan) (settled : IsSettled plan) (s r : State) (y : Event) (up : (m : ℕ) → s.done m ≤ r.done m) (known : (z : Event) → Before plan z y → IsDone s z) (closed : ClosedCut plan r.done)
+    (not_yet : r.done y.proc ≤ y.at) (live_y : Live plan y) (t key : ℕ) (is : kind plan y ≡ Some (GetNow t key)) where
   module _ (away : same_node plan t y.proc ≡ false) where
     apart : node_of plan t ≡ node_of plan y.proc → ⊥
     apart e = true≢false (sym (eq-eqb _ _ e) ∙ away)
 
     stays : (u : ℕ) → Came plan s t key (node_of plan y.proc) u → Came plan r t key (node_of plan y.proc) u
-    stays u (by_fence b a) = by_fence (record { at = b.at; members = b.members; collect = b.collect; is = b.is; brings_it = brings_more plan s.done r.done t (node_of plan y.proc) b.members _ up b.brings_it; stored_is = b.stored_is; below = b.below }) a
+    stays u (by_fence b a) = by_fence (record {
+      at = b.at;
+      members = b.members;
+      collect = b.collect;
+      is = b.is;
+      brings_it = brings_more plan s.done r.done t (node_of plan y.proc) b.members _ up b.brings_it;
+      stored_is = b.stored_is;
+      below = b.below;
+    }) a
 
     -- where nothing has come in the first state
     module _ (none : brought plan s t key (node_of plan y.proc) ≡ None) where
@@ -94,7 +107,8 @@ module _ (plan : Plan) (settled : IsSettled plan) (s r : State) (y : Event) (up 
             members = members;
             collect = d.arrival.collect;
             is = d.arrival.is;
-            brings_it = subst (λ i. has_brought plan s.done t (node_of plan y.proc) members i ≡ true) (sym d.arrival.nth) (and_from _ _ complete_now (and_from _ _ d.collecting (and_from _ _ d.member d.reaches)));
+            brings_it = subst (λ i. has_brought plan s.done t (node_of plan y.proc) members i ≡ true) (sym d.arrival.nth)
+                (and_from _ _ complete_now (and_from _ _ d.collecting (and_from _ _ d.member d.reaches)));
             stored_is = d.committed;
             below = event_within plan t d.at _ d.arrival.is;
           }) d.admitted)
@@ -107,7 +121,15 @@ module _ (plan : Plan) (settled : IsSettled plan) (s r : State) (y : Event) (up 
           let j = arrivals plan t b.members (suc b.at) in
           let parts = brings_parts plan r.done t (node_of plan y.proc) b.members j b.brings_it in
           let incomplete : is_complete plan s.done b.members j ≡ false = elim (cases_Bool (is_complete plan s.done b.members j)) [
-            | inl c ↦ absurd (had u (by_fence (record { at = b.at; members = b.members; collect = b.collect; is = b.is; brings_it = and_from _ _ c (and_parts _ _ b.brings_it).1; stored_is = b.stored_is; below = b.below }) a))
+            | inl c ↦ absurd (had u (by_fence (record {
+              at = b.at;
+              members = b.members;
+              collect = b.collect;
+              is = b.is;
+              brings_it = and_from _ _ c (and_parts _ _ b.brings_it).1;
+              stored_is = b.stored_is;
+              below = b.below;
+            }) a))
             | inr f ↦ f
           ] in
           let z = late_arrival plan s.done r.done b.members j (let e = arrivals_step plan t b.members b.collect b.at b.is in omega (arith, e)) incomplete parts.0 in
@@ -129,7 +151,8 @@ module _ (plan : Plan) (settled : IsSettled plan) (s r : State) (y : Event) (up 
     brought_same : brought plan r t key (node_of plan y.proc) ≡ brought plan s t key (node_of plan y.proc)
     brought_same = go (brought plan s t key (node_of plan y.proc)) (brought plan r t key (node_of plan y.proc)) refl refl
       where
-        go : (o v : Option ℕ) → brought plan s t key (node_of plan y.proc) ≡ o → brought plan r t key (node_of plan y.proc) ≡ v → brought plan r t key (node_of plan y.proc) ≡ brought plan s t key (node_of plan y.proc)
+        go : (o v : Option ℕ) → brought plan s t key (node_of plan y.proc) ≡ o → brought plan r t key (node_of plan y.proc) ≡ v →
+            brought plan r t key (node_of plan y.proc) ≡ brought plan s t key (node_of plan y.proc)
         go (Some u) v e f = came_is plan settled r t key (node_of plan y.proc) apart u (stays u (came plan s t key (node_of plan y.proc) u e)) ∙ sym e
         go None None e f = f ∙ sym e
         go None (Some u) e f = absurd (came_late e u (came plan r t key (node_of plan y.proc) u f))

@@ -18,7 +18,8 @@ use Rattle.wire_runs.proofs.Came.{now_same}
 use Rattle.wire_runs.proofs.Known.{replies_same, replies_other, Known}
 
 -- a call leaves alone a name that it doesn't write
-pub name_kept : (plan : Plan) (o : Option Kind) (x : Event) (before : Option Event) (n : ℕ) → ((z : Event) → before ≡ Some z → kind plan z ≡ Some (Publish n)) → writes_name plan n x o ≡ false → name_after before x o n ≡ before
+pub name_kept : (plan : Plan) (o : Option Kind) (x : Event) (before : Option Event) (n : ℕ) → ((z : Event) → before ≡ Some z → kind plan z ≡ Some (Publish n)) → writes_name plan n x o ≡ false →
+    name_after before x o n ≡ before
 name_kept plan (Some (Publish m)) x before n named w = cond-false _ _ _ w
 name_kept plan (Some (Unpublish m)) x before n named w = cond-false _ _ _ w
 name_kept plan _ x before n named w = refl
@@ -47,7 +48,8 @@ module _ (plan : Plan) (settled : IsSettled plan) (s : State) (p q : ℕ) (k : K
   now_after = now_same plan settled s (step plan s p) (next_event s q) (done_up plan s p) (due plan s q k.sound hq).earlier_done (closed_cut (sound_step plan s p k.sound hp)) not_yet live_y
 
   -- p's event changes no name that q's event reads, but one that q waits for and that is there
-  name_same : (n : ℕ) (o : Option Kind) → kind plan (next_event s p) ≡ o → calls_name plan n (next_event s q) (kind plan (next_event s q)) ≡ true → (kind plan (next_event s q) ≡ Some (LookupWait n) → is_some (s.names n) ≡ true) → name_after (s.names n) (next_event s p) o n ≡ s.names n
+  name_same : (n : ℕ) (o : Option Kind) → kind plan (next_event s p) ≡ o → calls_name plan n (next_event s q) (kind plan (next_event s q)) ≡ true →
+      (kind plan (next_event s q) ≡ Some (LookupWait n) → is_some (s.names n) ≡ true) → name_after (s.names n) (next_event s p) o n ≡ s.names n
   name_same n (Some (Publish m)) e c waits =
       cond_both (nat_eq m n) _ _ (λ v. v ≡ s.names n)
       (λ t. cond_both (is_some (s.names n)) _ _ (λ v. v ≡ s.names n) (λ _. refl)
@@ -71,7 +73,8 @@ module _ (plan : Plan) (settled : IsSettled plan) (s : State) (p q : ℕ) (k : K
       (λ f. refl)
   name_same n _ e c waits = refl
 
-  names_same : (n : ℕ) → calls_name plan n (next_event s q) (kind plan (next_event s q)) ≡ true → (kind plan (next_event s q) ≡ Some (LookupWait n) → is_some (s.names n) ≡ true) → (step plan s p).names n ≡ s.names n
+  names_same : (n : ℕ) → calls_name plan n (next_event s q) (kind plan (next_event s q)) ≡ true → (kind plan (next_event s q) ≡ Some (LookupWait n) → is_some (s.names n) ≡ true) →
+      (step plan s p).names n ≡ s.names n
   names_same n = name_same n (kind plan (next_event s p)) refl
 
   complete_after : (members : List ℕ) (j : ℕ) → is_complete plan s.done members j ≡ true → is_complete plan (step plan s p).done members j ≡ true
@@ -124,7 +127,9 @@ module _ (plan : Plan) (settled : IsSettled plan) (s : State) (p q : ℕ) (k : K
   names_second n = ap (λ y. name_after ((step plan s p).names n) y (kind plan y) n) next_same
 
 -- at a name, the two events in both orders
-names_swap : (plan : Plan) (settled : IsSettled plan) (s : State) (p q : ℕ) → Known plan s → (q ≡ p → ⊥) → is_enabled plan s p ≡ true → is_enabled plan s q ≡ true → (n : ℕ) → name_after (name_after (s.names n) (next_event s p) (kind plan (next_event s p)) n) (next_event s q) (kind plan (next_event s q)) n ≡ name_after (name_after (s.names n) (next_event s q) (kind plan (next_event s q)) n) (next_event s p) (kind plan (next_event s p)) n
+names_swap : (plan : Plan) (settled : IsSettled plan) (s : State) (p q : ℕ) → Known plan s → (q ≡ p → ⊥) → is_enabled plan s p ≡ true → is_enabled plan s q ≡ true → (n : ℕ) →
+    name_after (name_after (s.names n) (next_event s p) (kind plan (next_event s p)) n) (next_event s q) (kind plan (next_event s q)) n ≡ name_after
+    (name_after (s.names n) (next_event s q) (kind plan (next_event s q)) n) (next_event s p) (kind plan (next_event s p)) n
 names_swap plan settled s p q k ne hp hq n =
     let x = next_event s p in
     let y = next_event s q in
@@ -151,22 +156,27 @@ names_swap plan settled s p q k ne hp hq n =
 pub state_path : (s t : State) → ((p : ℕ) → s.done p ≡ t.done p) → ((n : ℕ) → s.names n ≡ t.names n) → ((p : ℕ) → s.replies p ≡ t.replies p) → s ≡ t
 state_path s t d n r = λ i. record { done = fun_ext d i; names = fun_ext n i; replies = fun_ext r i }
 
-same_end : (plan : Plan) (settled : IsSettled plan) (s : State) (p q : ℕ) → Known plan s → (q ≡ p → ⊥) → is_enabled plan s p ≡ true → is_enabled plan s q ≡ true → step plan (step plan s p) q ≡ step plan (step plan s q) p
+same_end : (plan : Plan) (settled : IsSettled plan) (s : State) (p q : ℕ) → Known plan s → (q ≡ p → ⊥) → is_enabled plan s p ≡ true → is_enabled plan s q ≡ true →
+    step plan (step plan s p) q ≡ step plan (step plan s q) p
 same_end plan settled s p q k ne hp hq =
     let en : p ≡ q → ⊥ = λ e. ne (sym e) in
     state_path (step plan (step plan s p) q) (step plan (step plan s q) p)
     (λ r. elim (cases_eq r q) [
-      | inl e ↦ subst (λ v. (step plan (step plan s p) q).done v ≡ (step plan (step plan s q) p).done v) (sym e) (done_second plan settled s p q k ne hp hq ∙ sym (done_first plan settled s q p k en hq hp))
+      | inl e ↦ subst (λ v. (step plan (step plan s p) q).done v ≡ (step plan (step plan s q) p).done v) (sym e)
+          (done_second plan settled s p q k ne hp hq ∙ sym (done_first plan settled s q p k en hq hp))
       | inr a ↦ elim (cases_eq r p) [
-        | inl e ↦ subst (λ v. (step plan (step plan s p) q).done v ≡ (step plan (step plan s q) p).done v) (sym e) (done_first plan settled s p q k ne hp hq ∙ sym (done_second plan settled s q p k en hq hp))
+        | inl e ↦ subst (λ v. (step plan (step plan s p) q).done v ≡ (step plan (step plan s q) p).done v) (sym e)
+            (done_first plan settled s p q k ne hp hq ∙ sym (done_second plan settled s q p k en hq hp))
         | inr b ↦ done_other plan (step plan s p) q r a ∙ done_other plan s p r b ∙ sym (done_other plan s q r a) ∙ sym (done_other plan (step plan s q) p r b)
       ]
     ])
     (λ n. names_second plan settled s p q k ne hp hq n ∙ names_swap plan settled s p q k ne hp hq n ∙ sym (names_second plan settled s q p k en hq hp n))
     (λ r. elim (cases_eq r q) [
-      | inl e ↦ subst (λ v. (step plan (step plan s p) q).replies v ≡ (step plan (step plan s q) p).replies v) (sym e) (replies_second plan settled s p q k ne hp hq ∙ sym (replies_first plan settled s q p k en hq hp))
+      | inl e ↦ subst (λ v. (step plan (step plan s p) q).replies v ≡ (step plan (step plan s q) p).replies v) (sym e)
+          (replies_second plan settled s p q k ne hp hq ∙ sym (replies_first plan settled s q p k en hq hp))
       | inr a ↦ elim (cases_eq r p) [
-        | inl e ↦ subst (λ v. (step plan (step plan s p) q).replies v ≡ (step plan (step plan s q) p).replies v) (sym e) (replies_first plan settled s p q k ne hp hq ∙ sym (replies_second plan settled s q p k en hq hp))
+        | inl e ↦ subst (λ v. (step plan (step plan s p) q).replies v ≡ (step plan (step plan s q) p).replies v) (sym e)
+            (replies_first plan settled s p q k ne hp hq ∙ sym (replies_second plan settled s q p k en hq hp))
         | inr b ↦ replies_other plan (step plan s p) q r a ∙ replies_other plan s p r b ∙ sym (replies_other plan s q r a) ∙ sym (replies_other plan (step plan s q) p r b)
       ]
     ])

@@ -1,5 +1,6 @@
 -- Where a process is enabled, its next event is live and its sources are done.
-use Rattle.std.proofs.Common.{◌≡◌, ℕ, suc, ◌<◌, ◌≤◌, List, [], ◌∷◌, Bool, true, ◌==◌, Option, Some, None, is_some, ◌⊎◌, inl, inr, refl, sym, ap, ◌∙◌, subst, arith, eq-eqb, ne_eqb, eqb-true, leb-true, le-leb}
+use Rattle.std.proofs.Common.{◌≡◌, ℕ, suc, ◌<◌, ◌≤◌, List, [], ◌∷◌, Bool, true, ◌==◌, Option, Some, None, is_some, ◌⊎◌, inl, inr, refl, sym, ap, ◌∙◌, subst, arith, eq-eqb, ne_eqb, eqb-true, leb-true}
+use Rattle.std.proofs.Common.{le-leb}
 use Rattle.std.proofs.lemmas.Bool.{cond-true, cond-false, cond_both, cases_eq, cases_lt, or_left, true≢false}
 use Rattle.std.proofs.lemmas.Option.{same_Some}
 use Rattle.wire_runs.specs.Plan.{Plan, Kind, Leave, Get, Publish, Unpublish, kind, event_count, same_node, Event}
@@ -65,7 +66,8 @@ comes plan s p None k h = h
 comes plan s p (Some (Get owner key)) k h =
     cond_both (p == owner) _ _ (λ b. b ≡ true)
     (λ t. own_seen plan s.done p (s.done p) owner key (eqb-true p owner t) h)
-    (λ f. or_left _ _ (stored_stays plan owner key (s.done owner) (event_count plan owner) (k.within owner) (other_seen plan s.done p (s.done p) owner key (λ e. true≢false (sym (eq-eqb p owner e) ∙ f)) h)))
+    (λ f. or_left _ _ (stored_stays plan owner key (s.done owner) (event_count plan owner) (k.within owner)
+    (other_seen plan s.done p (s.done p) owner key (λ e. true≢false (sym (eq-eqb p owner e) ∙ f)) h)))
 comes plan s p (Some (Leave members)) k h =
     list_all_kept _ _ members (λ m t. le-leb _ _ (let a = leb-true _ _ t in let b = arrivals_rise plan m members (s.done m) (event_count plan m) (k.within m) in omega (arith, a, b))) h
 comes plan s p (Some _) k h = refl

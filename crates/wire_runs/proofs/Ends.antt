@@ -5,7 +5,8 @@ use Rattle.std.proofs.lemmas.Bool.{cond_both, cases_eq}
 use Rattle.std.proofs.lemmas.List.{length-append, length-map, length-replicate}
 use Rattle.std.proofs.lemmas.List.Concat.{flat_map-append, flat_map-cons}
 use Rattle.wire_types.specs.declared.CallEnd.TheVariants.{Replied, Unreached}
-use Rattle.wire_runs.specs.Plan.{Plan, Event, Process, Call, CallPut, CallCommit, CallFence, CallGet, CallGetNow, CallPublish, CallLookup, CallLookupWait, CallUnpublish, CallFixed, Kind, Put, Commit, Arrive, Leave, Get, GetNow, Publish, Lookup, LookupWait, Unpublish, Fixed, kinds, kind_at, kinds_of, process_kinds}
+use Rattle.wire_runs.specs.Plan.{Plan, Event, Process, Call, CallPut, CallCommit, CallFence, CallGet, CallGetNow, CallPublish, CallLookup, CallLookupWait, CallUnpublish, CallFixed, Kind, Put, Commit}
+use Rattle.wire_runs.specs.Plan.{Arrive, Leave, Get, GetNow, Publish, Lookup, LookupWait, Unpublish, Fixed, kinds, kind_at, kinds_of, process_kinds}
 use Rattle.wire_runs.specs.State.{State, Answer, Success, NotFound, Duplicate, start, next_event, next_kind}
 use Rattle.wire_runs.specs.Sight.{Sight, Nothing, Outside, Shown, get_sees, get_now_sees}
 use Rattle.wire_runs.specs.Step.{sight_reply, lookup_reply, is_publisher, is_enabled, reply, step, run_from}

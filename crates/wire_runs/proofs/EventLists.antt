@@ -44,7 +44,8 @@ all_same before after xs there back are = record {
 }
 
 -- one more event, behind all others
-pub all_and_one : (before after : Event → Type 0) (xs : List Event) (y : Event) → ((z : Event) → before z → IsLower z y) → ((z : Event) → before z → after z) → after y → ((z : Event) → after z → before z ⊎ (y ≡ z)) → AreAll before xs → AreAll after (xs ++ y ∷ [])
+pub all_and_one : (before after : Event → Type 0) (xs : List Event) (y : Event) → ((z : Event) → before z → IsLower z y) → ((z : Event) → before z → after z) → after y →
+    ((z : Event) → after z → before z ⊎ (y ≡ z)) → AreAll before xs → AreAll after (xs ++ y ∷ [])
 all_and_one before after xs y lower there here back are = record {
   only = λ k z is. elim (in_either xs y k z is) [
     | inl h ↦ there z (are.only k z h)

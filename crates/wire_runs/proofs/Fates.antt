@@ -20,11 +20,13 @@ use Rattle.wire_runs.proofs.Known.{Known, known_start, known_step, replies_same,
 use Rattle.wire_runs.proofs.Histories.{Written, written_start, written_step, name_is_past, one_history, no_cycle, before_live, prepend}
 
 -- Two states that both have all that is before y, and not y, with the same under the names that y asks for: y does the same in both
-module _ (plan : Plan) (settled : IsSettled plan) (s r : State) (y : Event) (up : (m : ℕ) → s.done m ≤ r.done m) (known : (z : Event) → Before plan z y → IsDone s z) (closed : ClosedCut plan r.done) (not_yet : r.done y.proc ≤ y.at) (live_y : Live plan y) (names_same : (n : ℕ) → calls_name plan n y (kind plan y) ≡ true → r.names n ≡ s.names n) where
+module _ (plan : Plan) (settled : IsSettled plan) (s r : State) (y : Event) (up : (m : ℕ) → s.done m ≤ r.done m) (known : (z : Event) → Before plan z y → IsDone s z) (closed : ClosedCut plan r.done)
+    (not_yet : r.done y.proc ≤ y.at) (live_y : Live plan y) (names_same : (n : ℕ) → calls_name plan n y (kind plan y) ≡ true → r.names n ≡ s.names n) where
   known_later : (z : Event) → Before plan z y → IsDone r z
   known_later z b = let d = known z b in let u = up z.proc in omega (arith, d, u)
 
-  fence_done : (members : List ℕ) (cut : ℕ → ℕ) → kind plan y ≡ Some (Leave members) → ((z : Event) → Before plan z y → z.at < cut z.proc) → is_complete plan cut members (arrivals plan y.proc members y.at) ≡ true
+  fence_done : (members : List ℕ) (cut : ℕ → ℕ) → kind plan y ≡ Some (Leave members) → ((z : Event) → Before plan z y → z.at < cut z.proc) →
+      is_complete plan cut members (arrivals plan y.proc members y.at) ≡ true
   fence_done members cut is all =
       complete_if_arrived plan cut members (arrivals plan y.proc members y.at) (rw is at (live_may live_y))
       (λ z a. let e : Edge plan z y = Meets members is a in all z (edge (live_source live_y e) e live_y))
@@ -85,7 +87,8 @@ module _ (plan : Plan) (settled : IsSettled plan) (y : Event) (live_y : Live pla
   ]
 
 -- the fate of an event whose past is done
-pub told_in : (plan : Plan) → IsSettled plan → (s : State) → Known plan s → ((n : ℕ) → Written plan s n) → (y : Event) → s.done y.proc ≤ y.at → (fate : Fate) → Live plan y → ((z : Event) → Before plan z y → IsDone s z) → HasFate plan y fate → fate ≡ fate_in plan s y
+pub told_in : (plan : Plan) → IsSettled plan → (s : State) → Known plan s → ((n : ℕ) → Written plan s n) → (y : Event) → s.done y.proc ≤ y.at → (fate : Fate) → Live plan y →
+    ((z : Event) → Before plan z y → IsDone s z) → HasFate plan y fate → fate ≡ fate_in plan s y
 told_in plan settled s k w y not_yet fate l known (dead no_ e) = absurd (no_ l)
 told_in plan settled s k w y not_yet fate l known (told m fate_of all past is_past e) =
     e ∙ sym (fate_same plan settled past s y up (past_known plan settled y l fate_of past is_past) (closed_cut k.sound) not_yet l
@@ -103,7 +106,8 @@ one_fate plan y a b settled (dead no_ e) (dead _ f) = e ∙ sym f
 one_fate plan y a b settled (dead no_ e) (told l _ _ _ _ _) = absurd (no_ l)
 one_fate plan y a b settled (told l _ _ _ _ _) (dead no_ f) = absurd (no_ l)
 one_fate plan y a b settled (told l fate_of all past is_past e) (told m other all' past' is_past' f) =
-    e ∙ sym (f ∙ fate_same plan settled past past' y up (past_known plan settled y l fate_of past is_past) (past_closed plan settled y l other past' is_past') (past_not_yet plan settled y l other past' is_past') l
+    e ∙ sym (f ∙ fate_same plan settled past past' y up (past_known plan settled y l fate_of past is_past) (past_closed plan settled y l other past' is_past')
+    (past_not_yet plan settled y l other past' is_past') l
     (λ n c. let h = is_past.names n in let i = is_past'.names n in i.2 ∙ sym (h.2 ∙ ap (left_by plan n) (one_history plan y n h.0 i.0 h.1 i.1))))
   where
     up : (p : ℕ) → past.done p ≤ past'.done p
@@ -169,7 +173,8 @@ fates_tell plan s settled r =
             (d.sources_done, λ w. says_not_waits _ (sym (told_in plan settled s k.known k.written (next_event s p) (omega arith) fate d.is_live d.earlier_done f ∙ cond-true _ _ _ h) ∙ w))),
         (λ c. elim (cases_Bool (is_enabled plan s p)) [
           | inl t ↦ t
-          | inr no_ ↦ absurd (c.1 (told_in plan settled s k.known k.written (next_event s p) (omega arith) fate (may_live f c.1) (λ z b. chain_to_next plan s k.known.sound c.0 b) f ∙ cond-false _ _ _ no_))
+          | inr no_ ↦ absurd (c.1 (told_in plan settled s k.known k.written (next_event s p) (omega arith) fate (may_live f c.1) (λ z b. chain_to_next plan s k.known.sound c.0 b) f
+              ∙ cond-false _ _ _ no_))
         ]),
       );
     }

@@ -57,7 +57,8 @@ sooner_one_way lower_name one (NameRace x y name) (NameRace v w other) (inr a) (
 sooner_one_way lower_name one (NameRace x y name) (NameRace v w other) (inr a) (inr b) = one name other a.2 b.2
 
 -- two sorted lists with the same findings are one
-one_sorted : (lower_name : ℕ → ℕ → Bool) → IsOneWay lower_name → (xs ys : List Finding) → IsSorted lower_name xs → IsSorted lower_name ys → ((f : Finding) → Has xs f → Has ys f) → ((f : Finding) → Has ys f → Has xs f) → xs ≡ ys
+one_sorted : (lower_name : ℕ → ℕ → Bool) → IsOneWay lower_name → (xs ys : List Finding) → IsSorted lower_name xs → IsSorted lower_name ys → ((f : Finding) → Has xs f → Has ys f) →
+    ((f : Finding) → Has ys f → Has xs f) → xs ≡ ys
 one_sorted lower_name one [] [] a b into from = refl
 one_sorted lower_name one [] (y ∷ ys) a b into from = absurd (from y (inl refl))
 one_sorted lower_name one (x ∷ xs) [] a b into from = absurd (into x (inl refl))

@@ -41,7 +41,8 @@ pub same_process : (plan : Plan) (x y : Event) → Live plan y → x.proc ≡ y.
 same_process plan x y l e lt =
     let there : y ≡ record { proc = y.proc; at = suc (x.at + (y.at - suc x.at)) } = place_path y y.proc _ refl (omega (arith, lt)) in
     let here : x ≡ record { proc = y.proc; at = x.at } = place_path x y.proc x.at e refl in
-    subst (λ a. Before plan a y) (sym here) (subst (λ b. Before plan (record { proc = y.proc; at = x.at }) b) (sym there) (earlier_before plan y.proc x.at (y.at - suc x.at) (subst (λ b. Live plan b) there l)))
+    subst (λ a. Before plan a y) (sym here) (subst (λ b. Before plan (record { proc = y.proc; at = x.at }) b) (sym there)
+    (earlier_before plan y.proc x.at (y.at - suc x.at) (subst (λ b. Live plan b) there l)))
 
 -- as a run makes them, the newest first: none is before one that stands behind it
 abbrev pub IsAsRun : Plan → List Event → Type 0
@@ -88,7 +89,8 @@ written_step plan s p n k w = elim (cases_Bool (writes_name plan n (next_event s
   }
   | inl t ↦ record {
     calls = next_event s p ∷ w.calls;
-    is_done = λ z. ⊎_elim (λ e. (subst (λ a. IsDone (step plan s p) a) (sym e) (done_now plan s p), ap (λ a. writes_name plan n a (kind plan a)) e ∙ t)) (λ i. let r = w.is_done z i in (done_kept plan s p z r.0, r.1));
+    is_done = λ z. ⊎_elim (λ e. (subst (λ a. IsDone (step plan s p) a) (sym e) (done_now plan s p), ap (λ a. writes_name plan n a (kind plan a)) e ∙ t))
+        (λ i. let r = w.is_done z i in (done_kept plan s p z r.0, r.1));
     all = λ z d u. elim (done_was plan s p z d) [ inl was ↦ inr (w.all z was u) | inr e ↦ inl e ];
     as_run = (
       (λ z i. let r = w.is_done z i in (
@@ -118,7 +120,8 @@ is_in_or_not z (x ∷ xs) = elim (same_place z x) [
 ]
 
 -- the calls that a run has made on a name that y asks for are those before y
-pub name_is_past : (plan : Plan) → IsSettled plan → (s : State) → Sound plan s → (y : Event) → Live plan y → ((z : Event) → Before plan z y → IsDone s z) → s.done y.proc ≤ y.at → (n : ℕ) (calls : List Event) → calls_name plan n y (kind plan y) ≡ true → Written plan s n → IsNameHistory plan y n calls → s.names n ≡ left_by plan n calls
+pub name_is_past : (plan : Plan) → IsSettled plan → (s : State) → Sound plan s → (y : Event) → Live plan y → ((z : Event) → Before plan z y → IsDone s z) → s.done y.proc ≤ y.at →
+    (n : ℕ) (calls : List Event) → calls_name plan n y (kind plan y) ≡ true → Written plan s n → IsNameHistory plan y n calls → s.names n ≡ left_by plan n calls
 name_is_past plan settled s k y live_y known not_yet n calls c w h = w.left ∙ ap (left_by plan n) (one_order plan w.calls calls w.as_run h.in_order into from)
   where
     into : (z : Event) → IsIn z w.calls → IsIn z calls

@@ -44,7 +44,8 @@ known_step plan settled s p k h = record {
   sound = sound_step plan s p k.sound h;
   lengths = λ q. elim (cases_eq q p) [
     | inl e ↦ subst (λ r. length ((step plan s p).replies r) ≡ (step plan s p).done r) (sym e)
-        (ap length (replies_same plan s p) ∙ (let l = length_push (s.replies p) (reply plan s (next_event s p) (kind plan (next_event s p))) in let m = k.lengths p in let d = done_same plan s p in omega (arith, l, m, d)))
+        (ap length (replies_same plan s p) ∙ (let l = length_push (s.replies p) (reply plan s (next_event s p) (kind plan (next_event s p))) in let m = k.lengths p in let d = done_same plan s p in
+        omega (arith, l, m, d)))
     | inr ne ↦ ap length (replies_other plan s p q ne) ∙ k.lengths q ∙ sym (done_other plan s p q ne)
   ];
 }

@@ -12,7 +12,10 @@ use Rattle.wire_runs.proofs.Brought.{no_least}
 
 -- Two cuts, the second later and closed, and an event y that is in neither: all that is before y is in both. A delivery that has come in the
 -- second cut, and surely none has come in the first, would make a race
-module _ (plan : Plan) (settled : IsSettled plan) (later_cut : ℕ → ℕ) (y : Event) (closed : ClosedCut plan later_cut) (not_yet : later_cut y.proc ≤ y.at) (live_y : Live plan y) (t key : ℕ) (is : kind plan y ≡ Some (GetNow t key)) (away : same_node plan t y.proc ≡ false) (stored_once : is_some (stored plan t key (event_count plan t)) ≡ true) (not_sure : ComesSurely plan t key (node_of plan y.proc) y → ⊥) (d : Delivery) (brings_it : Brings plan t key (node_of plan y.proc) d) (its_done : (z : Event) → IsOf plan d z → z.at < later_cut z.proc) where
+module _ (plan : Plan) (settled : IsSettled plan) (later_cut : ℕ → ℕ) (y : Event) (closed : ClosedCut plan later_cut) (not_yet : later_cut y.proc ≤ y.at) (live_y : Live plan y) (t key : ℕ)
+    (is : kind plan y ≡ Some (GetNow t key)) (away : same_node plan t y.proc ≡ false) (stored_once : is_some (stored plan t key (event_count plan t)) ≡ true)
+    (not_sure : ComesSurely plan t key (node_of plan y.proc) y → ⊥) (d : Delivery) (brings_it : Brings plan t key (node_of plan y.proc) d)
+    (its_done : (z : Event) → IsOf plan d z → z.at < later_cut z.proc) where
   -- an event of it that isn't before y, of the process with this number
   abbrev Late : ℕ → Type 0
   Late r = (z : Event) × IsOf plan d z × (Before plan z y → ⊥) × (z.proc ≡ r)

@@ -23,7 +23,8 @@ left_same (process ∷ plan) f g p same =
     omega (arith, here, rest)
 
 -- a step of the process at place i leaves one event less
-left_step : (plan : List Process) (f g : ℕ → ℕ) (p i : ℕ) → f (p + i) < length (process_kinds (slice_get plan i)) → g (p + i) ≡ suc (f (p + i)) → ((q : ℕ) → (q ≡ p + i → ⊥) → g q ≡ f q) → suc (left_from plan g p) ≡ left_from plan f p
+left_step : (plan : List Process) (f g : ℕ → ℕ) (p i : ℕ) → f (p + i) < length (process_kinds (slice_get plan i)) → g (p + i) ≡ suc (f (p + i)) → ((q : ℕ) → (q ≡ p + i → ⊥) → g q ≡ f q) →
+    suc (left_from plan g p) ≡ left_from plan f p
 unfolding left_from
 left_step [] f g p i lt now other = absurd (omega (arith, lt))
 left_step (process ∷ plan) f g p zero lt now other =

@@ -13,7 +13,8 @@ leads : (plan : Plan) (w : List ℕ) (s : State) → IsInterleaving plan s w →
 leads plan [] s h = refl
 leads plan (p ∷ w) s h = (h.0, leads plan w (step plan s p) h.1)
 
-diamond : (plan : Plan) → IsSettled plan → (s : State) (p q : ℕ) → Known plan s → (p ≡ q → ⊥) → is_enabled plan s p ≡ true → is_enabled plan s q ≡ true → Undisturbed (is_enabled plan) (step plan) s p q
+diamond : (plan : Plan) → IsSettled plan → (s : State) (p q : ℕ) → Known plan s → (p ≡ q → ⊥) → is_enabled plan s p ≡ true → is_enabled plan s q ≡ true →
+    Undisturbed (is_enabled plan) (step plan) s p q
 diamond plan settled s p q k ne hp hq =
     let c = commute plan settled s p q k ne hp hq in
     record { stays = c.first_stays; same = sym c.same_end }
@@ -23,4 +24,5 @@ enabled_commute plan s p q settled r ne hp hq = commute plan settled s p q (reac
 
 pub settled_one_end : OneEnd
 settled_one_end plan v w settled hv hw ev ew =
-    one_end State (is_enabled plan) (step plan) (Known plan) (known_step plan settled) (diamond plan settled) v w start (run_from plan start v) (run_from plan start w) (known_start plan) (leads plan v start hv) (leads plan w start hw) ev ew
+    one_end State (is_enabled plan) (step plan) (Known plan) (known_step plan settled) (diamond plan settled) v w start (run_from plan start v) (run_from plan start w) (known_start plan)
+    (leads plan v start hv) (leads plan w start hw) ev ew

@@ -32,7 +32,8 @@ pub none_enabled : (plan : Plan) (s : State) (n p : ℕ) → lowest plan s n ≡
 none_enabled plan s zero p h lt = absurd (omega (arith, lt))
 none_enabled plan s (suc n) p h lt = go (lowest plan s n) refl h (none_enabled plan s n p)
   where
-    go : (o : Option ℕ) → lowest plan s n ≡ o → or_else o (cond (is_enabled plan s n) (Some n) None) ≡ None → (lowest plan s n ≡ None → p < n → is_enabled plan s p ≡ false) → is_enabled plan s p ≡ false
+    go : (o : Option ℕ) → lowest plan s n ≡ o → or_else o (cond (is_enabled plan s n) (Some n) None) ≡ None → (lowest plan s n ≡ None → p < n → is_enabled plan s p ≡ false) →
+        is_enabled plan s p ≡ false
     go (Some q) e h ih = cc
     go None e h ih = elim (cases_Bool (is_enabled plan s n)) [
       | inl t ↦ (let r : Some n ≡ None = sym (cond-true _ _ _ t) ∙ h in cc)
@@ -54,7 +55,8 @@ pub plain_is_run : (plan : Plan) (fuel : ℕ) (s : State) → IsInterleaving pla
 plain_is_run plan zero s = tt
 plain_is_run plan (suc fuel) s = go (lowest plan s (process_count plan)) refl (λ p. plain_is_run plan fuel (step plan s p))
   where
-    go : (o : Option ℕ) → lowest plan s (process_count plan) ≡ o → ((p : ℕ) → IsInterleaving plan (step plan s p) (plain_from plan fuel (step plan s p))) → IsInterleaving plan s (go_on o (λ p. plain_from plan fuel (step plan s p)))
+    go : (o : Option ℕ) → lowest plan s (process_count plan) ≡ o → ((p : ℕ) → IsInterleaving plan (step plan s p) (plain_from plan fuel (step plan s p))) →
+        IsInterleaving plan s (go_on o (λ p. plain_from plan fuel (step plan s p)))
     go None e rest = tt
     go (Some p) e rest = (lowest_enabled plan s (process_count plan) p e, rest p)
 
@@ -62,7 +64,8 @@ pub plain_ends : (plan : Plan) (fuel : ℕ) (s : State) → left_from plan.proce
 plain_ends plan zero s le = λ p. false_from_ne_true _ (λ h. let f = left_falls plan s p h in omega (arith, f, le))
 plain_ends plan (suc fuel) s le = go (lowest plan s (process_count plan)) refl (λ p. plain_ends plan fuel (step plan s p))
   where
-    go : (o : Option ℕ) → lowest plan s (process_count plan) ≡ o → ((p : ℕ) → left_from plan.processes (step plan s p).done 0 ≤ fuel → IsEnd plan (run_from plan (step plan s p) (plain_from plan fuel (step plan s p)))) → IsEnd plan (run_from plan s (go_on o (λ p. plain_from plan fuel (step plan s p))))
+    go : (o : Option ℕ) → lowest plan s (process_count plan) ≡ o → ((p : ℕ) → left_from plan.processes (step plan s p).done 0 ≤ fuel →
+        IsEnd plan (run_from plan (step plan s p) (plain_from plan fuel (step plan s p)))) → IsEnd plan (run_from plan s (go_on o (λ p. plain_from plan fuel (step plan s p))))
     go None e rest = λ p. false_from_ne_true _ (λ h. true≢false (sym h ∙ none_enabled plan s (process_count plan) p e (enabled_within plan s p h)))
     go (Some p) e rest = rest p (let f = left_falls plan s p (lowest_enabled plan s (process_count plan) p e) in omega (arith, f, le))
 
@@ -71,7 +74,8 @@ none_below : (plan : Plan) (s : State) (n p q : ℕ) → lowest plan s n ≡ Som
 none_below plan s zero p q h lt = cc
 none_below plan s (suc n) p q h lt = go (lowest plan s n) refl h (none_below plan s n p q)
   where
-    go : (o : Option ℕ) → lowest plan s n ≡ o → or_else o (cond (is_enabled plan s n) (Some n) None) ≡ Some p → (lowest plan s n ≡ Some p → q < p → is_enabled plan s q ≡ false) → is_enabled plan s q ≡ false
+    go : (o : Option ℕ) → lowest plan s n ≡ o → or_else o (cond (is_enabled plan s n) (Some n) None) ≡ Some p → (lowest plan s n ≡ Some p → q < p → is_enabled plan s q ≡ false) →
+        is_enabled plan s q ≡ false
     go (Some r) e h ih = ih (e ∙ h) lt
     go None e h ih = elim (cases_Bool (is_enabled plan s n)) [
       | inl t ↦ (let r : n ≡ p = same_Some _ _ (sym (cond-true _ _ _ t) ∙ h) in none_enabled plan s n q e (omega (arith, r, lt)))
@@ -79,7 +83,8 @@ none_below plan s (suc n) p q h lt = go (lowest plan s n) refl h (none_below pla
     ]
 
 -- at each step of the plain run nobody below is enabled
-plain_is_lowest : (plan : Plan) (fuel : ℕ) (s : State) (n p q : ℕ) → slice_get (plain_from plan fuel s) n ≡ Some p → q < p → is_enabled plan (run_from plan s (take n (plain_from plan fuel s))) q ≡ false
+plain_is_lowest : (plan : Plan) (fuel : ℕ) (s : State) (n p q : ℕ) → slice_get (plain_from plan fuel s) n ≡ Some p → q < p →
+    is_enabled plan (run_from plan s (take n (plain_from plan fuel s))) q ≡ false
 plain_is_lowest plan zero s n p q h lt = absurd (nothing n h)
   where
     nothing : (n : ℕ) → slice_get [] n ≡ Some p → ⊥

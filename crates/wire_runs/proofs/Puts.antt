@@ -44,7 +44,8 @@ module _ (plan : Plan) (settled : IsSettled plan) where
       let y : Event = record { proc = p; at = n } in
       settled.no_rewrite x y (record { key = key; first_scope = f.scope; later_scope = scope; first_is = f.is; later_is = e; first = f.first; same = refl; later = f.below })
 
-  own_is_stored_with : (p key n : ℕ) (o : Option Kind) → kind_at plan p n ≡ o → (is_some (stored plan p key n) ≡ true → own plan p key n ≡ stored plan p key n) → is_some (stored_with (own plan p key n) (stored plan p key n) o) ≡ true → own_with key n (own plan p key n) o ≡ stored_with (own plan p key n) (stored plan p key n) o
+  own_is_stored_with : (p key n : ℕ) (o : Option Kind) → kind_at plan p n ≡ o → (is_some (stored plan p key n) ≡ true → own plan p key n ≡ stored plan p key n) →
+      is_some (stored_with (own plan p key n) (stored plan p key n) o) ≡ true → own_with key n (own plan p key n) o ≡ stored_with (own plan p key n) (stored plan p key n) o
   own_is_stored_with p key n (Some Commit) e ih h = refl
   own_is_stored_with p key n (Some (Put k scope)) e ih h =
       cond_both (k == key) (Some n) (own plan p key n) (λ v. v ≡ stored plan p key n)
@@ -70,13 +71,15 @@ module _ (plan : Plan) (settled : IsSettled plan) where
         stored_with_same p key m (kind_at plan p m) (ap is_some same ∙ h) ∙ same
   ]
 
-  counted_with : (p key n : ℕ) (o : Option Kind) → kind_at plan p n ≡ o → put_count plan p key n ≡ count_of (own plan p key n) → put_count_with key (put_count plan p key n) o ≡ count_of (own_with key n (own plan p key n) o)
+  counted_with : (p key n : ℕ) (o : Option Kind) → kind_at plan p n ≡ o → put_count plan p key n ≡ count_of (own plan p key n) →
+      put_count_with key (put_count plan p key n) o ≡ count_of (own_with key n (own plan p key n) o)
   counted_with p key n (Some (Put k scope)) e ih = elim (cases_Bool (k == key)) [
     | inl t ↦ go (own plan p key n) refl t
     | inr f ↦ rw f ih
   ]
     where
-      go : (v : Option ℕ) → own plan p key n ≡ v → (k == key) ≡ true → put_count_with key (put_count plan p key n) (Some (Put k scope)) ≡ count_of (own_with key n (own plan p key n) (Some (Put k scope)))
+      go : (v : Option ℕ) → own plan p key n ≡ v → (k == key) ≡ true →
+          put_count_with key (put_count plan p key n) (Some (Put k scope)) ≡ count_of (own_with key n (own plan p key n) (Some (Put k scope)))
       go None is t = rw t (ap suc (ih ∙ ap count_of is))
       go (Some v) is t = absurd (no_second p key n scope (ap is_some is) (e ∙ ap (λ x. Some (Put x scope)) (eqb-true k key t)))
   counted_with p key n _ e ih = ih
@@ -105,6 +108,7 @@ pub first_stores : (plan : Plan) (p key n : ℕ) → is_some (stored plan p key 
 first_stores plan p key zero h = absurd (true≢false (sym h))
 first_stores plan p key (suc n) h = go (stored plan p key n) refl (first_stores plan p key n)
   where
-    go : (o : Option ℕ) → stored plan p key n ≡ o → (is_some (stored plan p key n) ≡ true → (i : ℕ) × (i < n) × Stores plan (record { proc = p; at = i }) key) → (i : ℕ) × (i < suc n) × Stores plan (record { proc = p; at = i }) key
+    go : (o : Option ℕ) → stored plan p key n ≡ o → (is_some (stored plan p key n) ≡ true → (i : ℕ) × (i < n) × Stores plan (record { proc = p; at = i }) key) → (i : ℕ) × (i < suc n)
+        × Stores plan (record { proc = p; at = i }) key
     go (Some v) e ih = let r = ih (ap is_some e) in let l = r.1 in (r.0, omega (arith, l), r.2)
     go None e ih = (n, omega arith, record { nothing_before = e; something_after = h })

@@ -126,7 +126,8 @@ module _ (plan : Plan) (settled : IsSettled plan) (marks : Marks plan) (cut : �
   ]
   reaches (suc fuel) s k le room = go (find (λ p. nat_lt (s.done p) (cut p)) (process_count plan)) (λ q h. reaches fuel (step plan s q) (kept_step plan settled s q k h))
     where
-      go : ((i : ℕ) × (nat_lt (s.done i) (cut i) ≡ true)) ⊎ ((i : ℕ) → i < process_count plan → nat_lt (s.done i) (cut i) ≡ false) → ((q : ℕ) → is_enabled plan s q ≡ true → ((p : ℕ) → (step plan s q).done p ≤ cut p) → left_from plan.processes (step plan s q).done 0 ≤ fuel → Reaches (step plan s q)) → Reaches s
+      go : ((i : ℕ) × (nat_lt (s.done i) (cut i) ≡ true)) ⊎ ((i : ℕ) → i < process_count plan → nat_lt (s.done i) (cut i) ≡ false) →
+          ((q : ℕ) → is_enabled plan s q ≡ true → ((p : ℕ) → (step plan s q).done p ≤ cut p) → left_from plan.processes (step plan s q).done 0 ≤ fuel → Reaches (step plan s q)) → Reaches s
       go (inr none) rest = ([], tt, all_there s le none)
       go (inl r) rest =
           let o = onward s k r.0 (ltb-true _ _ r.1) in

@@ -1,5 +1,6 @@
 -- What became of every call in a state: its reply, or how far its process has come.
-use Rattle.std.specs.Prelude.{ℕ, zero, suc, ◌-◌, List, [], ◌∷◌, ◌++◌, Bool, true, false, not, ◌&&◌, Option, Some, None, is_some, length, take, map, replicate, nat_lt, slice_get, if◌then◌else◌}
+use Rattle.std.specs.Prelude.{ℕ, zero, suc, ◌-◌, List, [], ◌∷◌, ◌++◌, Bool, true, false, not, ◌&&◌, Option, Some, None, is_some, length, take, map, replicate}
+use Rattle.std.specs.Prelude.{nat_lt, slice_get, if◌then◌else◌}
 use Rattle.std.specs.List.{flat_map}
 use Rattle.wire_runs.specs.Plan.{Plan, Process, Call, kinds_of, process_count, Event}
 use Rattle.wire_types.specs.Outcome.{Ends}

@@ -42,7 +42,8 @@ pub record IsPast (plan : Plan) (y : Event) (fate_of : Event → Fate) (s : Stat
 -- an event that isn't live waits. A live one does what it would do in the state of its past, the fates of what is before it being its replies
 pub data HasFate (plan : Plan) : Event → Fate → Type 0 where
   dead : {y : Event} {fate : Fate} → ¬ (Live plan y) → fate ≡ Waits → HasFate plan y fate
-  told : {y : Event} {fate : Fate} → Live plan y → (fate_of : Event → Fate) → ((z : Event) → Before plan z y → HasFate plan z (fate_of z)) → (past : State) → IsPast plan y fate_of past → fate ≡ fate_in plan past y → HasFate plan y fate
+  told : {y : Event} {fate : Fate} → Live plan y → (fate_of : Event → Fate) → ((z : Event) → Before plan z y → HasFate plan z (fate_of z)) → (past : State) →
+      IsPast plan y fate_of past → fate ≡ fate_in plan past y → HasFate plan y fate
 
 -- a cut of a settled plan that can be: of each event in it the sources are in it, and it doesn't wait
 pub record IsSoundCut (plan : Plan) (cut : ℕ → ℕ) : Type 0 where

@@ -31,11 +31,13 @@ pub record Commute (plan : Plan) (s : State) (p q : ℕ) : Type 0 where
 
 -- in a settled plan, whatever state a run has come to
 abbrev pub EnabledCommute : Type 0
-EnabledCommute = (plan : Plan) (s : State) (p q : ℕ) → IsSettled plan → IsReachable plan s → p ≢ q → is_enabled plan s p ≡ true → is_enabled plan s q ≡ true → Commute plan s p q
+EnabledCommute = (plan : Plan) (s : State) (p q : ℕ) → IsSettled plan → IsReachable plan s → p ≢ q → is_enabled plan s p ≡ true → is_enabled plan s q ≡ true →
+    Commute plan s p q
 
 -- every two runs of a settled plan that can't go on end in the same state: names, replies and who waits
 abbrev pub OneEnd : Type 0
-OneEnd = (plan : Plan) (v w : List ℕ) → IsSettled plan → IsInterleaving plan start v → IsInterleaving plan start w → IsEnd plan (run plan v) → IsEnd plan (run plan w) → run plan v ≡ run plan w
+OneEnd = (plan : Plan) (v w : List ℕ) → IsSettled plan → IsInterleaving plan start v → IsInterleaving plan start w → IsEnd plan (run plan v) →
+    IsEnd plan (run plan w) → run plan v ≡ run plan w
 
 -- in a state that a run can reach, each call of a process has an end, and nothing else has
 abbrev pub RowsAreWhole : Type 0
@@ -56,7 +58,8 @@ pub record PlainRuns (plan : Plan) : Type 0 where
 -- replies are fates, and who is enabled is told by fates
 pub record FatesHold (plan : Plan) (s : State) : Type 0 where
   pub answers : (z : Event) (a : Answer) (fate : Fate) → slice_get (s.replies z.proc) z.at ≡ Some a → HasFate plan z fate → fate ≡ Says a
-  pub enabled : (p : ℕ) (fate : Fate) → HasFate plan (next_event s p) fate → (is_enabled plan s p ≡ true) ↔ (((x : Event) → Edge plan x (next_event s p) → IsDone s x) × (fate ≢ Waits))
+  pub enabled : (p : ℕ) (fate : Fate) → HasFate plan (next_event s p) fate →
+      (is_enabled plan s p ≡ true) ↔ (((x : Event) → Edge plan x (next_event s p) → IsDone s x) × (fate ≢ Waits))
 
 abbrev pub FatesTell : Type 0
 FatesTell = (plan : Plan) (s : State) → IsSettled plan → IsReachable plan s → FatesHold plan s
@@ -88,7 +91,8 @@ IsOneWay lower_name = (a b : ℕ) → lower_name a b ≡ true → lower_name b a
 
 -- for each order of the names the list of findings is one
 abbrev pub OneList : Type 0
-OneList = (plan : Plan) (lower_name : ℕ → ℕ → Bool) (xs ys : List Finding) → IsOneWay lower_name → IsFindings plan lower_name xs → IsFindings plan lower_name ys → xs ≡ ys
+OneList = (plan : Plan) (lower_name : ℕ → ℕ → Bool) (xs ys : List Finding) → IsOneWay lower_name → IsFindings plan lower_name xs →
+    IsFindings plan lower_name ys → xs ≡ ys
 
 -- marks that tell which events are live, and which are before which
 pub record Marks (plan : Plan) : Type 0 where
@@ -103,7 +107,8 @@ HaveFates = (plan : Plan) → IsSettled plan → Marks plan → (y : Event) → 
 
 -- a sound cut of a settled plan is what some run has come to
 abbrev pub SoundIsReached : Type 0
-SoundIsReached = (plan : Plan) (cut : ℕ → ℕ) → IsSettled plan → Marks plan → IsSoundCut plan cut → (s : State) × IsReachable plan s × ((p : ℕ) → s.done p ≡ cut p)
+SoundIsReached = (plan : Plan) (cut : ℕ → ℕ) → IsSettled plan → Marks plan → IsSoundCut plan cut → (s : State) × IsReachable plan s
+    × ((p : ℕ) → s.done p ≡ cut p)
 
 -- p's next event where so many events of each process are done
 abbrev pub next_after : (ℕ → ℕ) → ℕ → Event

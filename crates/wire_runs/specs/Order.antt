@@ -27,7 +27,8 @@ pub record PublishesOnce (plan : Plan) (x : Event) (name : ℕ) : Type 0 where
 pub data Edge (plan : Plan) (x y : Event) : Type 0 where
   Follows : x.proc ≡ y.proc → suc x.at ≡ y.at → Edge plan x y
   Meets : (members : List ℕ) → kind plan y ≡ Some (Leave members) → IsArrival plan members (arrivals plan y.proc members y.at) x → Edge plan x y
-  Feeds : (key : ℕ) → kind plan y ≡ Some (Get x.proc key) → x.proc ≢ y.proc → put_count plan x.proc key (event_count plan x.proc) ≡ 1 → Stores plan x key → Edge plan x y
+  Feeds : (key : ℕ) → kind plan y ≡ Some (Get x.proc key) → x.proc ≢ y.proc → put_count plan x.proc key (event_count plan x.proc) ≡ 1 → Stores plan x key →
+      Edge plan x y
   Announces : (name : ℕ) → kind plan y ≡ Some (LookupWait name) → PublishesOnce plan x name → Edge plan x y
 
 -- whether there is such an event and the scripts don't rule it out, its sources aside. They rule out a get of another process's key

@@ -1,7 +1,8 @@
 //! The laws of runs of a plan. Each is the contract of a function that does nothing.
 
 ghost use Rattle.wire_runs.specs.Plan.{Plan};
-ghost use Rattle.wire_runs.specs.Laws.{PlainRuns, RacesAreUnordered, RowsAreWhole, RunsEnd, EnabledIsDue, EnabledCommute, OneEnd, FatesTell, OneFate, RunsAreSound, NoFindings, OneList, HaveFates, SoundIsReached};
+ghost use Rattle.wire_runs.specs.Laws.{PlainRuns, RacesAreUnordered, RowsAreWhole, RunsEnd, EnabledIsDue, EnabledCommute, OneEnd, FatesTell, OneFate};
+ghost use Rattle.wire_runs.specs.Laws.{RunsAreSound, NoFindings, OneList, HaveFates, SoundIsReached};
 ghost use Rattle.wire_runs.specs.Laws.{StepsMoveCuts, CutsTellSteps, OneState, OneEventBetween, RepliesArePlain};
 
 /// No run is longer than the number of events.

@@ -46,7 +46,8 @@ nothing f [] all = refl
 nothing f (x ∷ xs) all = let here : f x ≡ 0 = all 0 x refl in let rest : total f xs ≡ 0 = nothing f xs (λ j u at. all (suc j) u at) in omega arith
 
 -- where f is 0 of each other pass, the total is that of this one
-alone : (f : DequeView → ℕ) (views : List DequeView) (port : ℕ) (v : DequeView) → get_elem? views port ≡ some v → ((j : ℕ) (u : DequeView) → j ≢ port → get_elem? views j ≡ some u → f u ≡ 0) → total f views ≡ f v
+alone : (f : DequeView → ℕ) (views : List DequeView) (port : ℕ) (v : DequeView) → get_elem? views port ≡ some v → ((j : ℕ) (u : DequeView) → j ≢ port → get_elem? views j ≡ some u → f u ≡ 0) →
+    total f views ≡ f v
 alone f [] port v e others = absurd (some-ne-none v (sym e))
 alone f (x ∷ xs) zero v e others = let same : f x ≡ f v = ap f (some-injective x v e) in let none : total f xs ≡ 0 = nothing f xs (λ j u at. others (suc j) u (λ k. omega arith) at) in omega arith
 alone f (x ∷ xs) (suc port) v e others =
@@ -58,7 +59,8 @@ abbrev AllViews : (ℕ → DequeView → Type 0) → List DequeView → Type 0
 AllViews F views = (port : ℕ) (v : DequeView) → get_elem? views port ≡ some v → F port v
 
 -- a fact of each pass after a change of one
-all_set : (F : ℕ → DequeView → Type 0) (views : List DequeView) (port : ℕ) (w : DequeView) → F port w → ((j : ℕ) (u : DequeView) → j ≢ port → get_elem? views j ≡ some u → F j u) → AllViews F (set views port w)
+all_set : (F : ℕ → DequeView → Type 0) (views : List DequeView) (port : ℕ) (w : DequeView) → F port w → ((j : ℕ) (u : DequeView) → j ≢ port → get_elem? views j ≡ some u → F j u) →
+    AllViews F (set views port w)
 all_set F views port w mine others j u e = ⊎_elim (λ (x : (j ≡ port) × (w ≡ u)). subst (λ (y : ℕ × DequeView). F y.0 y.1) (λ i. (sym x.0 i, x.1 i)) mine)
     (λ (x : (j ≢ port) × (get_elem? views j ≡ some u)). others j u x.0 x.1) (at_set views port j w u e)
 
@@ -187,7 +189,8 @@ forks port v some_parts items views rule at =
       all_snoc (Knows dealt (length gone)) (set views port l) r (λ j. (omega arith, (λ _. refl), λ _. knew)) changed,
     )
 
-pub merges : (port : ℕ) (v : DequeView) (other : ℕ) (u : DequeView) → 0 < v.parts → Merges Dealt port v other u (deque_view (v.parts + u.parts) v.below v.dealt (v.taken ++ u.taken)) (deque_view 0 0 [] [])
+pub merges : (port : ℕ) (v : DequeView) (other : ℕ) (u : DequeView) → 0 < v.parts →
+    Merges Dealt port v other u (deque_view (v.parts + u.parts) v.below v.dealt (v.taken ++ u.taken)) (deque_view 0 0 [] [])
 merges port v other u some_part items views rule at two at' =
     let dealt = rule.0 in
     let gone = rule.1 in

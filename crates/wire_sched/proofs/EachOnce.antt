@@ -64,7 +64,8 @@ same_weights (x ∷ xs) ys same =
     let whole : weigh h ys ≡ weigh h (at.0 ++ x ∷ at.1) = ap (weigh h) at.2 in
     omega (arith, same h, whole, weigh-append h at.0 (x ∷ at.1), weigh-append h at.0 at.1)) in
     subst (IsPermutation (x ∷ xs)) (sym at.2)
-    (IsPermutation-trans (x ∷ xs) (x ∷ (at.0 ++ at.1)) (at.0 ++ x ∷ at.1) (IsPermutation-cons x xs (at.0 ++ at.1) rest) (IsPermutation-sym (at.0 ++ x ∷ at.1) (x ∷ (at.0 ++ at.1)) (IsPermutation-middle at.0 x at.1)))
+    (IsPermutation-trans (x ∷ xs) (x ∷ (at.0 ++ at.1)) (at.0 ++ x ∷ at.1) (IsPermutation-cons x xs (at.0 ++ at.1) rest)
+    (IsPermutation-sym (at.0 ++ x ∷ at.1) (x ∷ (at.0 ++ at.1)) (IsPermutation-middle at.0 x at.1)))
 
 -- f 0, .. f (n - 1), added up
 abbrev pub sum_to : (ℕ → ℕ) → ℕ → ℕ
@@ -116,7 +117,14 @@ length_hands (p ∷ ps) = ap suc (length_hands ps)
 taken_split : (h : Piece → ℕ) (ps : List Pass) → weigh h (taken_by_all ps) ≡ weigh h (all_of (map (λ (p : Pass). own_view p) ps)) + weigh h (loot ps)
 taken_split h [] = refl
 taken_split h (p ∷ ps) =
-    omega (arith, taken_split h ps, weigh-append h (taken_by p) (taken_by_all ps), weigh-append h (own_view p).taken (all_of (permit_views p)), weigh-append h (own_view p).taken (all_of (map (λ (q : Pass). own_view q) ps)), weigh-append h (all_of (permit_views p)) (loot ps))
+    omega (
+      arith,
+      taken_split h ps,
+      weigh-append h (taken_by p) (taken_by_all ps),
+      weigh-append h (own_view p).taken (all_of (permit_views p)),
+      weigh-append h (own_view p).taken (all_of (map (λ (q : Pass). own_view q) ps)),
+      weigh-append h (all_of (permit_views p)) (loot ps),
+    )
 
 -- deque by deque, what was taken of it
 taken_by_place : (h : Piece → ℕ) (ps : List Pass) (n : ℕ) → length ps ≡ n → ((i : ℕ) (p : Pass) → get_elem? ps i ≡ some p → length (permit_views p) ≡ n)
@@ -124,8 +132,10 @@ taken_by_place : (h : Piece → ℕ) (ps : List Pass) (n : ℕ) → length ps �
 taken_by_place h ps n len each =
     let vs = map (λ (p : Pass). own_view p) ps in
     let own : sum_to (λ k. weigh h (taken_at k (map (λ (p : Pass). own_view p) ps))) n ≡ weigh h (all_of (map (λ (p : Pass). own_view p) ps)) =
-    subst (λ m. sum_to (λ k. weigh h (taken_at k (map (λ (p : Pass). own_view p) ps))) m ≡ weigh h (all_of (map (λ (p : Pass). own_view p) ps))) (length_hands ps ∙ len) (by_place h (map (λ (p : Pass). own_view p) ps)) in
-    let parts = sum_same (λ k. weigh h (taken_from k ps)) (λ k. weigh h (taken_at k (map (λ (p : Pass). own_view p) ps)) + weigh h (stolen k ps)) n (λ k. weigh-append h (taken_at k (map (λ (p : Pass). own_view p) ps)) (stolen k ps)) in
+    subst (λ m. sum_to (λ k. weigh h (taken_at k (map (λ (p : Pass). own_view p) ps))) m ≡ weigh h (all_of (map (λ (p : Pass). own_view p) ps))) (length_hands ps ∙ len)
+    (by_place h (map (λ (p : Pass). own_view p) ps)) in
+    let parts = sum_same (λ k. weigh h (taken_from k ps)) (λ k. weigh h (taken_at k (map (λ (p : Pass). own_view p) ps)) + weigh h (stolen k ps)) n
+    (λ k. weigh-append h (taken_at k (map (λ (p : Pass). own_view p) ps)) (stolen k ps)) in
     let split = sum_both (λ k. weigh h (taken_at k (map (λ (p : Pass). own_view p) ps))) (λ k. weigh h (stolen k ps)) n in
     omega (arith, own, loot_by_place h ps n each, parts, split, taken_split h ps)
 
@@ -141,7 +151,8 @@ shared_to h r (suc n) ps each =
     let last = each n (omega arith) h in
     omega (arith, last, shares_suc h n (workers_of r) r.round r.ranks, shared_to h r n ps (λ k less. each k (omega arith)), weigh-append h (rest_to r n ps) (rest_of r n ps))
 
-pub each_once : (r : Round) (ps : List Pass) → 0 < workers_of r → length ps ≡ workers_of r → ((i : ℕ) (p : Pass) → get_elem? ps i ≡ some p → length (permit_views p) ≡ workers_of r) → IsShared r (workers_of r) ps
+pub each_once : (r : Round) (ps : List Pass) → 0 < workers_of r → length ps ≡ workers_of r → ((i : ℕ) (p : Pass) → get_elem? ps i ≡ some p → length (permit_views p) ≡ workers_of r) →
+    IsShared r (workers_of r) ps
     → IsPermutation (deal_of r.round r.ranks) (taken_by_all ps ++ rest_of_all r ps)
 each_once r ps staffed len tokens shared =
     same_weights (deal_of r.round r.ranks) (taken_by_all ps ++ rest_of_all r ps)

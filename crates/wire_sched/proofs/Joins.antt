@@ -1,5 +1,6 @@
 -- The tokens of all passes come back to the workers of their deques.
-use Rattle.std.proofs.Common.{◌≡◌, ◌≢◌, ℕ, zero, suc, ◌+◌, ◌<◌, ◌≤◌, List, [], ◌∷◌, ◌++◌, length, set, take, map, sym, refl, ap, ◌∙◌, subst, ⊎_elim, arith, length-set, length-append, append_assoc, append-nil, add-one}
+use Rattle.std.proofs.Common.{◌≡◌, ◌≢◌, ℕ, zero, suc, ◌+◌, ◌<◌, ◌≤◌, List, [], ◌∷◌, ◌++◌, length, set, take, map, sym, refl, ap, ◌∙◌, subst, ⊎_elim, arith, length-set, length-append, append_assoc}
+use Rattle.std.proofs.Common.{append-nil, add-one}
 use mathlib.Core.Option.{some, some-ne-none, some-injective}
 use lib.ListN.{get_elem?}
 use Rattle.crossbeam_deque.specs.Handles as deque
@@ -42,7 +43,8 @@ earlier (x ∷ left) t u zero at = at
 earlier (x ∷ left) t u (suc k) at = earlier left t u k at
 
 -- what is known of the deque whose token comes next
-pub rowing_next : (first now : List Pass) (all left : List Permit) (t : Permit) (p : Pass) → Rowing first now all (left ++ t ∷ []) → EachPair CanTake first all → get_elem? now (length left) ≡ some p → CanTake p t
+pub rowing_next : (first now : List Pass) (all left : List Permit) (t : Permit) (p : Pass) → Rowing first now all (left ++ t ∷ []) → EachPair CanTake first all → get_elem? now (length left) ≡ some p →
+    CanTake p t
 rowing_next first now all left t p h can at =
     let w = get_within now (length left) p at in
     let a = get_there first (length left) (omega (arith, h.same_length)) in
@@ -150,7 +152,8 @@ stolen_next k n ps p t mine at here =
     append_assoc mine (stolen k (take n ps)) (deque.view t).taken ∙ ap (λ l. mine ++ l) more
 
 -- a token with one part joins a worker that has joined n
-one_more : (v m w : DequeView) (n : ℕ) (xs ys : List Piece) → m ≡ deque_view (v.parts + n) v.below v.dealt xs → w.parts ≡ 1 → xs ++ w.taken ≡ ys → joined m w ≡ deque_view (v.parts + (n + 1)) v.below v.dealt ys
+one_more : (v m w : DequeView) (n : ℕ) (xs ys : List Piece) → m ≡ deque_view (v.parts + n) v.below v.dealt xs → w.parts ≡ 1 → xs ++ w.taken ≡ ys →
+    joined m w ≡ deque_view (v.parts + (n + 1)) v.below v.dealt ys
 one_more v m w n xs ys is one all =
     let parts : (v.parts + n) + w.parts ≡ v.parts + (n + 1) = omega arith in
     ap (λ (u : DequeView). joined u w) is ∙ with_more v ((v.parts + n) + w.parts) (v.parts + (n + 1)) (xs ++ w.taken) ys parts all
@@ -186,7 +189,8 @@ joining_more first now next n p q h can at w own join = record {
         let same = h.same k a o.0 x o.1 in
         let v = h.views k a o.0 x o.1 in
         let one : (deque.view t).parts ≡ 1 = (row.1 k a t x t0.1).1 in
-        let view_m : own_view m.0 ≡ deque_view ((own_view a).parts + n) (own_view a).below (own_view a).dealt ((own_view a).taken ++ stolen k (take n first)) = ap (λ (z : Owner). deque.worker_view z) mo.1 ∙ v in
+        let view_m : own_view m.0 ≡ deque_view ((own_view a).parts + n) (own_view a).below (own_view a).dealt ((own_view a).taken ++ stolen k (take n first)) = ap (λ (z : Owner). deque.worker_view z)
+        mo.1 ∙ v in
         let all : ((own_view a).taken ++ stolen k (take n first)) ++ (deque.view t).taken ≡ (own_view a).taken ++ stolen k (take (n + 1) first) =
         stolen_next k n first p0.0 t (own_view a).taken p0.1 t0.1 in (
           j.0 ∙ (mo.0 ∙ same.0),
@@ -208,7 +212,8 @@ joining_ends first now n h all = (
       let s = h.same k a b x y in (
         s.0,
         s.1,
-        h.views k a b x y ∙ with_more (own_view a) ((own_view a).parts + n) ((own_view a).parts + length first) ((own_view a).taken ++ stolen k (take n first)) ((own_view a).taken ++ stolen k first) (ap (λ m. (own_view a).parts + m) all) (ap (λ l. (own_view a).taken ++ stolen k l) (take_whole n first all)),
+        h.views k a b x y ∙ with_more (own_view a) ((own_view a).parts + n) ((own_view a).parts + length first) ((own_view a).taken ++ stolen k (take n first)) ((own_view a).taken ++ stolen k first)
+            (ap (λ m. (own_view a).parts + m) all) (ap (λ l. (own_view a).taken ++ stolen k l) (take_whole n first all)),
       ),
 )
 

@@ -98,7 +98,8 @@ set_same [] k v w e h = refl
 set_same (x ∷ vs) zero v w e h = ap (λ y. y ∷ vs) (h ∙ sym (some-injective x v e))
 set_same (x ∷ vs) (suc k) v w e h = ap (λ l. x ∷ l) (set_same vs k v w e h)
 
-took_none : (p : Pass) (k : ℕ) (t u : Permit) → get_elem? p.tokens.items k ≡ some t → deque.view u ≡ deque.view t → TookNone p (record { worker = p.worker; own = p.own; tokens = with_item p.tokens k u })
+took_none : (p : Pass) (k : ℕ) (t u : Permit) → get_elem? p.tokens.items k ≡ some t → deque.view u ≡ deque.view t →
+    TookNone p (record { worker = p.worker; own = p.own; tokens = with_item p.tokens k u })
 took_none p k t u at h =
     let f : Permit → DequeView = λ y. deque.view y in (refl, map_set f p.tokens.items k u ∙ set_same (map f p.tokens.items) k (f t) (f u) (map_at f p.tokens.items k t at) h)
 

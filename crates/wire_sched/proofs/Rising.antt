@@ -22,7 +22,8 @@ rising_snoc xs x h below i j y z less a b =
     ⊎_elim (λ old. subst (λ (u : Piece). y.rank.number < u.rank.number) is'.1 (below i y old))
     (λ (is : (i ≡ length xs) × (x ≡ y)). absurd (omega (arith, is.0, is'.0))) (get_snoc xs x y i a)) (get_snoc xs x z j b)
 
-share_step : (b : Bool) (xs : List Piece) (x : Piece) → IsRising xs → AllBelow x.rank.number xs → IsRising (xs ++ (if b then x ∷ [] else [])) × AllBelow (x.rank.number + 1) (xs ++ (if b then x ∷ [] else []))
+share_step : (b : Bool) (xs : List Piece) (x : Piece) → IsRising xs → AllBelow x.rank.number xs → IsRising (xs ++ (if b then x ∷ [] else []))
+    × AllBelow (x.rank.number + 1) (xs ++ (if b then x ∷ [] else []))
 share_step true xs x rises below = (rising_snoc xs x rises below, below_snoc (x.rank.number + 1) xs x (below_more x.rank.number (x.rank.number + 1) xs (omega arith) below) (omega arith))
 share_step false xs x rises below =
     subst (λ l. IsRising l × AllBelow (x.rank.number + 1) l) (sym (append-nil xs)) (rises, below_more x.rank.number (x.rank.number + 1) xs (omega arith) below)
@@ -54,7 +55,8 @@ first_of (y ∷ xs) (suc k) x after e = first_of xs k x after e
 
 pub rises_nothing : (v : DequeView) → v.taken ≡ [] → TookRising v
 rises_nothing v none =
-    subst (λ l. IsRising l × ((place : ℕ) (x : Piece) → v.below ≤ place → get_elem? v.dealt place ≡ some x → AllBelow x.rank.number l)) (sym none) ((λ i j x y less a b. absurd (some-ne-none x (sym a))), λ place x past at i y a. absurd (some-ne-none y (sym a)))
+    subst (λ l. IsRising l × ((place : ℕ) (x : Piece) → v.below ≤ place → get_elem? v.dealt place ≡ some x → AllBelow x.rank.number l)) (sym none)
+    ((λ i j x y less a b. absurd (some-ne-none x (sym a))), λ place x past at i y a. absurd (some-ne-none y (sym a)))
 
 pub rises_more : (v w : DequeView) (x : Piece) → Takes v (x ∷ []) w → IsRising v.dealt → TookRising v → TookRising w
 rises_more v w x t dealt h =

@@ -35,15 +35,30 @@ unfolding shares
 shares_before h zero workers round n late = refl
 shares_before h (suc m) workers round n late =
     let apart : (n % workers) ≢ m = λ e. omega arith in
-    omega (arith, shares_before h m workers round n (omega arith), weigh-append h (share_of m workers round n) (if (n % workers) == m then piece n round ∷ [] else []), miss h (piece n round) (n % workers) m apart)
+    omega (
+      arith,
+      shares_before h m workers round n (omega arith),
+      weigh-append h (share_of m workers round n) (if (n % workers) == m then piece n round ∷ [] else []),
+      miss h (piece n round) (n % workers) m apart,
+    )
 
 shares_after : (h : Piece → ℕ) (m workers round n : ℕ) → n % workers < m → shares h m workers round (suc n) ≡ shares h m workers round n + h (piece n round)
 unfolding shares
 shares_after h zero workers round n late = absurd (omega arith)
 shares_after h (suc m) workers round n late =
     elim (nat_cases (n % workers) m) [
-      | inl here ↦ omega (arith, shares_before h m workers round n (omega arith), weigh-append h (share_of m workers round n) (if (n % workers) == m then piece n round ∷ [] else []), hit h (piece n round) (n % workers) m here)
-      | inr apart ↦ omega (arith, shares_after h m workers round n (below (n % workers) m late apart), weigh-append h (share_of m workers round n) (if (n % workers) == m then piece n round ∷ [] else []), miss h (piece n round) (n % workers) m apart)
+      | inl here ↦ omega (
+        arith,
+        shares_before h m workers round n (omega arith),
+        weigh-append h (share_of m workers round n) (if (n % workers) == m then piece n round ∷ [] else []),
+        hit h (piece n round) (n % workers) m here,
+      )
+      | inr apart ↦ omega (
+        arith,
+        shares_after h m workers round n (below (n % workers) m late apart),
+        weigh-append h (share_of m workers round n) (if (n % workers) == m then piece n round ∷ [] else []),
+        miss h (piece n round) (n % workers) m apart,
+      )
     ]
 
 shares_nothing : (h : Piece → ℕ) (m workers round : ℕ) → shares h m workers round 0 ≡ 0

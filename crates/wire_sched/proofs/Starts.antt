@@ -21,7 +21,8 @@ pub record Made (round ranks workers : ℕ) (passes : List Pass) (thieves : List
   pub thieves_so_far : length thieves ≡ n
   pub start : (k : ℕ) (p : Pass) (s : Thief) → get_elem? passes k ≡ some p → get_elem? thieves k ≡ some s → IsStart (share_of k workers round ranks) k p s
 
-pub made_more : (round ranks workers : ℕ) (passes : List Pass) (thieves : List Thief) (n : ℕ) (p : Pass) (s : Thief) → Made round ranks workers passes thieves n → IsStart (share_of n workers round ranks) n p s
+pub made_more : (round ranks workers : ℕ) (passes : List Pass) (thieves : List Thief) (n : ℕ) (p : Pass) (s : Thief) → Made round ranks workers passes thieves n →
+    IsStart (share_of n workers round ranks) n p s
     → Made round ranks workers (passes ++ p ∷ []) (thieves ++ s ∷ []) (n + 1)
 made_more round ranks workers passes thieves n p s h new = record {
   passes_so_far = length-append passes (p ∷ []) ∙ ap (λ m. m + 1) h.passes_so_far;
@@ -34,7 +35,8 @@ made_more round ranks workers passes thieves n p s h new = record {
       ⊎_elim (λ old'. let w = get_within thieves k u old' in absurd (omega (arith, h.passes_so_far, h.thieves_so_far, is.0)))
       (λ (is' : (k ≡ length thieves) × (s ≡ u)).
       let k_is : n ≡ k = sym (is.0 ∙ h.passes_so_far) in
-      subst (λ j. IsStart (share_of j workers round ranks) j q u) k_is (subst (λ z. IsStart (share_of n workers round ranks) n z u) is.1 (subst (IsStart (share_of n workers round ranks) n p) is'.1 new))) (get_snoc thieves s u k y)) (get_snoc passes p q k x);
+      subst (λ j. IsStart (share_of j workers round ranks) j q u) k_is
+      (subst (λ z. IsStart (share_of n workers round ranks) n z u) is.1 (subst (IsStart (share_of n workers round ranks) n p) is'.1 new))) (get_snoc thieves s u k y)) (get_snoc passes p q k x);
 }
 
 -- after n rows of tokens
@@ -63,10 +65,13 @@ pub cutting_more : (first now next : List Pass) (n : ℕ) (p q : Pass) → Cutti
 cutting_more first now next n p q h cut row at w o = record {
   same_length = length-set next n q ∙ (sym cut.0 ∙ h.same_length);
   same = λ k a b x y.
-      ⊎_elim (λ (is : (k ≡ n) × (q ≡ b)). subst (λ z. (z.worker ≡ a.worker) × SameDeque a.own z.own) is.1 (subst (λ z. (q.worker ≡ a.worker) × SameDeque a.own z) (sym o) (subst (λ z. (z ≡ a.worker) × SameDeque a.own p.own) (sym w) (old_same k a p x (subst (λ j. get_elem? next j ≡ some p) (sym is.0) at)))))
+      ⊎_elim (λ (is : (k ≡ n) × (q ≡ b)). subst (λ z. (z.worker ≡ a.worker) × SameDeque a.own z.own) is.1
+      (subst (λ z. (q.worker ≡ a.worker) × SameDeque a.own z) (sym o)
+      (subst (λ z. (z ≡ a.worker) × SameDeque a.own p.own) (sym w) (old_same k a p x (subst (λ j. get_elem? next j ≡ some p) (sym is.0) at)))))
       (λ (is : (k ≢ n) × (get_elem? next k ≡ some b)). old_same k a b x is.1) (at_set next n k q b y);
   views = λ k a b x y.
-      ⊎_elim (λ (is : (k ≡ n) × (q ≡ b)). subst (λ z. deque.worker_view z.own ≡ deque_view (all_parts - (n + 1)) 0 (deque.worker_view a.own).dealt []) is.1 (subst (λ z. deque.worker_view z ≡ deque_view (all_parts - (n + 1)) 0 (deque.worker_view a.own).dealt []) (sym o) (old_view k a p x (subst (λ j. get_elem? next j ≡ some p) (sym is.0) at))))
+      ⊎_elim (λ (is : (k ≡ n) × (q ≡ b)). subst (λ z. deque.worker_view z.own ≡ deque_view (all_parts - (n + 1)) 0 (deque.worker_view a.own).dealt []) is.1
+      (subst (λ z. deque.worker_view z ≡ deque_view (all_parts - (n + 1)) 0 (deque.worker_view a.own).dealt []) (sym o) (old_view k a p x (subst (λ j. get_elem? next j ≡ some p) (sym is.0) at))))
       (λ (is : (k ≢ n) × (get_elem? next k ≡ some b)). old_view k a b x is.1) (at_set next n k q b y);
   tokens = λ k b y less.
       ⊎_elim (λ (is : (k ≡ n) × (q ≡ b)). subst (λ z. EachPair (λ p t. IsPermitOf p.own t) first z.tokens.items) is.1 (token_kept first now n q.tokens.items h row))
@@ -148,7 +153,8 @@ nothing_by_all (p ∷ ps) none = ap (λ l. l ++ taken_by_all ps) (nothing_by p (
 pub dealt_fresh : (first now : List Pass) (n : ℕ) → Cutting first now n → n ≡ length first → taken_by_all now ≡ []
 dealt_fresh first now n h all = nothing_by_all now (dealt_nothing first now n h all)
 
-pub dealt_passes : (r : Round) (first now : List Pass) (n : ℕ) → Made r.round r.ranks (workers_of r) first r.thieves.items n → Cutting first now n → n ≡ workers_of r → workers_of r < 2 ^ 64 → ArePassesOf r now
+pub dealt_passes : (r : Round) (first now : List Pass) (n : ℕ) → Made r.round r.ranks (workers_of r) first r.thieves.items n → Cutting first now n → n ≡ workers_of r → workers_of r < 2 ^ 64 →
+    ArePassesOf r now
 dealt_passes r first now n made h all few = (
   h.same_length ∙ (made.passes_so_far ∙ all),
   λ k p at.

@@ -12,7 +12,7 @@ ghost use Rattle.crossbeam_deque.specs.Handles as deque;
 ghost use Rattle.crossbeam_deque.specs.Handles.{view, SamePass, stealer_deque, stealer_flavor, worker_deque, worker_flavor, worker_view};
 
 use crate::round::{Pass, Take};
-use crate::rule::{Splits, Deals, Owner, Piece, TakesOne, Thief, Permit};
+use crate::rule::{Deals, Owner, Permit, Piece, Splits, TakesOne, Thief};
 use crossbeam_deque::Steal;
 use std::alloc::Global;
 use std::mem;
@@ -49,7 +49,8 @@ fn permit_of(own: &mut Owner) -> Permit
     requires { 1 < (worker_view own.old).parts }
     ensures token { IsPermitOf own.old result }
     ensures same { SameDeque own.old own.new }
-    ensures view { worker_view own.new ≡ deque_view ((worker_view own.old).parts - 1) (worker_view own.old).below (worker_view own.old).dealt (worker_view own.old).taken }
+    ensures view { worker_view own.new ≡ deque_view ((worker_view own.old).parts - 1) (worker_view own.old).below (worker_view own.old).dealt
+        (worker_view own.old).taken }
 {
     own.another::<Splits>()
 }
@@ -95,7 +96,8 @@ pub(crate) fn own_from(own: &mut Owner) -> Option<Piece>
     requires fifo { worker_flavor own.old ≡ 0 }
     requires part { 0 < (worker_view own.old).parts }
     ensures same { SameDeque own.old own.new }
-    ensures took { MatchOption result ((worker_view own.new ≡ worker_view own.old) × Finds (worker_view own.old)) (λ x. Takes (worker_view own.old) (x ∷ []) (worker_view own.new)) }
+    ensures took { MatchOption result ((worker_view own.new ≡ worker_view own.old) × Finds (worker_view own.old))
+        (λ x. Takes (worker_view own.old) (x ∷ []) (worker_view own.new)) }
 {
     own.pop_as::<TakesOne>()
 }

@@ -3,7 +3,7 @@
 ghost use Rattle.std.specs.Prelude.{◌≡◌, ◌<◌, ◌≤◌, [], vec_capacity, vec_len};
 
 use crate::deques::{drain, join_all, own_from, row, start, steal_from};
-use crate::rule::{Owner, Piece, Thief, Permit};
+use crate::rule::{Owner, Permit, Piece, Thief};
 use std::alloc::Global;
 use wire_types::Fault;
 
@@ -41,7 +41,8 @@ impl Round {
     ghost use Rattle.std.specs.Prelude.{◌≡◌, ◌≢◌, ◌<◌, ◌++◌, [], IfOk, IfSome, IsOkUnless, MatchOption};
     ghost use Rattle.std.specs.List.{All};
     ghost use Rattle.std.specs.List.Sorted.{IsPermutation};
-    ghost use Rattle.wire_sched.specs.Rounds.{workers_of, worker_of, pieces_of, IsPieceOf, IsDealOf, IsPassOf, ArePassesOf, MatchTake, IfGot, TookOwn, TookAt, TookNone};
+    ghost use Rattle.wire_sched.specs.Rounds.{workers_of, worker_of, pieces_of, IsPieceOf, IsDealOf, IsPassOf, ArePassesOf, MatchTake, IfGot, TookOwn, TookAt};
+    ghost use Rattle.wire_sched.specs.Rounds.{TookNone};
     ghost use Rattle.wire_sched.specs.Taken.{taken_by_all, rest_of_all};
 
     /// Deals one piece for each of the first `ranks` processes: that of process r goes to the deque of worker r modulo

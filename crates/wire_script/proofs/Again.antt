@@ -11,7 +11,8 @@ use Rattle.wire_lines.specs.Said.{Item, One, Every, Set, Own, Listed, Call, Put,
 use Rattle.wire_content.specs.Scripts.{Process, Scripts}
 use Rattle.wire_content.specs.Canonical.{call_said}
 use Rattle.wire_script.specs.FirstPass.{Name, Started, Declared, is_among, number_or_count}
-use Rattle.wire_script.specs.Reads.{Seen, is_proc, proc_number, has_proc, names_it, is_in, places_from, set_members, is_declared_item, is_declared_set, is_declared_call, is_with_caller, call_fault, first_of, fault_in, first_fault, keys_in, names_in, values_in, sets_in, in_calls, first_seen, seen_in, numbered, process_of, scripts_with, scripts_of}
+use Rattle.wire_script.specs.Reads.{Seen, is_proc, proc_number, has_proc, names_it, is_in, places_from, set_members, is_declared_item, is_declared_set, is_declared_call, is_with_caller, call_fault}
+use Rattle.wire_script.specs.Reads.{first_of, fault_in, first_fault, keys_in, names_in, values_in, sets_in, in_calls, first_seen, seen_in, numbered, process_of, scripts_with, scripts_of}
 use Rattle.wire_script.proofs.Changed.{Change, changed_call, changed_process, changed_declaration, no_change, bare_declaration}
 
 -- what the scripts say of a call that was read
@@ -70,7 +71,8 @@ module _ (f : Change) (d : Declared) where
   places_changed : (job : ℕ) (set : Set) (n : ℕ) (ps : List Started) → places_from (is_in (changed_declaration f d) job set) n (map (changed_process f) ps) ≡ places_from (is_in d job set) n ps
   places_changed job set n [] = refl
   places_changed job set n (p ∷ ps) =
-      ap (λ b. if b then n ∷ places_from (is_in (changed_declaration f d) job set) (n + 1) (map (changed_process f) ps) else places_from (is_in (changed_declaration f d) job set) (n + 1) (map (changed_process f) ps)) (in_changed job set p)
+      ap (λ b. if b then n ∷ places_from (is_in (changed_declaration f d) job set) (n + 1) (map (changed_process f) ps) else places_from (is_in (changed_declaration f d) job set) (n + 1)
+      (map (changed_process f) ps)) (in_changed job set p)
       ∙ ap (λ l. if is_in d job set p then n ∷ l else l) (places_changed job set (n + 1) ps)
 
   members_changed : (job : ℕ) (set : Set) → set_members (changed_declaration f d) job set ≡ set_members d job set

@@ -1,5 +1,6 @@
 -- What is declared, with other calls in place of its own: lines that are changed call by call declare it.
-use Rattle.std.proofs.Common.{◌≡◌, ◌∙◌, ap, sym, subst, refl, ℕ, ◌+◌, ◌-◌, ◌<◌, ◌≤◌, List, [], ◌∷◌, ◌++◌, Bool, true, false, map, length, length-append, Result, Ok, Err, MatchResult, inl, inr, arith, if◌then◌else◌}
+use Rattle.std.proofs.Common.{◌≡◌, ◌∙◌, ap, sym, subst, refl, ℕ, ◌+◌, ◌-◌, ◌<◌, ◌≤◌, List, [], ◌∷◌, ◌++◌, Bool, true, false, map, length, length-append, Result, Ok, Err, MatchResult, inl, inr, arith}
+use Rattle.std.proofs.Common.{if◌then◌else◌}
 use Rattle.std.specs.Prelude.{not, nat_lt, ⊤}
 use Rattle.std.proofs.lemmas.List.{length-map, map-append}
 use borrow.Author.Tests.{ltb-true}
@@ -8,7 +9,8 @@ use Rattle.wire_types.specs.declared.Fault.TheVariants.{TooLong, BadLine, Unknow
 use Rattle.wire_lines.specs.Said.{Call, Said, Header, Node, Job, Rank, Calls, IsLawful, IsLawfulCall}
 use Rattle.wire_script.specs.Limits.{limits}
 use Rattle.wire_script.specs.Statements.{Statement}
-use Rattle.wire_script.specs.FirstPass.{Started, Declared, number_or_count, after, judged, is_in_place, is_short, is_short_call, is_known, is_again, has_room, with_call, nothing, Judges, JudgesAll, FirstPass}
+use Rattle.wire_script.specs.FirstPass.{Started, Declared, number_or_count, after, judged, is_in_place, is_short, is_short_call, is_known, is_again, has_room, with_call, nothing, Judges, JudgesAll}
+use Rattle.wire_script.specs.FirstPass.{FirstPass}
 use Rattle.wire_script.proofs.Recut.{numbered_lines}
 
 -- a change of calls, by the job of the caller
@@ -53,7 +55,8 @@ changed_after f d n Header = refl
 changed_after f d n (Node name) = refl
 changed_after f d n (Job name) = refl
 changed_after f d n (Rank node) =
-    ap (λ t. with_processes d t (d.ranks + 1) d.calls) (map-append (changed_process f) d.processes (record { job = length d.jobs - 1; rank = d.ranks; node = number_or_count d.nodes node; calls = [] } ∷ []))
+    ap (λ t. with_processes d t (d.ranks + 1) d.calls) (map-append (changed_process f) d.processes
+    (record { job = length d.jobs - 1; rank = d.ranks; node = number_or_count d.nodes node; calls = [] } ∷ []))
 changed_after f d n (Calls c) = ap (λ t. with_processes d t d.ranks (d.calls + 1)) (changed_with f d.processes n c)
 
 -- the tests of a line that is taken

@@ -1,5 +1,6 @@
 -- The processes that were read stand in the order of their jobs, and the rank of each counts those of its job before it.
-use Rattle.std.proofs.Common.{◌≡◌, ◌∙◌, ap, sym, subst, refl, ℕ, zero, suc, ◌+◌, ◌<◌, ◌≤◌, List, [], ◌∷◌, cond, Option, Some, None, inl, inr, length, map, take, count_by, option_map, arith, eq-eqb, zero-add}
+use Rattle.std.proofs.Common.{◌≡◌, ◌∙◌, ap, sym, subst, refl, ℕ, zero, suc, ◌+◌, ◌<◌, ◌≤◌, List, [], ◌∷◌, cond, Option, Some, None, inl, inr, length, map, take, count_by, option_map, arith, eq-eqb}
+use Rattle.std.proofs.Common.{zero-add}
 use Rattle.std.specs.Prelude.{◌==◌, slice_get}
 use Rattle.std.proofs.lemmas.Bool.{cases_eq, cond-true, cond-false}
 use Rattle.std.proofs.lemmas.List.{length-map}
@@ -45,7 +46,8 @@ module _ (d : Declared) (s : Seen) where
       omega arith
   counted n (x ∷ ps) (suc k) p h at =
       let rest : p.rank ≡ with_one n x.job p.job + before p.job ps k = counted (with_one n x.job) ps k p h.1 at in
-      let more : before p.job (x ∷ ps) (suc k) ≡ cond (x.job == p.job) 1 0 + before p.job ps k = sum_by-cons (λ (q : Process). cond (q.job == p.job) 1 0) (process_of d s x) (take k (map (process_of d s) ps)) in
+      let more : before p.job (x ∷ ps) (suc k) ≡ cond (x.job == p.job) 1 0 + before p.job ps k = sum_by-cons (λ (q : Process). cond (q.job == p.job) 1 0) (process_of d s x)
+      (take k (map (process_of d s) ps)) in
       elim (cases_eq p.job x.job) [
         | inl same ↦
             let here = counted_once n p.job x.job same in

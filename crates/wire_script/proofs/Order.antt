@@ -1,5 +1,6 @@
 -- What is declared has its lines in their order.
-use Rattle.std.proofs.Common.{◌≡◌, ◌∙◌, ap, sym, subst, refl, ℕ, suc, ◌+◌, ◌-◌, ◌<◌, ◌≤◌, List, [], ◌∷◌, ◌++◌, Bool, true, false, cond, map, length, filter, flat_map, arith, append_assoc, append-nil, length-append, true≢false, zero-add}
+use Rattle.std.proofs.Common.{◌≡◌, ◌∙◌, ap, sym, subst, refl, ℕ, suc, ◌+◌, ◌-◌, ◌<◌, ◌≤◌, List, [], ◌∷◌, ◌++◌, Bool, true, false, cond, map, length, filter, flat_map, arith, append_assoc, append-nil}
+use Rattle.std.proofs.Common.{length-append, true≢false, zero-add}
 use Rattle.std.specs.Prelude.{◌==◌, ⊤}
 use borrow.Author.Tests.{ltb-true, eqb-true, eq-eqb, ne_eqb}
 use Rattle.std.proofs.lemmas.List.{map-append}
@@ -56,7 +57,8 @@ flat_push f [] p = append-nil (f p)
 flat_push f (q ∷ qs) p = ap (λ t. f q ++ t) (flat_push f qs p) ∙ sym (append_assoc (f q) (flat_map f qs) (f p))
 
 -- one more job
-jobs_push : (nodes : List Name) (ps : List Started) (n : ℕ) (jobs : List Name) (j : Name) → jobs_lines nodes ps n (jobs ++ j ∷ []) ≡ jobs_lines nodes ps n jobs ++ job_lines nodes ps (n + length jobs) j
+jobs_push : (nodes : List Name) (ps : List Started) (n : ℕ) (jobs : List Name) (j : Name) → jobs_lines nodes ps n (jobs ++ j ∷ []) ≡ jobs_lines nodes ps n jobs
+    ++ job_lines nodes ps (n + length jobs) j
 jobs_push nodes ps n [] j = let same : n + 0 ≡ n = omega arith in rw same (append-nil (job_lines nodes ps n j))
 jobs_push nodes ps n (k ∷ jobs) j =
     let same : n + 1 + length jobs ≡ n + suc (length jobs) = omega arith in
@@ -65,7 +67,8 @@ jobs_push nodes ps n (k ∷ jobs) j =
     ∙ ap (λ m. (job_lines nodes ps n k ++ jobs_lines nodes ps (n + 1) jobs) ++ job_lines nodes ps m j) same
 
 -- jobs of which the processes are the same
-jobs_same : (nodes : List Name) (ps qs : List Started) (n : ℕ) (jobs : List Name) → ((i : ℕ) → i < n + length jobs → of_job ps i ≡ of_job qs i) → jobs_lines nodes ps n jobs ≡ jobs_lines nodes qs n jobs
+jobs_same : (nodes : List Name) (ps qs : List Started) (n : ℕ) (jobs : List Name) → ((i : ℕ) → i < n + length jobs → of_job ps i ≡ of_job qs i) →
+    jobs_lines nodes ps n jobs ≡ jobs_lines nodes qs n jobs
 jobs_same nodes ps qs n [] h = refl
 jobs_same nodes ps qs n (k ∷ jobs) h =
     ap (λ t. (Job k ∷ flat_map (process_lines nodes) t) ++ jobs_lines nodes ps (n + 1) jobs) (h n (omega arith))

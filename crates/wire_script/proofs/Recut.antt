@@ -1,5 +1,6 @@
 -- The canonical text, cut into its lines and words again.
-use Rattle.std.proofs.Common.{◌≡◌, ◌∙◌, ap, sym, refl, ℕ, zero, suc, ◌+◌, ◌-◌, ◌<◌, ◌%◌, ◌^◌, List, [], ◌∷◌, ◌++◌, Bool, true, false, cond, length, map, filter, flat_map, true≢false, append_assoc, length-append, arith, codes, decimal, IsTrue}
+use Rattle.std.proofs.Common.{◌≡◌, ◌∙◌, ap, sym, refl, ℕ, zero, suc, ◌+◌, ◌-◌, ◌<◌, ◌%◌, ◌^◌, List, [], ◌∷◌, ◌++◌, Bool, true, false, cond, length, map, filter, flat_map, true≢false, append_assoc}
+use Rattle.std.proofs.Common.{length-append, arith, codes, decimal, IsTrue}
 use Rattle.std.specs.Prelude.{◌==◌, not, ◌&&◌, nat_le, slice_index, ⊤}
 use Rattle.std.specs.List.{list_all, slice_split, onto_first, join_with_byte}
 use Rattle.std.specs.Str.Lines.{strip_carriage_return}
@@ -9,7 +10,8 @@ use Rattle.wire_types.specs.declared.Scope.{Scope}
 use Rattle.wire_types.specs.declared.Scope.TheVariants.{Local, Remote, Global}
 use Rattle.wire_lines.specs.Text.{pieces_of, lines_of, is_blank, words_of}
 use Rattle.wire_lines.specs.Said.{Item, One, Every, Set, Own, Listed, Put, Commit, Fence, Get, GetNow, Publish, Lookup, LookupWait, Unpublish}
-use Rattle.wire_lines.specs.Said.{Said, Header, Node, Job, Rank, Calls, IsLawfulItem, AreLawful, IsLawfulSet, IsLawful, first_word, other_words, is_word_byte, is_name_byte, is_word, is_name, spelled_proc, spelled_scope, spelled_item, spelled_set, collect_words}
+use Rattle.wire_lines.specs.Said.{Said, Header, Node, Job, Rank, Calls, IsLawfulItem, AreLawful, IsLawfulSet, IsLawful, first_word, other_words, is_word_byte, is_name_byte, is_word, is_name}
+use Rattle.wire_lines.specs.Said.{spelled_proc, spelled_scope, spelled_item, spelled_set, collect_words}
 use Rattle.wire_lines.proofs.Colon.{and_left, and_right}
 use Rattle.wire_script.specs.Statements.{Statement, is_skipped, statements_from, statements}
 use Rattle.wire_content.specs.Canonical.{line_text}
@@ -87,7 +89,8 @@ blank_none (x ∷ xs) h =
 blank_front : (xs ys : List ℕ) → list_all no_blank xs ≡ true → slice_split is_blank (xs ++ 32 ∷ ys) ≡ xs ∷ slice_split is_blank ys
 blank_front [] ys h = refl
 blank_front (x ∷ xs) ys h =
-    elim (is_blank x) as (λ t. (not t && list_all no_blank xs) ≡ true → cond t ([] ∷ slice_split is_blank (xs ++ 32 ∷ ys)) (onto_first x (slice_split is_blank (xs ++ 32 ∷ ys))) ≡ (x ∷ xs) ∷ slice_split is_blank ys) [
+    elim (is_blank x) as (λ t. (not t && list_all no_blank xs) ≡ true →
+    cond t ([] ∷ slice_split is_blank (xs ++ 32 ∷ ys)) (onto_first x (slice_split is_blank (xs ++ 32 ∷ ys))) ≡ (x ∷ xs) ∷ slice_split is_blank ys) [
       | true ↦ λ e. absurd (true≢false (sym e))
       | false ↦ λ e. ap (onto_first x) (blank_front xs ys e)
     ] h

@@ -13,7 +13,8 @@ use Rattle.wire_lines.proofs.Colon.{and_left, and_right}
 use Rattle.wire_content.specs.Scripts.{Process, text_at}
 use Rattle.wire_content.specs.Canonical.{process_at, job_of, set_said, call_said, process_said, jobs_said, lines_said}
 use Rattle.wire_script.specs.FirstPass.{Name, Started, Declared, is_among, number_or_count}
-use Rattle.wire_script.specs.Reads.{Seen, is_proc, proc_number, has_proc, is_in, set_members, is_declared_call, is_with_caller, first_fault, keys_in, names_in, values_in, sets_in, in_calls, first_seen, seen_in, numbered, process_of, scripts_with, scripts_of}
+use Rattle.wire_script.specs.Reads.{Seen, is_proc, proc_number, has_proc, is_in, set_members, is_declared_call, is_with_caller, first_fault, keys_in, names_in, values_in, sets_in, in_calls}
+use Rattle.wire_script.specs.Reads.{first_seen, seen_in, numbered, process_of, scripts_with, scripts_of}
 use Rattle.wire_script.proofs.Seen.{seen_among, among_flat, text_at_number}
 use Rattle.wire_script.proofs.Changed.{changed_call, changed_process, changed_declaration, IsFit, CallsAre, AllCalls}
 use Rattle.wire_script.proofs.Order.{process_lines, of_job, jobs_lines, declared_lines}
@@ -192,11 +193,14 @@ module _ (d : Declared) where
   calls_lines job (c ∷ cs) = ap (λ l. Calls (canonical_call d job c.1) ∷ l) (calls_lines job cs)
 
   of_job_lines : (n : ℕ) (ps : List Started)
-      → flat_map (process_said (scripts_of d)) (filter (λ p. p.job == n) (map (process_of d (seen_in d)) ps)) ≡ flat_map (process_lines d.nodes) (of_job (map (changed_process (canonical_call d)) ps) n)
+      → flat_map (process_said (scripts_of d)) (filter (λ p. p.job == n) (map (process_of d (seen_in d)) ps)) ≡ flat_map (process_lines d.nodes)
+      (of_job (map (changed_process (canonical_call d)) ps) n)
   of_job_lines n [] = refl
   of_job_lines n (p ∷ ps) =
-      elim (p.job == n) as (λ t. flat_map (process_said (scripts_of d)) (cond t (process_of d (seen_in d) p ∷ filter (λ q. q.job == n) (map (process_of d (seen_in d)) ps)) (filter (λ q. q.job == n) (map (process_of d (seen_in d)) ps)))
-      ≡ flat_map (process_lines d.nodes) (cond t (changed_process (canonical_call d) p ∷ of_job (map (changed_process (canonical_call d)) ps) n) (of_job (map (changed_process (canonical_call d)) ps) n))) [
+      elim (p.job == n) as (λ t. flat_map (process_said (scripts_of d))
+      (cond t (process_of d (seen_in d) p ∷ filter (λ q. q.job == n) (map (process_of d (seen_in d)) ps)) (filter (λ q. q.job == n) (map (process_of d (seen_in d)) ps)))
+      ≡ flat_map (process_lines d.nodes) (cond t (changed_process (canonical_call d) p ∷ of_job (map (changed_process (canonical_call d)) ps) n)
+      (of_job (map (changed_process (canonical_call d)) ps) n))) [
         | true ↦
             ap (λ l. (Rank (text_at d.nodes p.node) ∷ l) ++ flat_map (process_said (scripts_of d)) (filter (λ q. q.job == n) (map (process_of d (seen_in d)) ps))) (calls_lines p.job p.calls)
             ∙ ap (λ l. process_lines d.nodes (changed_process (canonical_call d) p) ++ l) (of_job_lines n ps)

@@ -1,5 +1,6 @@
 -- A set in its canonical words has the same members.
-use Rattle.std.proofs.Common.{◌≡◌, ◌∙◌, ap, sym, subst, refl, ℕ, zero, suc, ◌+◌, ◌<◌, ◌^◌, List, [], ◌∷◌, ◌++◌, Bool, true, false, cond, Some, map, length, IsTrue, arith, true≢false, zero-add, if◌then◌else◌}
+use Rattle.std.proofs.Common.{◌≡◌, ◌∙◌, ap, sym, subst, refl, ℕ, zero, suc, ◌+◌, ◌<◌, ◌^◌, List, [], ◌∷◌, ◌++◌, Bool, true, false, cond, Some, map, length, IsTrue, arith, true≢false, zero-add}
+use Rattle.std.proofs.Common.{if◌then◌else◌}
 use Rattle.std.specs.Prelude.{◌==◌, ◌||◌, ◌&&◌, not, slice_get, slice_index_or}
 use Rattle.std.specs.List.{list_any, list_all, flat_map, position_or_len}
 use Rattle.std.specs.Str.{bytes_eq}
@@ -240,7 +241,8 @@ module _ (d : Declared) (s : Seen) (g : IsGood d) (job : ℕ) (set : Set) where
       → (t : Bool) → is_whole_job q.job ≡ t → (if t then ((q.rank == 0) && (p.job == q.job)) else ((p.job == q.job) && (p.rank == q.rank))) ≡ true → is_member members k ≡ true
   forward k m p q here there h true w e = whole_there q.job k p w here (eqb-true p.job q.job (and_right (q.rank == 0) (p.job == q.job) e))
   forward k m p q here there h false w e =
-      let same = one_process (λ j. 0) d.processes k m p q g.ranked here there (eqb-true p.job q.job (and_left (p.job == q.job) (p.rank == q.rank) e)) (eqb-true p.rank q.rank (and_right (p.job == q.job) (p.rank == q.rank) e)) in
+      let same = one_process (λ j. 0) d.processes k m p q g.ranked here there (eqb-true p.job q.job (and_left (p.job == q.job) (p.rank == q.rank) e))
+      (eqb-true p.rank q.rank (and_right (p.job == q.job) (p.rank == q.rank) e)) in
       ap (is_member members) same ∙ h
 
   backward : (k : ℕ) (p : Started) → slice_get d.processes k ≡ Some p → is_member members k ≡ true → (t : Bool) → is_whole_job p.job ≡ t

@@ -1,5 +1,6 @@
 -- Texts as they are first seen, one by one and at once.
-use Rattle.std.proofs.Common.{◌≡◌, ◌∙◌, ap, sym, subst, refl, ℕ, zero, suc, ◌+◌, ◌<◌, ◌≤◌, List, [], ◌∷◌, ◌++◌, Bool, true, false, cond, Some, inl, inr, length, filter, append_assoc, arith, true≢false, if◌then◌else◌}
+use Rattle.std.proofs.Common.{◌≡◌, ◌∙◌, ap, sym, subst, refl, ℕ, zero, suc, ◌+◌, ◌<◌, ◌≤◌, List, [], ◌∷◌, ◌++◌, Bool, true, false, cond, Some, inl, inr, length, filter, append_assoc, arith}
+use Rattle.std.proofs.Common.{true≢false, if◌then◌else◌}
 use Rattle.std.specs.Prelude.{not, nat_lt, ◌||◌, slice_get, slice_index_or, ⊤}
 use Rattle.std.specs.List.{list_any, position_or_len, flat_map}
 use Rattle.std.specs.Str.{bytes_eq}
@@ -131,7 +132,8 @@ drop_pushed : (t : Texts) (x : List ℕ) (us : Texts) → new_in (t ++ x ∷ [])
 drop_pushed t x [] = refl
 drop_pushed t x (u ∷ us) =
     ap (λ b. if not b then u ∷ new_in (t ++ x ∷ []) us else new_in (t ++ x ∷ []) us) (among_push t x u ∙ ap (λ b. is_among t u || b) (same_swap u x))
-    ∙ elim (bytes_eq x u) as (λ b. (if not (is_among t u || b) then u ∷ new_in (t ++ x ∷ []) us else new_in (t ++ x ∷ []) us) ≡ new_in t (if not b then u ∷ filter (λ u. not (bytes_eq x u)) us else filter (λ u. not (bytes_eq x u)) us)) [
+    ∙ elim (bytes_eq x u) as (λ b. (if not (is_among t u || b) then u ∷ new_in (t ++ x ∷ []) us else new_in (t ++ x ∷ []) us) ≡ new_in t
+    (if not b then u ∷ filter (λ u. not (bytes_eq x u)) us else filter (λ u. not (bytes_eq x u)) us)) [
       | true ↦ rw (or_true (is_among t u)) (drop_pushed t x us)
       | false ↦ rw (or_false (is_among t u)) (ap (λ l. if not (is_among t u) then u ∷ l else l) (drop_pushed t x us))
     ]
@@ -139,7 +141,8 @@ drop_pushed t x (u ∷ us) =
 after_first : (t xs : Texts) → texts_after t xs ≡ t ++ new_in t (first_seen xs)
 after_first t [] = sym (append-nil t)
 after_first t (x ∷ xs) =
-    elim (is_among t x) as (λ b. is_among t x ≡ b → texts_after (if b then t else t ++ x ∷ []) xs ≡ t ++ (if not b then x ∷ new_in t (filter (λ u. not (bytes_eq x u)) (first_seen xs)) else new_in t (filter (λ u. not (bytes_eq x u)) (first_seen xs)))) [
+    elim (is_among t x) as (λ b. is_among t x ≡ b → texts_after (if b then t else t ++ x ∷ []) xs ≡ t
+    ++ (if not b then x ∷ new_in t (filter (λ u. not (bytes_eq x u)) (first_seen xs)) else new_in t (filter (λ u. not (bytes_eq x u)) (first_seen xs)))) [
       | true ↦ λ e. after_first t xs ∙ ap (λ l. t ++ l) (sym (drop_known t x (first_seen xs) e))
       | false ↦ λ e. after_first (t ++ x ∷ []) xs ∙ append_assoc t (x ∷ []) (new_in (t ++ x ∷ []) (first_seen xs)) ∙ ap (λ l. t ++ (x ∷ l)) (drop_pushed t x (first_seen xs))
     ] refl

@@ -1,6 +1,7 @@
 -- What is read is sound: processes have their ranks, each owner of a get is a process, each set is one of processes, and each
 -- caller of a fence is a member.
-use Rattle.std.proofs.Common.{◌≡◌, ◌∙◌, ap, sym, subst, refl, ℕ, zero, suc, ◌+◌, ◌<◌, List, [], ◌∷◌, Bool, true, false, Option, Some, None, Err, ◌⊎◌, inl, inr, length, map, option_map, arith, if◌then◌else◌}
+use Rattle.std.proofs.Common.{◌≡◌, ◌∙◌, ap, sym, subst, refl, ℕ, zero, suc, ◌+◌, ◌<◌, List, [], ◌∷◌, Bool, true, false, Option, Some, None, Err, ◌⊎◌, inl, inr, length, map, option_map, arith}
+use Rattle.std.proofs.Common.{if◌then◌else◌}
 use Rattle.std.specs.Prelude.{not, slice_get, nat_lt}
 use Rattle.std.specs.List.{flat_map, list_all}
 use Rattle.std.specs.Str.{bytes_eq}
@@ -17,7 +18,8 @@ use Rattle.wire_types.specs.declared.Call.TheVariants.{Fence}
 use Rattle.wire_lines.specs.Said as said
 use Rattle.wire_content.specs.Scripts.{Process, call_at, calls_in, set_at, name_in, owner_in, AreOwned, AreSets, AreMembers, AreNamed, IsSound}
 use Rattle.wire_script.specs.FirstPass.{Started, Declared, is_among, number_or_count}
-use Rattle.wire_script.specs.Reads.{Seen, seen_in, in_calls, names_in, sets_in, set_members, places_from, is_in, proc_number, has_proc, is_declared_call, is_with_caller, call_fault, first_of, fault_in, first_fault, numbered, process_of, scripts_with, scripts_of, unless_fault, second_pass}
+use Rattle.wire_script.specs.Reads.{Seen, seen_in, in_calls, names_in, sets_in, set_members, places_from, is_in, proc_number, has_proc, is_declared_call, is_with_caller, call_fault, first_of}
+use Rattle.wire_script.specs.Reads.{fault_in, first_fault, numbered, process_of, scripts_with, scripts_of, unless_fault, second_pass}
 use Rattle.wire_script.specs.Within.{IsWithinLimits, IsDeclared}
 use Rattle.wire_script.proofs.Places.{places_canonical, places_within, places_hold}
 use Rattle.wire_script.proofs.Seen.{Each, each_seen, each_at, each_flat, seen_apart, apart_once, seen_among, among_flat, text_at_number}
@@ -86,7 +88,8 @@ no_fault true false line e = absurd (cc)
 no_fault false b line e = absurd (cc)
 
 -- what a fence with numbers was said as
-fence_said : (d : Declared) (s : Seen) (job : ℕ) (c : said.Call) (set : ℕ) (collect : Bool) → numbered d s job c ≡ Fence set collect → (said_set : said.Set) × (said_collect : Bool) × (c ≡ said.Fence said_set said_collect) × (set ≡ number_or_count s.sets (set_members d job said_set))
+fence_said : (d : Declared) (s : Seen) (job : ℕ) (c : said.Call) (set : ℕ) (collect : Bool) → numbered d s job c ≡ Fence set collect → (said_set : said.Set) × (said_collect : Bool)
+    × (c ≡ said.Fence said_set said_collect) × (set ≡ number_or_count s.sets (set_members d job said_set))
 fence_said d s own (said.Put scope k v) n b e = absurd (cc)
 fence_said d s own said.Commit n b e = absurd (cc)
 fence_said d s own (said.Fence x y) n b e = (x, y, refl, cc)

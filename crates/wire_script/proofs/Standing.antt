@@ -125,7 +125,8 @@ is_rank job rank p h = eqb-true p.rank rank (and_right (p.job == job) (p.rank ==
 position_found : (ps : List Started) (job rank m : ℕ) (p : Started) → IsOnlyPlace ps job rank m → slice_get ps m ≡ Some p → is_proc job rank p ≡ true → position_or_len (is_proc job rank) ps ≡ m
 position_found ps job rank m p only at h = position_one (is_proc job rank) ps m p at h (λ k q there passes. only k q there (is_job job rank q passes) (is_rank job rank q passes))
 
-position_missed : (ps : List Started) (job rank m : ℕ) → IsOnlyPlace ps job rank m → ((p : Started) → slice_get ps m ≡ Some p → is_proc job rank p ≡ false) → position_or_len (is_proc job rank) ps ≡ length ps
+position_missed : (ps : List Started) (job rank m : ℕ) → IsOnlyPlace ps job rank m → ((p : Started) → slice_get ps m ≡ Some p → is_proc job rank p ≡ false) →
+    position_or_len (is_proc job rank) ps ≡ length ps
 position_missed ps job rank m only none = position_none (is_proc job rank) ps each
   where
     each : (k : ℕ) (p : Started) → slice_get ps k ≡ Some p → is_proc job rank p ≡ false
@@ -151,7 +152,8 @@ module _ (bs : List Building) (job rank first : ℕ) (each : (k : ℕ) (p : Star
     -- it is another
     pub stands_nowhere : is_proc job rank (started_of b) ≡ false → length bs ≡ position_or_len (is_proc job rank) (map started_of bs)
     stands_nowhere h =
-        sym (position_missed (map started_of bs) job rank (first + rank) only (λ p at. let same : started_of b ≡ p = (let e = get_at bs (first + rank) b lt is in cc) in ap (is_proc job rank) (sym same) ∙ h)
+        sym (position_missed (map started_of bs) job rank (first + rank) only
+        (λ p at. let same : started_of b ≡ p = (let e = get_at bs (first + rank) b lt is in cc) in ap (is_proc job rank) (sym same) ∙ h)
         ∙ length-map bs started_of)
 
   -- there is none

@@ -94,7 +94,12 @@ go_on_more s t u a b = record {
 pub with_call_goes_on : (d : Declared) (s : Seen) (job : ℕ) (c : said.Call) → GoOn s (seen_with d s job c)
 with_call_goes_on d s own (said.Put scope key value) = record { keys = with_goes_on s.keys key; names = goes_on_self s.names; values = with_goes_on s.values value; sets = goes_on_self s.sets }
 with_call_goes_on d s own said.Commit = record { keys = goes_on_self s.keys; names = goes_on_self s.names; values = goes_on_self s.values; sets = goes_on_self s.sets }
-with_call_goes_on d s own (said.Fence set collect) = record { keys = goes_on_self s.keys; names = goes_on_self s.names; values = goes_on_self s.values; sets = with_goes_on s.sets (set_members d own set) }
+with_call_goes_on d s own (said.Fence set collect) = record {
+  keys = goes_on_self s.keys;
+  names = goes_on_self s.names;
+  values = goes_on_self s.values;
+  sets = with_goes_on s.sets (set_members d own set);
+}
 with_call_goes_on d s own (said.Get job rank key) = record { keys = with_goes_on s.keys key; names = goes_on_self s.names; values = goes_on_self s.values; sets = goes_on_self s.sets }
 with_call_goes_on d s own (said.GetNow job rank key) = record { keys = with_goes_on s.keys key; names = goes_on_self s.names; values = goes_on_self s.values; sets = goes_on_self s.sets }
 with_call_goes_on d s own (said.Publish name value) = record { keys = goes_on_self s.keys; names = with_goes_on s.names name; values = with_goes_on s.values value; sets = goes_on_self s.sets }

@@ -89,7 +89,8 @@ there_names (u ∷ us) t p h = first (same_target t u) refl h (there_names us t 
 
     first : (s : Bool) → same_target t u ≡ s → (s || list_any (same_target t) us) ≡ true → (list_any (same_target t) us ≡ true → is_any_target us p ≡ (is_any_target us p || is_target t p))
         → is_any_target (u ∷ us) p ≡ (is_any_target (u ∷ us) p || is_target t p)
-    first true e k rest = subst (λ x. (is_target u p || is_any_target us p) ≡ ((is_target u p || is_any_target us p) || is_target x p)) (sym (same_is t u e)) (again (is_target u p) (is_any_target us p))
+    first true e k rest = subst (λ x. (is_target u p || is_any_target us p) ≡ ((is_target u p || is_any_target us p) || is_target x p)) (sym (same_is t u e))
+        (again (is_target u p) (is_any_target us p))
     first false e k rest = inner (is_target u p) (is_any_target us p) (is_target t p) (rest k)
 
 -- one target more, kept once
@@ -104,7 +105,8 @@ kept_on kept new ts t p is same =
     ∙ ap (λ b. b || is_target t p) same
     ∙ sym (list_any-append (λ u. is_target u p) ts (t ∷ []) ∙ ap (λ b. is_any_target ts p || b) (or_false (is_target t p)))
 
-pub kept_next : (kept new ts : List Target) (i : ℕ) (d : Target) (p : Started) → i < length ts → new ≡ (if list_any (same_target (get_or ts i d)) kept then kept else kept ++ get_or ts i d ∷ []) → is_any_target kept p ≡ is_any_target (take i ts) p
+pub kept_next : (kept new ts : List Target) (i : ℕ) (d : Target) (p : Started) → i < length ts → new ≡ (if list_any (same_target (get_or ts i d)) kept then kept else kept ++ get_or ts i d ∷ []) →
+    is_any_target kept p ≡ is_any_target (take i ts) p
     → is_any_target new p ≡ is_any_target (take (i + 1) ts) p
 kept_next kept new ts i d p lt is same =
     kept_on kept new (take i ts) (get_or ts i d) p is same ∙ ap (λ l. is_any_target l p) (sym (take_on ts i d lt))

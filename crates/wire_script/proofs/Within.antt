@@ -1,5 +1,6 @@
 -- What a file declares is within the limits.
-use Rattle.std.proofs.Common.{◌≡◌, ◌∙◌, sym, subst, refl, ℕ, ◌+◌, ◌-◌, ◌<◌, List, [], ◌∷◌, ◌++◌, Bool, true, false, map, length, Result, Ok, Err, MatchResult, inl, inr, arith, length-append, if◌then◌else◌}
+use Rattle.std.proofs.Common.{◌≡◌, ◌∙◌, sym, subst, refl, ℕ, ◌+◌, ◌-◌, ◌<◌, List, [], ◌∷◌, ◌++◌, Bool, true, false, map, length, Result, Ok, Err, MatchResult, inl, inr, arith, length-append}
+use Rattle.std.proofs.Common.{if◌then◌else◌}
 use Rattle.std.specs.Prelude.{not, sum_by}
 use borrow.Author.Tests.{ltb-true}
 use Rattle.std.proofs.lemmas.List.{length-map}
@@ -92,7 +93,11 @@ first_within (line ∷ lines) n d (inr f) = absurd (let h = f.1 in cc)
 
 numbered_calls : (d : Declared) (s : Seen) (ps : List Started) → sum_by (λ p. length p.calls) (map (process_of d s) ps) ≡ started_calls ps
 numbered_calls d s [] = refl
-numbered_calls d s (p ∷ ps) = let h = numbered_calls d s ps in omega (arith, sum_by-cons (λ q. length q.calls) (process_of d s p) (map (process_of d s) ps), length-map p.calls (λ c. numbered d s p.job c.1))
+numbered_calls d s (p ∷ ps) = let h = numbered_calls d s ps in omega (
+  arith,
+  sum_by-cons (λ q. length q.calls) (process_of d s p) (map (process_of d s) ps),
+  length-map p.calls (λ c. numbered d s p.job c.1),
+)
 
 -- few enough processes and calls to number them
 pub counted_processes : (d : Declared) (s : Seen) → IsWithinLimits d → IsCounted (map (process_of d s) d.processes)

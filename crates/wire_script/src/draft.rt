@@ -2,8 +2,8 @@
 
 ghost use Rattle.std.specs.Prelude.{◌≤◌, vec_len};
 
-use wire_lines::CallLine;
 use wire_content::Texts;
+use wire_lines::CallLine;
 
 /// A call line, with its number.
 #[derive(Drop)]

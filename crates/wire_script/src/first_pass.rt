@@ -15,8 +15,8 @@ use crate::draft::{Draft, Placed, Started};
 use crate::limits::{CALLS, JOBS, NAME_BYTES, NODES, PROCESSES, VALUE_BYTES};
 use crate::lines::Cursor;
 use std::alloc::{AllocError, Global};
-use wire_lines::{CallLine, Item, Line, Set, is_header, read_line};
 use wire_content::Texts;
+use wire_lines::{CallLine, Item, Line, Set, is_header, read_line};
 use wire_types::Fault;
 
 fn is_short_name(name: &[u8]) -> bool

@@ -9,8 +9,8 @@ use crate::first_pass::first_pass;
 use crate::limits::FILE_BYTES;
 use crate::second_pass::scripts_of;
 use std::alloc::Global;
-use wire_lines::line_past;
 use wire_content::Scripts;
+use wire_lines::line_past;
 use wire_types::Fault;
 
 /// What a file says: its nodes and jobs, and the scripts of its processes. Of the faults of a file the

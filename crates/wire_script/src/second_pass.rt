@@ -4,7 +4,8 @@ ghost use Rattle.std.specs.Prelude.{◌≡◌, ◌⊎◌, ◌+◌, ◌*◌, ◌�
 ghost use Rattle.wire_lines.specs.Shown.{call_by, set_by};
 ghost use Rattle.wire_script.specs.FirstPass.{number_or_count};
 ghost use Rattle.wire_script.specs.Reads as spec;
-ghost use Rattle.wire_script.specs.Reads.{Seen, is_declared_set, is_in, set_members, has_proc, proc_number, numbered, process_of, call_fault, fault_in, first_fault, second_pass};
+ghost use Rattle.wire_script.specs.Reads.{Seen, is_declared_set, is_in, set_members, has_proc, proc_number, numbered, process_of, call_fault, fault_in};
+ghost use Rattle.wire_script.specs.Reads.{first_fault, second_pass};
 ghost use Rattle.wire_script.specs.Within.{IsWithinLimits, IsDeclared};
 ghost use Rattle.wire_script.specs.Drafted.{declared_of, started_of, placed_of};
 ghost use Rattle.wire_script.specs.Tabled.{seen_of, seen_with, seen_after, all_seen, nothing_seen, entry_count, with_text, GoesOn, GoOn};
@@ -15,8 +16,8 @@ use crate::members::{Target, are_declared, is_named, listed, named_members, proc
 use crate::noted::Noted;
 use crate::numbers::{number_set, number_text};
 use std::alloc::{AllocError, Global};
-use wire_lines::{CallLine, ProcName, Set};
 use wire_content::{Process, Scripts, Sets, Tables, Texts};
+use wire_lines::{CallLine, ProcName, Set};
 use wire_types::{Call, Fault, Proc, Scope};
 
 /// The tables so far, and the sets that were named, with their numbers.

@@ -1,5 +1,6 @@
 -- What a walk back over the slots of a key finds.
-use Rattle.std.proofs.Common.{◌≡◌, ◌∙◌, ℕ, zero, suc, ◌<◌, ◌≤◌, Bool, true, false, List, [], ◌∷◌, map, take, length, reverse, find, ◌&&◌, ◌==◌, is_some, Option, Some, None, option_map, slice_get, inl, inr, refl, sym, ap, arith}
+use Rattle.std.proofs.Common.{◌≡◌, ◌∙◌, ℕ, zero, suc, ◌<◌, ◌≤◌, Bool, true, false, List, [], ◌∷◌, map, take, length, reverse, find, ◌&&◌, ◌==◌, is_some, Option, Some, None, option_map, slice_get}
+use Rattle.std.proofs.Common.{inl, inr, refl, sym, ap, arith}
 use Rattle.std.proofs.lemmas.Bool.{cases_Bool, cases_eq, le-ltb, true≢false, eq-eqb}
 use Rattle.std.proofs.lemmas.Option.{none-some, same_Some, slice_get-map, slice_get_within}
 use Rattle.std.proofs.lemmas.List.{reverse-append, length-map, take_all}
@@ -19,11 +20,13 @@ abbrev pub found_before : List Slot → ℕ → ℕ → ℕ → Option KeptPut
 found_before slots key event n = last_stored_before key event (take n (map put_in slots))
 
 -- from the last slot of the key on none is of the key
-not_of_key : (slots : List Slot) (key n low : ℕ) → ((i : ℕ) → last_slot slots key n ≡ Some i → i < low) → (j : ℕ) (slot : Slot) → low ≤ j → j < n → slice_get slots j ≡ Some slot → (slot.key == key) ≡ false
+not_of_key : (slots : List Slot) (key n low : ℕ) → ((i : ℕ) → last_slot slots key n ≡ Some i → i < low) → (j : ℕ) (slot : Slot) → low ≤ j → j < n → slice_get slots j ≡ Some slot →
+    (slot.key == key) ≡ false
 not_of_key slots key zero low last j slot high below is = absurd (omega (arith, below))
 not_of_key slots key (suc n) low last j slot high below is = go (slice_get slots n) refl last (λ was low_j. not_of_key slots key n low was j slot high low_j is)
   where
-    go : (o : Option Slot) → slice_get slots n ≡ o → ((i : ℕ) → last_slot_with key n (last_slot slots key n) o ≡ Some i → i < low) → (((i : ℕ) → last_slot slots key n ≡ Some i → i < low) → j < n → (slot.key == key) ≡ false) → (slot.key == key) ≡ false
+    go : (o : Option Slot) → slice_get slots n ≡ o → ((i : ℕ) → last_slot_with key n (last_slot slots key n) o ≡ Some i → i < low) →
+        (((i : ℕ) → last_slot slots key n ≡ Some i → i < low) → j < n → (slot.key == key) ≡ false) → (slot.key == key) ≡ false
     go None e last ih = elim (cases_eq j n) [
       | inl here ↦ absurd (none-some slot (sym e ∙ ap (slice_get slots) (sym here) ∙ is))
       | inr ne ↦ ih last (omega (arith, below, ne))
@@ -47,17 +50,21 @@ up_to_last : (slots : List Slot) (key event n i : ℕ) → n ≤ length slots �
 up_to_last slots key event n i le is =
     let below = last_slot_below slots key n i is in
     find_front (λ put. put.key == key && is_stored_before event put.stored_by) slots (suc i) n
-    (λ j slot high low there. ap (λ b. b && is_stored_before event slot.stored_by) (not_of_key slots key n (suc i) (λ k was. let same = same_Some i k (sym is ∙ was) in omega (arith, same)) j slot high low there))
+    (λ j slot high low there. ap (λ b. b && is_stored_before event slot.stored_by)
+    (not_of_key slots key n (suc i) (λ k was. let same = same_Some i k (sym is ∙ was) in omega (arith, same)) j slot high low there))
     (omega (arith, below)) le
 
-found_at : (slots : List Slot) (key event i : ℕ) (slot : Slot) → slice_get slots i ≡ Some slot → slot.key ≡ key → is_stored_before event slot.stored_by ≡ true → found_before slots key event (suc i) ≡ Some (put_in slot)
+found_at : (slots : List Slot) (key event i : ℕ) (slot : Slot) → slice_get slots i ≡ Some slot → slot.key ≡ key → is_stored_before event slot.stored_by ≡ true →
+    found_before slots key event (suc i) ≡ Some (put_in slot)
 found_at slots key event i slot is of_key stored =
-    ap (λ xs. find (λ put. put.key == key && is_stored_before event put.stored_by) (reverse xs)) (take_get (map put_in slots) i (put_in slot) (slice_get-map put_in slots i ∙ ap (option_map put_in) is))
+    ap (λ xs. find (λ put. put.key == key && is_stored_before event put.stored_by) (reverse xs))
+    (take_get (map put_in slots) i (put_in slot) (slice_get-map put_in slots i ∙ ap (option_map put_in) is))
     ∙ ap (find (λ put. put.key == key && is_stored_before event put.stored_by)) (reverse-append (take i (map put_in slots)) (put_in slot ∷ []))
     ∙ rw (eq-eqb slot.key key of_key, stored) refl
 
 -- the slots that the chain leaves out have the commit of the slot that it left
-chained_back : (slots : List Slot) (key event i : ℕ) (slot : Slot) → slice_get slots i ≡ Some slot → is_stored_before event slot.stored_by ≡ false → (named : IsNamed slots i slot) → found_before slots key event (suc i) ≡ found_before slots key event named.among
+chained_back : (slots : List Slot) (key event i : ℕ) (slot : Slot) → slice_get slots i ≡ Some slot → is_stored_before event slot.stored_by ≡ false → (named : IsNamed slots i slot) →
+    found_before slots key event (suc i) ≡ found_before slots key event named.among
 chained_back slots key event i slot is later named =
     let within = slice_get_within slots i slot is in
     let below = named.below in
@@ -77,7 +84,8 @@ pub record StandsAt (slots : List Slot) (key event n : ℕ) (last : Option ℕ) 
 pub stands_first : (slots : List Slot) (key event n : ℕ) (last : Option ℕ) → n ≤ length slots → last ≡ last_slot slots key n → StandsAt slots key event n last
 stands_first slots key event n last within is = record { among = n; within = within; is = is; found = refl }
 
-pub stands_back : (slots : List Slot) (key event n i : ℕ) (slot : Slot) (next : Option ℕ) → IsChained slots → slice_get slots i ≡ Some slot → is_stored_before event slot.stored_by ≡ false → next ≡ slot.stored_before → StandsAt slots key event n (Some i) → StandsAt slots key event n next
+pub stands_back : (slots : List Slot) (key event n i : ℕ) (slot : Slot) (next : Option ℕ) → IsChained slots → slice_get slots i ≡ Some slot → is_stored_before event slot.stored_by ≡ false →
+    next ≡ slot.stored_before → StandsAt slots key event n (Some i) → StandsAt slots key event n next
 stands_back slots key event n i slot next chained is later next_is stands =
     let named = chained i slot is in
     let below = named.below in
@@ -91,7 +99,8 @@ stands_back slots key event n i slot next chained is later next_is stands =
       found = stands.found ∙ up_to_last slots key event stands.among i stands.within (sym stands.is) ∙ chained_back slots key event i slot is later named;
     }
 
-pub stands_found : (slots : List Slot) (key event n i : ℕ) (slot : Slot) → slice_get slots i ≡ Some slot → is_stored_before event slot.stored_by ≡ true → StandsAt slots key event n (Some i) → put_at slots (Some i) ≡ found_before slots key event n
+pub stands_found : (slots : List Slot) (key event n i : ℕ) (slot : Slot) → slice_get slots i ≡ Some slot → is_stored_before event slot.stored_by ≡ true → StandsAt slots key event n (Some i) →
+    put_at slots (Some i) ≡ found_before slots key event n
 stands_found slots key event n i slot is stored stands =
     let there = last_slot_there slots key stands.among i (sym stands.is) in
     let of_key : slot.key ≡ key = ap (λ s. s.key) (same_Some slot there.0 (sym is ∙ there.1)) ∙ there.2 in
@@ -132,7 +141,8 @@ not_stored : (event : ℕ) (o : Option ℕ) → is_some o ≡ false → is_store
 not_stored event None h = refl
 not_stored event (Some commit) h = absurd (true≢false h)
 
-pub found_stored : (slots : List Slot) (key event committed : ℕ) → IsStoredTo slots committed → committed ≤ length slots → found_before slots key event committed ≡ last_stored_before key event (map put_in slots)
+pub found_stored : (slots : List Slot) (key event committed : ℕ) → IsStoredTo slots committed → committed ≤ length slots →
+    found_before slots key event committed ≡ last_stored_before key event (map put_in slots)
 found_stored slots key event committed stored within =
     sym (
     find_front (λ put. put.key == key && is_stored_before event put.stored_by) slots committed (length slots)
@@ -142,7 +152,8 @@ found_stored slots key event committed stored within =
     ∙ ap (last_stored_before key event) (take_all (length slots) (map put_in slots) (let len = length-map slots put_in in omega (arith, len)))
 
 -- what `as_of` finds
-pub found_in_part : (slots part : List Slot) (key event n : ℕ) (stored result : Option ℕ) → part ≡ slots → n ≤ length slots → stored ≡ last_slot slots key n → ((k m : ℕ) → m ≤ length part → stored ≡ last_slot part k m → put_at part result ≡ found_before part k event m) → put_at slots result ≡ found_before slots key event n
+pub found_in_part : (slots part : List Slot) (key event n : ℕ) (stored result : Option ℕ) → part ≡ slots → n ≤ length slots → stored ≡ last_slot slots key n →
+    ((k m : ℕ) → m ≤ length part → stored ≡ last_slot part k m → put_at part result ≡ found_before part k event m) → put_at slots result ≡ found_before slots key event n
 found_in_part slots part key event n stored result here within is found =
     let same = ap length here in
     ap (λ xs. put_at xs result) (sym here)

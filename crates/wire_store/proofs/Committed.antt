@@ -1,5 +1,6 @@
 -- A commit stores all puts and keeps the index.
-use Rattle.std.proofs.Common.{◌≡◌, ◌∙◌, ℕ, zero, suc, ◌<◌, ◌≤◌, true, false, List, [], ◌∷◌, ◌++◌, map, take, drop, length, is_some, nat_lt, Option, Some, None, option_map, slice_get, inl, inr, refl, sym, ap, subst, arith, length-drop, ◌-◌}
+use Rattle.std.proofs.Common.{◌≡◌, ◌∙◌, ℕ, zero, suc, ◌<◌, ◌≤◌, true, false, List, [], ◌∷◌, ◌++◌, map, take, drop, length, is_some, nat_lt, Option, Some, None, option_map, slice_get, inl, inr, refl}
+use Rattle.std.proofs.Common.{sym, ap, subst, arith, length-drop, ◌-◌}
 use Rattle.std.proofs.lemmas.Bool.{cases_lt, true≢false, le-ltb, lt-ltb}
 use Rattle.std.proofs.lemmas.Option.{none-some, same_Some, slice_get-map, slice_get_within}
 use Rattle.std.proofs.lemmas.List.{length-map, take_all, drop_all, append-nil, take-append-le}
@@ -89,13 +90,15 @@ same_keys slots committed at i = elim (cases_lt i committed) [
     go (Some slot) = refl
 
 -- what a slot was before
-was_before : (slots : List Slot) (committed at i : ℕ) (now : Slot) → slice_get (stored_from committed at slots) i ≡ Some now → (was : Slot) × (slice_get slots i ≡ Some was) × (now.key ≡ was.key) × (now.stored_before ≡ was.stored_before) × (i < committed → now.stored_by ≡ was.stored_by) × (committed ≤ i → now.stored_by ≡ Some at)
+was_before : (slots : List Slot) (committed at i : ℕ) (now : Slot) → slice_get (stored_from committed at slots) i ≡ Some now → (was : Slot) × (slice_get slots i ≡ Some was) × (now.key ≡ was.key)
+    × (now.stored_before ≡ was.stored_before) × (i < committed → now.stored_by ≡ was.stored_by) × (committed ≤ i → now.stored_by ≡ Some at)
 was_before slots committed at i now is = elim (cases_lt i committed) [
   | inl low ↦ (now, sym (stored_from_low slots committed at i low) ∙ is, refl, refl, λ _. refl, λ high. absurd (omega (arith, low, high)))
   | inr high ↦ go (slice_get slots i) refl high (sym (stored_from_high slots committed at i high) ∙ is)
 ]
   where
-    go : (o : Option Slot) → slice_get slots i ≡ o → committed ≤ i → option_map (store_slot at) o ≡ Some now → (was : Slot) × (slice_get slots i ≡ Some was) × (now.key ≡ was.key) × (now.stored_before ≡ was.stored_before) × (i < committed → now.stored_by ≡ was.stored_by) × (committed ≤ i → now.stored_by ≡ Some at)
+    go : (o : Option Slot) → slice_get slots i ≡ o → committed ≤ i → option_map (store_slot at) o ≡ Some now → (was : Slot) × (slice_get slots i ≡ Some was) × (now.key ≡ was.key)
+        × (now.stored_before ≡ was.stored_before) × (i < committed → now.stored_by ≡ was.stored_by) × (committed ≤ i → now.stored_by ≡ Some at)
     go None e high h = absurd (none-some now h)
     go (Some was) e high h =
         let made : store_slot at was ≡ now = same_Some (store_slot at was) now h in (
@@ -113,7 +116,8 @@ is_low o i j committed at_i at_j high = elim (cases_lt j committed) [
   | inr le ↦ le
 ]
 
-chained_commit : (slots : List Slot) (committed at i : ℕ) (now : Slot) {number_of : ℕ → Option ℕ} → IsSlotIndex slots committed number_of → ((key n : ℕ) → last_slot (stored_from committed at slots) key n ≡ last_slot slots key n) → slice_get (stored_from committed at slots) i ≡ Some now → IsNamed (stored_from committed at slots) i now
+chained_commit : (slots : List Slot) (committed at i : ℕ) (now : Slot) {number_of : ℕ → Option ℕ} → IsSlotIndex slots committed number_of →
+    ((key n : ℕ) → last_slot (stored_from committed at slots) key n ≡ last_slot slots key n) → slice_get (stored_from committed at slots) i ≡ Some now → IsNamed (stored_from committed at slots) i now
 chained_commit slots committed at i now index same is =
     let was = was_before slots committed at i now is in
     let named = index.chained i was.0 was.1 in
@@ -168,7 +172,8 @@ puts_commit slots committed at stored = slice_get_same (map put_in (stored_from 
             ap Some from.put ∙ sym (ap (λ o. option_map (store_by at) (option_map put_in o)) from.there)
 
 -- what `commit` writes back is what a commit stores
-module _ (at : ℕ) (slots part new rest : List Slot) (committed n : ℕ) (here : part ≡ slots) (n_is : n ≡ length slots) (within : committed ≤ length slots) (new_is : new ≡ map (store_slot at) (take (length part - committed) (drop committed part))) where
+module _ (at : ℕ) (slots part new rest : List Slot) (committed n : ℕ) (here : part ≡ slots) (n_is : n ≡ length slots) (within : committed ≤ length slots)
+    (new_is : new ≡ map (store_slot at) (take (length part - committed) (drop committed part))) where
   written : take n ((take committed part ++ (new ++ drop (length part - committed) (drop committed part))) ++ rest) ≡ stored_from committed at slots
   written =
       let left = length part - committed in
@@ -186,10 +191,12 @@ module _ (at : ℕ) (slots part new rest : List Slot) (committed n : ℕ) (here 
       ∙ take-append-le n (stored_from committed at slots) rest (omega (arith, len, n_is))
       ∙ take_all n (stored_from committed at slots) (omega (arith, len, n_is))
 
-  pub committed_index : (number_of : ℕ → Option ℕ) (len : ℕ) → IsSlotIndex slots committed number_of → len ≡ n → IsSlotIndex (take n ((take committed part ++ (new ++ drop (length part - committed) (drop committed part))) ++ rest)) len number_of
+  pub committed_index : (number_of : ℕ → Option ℕ) (len : ℕ) → IsSlotIndex slots committed number_of → len ≡ n →
+      IsSlotIndex (take n ((take committed part ++ (new ++ drop (length part - committed) (drop committed part))) ++ rest)) len number_of
   committed_index number_of len index is =
       subst (λ xs. IsSlotIndex xs len number_of) (sym written)
       (subst (λ m. IsSlotIndex (stored_from committed at slots) m number_of) (sym (is ∙ n_is)) (indexed_commit slots committed at number_of index))
 
-  pub committed_puts : IsStoredTo slots committed → map put_in (take n ((take committed part ++ (new ++ drop (length part - committed) (drop committed part))) ++ rest)) ≡ map (store_by at) (map put_in slots)
+  pub committed_puts : IsStoredTo slots committed →
+      map put_in (take n ((take committed part ++ (new ++ drop (length part - committed) (drop committed part))) ++ rest)) ≡ map (store_by at) (map put_in slots)
   committed_puts stored = ap (map put_in) written ∙ puts_commit slots committed at stored

@@ -1,5 +1,6 @@
 -- Elements of lists by their numbers.
-use Rattle.std.proofs.Common.{◌≡◌, ◌∙◌, ℕ, zero, suc, ◌+◌, ◌<◌, List, [], ◌∷◌, ◌++◌, map, take, drop, length, Some, None, slice_get, get_or, add-one, ◌⊎◌, inl, inr, refl, sym, ap, arith, length-append}
+use Rattle.std.proofs.Common.{◌≡◌, ◌∙◌, ℕ, zero, suc, ◌+◌, ◌<◌, List, [], ◌∷◌, ◌++◌, map, take, drop, length, Some, None, slice_get, get_or, add-one, ◌⊎◌, inl, inr, refl, sym, ap, arith}
+use Rattle.std.proofs.Common.{length-append}
 use Rattle.std.proofs.lemmas.Bool.{cases_lt}
 use Rattle.std.proofs.lemmas.Option.{none-some, same_Some, slice_get_within}
 use Rattle.std.proofs.Math.ListN.{set}
@@ -43,12 +44,14 @@ missing_within (x ∷ xs) zero h low = none-some x (sym h)
 missing_within (x ∷ xs) (suc n) h low = missing_within xs n h (omega (arith, low))
 
 -- the loop that stores slots
-set_mapped : {A : Type 0} (f : A → A) (xs : List A) (i : ℕ) (d : A) → i < length xs → set (map f (take i xs) ++ drop i xs) i (f (get_or (map f (take i xs) ++ drop i xs) i d)) ≡ map f (take (suc i) xs) ++ drop (suc i) xs
+set_mapped : {A : Type 0} (f : A → A) (xs : List A) (i : ℕ) (d : A) → i < length xs → set (map f (take i xs) ++ drop i xs) i (f (get_or (map f (take i xs) ++ drop i xs) i d)) ≡ map f (take (suc i) xs)
+    ++ drop (suc i) xs
 set_mapped f [] i d low = absurd (omega (arith, low))
 set_mapped f (x ∷ xs) zero d low = refl
 set_mapped f (x ∷ xs) (suc i) d low = ap (λ zs. f x ∷ zs) (set_mapped f xs i d (omega (arith, low)))
 
-pub map_step : {A : Type 0} (f : A → A) (xs ys : List A) (i : ℕ) (d : A) → i < length xs → ys ≡ map f (take i xs) ++ drop i xs → set ys i (f (get_or ys i d)) ≡ map f (take (i + 1) xs) ++ drop (i + 1) xs
+pub map_step : {A : Type 0} (f : A → A) (xs ys : List A) (i : ℕ) (d : A) → i < length xs → ys ≡ map f (take i xs) ++ drop i xs → set ys i (f (get_or ys i d)) ≡ map f (take (i + 1) xs)
+    ++ drop (i + 1) xs
 map_step f xs ys i d low e =
     ap (λ zs. set zs i (f (get_or zs i d))) e
     ∙ set_mapped f xs i d low

@@ -1,5 +1,6 @@
 -- What is found in the slots is the last put of the key.
-use Rattle.std.proofs.Common.{◌≡◌, ◌∙◌, ℕ, zero, suc, ◌<◌, ◌≤◌, Bool, true, false, List, [], ◌∷◌, map, take, length, reverse, find, cond, ◌&&◌, ◌==◌, is_some, Option, Some, None, option_map, slice_get, get_or, inl, inr, refl, sym, ap, arith}
+use Rattle.std.proofs.Common.{◌≡◌, ◌∙◌, ℕ, zero, suc, ◌<◌, ◌≤◌, Bool, true, false, List, [], ◌∷◌, map, take, length, reverse, find, cond, ◌&&◌, ◌==◌, is_some, Option, Some, None, option_map}
+use Rattle.std.proofs.Common.{slice_get, get_or, inl, inr, refl, sym, ap, arith}
 use Rattle.std.proofs.lemmas.Bool.{cases_Bool, cases_eq, le-ltb, lt-ltb}
 use Rattle.std.proofs.lemmas.Option.{slice_get-map, slice_get-get_or}
 use Rattle.std.proofs.lemmas.List.{reverse-append, length-map, take_all}
@@ -19,12 +20,14 @@ and_false : (b : Bool) → (b && false) ≡ false
 and_false true = refl
 and_false false = refl
 
-find_back : (test : KeptPut → Bool) (slots : List Slot) (key n : ℕ) → ((i : ℕ) (slot : Slot) → i < n → slice_get slots i ≡ Some slot → test (put_in slot) ≡ (slot.key == key)) → n ≤ length slots → find test (reverse (take n (map put_in slots))) ≡ put_at slots (last_slot slots key n)
+find_back : (test : KeptPut → Bool) (slots : List Slot) (key n : ℕ) → ((i : ℕ) (slot : Slot) → i < n → slice_get slots i ≡ Some slot → test (put_in slot) ≡ (slot.key == key)) → n ≤ length slots →
+    find test (reverse (take n (map put_in slots))) ≡ put_at slots (last_slot slots key n)
 find_back test slots key zero same le = refl
 find_back test slots key (suc n) same le =
     go (slice_get slots n) refl (find_back test slots key n (λ i slot low. same i slot (omega (arith, low))) (omega (arith, le)))
   where
-    go : (o : Option Slot) → slice_get slots n ≡ o → find test (reverse (take n (map put_in slots))) ≡ put_at slots (last_slot slots key n) → find test (reverse (take (suc n) (map put_in slots))) ≡ put_at slots (last_slot_with key n (last_slot slots key n) o)
+    go : (o : Option Slot) → slice_get slots n ≡ o → find test (reverse (take n (map put_in slots))) ≡ put_at slots (last_slot slots key n) →
+        find test (reverse (take (suc n) (map put_in slots))) ≡ put_at slots (last_slot_with key n (last_slot slots key n) o)
     go None e ih = absurd (missing_within slots n e (omega (arith, le)))
     go (Some slot) e ih =
         ap (λ xs. find test (reverse xs)) (take_get (map put_in slots) n (put_in slot) (slice_get-map put_in slots n ∙ ap (option_map put_in) e))
@@ -36,14 +39,17 @@ find_back test slots key (suc n) same le =
         ]
 
 -- slots that fail the test don't matter
-pub find_front : (test : KeptPut → Bool) (slots : List Slot) (m n : ℕ) → ((i : ℕ) (slot : Slot) → m ≤ i → i < n → slice_get slots i ≡ Some slot → test (put_in slot) ≡ false) → m ≤ n → n ≤ length slots → find test (reverse (take n (map put_in slots))) ≡ find test (reverse (take m (map put_in slots)))
+pub find_front : (test : KeptPut → Bool) (slots : List Slot) (m n : ℕ) → ((i : ℕ) (slot : Slot) → m ≤ i → i < n → slice_get slots i ≡ Some slot → test (put_in slot) ≡ false) → m ≤ n →
+    n ≤ length slots → find test (reverse (take n (map put_in slots))) ≡ find test (reverse (take m (map put_in slots)))
 find_front test slots m zero fails below le = let e : m ≡ 0 = omega (arith, below) in ap (λ k. find test (reverse (take k (map put_in slots)))) (sym e)
 find_front test slots m (suc n) fails below le = elim (cases_eq m (suc n)) [
   | inl e ↦ ap (λ k. find test (reverse (take k (map put_in slots)))) (sym e)
-  | inr ne ↦ go (slice_get slots n) refl (omega (arith, below, ne)) (find_front test slots m n (λ i slot high low. fails i slot high (omega (arith, low))) (omega (arith, below, ne)) (omega (arith, le)))
+  | inr ne ↦ go (slice_get slots n) refl (omega (arith, below, ne)) (find_front test slots m n (λ i slot high low. fails i slot high (omega (arith, low))) (omega (arith, below, ne))
+      (omega (arith, le)))
 ]
   where
-    go : (o : Option Slot) → slice_get slots n ≡ o → m ≤ n → find test (reverse (take n (map put_in slots))) ≡ find test (reverse (take m (map put_in slots))) → find test (reverse (take (suc n) (map put_in slots))) ≡ find test (reverse (take m (map put_in slots)))
+    go : (o : Option Slot) → slice_get slots n ≡ o → m ≤ n → find test (reverse (take n (map put_in slots))) ≡ find test (reverse (take m (map put_in slots))) →
+        find test (reverse (take (suc n) (map put_in slots))) ≡ find test (reverse (take m (map put_in slots)))
     go None e high ih = absurd (missing_within slots n e (omega (arith, le)))
     go (Some slot) e high ih =
         ap (λ xs. find test (reverse xs)) (take_get (map put_in slots) n (put_in slot) (slice_get-map put_in slots n ∙ ap (option_map put_in) e))
@@ -73,7 +79,8 @@ last_stored_in slots key committed stored within =
 pub newest_within : (slots : List Slot) (committed : ℕ) (number_of : ℕ → Option ℕ) (key i : ℕ) → IsSlotIndex slots committed number_of → Some i ≡ number_of key → i < length slots
 newest_within slots committed number_of key i index is = last_slot_below slots key (length slots) i (sym (is ∙ index.newest key))
 
-pub own_put_in : (slots : List Slot) (committed : ℕ) (number_of : ℕ → Option ℕ) (key i : ℕ) (slot : Slot) → IsSlotIndex slots committed number_of → Some i ≡ number_of key → slot ≡ get_or slots i slot → last_put key (map put_in slots) ≡ Some (put_in slot)
+pub own_put_in : (slots : List Slot) (committed : ℕ) (number_of : ℕ → Option ℕ) (key i : ℕ) (slot : Slot) → IsSlotIndex slots committed number_of → Some i ≡ number_of key →
+    slot ≡ get_or slots i slot → last_put key (map put_in slots) ≡ Some (put_in slot)
 own_put_in slots committed number_of key i slot index is read =
     last_put_in slots key
     ∙ ap (put_at slots) (sym (is ∙ index.newest key))
@@ -83,7 +90,8 @@ own_put_in slots committed number_of key i slot index is read =
 pub own_nothing : (slots : List Slot) (committed : ℕ) (number_of : ℕ → Option ℕ) (key : ℕ) → IsSlotIndex slots committed number_of → None ≡ number_of key → last_put key (map put_in slots) ≡ None
 own_nothing slots committed number_of key index is = last_put_in slots key ∙ ap (put_at slots) (sym (is ∙ index.newest key))
 
-pub stored_put_in : (slots : List Slot) (committed : ℕ) (number_of : ℕ → Option ℕ) (key i : ℕ) (slot : Slot) → IsSlotIndex slots committed number_of → Some i ≡ last_slot slots key committed → slot ≡ get_or slots i slot → last_stored key (map put_in slots) ≡ Some (put_in slot)
+pub stored_put_in : (slots : List Slot) (committed : ℕ) (number_of : ℕ → Option ℕ) (key i : ℕ) (slot : Slot) → IsSlotIndex slots committed number_of → Some i ≡ last_slot slots key committed →
+    slot ≡ get_or slots i slot → last_stored key (map put_in slots) ≡ Some (put_in slot)
 stored_put_in slots committed number_of key i slot index is read =
     let low = last_slot_below slots key committed i (sym is) in
     let within = index.within in
@@ -98,11 +106,13 @@ stored_within slots committed number_of key i index is =
     let within = index.within in
     omega (arith, low, within)
 
-pub stored_nothing : (slots : List Slot) (committed : ℕ) (number_of : ℕ → Option ℕ) (key : ℕ) → IsSlotIndex slots committed number_of → None ≡ last_slot slots key committed → last_stored key (map put_in slots) ≡ None
+pub stored_nothing : (slots : List Slot) (committed : ℕ) (number_of : ℕ → Option ℕ) (key : ℕ) → IsSlotIndex slots committed number_of → None ≡ last_slot slots key committed →
+    last_stored key (map put_in slots) ≡ None
 stored_nothing slots committed number_of key index is = last_stored_in slots key committed index.stored index.within ∙ ap (put_at slots) (sym is)
 
 -- what `seen_from` finds
-pub last_is : (slots part : List Slot) (key committed : ℕ) (newest last : Option ℕ) (number_of : ℕ → Option ℕ) → part ≡ slots → IsSlotIndex slots committed number_of → newest ≡ number_of key → ((k : ℕ) → newest ≡ last_slot part k (length part) → last ≡ last_slot part k committed) → last ≡ last_slot slots key committed
+pub last_is : (slots part : List Slot) (key committed : ℕ) (newest last : Option ℕ) (number_of : ℕ → Option ℕ) → part ≡ slots → IsSlotIndex slots committed number_of → newest ≡ number_of key →
+    ((k : ℕ) → newest ≡ last_slot part k (length part) → last ≡ last_slot part k committed) → last ≡ last_slot slots key committed
 last_is slots part key committed newest last number_of here index is found =
     found key (is ∙ index.newest key ∙ ap (λ xs. last_slot xs key (length xs)) (sym here)) ∙ ap (λ xs. last_slot xs key committed) here
 

@@ -6,10 +6,12 @@ use Rattle.wire_store.specs.declared.chain.Slot.{Slot}
 use Rattle.wire_store.specs.Slots.{last_slot_with, last_slot, IsLinked}
 
 -- one more slot
-last_slot_step : (slots : List Slot) (key n i : ℕ) → last_slot slots key (suc n) ≡ Some i → (last_slot slots key n ≡ Some i) ⊎ ((i ≡ n) × ((slot : Slot) × (slice_get slots n ≡ Some slot) × (slot.key ≡ key)))
+last_slot_step : (slots : List Slot) (key n i : ℕ) → last_slot slots key (suc n) ≡ Some i → (last_slot slots key n ≡ Some i)
+    ⊎ ((i ≡ n) × ((slot : Slot) × (slice_get slots n ≡ Some slot) × (slot.key ≡ key)))
 last_slot_step slots key n i h = go (slice_get slots n) refl h
   where
-    go : (o : Option Slot) → slice_get slots n ≡ o → last_slot_with key n (last_slot slots key n) o ≡ Some i → (last_slot slots key n ≡ Some i) ⊎ ((i ≡ n) × ((slot : Slot) × (slice_get slots n ≡ Some slot) × (slot.key ≡ key)))
+    go : (o : Option Slot) → slice_get slots n ≡ o → last_slot_with key n (last_slot slots key n) o ≡ Some i → (last_slot slots key n ≡ Some i)
+        ⊎ ((i ≡ n) × ((slot : Slot) × (slice_get slots n ≡ Some slot) × (slot.key ≡ key)))
     go None e was = inl was
     go (Some slot) e was = elim (cases_Bool (slot.key == key)) [
       | inl t ↦ let at_n = rw t at was in inr (sym (same_Some n i at_n), (slot, e, eqb-true slot.key key t))
@@ -60,20 +62,23 @@ last_slot_nothing slots key (suc n) m h le = elim (cases_eq m (suc n)) [
 ]
 
 -- it goes by the keys alone
-pub last_slot_with_same : (key n : ℕ) (before : Option ℕ) (o p : Option Slot) → option_map (λ slot. slot.key) o ≡ option_map (λ slot. slot.key) p → last_slot_with key n before o ≡ last_slot_with key n before p
+pub last_slot_with_same : (key n : ℕ) (before : Option ℕ) (o p : Option Slot) → option_map (λ slot. slot.key) o ≡ option_map (λ slot. slot.key) p →
+    last_slot_with key n before o ≡ last_slot_with key n before p
 last_slot_with_same key n before None None same = refl
 last_slot_with_same key n before None (Some p) same = absurd (none-some p.key same)
 last_slot_with_same key n before (Some o) None same = absurd (none-some o.key (sym same))
 last_slot_with_same key n before (Some o) (Some p) same = ap (λ k. cond (k == key) (Some n) before) (same_Some o.key p.key same)
 
-pub last_slot_same : (xs ys : List Slot) (key n : ℕ) → ((i : ℕ) → i < n → option_map (λ slot. slot.key) (slice_get xs i) ≡ option_map (λ slot. slot.key) (slice_get ys i)) → last_slot xs key n ≡ last_slot ys key n
+pub last_slot_same : (xs ys : List Slot) (key n : ℕ) → ((i : ℕ) → i < n → option_map (λ slot. slot.key) (slice_get xs i) ≡ option_map (λ slot. slot.key) (slice_get ys i)) →
+    last_slot xs key n ≡ last_slot ys key n
 last_slot_same xs ys key zero same = refl
 last_slot_same xs ys key (suc n) same =
     ap (λ before. last_slot_with key n before (slice_get xs n)) (last_slot_same xs ys key n (λ i low. same i (omega (arith, low))))
     ∙ last_slot_with_same key n (last_slot ys key n) (slice_get xs n) (slice_get ys n) (same n (omega arith))
 
 -- the newest slot of a key, where it isn't stored, names the last that is
-pub named_last : (slots : List Slot) (key committed i : ℕ) (d : Slot) → IsLinked slots committed → committed ≤ i → i < length slots → Some i ≡ last_slot slots key (length slots) → (get_or slots i d).stored_before ≡ last_slot slots key committed
+pub named_last : (slots : List Slot) (key committed i : ℕ) (d : Slot) → IsLinked slots committed → committed ≤ i → i < length slots → Some i ≡ last_slot slots key (length slots) →
+    (get_or slots i d).stored_before ≡ last_slot slots key committed
 named_last slots key committed i d linked high within is =
     let slot = get_or slots i d in
     let there = slice_get-get_or slots i d within in

@@ -1,5 +1,6 @@
 -- A put keeps the index.
-use Rattle.std.proofs.Common.{◌≡◌, ◌∙◌, ℕ, suc, ◌<◌, ◌≤◌, false, List, [], ◌∷◌, ◌++◌, length, cond, is_some, nat_eq, Option, Some, None, option_map, inl, inr, refl, sym, ap, subst, arith, length-append}
+use Rattle.std.proofs.Common.{◌≡◌, ◌∙◌, ℕ, suc, ◌<◌, ◌≤◌, false, List, [], ◌∷◌, ◌++◌, length, cond, is_some, nat_eq, Option, Some, None, option_map, inl, inr, refl, sym, ap, subst, arith}
+use Rattle.std.proofs.Common.{length-append}
 use Rattle.std.proofs.lemmas.Bool.{le-ltb, true≢false}
 use Rattle.std.proofs.lemmas.Option.{slice_get_within}
 use Rattle.wire_store.specs.declared.chain.Slot.{Slot}
@@ -8,7 +9,8 @@ use Rattle.wire_store.proofs.Elements.{slice_get-append_left, slice_get-append_s
 use Rattle.wire_store.proofs.Linked.{last_slot_same}
 
 -- an old slot of the chain
-chained_old : (slots : List Slot) (slot : Slot) (i : ℕ) (x : Slot) → IsNamed slots i x → i < length slots → ((key n : ℕ) → n ≤ length slots → last_slot (slots ++ slot ∷ []) key n ≡ last_slot slots key n) → IsNamed (slots ++ slot ∷ []) i x
+chained_old : (slots : List Slot) (slot : Slot) (i : ℕ) (x : Slot) → IsNamed slots i x → i < length slots →
+    ((key n : ℕ) → n ≤ length slots → last_slot (slots ++ slot ∷ []) key n ≡ last_slot slots key n) → IsNamed (slots ++ slot ∷ []) i x
 chained_old slots slot i x named within same =
     let below = named.below in
     record {
@@ -26,7 +28,9 @@ not_stored None h = refl
 not_stored (Some commit) h = absurd (true≢false h)
 
 -- and the new one
-chained_new : (slots : List Slot) (slot : Slot) (committed i : ℕ) (x : Slot) {before : ℕ → Option ℕ} → IsSlotIndex slots committed before → slot.stored_by ≡ None → slot.stored_before ≡ last_slot slots slot.key committed → i ≡ length slots → slot ≡ x → last_slot (slots ++ slot ∷ []) slot.key committed ≡ last_slot slots slot.key committed → IsNamed (slots ++ slot ∷ []) i x
+chained_new : (slots : List Slot) (slot : Slot) (committed i : ℕ) (x : Slot) {before : ℕ → Option ℕ} → IsSlotIndex slots committed before → slot.stored_by ≡ None →
+    slot.stored_before ≡ last_slot slots slot.key committed → i ≡ length slots → slot ≡ x → last_slot (slots ++ slot ∷ []) slot.key committed ≡ last_slot slots slot.key committed →
+    IsNamed (slots ++ slot ∷ []) i x
 chained_new slots slot committed i x index none previous last same same_last =
     let within = index.within in
     record {
@@ -40,7 +44,8 @@ chained_new slots slot committed i x index none previous last same same_last =
     }
 
 -- a slot more
-pub indexed_push : (slots : List Slot) (committed : ℕ) (before after : ℕ → Option ℕ) (slot : Slot) → IsSlotIndex slots committed before → slot.stored_by ≡ None → slot.stored_before ≡ last_slot slots slot.key committed → ((key : ℕ) → after key ≡ cond (nat_eq slot.key key) (Some (length slots)) (before key)) → IsSlotIndex (slots ++ slot ∷ []) committed after
+pub indexed_push : (slots : List Slot) (committed : ℕ) (before after : ℕ → Option ℕ) (slot : Slot) → IsSlotIndex slots committed before → slot.stored_by ≡ None →
+    slot.stored_before ≡ last_slot slots slot.key committed → ((key : ℕ) → after key ≡ cond (nat_eq slot.key key) (Some (length slots)) (before key)) → IsSlotIndex (slots ++ slot ∷ []) committed after
 indexed_push slots committed before after slot index none previous puts =
     let low_same : (key n : ℕ) → n ≤ length slots → last_slot (slots ++ slot ∷ []) key n ≡ last_slot slots key n =
     λ key n le. last_slot_same (slots ++ slot ∷ []) slots key n (λ i low. ap (option_map (λ s. s.key)) (slice_get-append_left slots (slot ∷ []) i (omega (arith, low, le))))
@@ -74,7 +79,8 @@ indexed_push slots committed before after slot index none previous puts =
     }
 
 -- what `put` leaves
-pub put_index : (slots new : List Slot) (committed n : ℕ) (before after : ℕ → Option ℕ) (slot : Slot) → new ≡ slots ++ slot ∷ [] → n ≡ length slots → IsSlotIndex slots committed before → slot.stored_by ≡ None → slot.stored_before ≡ last_slot slots slot.key committed → ((key : ℕ) → after key ≡ cond (nat_eq slot.key key) (Some n) (before key)) → IsSlotIndex new committed after
+pub put_index : (slots new : List Slot) (committed n : ℕ) (before after : ℕ → Option ℕ) (slot : Slot) → new ≡ slots ++ slot ∷ [] → n ≡ length slots → IsSlotIndex slots committed before →
+    slot.stored_by ≡ None → slot.stored_before ≡ last_slot slots slot.key committed → ((key : ℕ) → after key ≡ cond (nat_eq slot.key key) (Some n) (before key)) → IsSlotIndex new committed after
 put_index slots new committed n before after slot new_is n_is index none previous puts =
     subst (λ xs. IsSlotIndex xs committed after) (sym new_is)
     (indexed_push slots committed before after slot index none previous (λ key. puts key ∙ ap (λ m. cond (nat_eq slot.key key) (Some m) (before key)) n_is))

@@ -1,5 +1,6 @@
 -- What a store tells of puts.
-use Rattle.std.proofs.Common.{◌≡◌, ◌∙◌, ℕ, zero, suc, ◌≤◌, Bool, true, false, List, [], ◌∷◌, ◌++◌, map, reverse, find, cond, ◌&&◌, ◌==◌, is_some, Option, Some, None, option_map, inl, inr, refl, sym, ap, subst, arith}
+use Rattle.std.proofs.Common.{◌≡◌, ◌∙◌, ℕ, zero, suc, ◌≤◌, Bool, true, false, List, [], ◌∷◌, ◌++◌, map, reverse, find, cond, ◌&&◌, ◌==◌, is_some, Option, Some, None, option_map, inl, inr, refl, sym}
+use Rattle.std.proofs.Common.{ap, subst, arith}
 use Rattle.std.specs.Prelude.{⊤}
 use Rattle.std.proofs.lemmas.Bool.{cases_Bool, cases_eq, ltb-true, lt-ltb, le-ltb}
 use Rattle.std.proofs.lemmas.List.{reverse-append, map-append}
@@ -126,7 +127,8 @@ module _ (kind_of : ℕ → Option Kind) (call_of : ℕ → CallAt) where
   abbrev shown_at : ℕ → CallAt × Scope
   shown_at i = (call_of i, scope_in (kind_of i))
 
-  own_step : (key n : ℕ) (puts : List KeptPut) (before : Option ℕ) (o : Option Kind) → kind_of n ≡ o → option_map shown (last_put key puts) ≡ option_map shown_at before → option_map shown (last_put key (kept_with n (call_of n) puts o)) ≡ option_map shown_at (own_with key n before o)
+  own_step : (key n : ℕ) (puts : List KeptPut) (before : Option ℕ) (o : Option Kind) → kind_of n ≡ o → option_map shown (last_put key puts) ≡ option_map shown_at before →
+      option_map shown (last_put key (kept_with n (call_of n) puts o)) ≡ option_map shown_at (own_with key n before o)
   own_step key n puts before (Some (Put k scope)) e same =
       let put : KeptPut = record { at = n; key = k; scope = scope; call = call_of n; stored_by = None } in
       ap (option_map shown) (last_put-push key puts put)
@@ -141,7 +143,8 @@ module _ (kind_of : ℕ → Option Kind) (call_of : ℕ → CallAt) where
   own_shown key zero = refl
   own_shown key (suc n) = own_step key n (kept_after kind_of call_of n) (own_put kind_of key n) (kind_of n) refl (own_shown key n)
 
-  stored_step : (key n : ℕ) (puts : List KeptPut) (before committed : Option ℕ) (o : Option Kind) → option_map shown (last_put key puts) ≡ option_map shown_at committed → option_map shown (last_stored key puts) ≡ option_map shown_at before → option_map shown (last_stored key (kept_with n (call_of n) puts o)) ≡ option_map shown_at (stored_with committed before o)
+  stored_step : (key n : ℕ) (puts : List KeptPut) (before committed : Option ℕ) (o : Option Kind) → option_map shown (last_put key puts) ≡ option_map shown_at committed →
+      option_map shown (last_stored key puts) ≡ option_map shown_at before → option_map shown (last_stored key (kept_with n (call_of n) puts o)) ≡ option_map shown_at (stored_with committed before o)
   stored_step key n puts before committed (Some (Put k scope)) own same =
       let put : KeptPut = record { at = n; key = k; scope = scope; call = call_of n; stored_by = None } in
       ap (option_map shown) (last_stored-push key puts put refl) ∙ same
@@ -167,7 +170,8 @@ module _ (kind_of : ℕ → Option Kind) (call_of : ℕ → CallAt) where
       ap (option_map shown) (found_alike key n (reverse (kept_after kind_of call_of n)) (AreBefore-reverse n (kept_after kind_of call_of n) (kept_before n)))
       ∙ stored_shown key n
 
-  before_step : (key a n : ℕ) (puts : List KeptPut) (o : Option Kind) → a ≤ n → option_map shown (last_stored_before key a (kept_with n (call_of n) puts o)) ≡ option_map shown (last_stored_before key a puts)
+  before_step : (key a n : ℕ) (puts : List KeptPut) (o : Option Kind) → a ≤ n →
+      option_map shown (last_stored_before key a (kept_with n (call_of n) puts o)) ≡ option_map shown (last_stored_before key a puts)
   before_step key a n puts (Some (Put k scope)) le =
       ap (option_map shown) (last_before-push key a puts (record { at = n; key = k; scope = scope; call = call_of n; stored_by = None }) refl)
   before_step key a n puts (Some Commit) le = ap (option_map shown) (last_before-store key a n puts le) ∙ shown-store n (last_stored_before key a puts)
@@ -213,7 +217,8 @@ module _ (kind_of : ℕ → Option Kind) (call_of : ℕ → CallAt) where
       ∙ ap (seen_shown same) (stored_shown key n)
       ∙ shown_is_seen same (stored_put kind_of key n)
 
-pub tells_before : (kind_of : ℕ → Option Kind) (call_of : ℕ → CallAt) (key n a : ℕ) → a ≤ n → seen false (last_stored_before key a (kept_after kind_of call_of n)) ≡ seen_put kind_of call_of false (stored_put kind_of key a)
+pub tells_before : (kind_of : ℕ → Option Kind) (call_of : ℕ → CallAt) (key n a : ℕ) → a ≤ n →
+    seen false (last_stored_before key a (kept_after kind_of call_of n)) ≡ seen_put kind_of call_of false (stored_put kind_of key a)
 tells_before kind_of call_of key n a le =
     seen_is_shown kind_of call_of false (last_stored_before key a (kept_after kind_of call_of n))
     ∙ ap (seen_shown kind_of call_of false) (before_shown kind_of call_of key a n le)
@@ -227,18 +232,22 @@ store_tells kind_of call_of key n = record {
 }
 
 -- a store that is told of one more commit
-pub told_commit : (kind_of : ℕ → Option Kind) (call_of : ℕ → CallAt) (at : ℕ) (old new : List KeptPut) → kind_of at ≡ Some Commit → old ≡ kept_after kind_of call_of at → new ≡ map (store_by at) old → new ≡ kept_after kind_of call_of (suc at)
+pub told_commit : (kind_of : ℕ → Option Kind) (call_of : ℕ → CallAt) (at : ℕ) (old new : List KeptPut) → kind_of at ≡ Some Commit → old ≡ kept_after kind_of call_of at → new ≡ map (store_by at) old →
+    new ≡ kept_after kind_of call_of (suc at)
 told_commit kind_of call_of at old new kind told puts =
     puts
     ∙ ap (map (store_by at)) told
     ∙ ap (kept_with at (call_of at) (kept_after kind_of call_of at)) (sym kind)
 
 -- what a store shows that is told of the first n events
-pub own_told : (kind_of : ℕ → Option Kind) (call_of : ℕ → CallAt) (key n : ℕ) (store : Kept) → IsToldOf store kind_of call_of n → option_map (λ put. put.call) (last_put key store.puts) ≡ option_map call_of (own_put kind_of key n)
+pub own_told : (kind_of : ℕ → Option Kind) (call_of : ℕ → CallAt) (key n : ℕ) (store : Kept) → IsToldOf store kind_of call_of n →
+    option_map (λ put. put.call) (last_put key store.puts) ≡ option_map call_of (own_put kind_of key n)
 own_told kind_of call_of key n store told = ap (λ puts. option_map (λ put. put.call) (last_put key puts)) told ∙ tells_own kind_of call_of key n
 
-pub seen_told : (kind_of : ℕ → Option Kind) (call_of : ℕ → CallAt) (key n : ℕ) (same : Bool) (store : Kept) → IsToldOf store kind_of call_of n → seen same (last_stored key store.puts) ≡ seen_put kind_of call_of same (stored_put kind_of key n)
+pub seen_told : (kind_of : ℕ → Option Kind) (call_of : ℕ → CallAt) (key n : ℕ) (same : Bool) (store : Kept) → IsToldOf store kind_of call_of n →
+    seen same (last_stored key store.puts) ≡ seen_put kind_of call_of same (stored_put kind_of key n)
 seen_told kind_of call_of key n same store told = ap (λ puts. seen same (last_stored key puts)) told ∙ tells_seen kind_of call_of key n same
 
-pub before_told : (kind_of : ℕ → Option Kind) (call_of : ℕ → CallAt) (key n event : ℕ) (store : Kept) → event ≤ n → IsToldOf store kind_of call_of n → seen false (last_stored_before key event store.puts) ≡ seen_put kind_of call_of false (stored_put kind_of key event)
+pub before_told : (kind_of : ℕ → Option Kind) (call_of : ℕ → CallAt) (key n event : ℕ) (store : Kept) → event ≤ n → IsToldOf store kind_of call_of n →
+    seen false (last_stored_before key event store.puts) ≡ seen_put kind_of call_of false (stored_put kind_of key event)
 before_told kind_of call_of key n event store le told = ap (λ puts. seen false (last_stored_before key event puts)) told ∙ tells_before kind_of call_of key n event le

@@ -1,6 +1,7 @@
 -- What a store keeps of one process's puts and commits (PMIx Standard 5.0, Posting Key-Value Pairs).
 -- A put is held until its process's next commit, which stores all puts that no commit has stored before.
-use Rattle.std.specs.Prelude.{ℕ, zero, suc, List, [], ◌∷◌, ◌++◌, map, reverse, find, Bool, false, ◌&&◌, ◌==◌, nat_lt, is_some, Option, Some, None, if◌then◌else◌}
+use Rattle.std.specs.Prelude.{ℕ, zero, suc, List, [], ◌∷◌, ◌++◌, map, reverse, find, Bool, false, ◌&&◌, ◌==◌, nat_lt, is_some, Option, Some, None}
+use Rattle.std.specs.Prelude.{if◌then◌else◌}
 use Rattle.wire_runs.specs.Plan.{Kind, Put, Commit, admits}
 use Rattle.wire_types.specs.declared.Scope.{Scope}
 use Rattle.wire_types.specs.declared.CallAt.{CallAt}

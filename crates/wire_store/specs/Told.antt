@@ -22,7 +22,8 @@ seen_put kind_of call_of same (Some i) = if admits (scope_in (kind_of i)) same t
 pub record TellsPuts (kind_of : ℕ → Option Kind) (call_of : ℕ → CallAt) (key n : ℕ) : Type 0 where
   pub own : option_map (λ put. put.call) (last_put key (kept_after kind_of call_of n)) ≡ option_map call_of (own_put kind_of key n)
   pub others : (same : Bool) → seen same (last_stored key (kept_after kind_of call_of n)) ≡ seen_put kind_of call_of same (stored_put kind_of key n)
-  pub before : (a : ℕ) → a ≤ n → seen false (last_stored_before key a (kept_after kind_of call_of n)) ≡ seen_put kind_of call_of false (stored_put kind_of key a)
+  pub before : (a : ℕ) → a ≤ n → seen false (last_stored_before key a (kept_after kind_of call_of n)) ≡ seen_put kind_of call_of false
+      (stored_put kind_of key a)
 
 abbrev pub StoreTells : Type 0
 StoreTells = (kind_of : ℕ → Option Kind) (call_of : ℕ → CallAt) (key n : ℕ) → TellsPuts kind_of call_of key n

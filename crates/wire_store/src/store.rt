@@ -33,7 +33,8 @@ impl Model for RankStore {
 
     ghost view = { λ s. record { puts = map put_in s.slots.items; room = s.room } };
 
-    ghost invariant = { λ s. IsSlotIndex s.slots.items s.committed (get nat_eq s.newest) × (vec_len s.slots + s.room ≤ vec_capacity s.slots) × (s.room ≤ spare s.newest) };
+    ghost invariant = { λ s. IsSlotIndex s.slots.items s.committed (get nat_eq s.newest) × (vec_len s.slots + s.room ≤ vec_capacity s.slots)
+        × (s.room ≤ spare s.newest) };
 }
 
 impl RankStore {

@@ -18,7 +18,14 @@ all_events : (d : Declared) (s : Scripts) (seen : Seen) (ps : List Started) → 
 all_events d s seen [] = omega arith
 all_events d s seen (p ∷ ps) =
     let calls = map (λ c. numbered d seen p.job c.1) p.calls in
-    omega (arith, all_events d s seen ps, sum_by-cons events_in (planned_process s (process_of d seen p)) (map (planned_process s) (map (process_of d seen) ps)), events_few (map (planned_call s) calls), length-map calls (planned_call s), length-map p.calls (λ c. numbered d seen p.job c.1))
+    omega (
+      arith,
+      all_events d s seen ps,
+      sum_by-cons events_in (planned_process s (process_of d seen p)) (map (planned_process s) (map (process_of d seen) ps)),
+      events_few (map (planned_call s) calls),
+      length-map calls (planned_call s),
+      length-map p.calls (λ c. numbered d seen p.job c.1),
+    )
 
 -- two for each call at most
 pub few_events : (d : Declared) → IsWithinLimits d → event_total (plan_of (scripts_of d)) ≤ 32768

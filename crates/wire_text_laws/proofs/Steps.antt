@@ -65,7 +65,8 @@ text_short s (p ∷ steps) h =
 read_within : (limit : ℕ) (s : Scripts) (text steps : List ℕ) → length text ≤ limit → order_of s (statements text) ≡ Ok steps → order_within limit s text ≡ Ok steps
 read_within limit s text steps low is = rw (le-ltb limit (length text) low) is
 
-declared_back : (d : Declared) (steps : List ℕ) → IsGood d → event_total (plan_of (scripts_of d)) ≤ 32768 → IsInterleaving (plan_of (scripts_of d)) start steps → order_read (scripts_of d) (steps_text (scripts_of d) steps) ≡ Ok steps
+declared_back : (d : Declared) (steps : List ℕ) → IsGood d → event_total (plan_of (scripts_of d)) ≤ 32768 → IsInterleaving (plan_of (scripts_of d)) start steps →
+    order_read (scripts_of d) (steps_text (scripts_of d) steps) ≡ Ok steps
 declared_back d steps g few run =
     let s = scripts_of d in
     let count : length (plan_of s).processes ≡ length d.processes = length-map s.processes (planned_process s) ∙ length-map d.processes (process_of d (seen_in d)) in

@@ -20,4 +20,5 @@ pub record ReadsAsOrder (scripts : Scripts) (text steps : List ℕ) : Type 0 whe
 
 -- of scripts that were read: the lines of the steps of an interleaving read as an order of these steps
 abbrev pub OrderReadsBack : Type 0
-OrderReadsBack = (bytes : List ℕ) (s : Scripts) (steps : List ℕ) → Reads bytes (Ok s) → IsInterleaving (plan_of s) start steps → ReadsAsOrder s (steps_text s steps) steps
+OrderReadsBack = (bytes : List ℕ) (s : Scripts) (steps : List ℕ) → Reads bytes (Ok s) → IsInterleaving (plan_of s) start steps →
+    ReadsAsOrder s (steps_text s steps) steps

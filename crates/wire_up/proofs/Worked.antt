@@ -22,7 +22,8 @@ use Rattle.wire_up.specs.Replay.{Tells, TellsFound, IsReplay, WritesOneEnd, Brea
 use Rattle.wire_commands.proofs.Checked.{judged_so, done, ended_of}
 
 -- of a settled plan
-pub settled_told : (mode : Mode) (s shown : Scripts) (none : List Finding) (ends : Ends) (text : List ℕ) → none ≡ [] → ((none ≡ []) ↔ IsSettled (plan_of s)) → AreFindings (plan_of s) none → shown ≡ s → ends ≡ plain_ends s → text ≡ report_form mode.json shown ends → IsReplay mode s Clean text
+pub settled_told : (mode : Mode) (s shown : Scripts) (none : List Finding) (ends : Ends) (text : List ℕ) → none ≡ [] → ((none ≡ []) ↔ IsSettled (plan_of s)) → AreFindings (plan_of s) none →
+    shown ≡ s → ends ≡ plain_ends s → text ≡ report_form mode.json shown ends → IsReplay mode s Clean text
 settled_told mode s shown (f ∷ fs) ends text is law those same at told = let bad : f ∷ fs ≡ [] = is in absurd (cc)
 settled_told mode s shown [] ends text is law those same at told =
     let step : report_form mode.json shown ends ≡ report_form mode.json s (plain_ends s) = λ i. report_form mode.json (same i) (at i) in
@@ -33,7 +34,8 @@ found_tells : (mode : Mode) (s : Scripts) (found : List Finding) (text : List �
 found_tells mode s [] text some tells = absurd (some refl)
 found_tells mode s (f ∷ fs) text some tells = tells
 
-pub found_told : (mode : Mode) (s : Scripts) (found counted : List Finding) (ended : Ended) (text : List ℕ) → ((found ≡ []) ↔ IsSettled (plan_of s)) → AreFindings (plan_of s) found → found ≢ [] → counted ≡ found → ended ≡ ended_with counted
+pub found_told : (mode : Mode) (s : Scripts) (found counted : List Finding) (ended : Ended) (text : List ℕ) → ((found ≡ []) ↔ IsSettled (plan_of s)) → AreFindings (plan_of s) found → found ≢ [] →
+    counted ≡ found → ended ≡ ended_with counted
     → TellsFound mode.json mode.anyway s found text → IsReplay mode s ended text
 found_told mode s found counted ended text law those some count ends tells =
     record { found = found; judged = judged_so s found counted ended law those count ends; tells = found_tells mode s found text some tells }
@@ -43,17 +45,20 @@ pub rehearsal_too : (mode : Mode) (s plan : Scripts) (r : Result (Ended × Vec �
 rehearsal_too mode s plan r is told = subst (λ t. IfOk r (λ v. IsReplay mode t v.0 v.1.items)) is told
 
 -- the front of it went out
-pub rehearsal_broken : (mode : Mode) (coming : Option (List ℕ)) (old new : Option (List ℕ)) (s : Scripts) (ended : Ended) (text shown : List ℕ) (e : Fault) → ReadAs coming s → IsReplay mode s ended text → shown ≡ text
+pub rehearsal_broken : (mode : Mode) (coming : Option (List ℕ)) (old new : Option (List ℕ)) (s : Scripts) (ended : Ended) (text shown : List ℕ) (e : Fault) → ReadAs coming s →
+    IsReplay mode s ended text → shown ≡ text
     → WritesFront old new shown e → BreaksOffReplay mode coming old new e
 rehearsal_broken mode coming old new s ended text shown e read rehearsal is front =
     record { scripts = s; read = read; ended = ended; text = text; rehearsal = rehearsal; wrote = subst (λ t. WritesFront old new t e) is front }
 
 -- where it is clean, nothing is found
-clean_tells : (mode : Mode) (s : Scripts) (found : List Finding) (ended : Ended) (text : List ℕ) → ended ≡ ended_with found → Tells mode s found text → ended ≡ Clean → text ≡ report_form mode.json s (plain_ends s)
+clean_tells : (mode : Mode) (s : Scripts) (found : List Finding) (ended : Ended) (text : List ℕ) → ended ≡ ended_with found → Tells mode s found text → ended ≡ Clean →
+    text ≡ report_form mode.json s (plain_ends s)
 clean_tells mode s [] ended text ends tells clean = tells
 clean_tells mode s (f ∷ fs) ended text ends tells clean = let bad : Found (length (f ∷ fs)) ≡ Clean = sym ends ∙ clean in absurd (cc)
 
-pub clean_writes : (mode : Mode) (coming old new : Option (List ℕ)) (s : Scripts) (ended : Ended) (text shown : List ℕ) → ReadAs coming s → IsReplay mode s ended text → shown ≡ text → Appends old new shown → done ended ≡ done Clean
+pub clean_writes : (mode : Mode) (coming old new : Option (List ℕ)) (s : Scripts) (ended : Ended) (text shown : List ℕ) → ReadAs coming s → IsReplay mode s ended text → shown ≡ text →
+    Appends old new shown → done ended ≡ done Clean
     → WritesOneEnd mode.json coming old new
 clean_writes mode coming old new s ended text shown read rehearsal is wrote at =
     let clean : ended ≡ Clean = ap ended_of at in
@@ -61,7 +66,8 @@ clean_writes mode coming old new s ended text shown read rehearsal is wrote at =
     record { scripts = s; read = read; one_end = rehearsal.judged.one_end clean; wrote = subst (λ t. Appends old new t) (is ∙ tells) wrote }
 
 -- a plan in a settled one, and one with what is found in it
-pub settled_ok : (s plan : Scripts) (found : List Finding) (r : Result Scripts Unsettled) → plan ≡ s → AreFindings (plan_of plan) found → (IsOk r ↔ (found ≡ [])) → IfOk r (λ t. t ≡ plan) → IfOk r (λ t. (t ≡ s) × AreFindings (plan_of t) [])
+pub settled_ok : (s plan : Scripts) (found : List Finding) (r : Result Scripts Unsettled) → plan ≡ s → AreFindings (plan_of plan) found → (IsOk r ↔ (found ≡ [])) → IfOk r (λ t. t ≡ plan) →
+    IfOk r (λ t. (t ≡ s) × AreFindings (plan_of t) [])
 settled_ok s plan found (Ok t) is those variant kept =
     let none : found ≡ [] = variant.0 refl in
     (kept ∙ is, subst (λ q. AreFindings (plan_of q) []) (sym kept) (subst (λ f. AreFindings (plan_of plan) f) none those))

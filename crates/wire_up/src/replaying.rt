@@ -15,11 +15,11 @@ use std::sync::Wait;
 use std::thread::Threads;
 use wire_collect::{MOST_WORKERS, run_any, run_workers};
 use wire_commands::{Ended, read_scripts};
+use wire_content::Scripts;
 use wire_marks::Marks;
 use wire_plan::Plan;
 use wire_races::laws::settled_exactly;
 use wire_races::{Finding, Settled, Unsettled, findings};
-use wire_content::Scripts;
 use wire_report::{findings_text, report_text, unsettled_text, write_text};
 use wire_sched::Gate;
 use wire_types::{Fault, Sink, Source};
@@ -204,7 +204,8 @@ pub fn rehearse<R: Source, W: Sink, T: Threads + Wait + Sync, G: Gate + Sync>(
 
     // Either nothing was written, or the front of the text that the fault counts.
     ensures err { IfErr result (λ e. (StopsBeforeReplay workers (R.coming reader.old) e × (writer.new ≡ writer.old))
-        ⊎ (BreaksOffReplay mode (R.coming reader.old) (W.written writer.old) (W.written writer.new) e × (W.failures writer.new ≡ one_more (W.failures writer.old)))) }
+        ⊎ (BreaksOffReplay mode (R.coming reader.old) (W.written writer.old) (W.written writer.new) e
+        × (W.failures writer.new ≡ one_more (W.failures writer.old)))) }
 
     // Nothing is read where there can't be so many workers.
     ensures workers { (MayWork workers → ⊥) → (result ≡ Err Workers) × (reader.new ≡ reader.old) }

@@ -7,7 +7,8 @@ use Rattle.wire_words.specs.declared.chunks.Chunk.{Chunk}
 use Rattle.wire_words.specs.Chunks.{StaysOnItsWay, IsCutOff}
 
 -- what waited went out
-pub went_out : (old new : Option (List ℕ)) (before after : Chunk) (shown : List ℕ) → shown ≡ before.waiting.items → Appends old new shown → after.waiting.items ≡ [] → after.gone ≡ before.gone + length before.waiting.items
+pub went_out : (old new : Option (List ℕ)) (before after : Chunk) (shown : List ℕ) → shown ≡ before.waiting.items → Appends old new shown → after.waiting.items ≡ [] →
+    after.gone ≡ before.gone + length before.waiting.items
     → StaysOnItsWay old new before after
 went_out old new before after shown is out empty count start text way = record {
   front = way.front ++ before.waiting.items;
@@ -17,7 +18,8 @@ went_out old new before after shown is out empty count start text way = record {
 }
 
 -- a front of what waited went out
-pub cut_off : (old new : Option (List ℕ)) (before : Chunk) (shown : List ℕ) (n : ℕ) → shown ≡ before.waiting.items → n < length shown → Appends old new (take n shown) → IsCutOff old new before (before.gone + n)
+pub cut_off : (old new : Option (List ℕ)) (before : Chunk) (shown : List ℕ) (n : ℕ) → shown ≡ before.waiting.items → n < length shown → Appends old new (take n shown) →
+    IsCutOff old new before (before.gone + n)
 cut_off old new before shown n is short out start text way =
     let appended : Appends old new (take n before.waiting.items) = subst (λ t. Appends old new (take n t)) is out in
     let cut : take (before.gone + n) text ≡ way.front ++ take n before.waiting.items =

@@ -26,6 +26,9 @@ returns-in_default c =
     let h = hold c.args.settled.now c.args.rank.number c.args.known.now in
     let comes : ¬ (HasFate (plan_of plan) event Waits) = λ w. c.in_default.not-Waits (c.fate.ensures.waits.1 (subst (λ p. HasFate (plan_of p) event Waits) c.plan-plan.ensures.same w)) in
     record {
-      ready = (λ _. shown_from c.args.settled.now plan h event of c.in_ok-event.ensures.0 c.in_ok-event.ensures.1 (c.shows_sources.ensures.0 c.if-not-shows_sources.false) comes, λ _. something c.fate.result);
+      ready = (
+        λ _. shown_from c.args.settled.now plan h event of c.in_ok-event.ensures.0 c.in_ok-event.ensures.1 (c.shows_sources.ensures.0 c.if-not-shows_sources.false) comes,
+        λ _. something c.fate.result,
+      );
       fate = (subst (λ y. IsFateOf (plan_of c.args.settled.now) y c.fate.result) c.in_ok-event.ensures.0 c.fate.ensures.fate, c.in_default.not-Waits);
     }

@@ -5,4 +5,5 @@ use Rattle.wire_collect.proofs.threads.with_last.Goals as goal
 
 pub returns-clause-passes : goal.returns-clause-passes
 returns-clause-passes g c =
-    subst (AreFirstPasses (g.W.Works.dealt c.args.works.now)) (sym c.push_reserved.ensures.items) (passes_again (g.W.Works.dealt c.args.works.now) c.args.passes.items c.args.pass c.requires.passes (c.requires.pass.1 ∙ c.args.passes.ok.0) c.requires.pass.0)
+    subst (AreFirstPasses (g.W.Works.dealt c.args.works.now)) (sym c.push_reserved.ensures.items)
+    (passes_again (g.W.Works.dealt c.args.works.now) c.args.passes.items c.args.pass c.requires.passes (c.requires.pass.1 ∙ c.args.passes.ok.0) c.requires.pass.0)

@@ -11,7 +11,8 @@ returns-in_err-x-clause-ok c =
 
 pub returns-in_err-x-clause-err : goal.returns-in_err-x-clause-err
 returns-in_err-x-clause-err c =
-    handed_on c.from_residual.result c.in_err-x.field-0.0 _ c.from_residual.ensures.1 (refused_too c.scripts.result.now c.args.plan.now (map (λ w. w.now) c.args.words) c.in_err-x.field-0.0 c.scripts.ensures.scripts c.in_err-x.ensures.err)
+    handed_on c.from_residual.result c.in_err-x.field-0.0 _ c.from_residual.ensures.1
+    (refused_too c.scripts.result.now c.args.plan.now (map (λ w. w.now) c.args.words) c.in_err-x.field-0.0 c.scripts.ensures.scripts c.in_err-x.ensures.err)
 
 pub text_between-requires-clause-x_there : goal.text_between-requires-clause-x_there
 text_between-requires-clause-x_there c = there_too c.scripts.result.now c.args.plan.now c.in_ok-x.x c.scripts.ensures.scripts c.in_ok-x.ensures.x_there
@@ -21,7 +22,8 @@ text_between-requires-clause-y_there c = there_too c.scripts.result.now c.args.p
 
 pub returns-clause-ok : goal.returns-clause-ok
 returns-clause-ok c =
-    answered c.args.plan.now (map (λ w. w.now) c.args.words) c.in_ok-x.x c.in_ok-x.y c.text_between.result (asked_too c.scripts.result.now c.args.plan.now (map (λ w. w.now) c.args.words) (c.in_ok-x.x, c.in_ok-x.y) c.scripts.ensures.scripts c.in_ok-x.ensures.ok) c.text_between.ensures.ok
+    answered c.args.plan.now (map (λ w. w.now) c.args.words) c.in_ok-x.x c.in_ok-x.y c.text_between.result
+    (asked_too c.scripts.result.now c.args.plan.now (map (λ w. w.now) c.args.words) (c.in_ok-x.x, c.in_ok-x.y) c.scripts.ensures.scripts c.in_ok-x.ensures.ok) c.text_between.ensures.ok
 
 pub returns-clause-err : goal.returns-clause-err
 returns-clause-err c = err_too c.text_between.result _ _ (λ e memory. inl memory) c.text_between.ensures.err

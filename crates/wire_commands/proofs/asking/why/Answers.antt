@@ -34,7 +34,8 @@ returns-in_err-scripts-clause-unfailed g c =
 
 pub returns-in_err-text-clause-err : goal.returns-in_err-text-clause-err
 returns-in_err-text-clause-err g c =
-    handed_on c.from_residual-in_err-text.result c.in_err-text.field-0.0 _ c.from_residual-in_err-text.ensures.1 (inl (word_stops _ _ c.in_ok-scripts.scripts _ c.in_ok-scripts.ensures.ok c.in_err-text.ensures.err, refl))
+    handed_on c.from_residual-in_err-text.result c.in_err-text.field-0.0 _ c.from_residual-in_err-text.ensures.1
+    (inl (word_stops _ _ c.in_ok-scripts.scripts _ c.in_ok-scripts.ensures.ok c.in_err-text.ensures.err, refl))
 
 pub returns-in_err-text-clause-read_failed : goal.returns-in_err-text-clause-read_failed
 returns-in_err-text-clause-read_failed g c is =
@@ -46,14 +47,16 @@ returns-in_err-text-clause-unfailed g c =
 
 pub returns-clause-ok : goal.returns-clause-ok
 returns-clause-ok g c =
-    answer_ok _ (map (λ w. w.now) c.args.words) _ _ c.in_ok-scripts.scripts c.in_ok-text.text.items c.as_slice.result.now c.write_text.result c.in_ok-scripts.ensures.ok c.in_ok-text.ensures.ok c.as_slice.ensures.value c.write_text.ensures.ok
+    answer_ok _ (map (λ w. w.now) c.args.words) _ _ c.in_ok-scripts.scripts c.in_ok-text.text.items c.as_slice.result.now c.write_text.result c.in_ok-scripts.ensures.ok c.in_ok-text.ensures.ok
+    c.as_slice.ensures.value c.write_text.ensures.ok
 
 pub returns-clause-quiet : goal.returns-clause-quiet
 returns-clause-quiet g c = on_ok_too c.write_text.result _ _ (λ quiet. (c.in_ok-scripts.ensures.quiet, quiet)) c.write_text.ensures.quiet
 
 pub returns-clause-err : goal.returns-clause-err
 returns-clause-err g c =
-    answer_err _ (map (λ w. w.now) c.args.words) (g.W.Sink.written c.args.writer.now) (g.W.Sink.written c.write_text.new.sink) c.in_ok-scripts.scripts c.in_ok-text.text.items c.as_slice.result.now _ _ c.write_text.result c.in_ok-scripts.ensures.ok c.in_ok-text.ensures.ok c.as_slice.ensures.value c.write_text.ensures.front c.write_text.ensures.failed
+    answer_err _ (map (λ w. w.now) c.args.words) (g.W.Sink.written c.args.writer.now) (g.W.Sink.written c.write_text.new.sink) c.in_ok-scripts.scripts c.in_ok-text.text.items c.as_slice.result.now _ _
+    c.write_text.result c.in_ok-scripts.ensures.ok c.in_ok-text.ensures.ok c.as_slice.ensures.value c.write_text.ensures.front c.write_text.ensures.failed
 
 pub returns-clause-read_failed : goal.returns-clause-read_failed
 returns-clause-read_failed g c is =

@@ -9,7 +9,8 @@ pub returns-clause-quiet : goal.returns-clause-quiet
 returns-clause-quiet g c = both_quiet _ _ c.check_scripts.result c.in_ok-scripts.ensures.quiet c.check_scripts.ensures.quiet
 
 pub returns-clause-one_end : goal.returns-clause-one_end
-returns-clause-one_end g c = clean_one_end _ (g.W.Sink.written c.args.writer.now) (g.W.Sink.written c.check_scripts.new.writer) c.in_ok-scripts.scripts c.check_scripts.result c.in_ok-scripts.ensures.ok c.check_scripts.ensures.ok
+returns-clause-one_end g c = clean_one_end _ (g.W.Sink.written c.args.writer.now) (g.W.Sink.written c.check_scripts.new.writer) c.in_ok-scripts.scripts c.check_scripts.result
+    c.in_ok-scripts.ensures.ok c.check_scripts.ensures.ok
 
 pub returns-clause-err : goal.returns-clause-err
 returns-clause-err g c = breaks_off _ _ _ c.in_ok-scripts.scripts _ _ c.check_scripts.result c.in_ok-scripts.ensures.ok c.check_scripts.ensures.err

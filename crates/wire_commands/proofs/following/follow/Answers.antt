@@ -56,14 +56,17 @@ returns-in_err-text-clause-unfailed g c =
 
 pub returns-clause-ok : goal.returns-clause-ok
 returns-clause-ok g c =
-    followed_ok _ _ _ _ c.in_ok-scripts.scripts c.in-Ok.order.items c.as_slice.result.now c.in_ok-text.text.items c.as_slice-2.result.now c.write_text.result c.as_slice.ensures.value c.in_ok-scripts.ensures.ok c.in-Ok.ensures.ok c.in_ok-text.ensures.ok c.as_slice-2.ensures.value c.write_text.ensures.ok
+    followed_ok _ _ _ _ c.in_ok-scripts.scripts c.in-Ok.order.items c.as_slice.result.now c.in_ok-text.text.items c.as_slice-2.result.now c.write_text.result c.as_slice.ensures.value
+    c.in_ok-scripts.ensures.ok c.in-Ok.ensures.ok c.in_ok-text.ensures.ok c.as_slice-2.ensures.value c.write_text.ensures.ok
 
 pub returns-clause-quiet : goal.returns-clause-quiet
 returns-clause-quiet g c = on_ok_too c.write_text.result _ _ (λ quiet. (c.in_ok-scripts.ensures.quiet, c.in-Ok.ensures.quiet, quiet)) c.write_text.ensures.quiet
 
 pub returns-clause-err : goal.returns-clause-err
 returns-clause-err g c =
-    followed_err _ _ (g.W.Sink.written c.args.writer.now) (g.W.Sink.written c.write_text.new.sink) c.in_ok-scripts.scripts c.in-Ok.order.items c.as_slice.result.now c.in_ok-text.text.items c.as_slice-2.result.now _ _ c.write_text.result c.as_slice.ensures.value c.in_ok-scripts.ensures.ok c.in-Ok.ensures.ok c.in_ok-text.ensures.ok c.as_slice-2.ensures.value c.write_text.ensures.front c.write_text.ensures.failed
+    followed_err _ _ (g.W.Sink.written c.args.writer.now) (g.W.Sink.written c.write_text.new.sink) c.in_ok-scripts.scripts c.in-Ok.order.items c.as_slice.result.now c.in_ok-text.text.items
+    c.as_slice-2.result.now _ _ c.write_text.result c.as_slice.ensures.value c.in_ok-scripts.ensures.ok c.in-Ok.ensures.ok c.in_ok-text.ensures.ok c.as_slice-2.ensures.value
+    c.write_text.ensures.front c.write_text.ensures.failed
 
 pub returns-clause-read_failed : goal.returns-clause-read_failed
 returns-clause-read_failed g c is =

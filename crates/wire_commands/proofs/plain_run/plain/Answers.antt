@@ -1,5 +1,6 @@
 use Rattle.std.proofs.Common.{◌∙◌, ap, refl, Err}
-use Rattle.wire_commands.proofs.Replayed.{handed_on, not_on_ok, on_error, only_refused, same_error, before_writing, memory_no_read, memory_no_write, writes_report, breaks_off, no_read_writing, not_refused, untouched, at_error, both_quiet}
+use Rattle.wire_commands.proofs.Replayed.{handed_on, not_on_ok, on_error, only_refused, same_error, before_writing, memory_no_read, memory_no_write, writes_report, breaks_off, no_read_writing}
+use Rattle.wire_commands.proofs.Replayed.{not_refused, untouched, at_error, both_quiet}
 use Rattle.wire_commands.proofs.Followed.{err_always}
 use Rattle.wire_commands.proofs.plain_run.plain.Goals as goal
 

@@ -10,7 +10,8 @@ loop-number-preserved c =
     let facts = c.in_ok-rank.ensures in
     let shown = rw (ap (λ p. p.number) c.new.ensures) at c.events.ensures in
     let new : IsRankOf (plan_of c.args.plan.now) start c.loop-number.number c.in_ok-rank.rank =
-    new_rank (plan_of c.args.plan.now) c.loop-number.number c.args.plan.now.sets c.events.result.now c.in_ok-rank.rank shown facts.done facts.puts (facts.room c.args.plan.now.sets) facts.replies facts.space in
+    new_rank (plan_of c.args.plan.now) c.loop-number.number c.args.plan.now.sets c.events.result.now c.in_ok-rank.rank shown facts.done facts.puts (facts.room c.args.plan.now.sets) facts.replies
+    facts.space in
     let count = c.loop-number.invariant.count in
     let items = c.loop-number.ranks.ok.0 in
     let here : length c.loop-number.ranks.items ≡ c.loop-number.number = omega (arith, count, items) in

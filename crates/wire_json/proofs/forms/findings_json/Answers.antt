@@ -6,5 +6,6 @@ use Rattle.wire_json.proofs.forms.findings_json.Goals as goal
 
 pub returns : goal.returns
 returns c = IfOk-weaker c.line.result _ _
-    (λ text told. findings_told (view c.in_ok-findings_tree.field-0) text.items told (map (λ line. line.items) c.args.lines.now) (map view c.in_ok-findings.findings.items) c.in_ok-findings_tree.ensures c.in_ok-findings.ensures)
+    (λ text told. findings_told (view c.in_ok-findings_tree.field-0) text.items told (map (λ line. line.items) c.args.lines.now) (map view c.in_ok-findings.findings.items)
+    c.in_ok-findings_tree.ensures c.in_ok-findings.ensures)
     c.line.ensures

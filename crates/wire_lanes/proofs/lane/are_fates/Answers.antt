@@ -26,7 +26,8 @@ returns-then-not-has_fate c = (
 )
 
 pub loop-at-preserved : goal.loop-at-preserved
-loop-at-preserved c = fates_more (plan_of c.args.settled.now) c.args.rank.number c.loop-at.at c.args.trail.now _ c.loop-at.invariant (slice_get-get_or c.args.trail.now c.loop-at.at _ c.loop-at-test.true) (c.has_fate.ensures.0 c.if-not-has_fate.false)
+loop-at-preserved c = fates_more (plan_of c.args.settled.now) c.args.rank.number c.loop-at.at c.args.trail.now _ c.loop-at.invariant
+    (slice_get-get_or c.args.trail.now c.loop-at.at _ c.loop-at-test.true) (c.has_fate.ensures.0 c.if-not-has_fate.false)
 
 pub returns : goal.returns
 returns c = (

@@ -17,8 +17,10 @@ loop-number-preserved c = record {
   stuck = elim c.if-branch.branch [
     | then-branch w ↦ λ none. absurd (true≢false (sym w.moved-is ∙ none))
     | else-branch w ↦ λ none p lt. elim (cases_eq p c.loop-number.number) [
-      | inl e ↦ let here : c.new.result.number ≡ c.loop-number.number = ap (λ v. v.number) c.new.ensures in subst (λ q. IsStuckAt (plan_of c.args.plan.now) c.mark_run.new.growth.clocks q) (sym (e ∙ sym here)) c.in_ok-mark_run.ensures.stuck
-      | inr ne ↦ stuck_same (plan_of c.args.plan.now) c.loop-number.growth.clocks c.mark_run.new.growth.clocks p (OnFalse_at w.if-branch.false c.in_ok-mark_run.ensures.same) (c.loop-number.invariant.stuck (sym w.moved-is ∙ none) p (omega (arith, lt, ne)))
+      | inl e ↦ let here : c.new.result.number ≡ c.loop-number.number = ap (λ v. v.number) c.new.ensures in
+          subst (λ q. IsStuckAt (plan_of c.args.plan.now) c.mark_run.new.growth.clocks q) (sym (e ∙ sym here)) c.in_ok-mark_run.ensures.stuck
+      | inr ne ↦ stuck_same (plan_of c.args.plan.now) c.loop-number.growth.clocks c.mark_run.new.growth.clocks p (OnFalse_at w.if-branch.false c.in_ok-mark_run.ensures.same)
+          (c.loop-number.invariant.stuck (sym w.moved-is ∙ none) p (omega (arith, lt, ne)))
     ]
   ];
 }

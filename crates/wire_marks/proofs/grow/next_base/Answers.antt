@@ -23,7 +23,8 @@ returns-then-not-is_source_marked-clause-next c = λ ready.
     let sources = c.sources-sources.result in
     let are = rw c.marked-at.ensures at c.sources-sources.ensures.sources in
     let marked : (z : Event) → option_map event_of sources.awaited ≡ Some z → z.at < marked_count c.args.growth.now.clocks z.proc = λ z e.
-    ready.sources z (awaited_edge (plan_of c.args.plan.now) (next_of c.args.growth.now.clocks c.args.proc.number) (option_map event_of sources.previous) (option_map event_of sources.awaited) (map event_of sources.arrivals.now) are z e) in
+    ready.sources z (awaited_edge (plan_of c.args.plan.now) (next_of c.args.growth.now.clocks c.args.proc.number) (option_map event_of sources.previous) (option_map event_of sources.awaited)
+    (map event_of sources.arrivals.now) are z e) in
     true≢false (sym (c.is_source_marked.ensures.1 marked) ∙ c.if-not-is_source_marked.true)
 
 pub meet-requires-clause-kept : goal.meet-requires-clause-kept
@@ -43,22 +44,27 @@ returns-clause-growing c =
     let keeps = grown_keeps old new c.requires.growing.marked.based grown in
     record {
       marked = sound_grown old new c.requires.growing.marked.based grown plan c.requires.growing.marked c.in_ok-met.ensures.based;
-      kept = meetings_on plan c.args.fences.now old new c.args.growth.now.meetings.items c.meet.new.meetings.items c.in-Some.fence.number here.0 xs keeps here.1 here.2 c.in_ok-met.ensures.kept c.in_ok-met.ensures.others c.requires.growing.kept;
+      kept = meetings_on plan c.args.fences.now old new c.args.growth.now.meetings.items c.meet.new.meetings.items c.in-Some.fence.number here.0 xs keeps here.1 here.2 c.in_ok-met.ensures.kept
+          c.in_ok-met.ensures.others c.requires.growing.kept;
     }
 
 pub returns-clause-next : goal.returns-clause-next
 returns-clause-next c = told c.in_ok-met.met c.in_ok-met.ensures.met
   where
-    told : (o : Option ℕ) → MatchOption o (AreMarked c.args.growth.now.clocks (map event_of c.sources-sources.result.arrivals.now) (length c.sources-sources.result.arrivals.now) → ⊥) (λ n. IsJoined c.meet.new.clocks (map event_of c.sources-sources.result.arrivals.now) n) → MatchOption o (IsStuckAt (plan_of c.args.plan.now) c.args.growth.now.clocks c.args.proc.number) (λ n. IsNextBase (plan_of c.args.plan.now) c.meet.new.clocks c.args.proc.number n)
+    told : (o : Option ℕ) → MatchOption o (AreMarked c.args.growth.now.clocks (map event_of c.sources-sources.result.arrivals.now) (length c.sources-sources.result.arrivals.now) → ⊥)
+        (λ n. IsJoined c.meet.new.clocks (map event_of c.sources-sources.result.arrivals.now) n) →
+        MatchOption o (IsStuckAt (plan_of c.args.plan.now) c.args.growth.now.clocks c.args.proc.number) (λ n. IsNextBase (plan_of c.args.plan.now) c.meet.new.clocks c.args.proc.number n)
     told None missing = λ ready.
         let sources = c.sources-sources.result in
         let are = rw c.marked-at.ensures at c.sources-sources.ensures.sources in
         missing (λ k z lt e.
-        ready.sources z (arrival_edge (plan_of c.args.plan.now) (next_of c.args.growth.now.clocks c.args.proc.number) (option_map event_of sources.previous) (option_map event_of sources.awaited) (map event_of sources.arrivals.now) are k z e))
+        ready.sources z (arrival_edge (plan_of c.args.plan.now) (next_of c.args.growth.now.clocks c.args.proc.number) (option_map event_of sources.previous) (option_map event_of sources.awaited)
+        (map event_of sources.arrivals.now) are k z e))
     told (Some n) joined =
         let sources = c.sources-sources in
         let is = c.marked-at.ensures in
-        next_met c.args.plan.now c.args.fences.now c.args.growth.now.clocks c.meet.new.clocks c.args.proc.number n c.in-Some.fence.number (option_map event_of sources.result.previous) (option_map event_of sources.result.awaited) (map event_of sources.result.arrivals.now)
+        next_met c.args.plan.now c.args.fences.now c.args.growth.now.clocks c.meet.new.clocks c.args.proc.number n c.in-Some.fence.number (option_map event_of sources.result.previous)
+        (option_map event_of sources.result.awaited) (map event_of sources.result.arrivals.now)
         c.requires.growing.marked.based
         (sym (rw is at c.may_come.ensures) ∙ c.if-not-may_come.false)
         (rw is at sources.ensures.sources)
@@ -87,7 +93,8 @@ returns-in_default-clause-next c =
     let none = rw c.in_default.is at c.fence_ended.ensures in
     let is = c.marked-at.ensures in
     let are = rw (c.marked-at.ensures, sources.ensures.others none) at sources.ensures.sources in
-    next_unmet (plan_of c.args.plan.now) c.args.growth.now.clocks c.base_after.new.self c.args.proc.number c.in_ok-number.number (option_map event_of sources.result.previous) (option_map event_of sources.result.awaited)
+    next_unmet (plan_of c.args.plan.now) c.args.growth.now.clocks c.base_after.new.self c.args.proc.number c.in_ok-number.number (option_map event_of sources.result.previous)
+    (option_map event_of sources.result.awaited)
     c.requires.growing.marked
     (sym (rw is at c.may_come.ensures) ∙ c.if-not-may_come.false)
     are

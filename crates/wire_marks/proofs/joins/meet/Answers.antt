@@ -12,7 +12,8 @@ meet-requires-clause-kept c =
     added_at c.args.clocks.now c.args.meetings.now.items meetings c.args.fence.number (map event_of c.args.arrivals.now) c.in_ok-add_meetings.ensures.kept c.requires.kept c.index_mut.result.now at
 
 pub returns-clause-kept : goal.returns-clause-kept
-returns-clause-kept c = set_at c.meet.new.clocks c.add_meetings.new.meetings.items c.args.fence.number (map event_of c.args.arrivals.now) c.meet.new.self c.in_ok-add_meetings.ensures.there c.in_ok-met.ensures.kept
+returns-clause-kept c = set_at c.meet.new.clocks c.add_meetings.new.meetings.items c.args.fence.number (map event_of c.args.arrivals.now) c.meet.new.self c.in_ok-add_meetings.ensures.there
+    c.in_ok-met.ensures.kept
 
 pub returns-clause-others : goal.returns-clause-others
 returns-clause-others c = set_others c.args.meetings.now.items c.add_meetings.new.meetings.items c.args.fence.number c.meet.new.self c.in_ok-add_meetings.ensures.kept

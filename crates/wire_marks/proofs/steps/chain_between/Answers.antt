@@ -26,12 +26,14 @@ walk-smaller c =
 pub walk-preserved : goal.walk-preserved
 walk-preserved c = record {
   leads = c.step_back-event.ensures.leads;
-  rest = rw c.in_ok-push.ensures.items (rest_of (plan_of c.args.plan.now) (event_of c.args.x) (event_of c.args.y) c.walk.event c.step_back-event.result c.walk.chain.items c.walk.invariant.rest c.step_back-event.ensures);
+  rest = rw c.in_ok-push.ensures.items (rest_of (plan_of c.args.plan.now) (event_of c.args.x) (event_of c.args.y) c.walk.event c.step_back-event.result c.walk.chain.items c.walk.invariant.rest
+      c.step_back-event.ensures);
 }
 
 pub returns : goal.returns
 returns c =
-    rw (c.reverse.ensures.items, c.in_ok-push-2.ensures.items) (shown_whole (plan_of c.args.plan.now) (event_of c.args.x) (event_of c.args.y) c.walk.event c.walk.chain.items c.walk.invariant.rest (c.is_same.ensures.0 c.walk-test.false))
+    rw (c.reverse.ensures.items, c.in_ok-push-2.ensures.items) (shown_whole (plan_of c.args.plan.now) (event_of c.args.x) (event_of c.args.y) c.walk.event c.walk.chain.items c.walk.invariant.rest
+    (c.is_same.ensures.0 c.walk-test.false))
 
 pub walk-init : goal.walk-init
 walk-init c = record {

@@ -9,7 +9,8 @@ use Rattle.wire_marks.proofs.steps.chain_between.Given as goal
 abbrev pub invariant-walk : goal.invariant-walk
 invariant-walk l = record {
   leads : LeadsTo (plan_of l.plan) (event_of l.x) (event_of l.event);
-  rest : (start : List Event) → IsShown (plan_of l.plan) (event_of l.x) (event_of l.event) start → IsShown (plan_of l.plan) (event_of l.x) (event_of l.fn.y) (start ++ reverse (map event_of l.chain.items));
+  rest : (start : List Event) → IsShown (plan_of l.plan) (event_of l.x) (event_of l.event) start →
+      IsShown (plan_of l.plan) (event_of l.x) (event_of l.fn.y) (start ++ reverse (map event_of l.chain.items));
 }
 
 abbrev pub decreases-walk : goal.decreases-walk

@@ -6,4 +6,5 @@ use Rattle.wire_marks.specs.Chain.{Lowest}
 use Rattle.wire_marks.proofs.steps.lowest_among.Given as goal
 
 abbrev pub invariant-loop-z : goal.invariant-loop-z
-invariant-loop-z l = (plan : Plan) (places : List Event) → AreMarks plan l.marks → Lowest plan (event_of l.x) places (option_map event_of l.fn.first) → Lowest plan (event_of l.x) (places ++ map event_of (take l.z-index l.events)) (option_map event_of l.lowest)
+invariant-loop-z l = (plan : Plan) (places : List Event) → AreMarks plan l.marks → Lowest plan (event_of l.x) places (option_map event_of l.fn.first) →
+    Lowest plan (event_of l.x) (places ++ map event_of (take l.z-index l.events)) (option_map event_of l.lowest)

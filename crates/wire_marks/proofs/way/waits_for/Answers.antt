@@ -12,15 +12,21 @@ pub returns-in-Some : goal.returns-in-Some
 returns-in-Some c =
     let sources = c.sources-sources.result in
     let are = rw c.marked-at.ensures at c.sources-sources.ensures.sources in
-    let edge = awaited_edge (plan_of c.args.plan.now) (next_of c.args.growth.now.clocks c.args.proc.number) (option_map event_of sources.previous) (option_map event_of sources.awaited) (map event_of sources.arrivals.now) are (event_of c.in-Some.awaited) (ap (option_map event_of) c.in-Some.is) in
+    let edge = awaited_edge (plan_of c.args.plan.now) (next_of c.args.growth.now.clocks c.args.proc.number) (option_map event_of sources.previous) (option_map event_of sources.awaited)
+    (map event_of sources.arrivals.now) are (event_of c.in-Some.awaited) (ap (option_map event_of) c.in-Some.is) in
     (event_of c.in-Some.awaited, edge, refl)
 
 pub returns : goal.returns
 returns c = told c.missing_at.result c.missing_at.ensures
   where
-    told : (o : Option Proc) → IfSome o (λ p. (k : ℕ) × (z : Event) × (slice_get (map event_of c.sources-sources.result.arrivals.now) k ≡ Some z) × (z.proc ≡ p.number)) → IfSome o (λ q. (z : Event) × Edge (plan_of c.args.plan.now) z (next_of c.args.growth.now.clocks c.args.proc.number) × (z.proc ≡ q.number))
+    told : (o : Option Proc) → IfSome o (λ p. (k : ℕ) × (z : Event) × (slice_get (map event_of c.sources-sources.result.arrivals.now) k ≡ Some z) × (z.proc ≡ p.number)) →
+        IfSome o (λ q. (z : Event) × Edge (plan_of c.args.plan.now) z (next_of c.args.growth.now.clocks c.args.proc.number) × (z.proc ≡ q.number))
     told None h = h
     told (Some q) w =
         let sources = c.sources-sources.result in
-        let are = rw c.marked-at.ensures at c.sources-sources.ensures.sources in
-        (w.1, arrival_edge (plan_of c.args.plan.now) (next_of c.args.growth.now.clocks c.args.proc.number) (option_map event_of sources.previous) (option_map event_of sources.awaited) (map event_of sources.arrivals.now) are w.0 w.1 w.2, w.3)
+        let are = rw c.marked-at.ensures at c.sources-sources.ensures.sources in (
+          w.1,
+          arrival_edge (plan_of c.args.plan.now) (next_of c.args.growth.now.clocks c.args.proc.number) (option_map event_of sources.previous) (option_map event_of sources.awaited)
+              (map event_of sources.arrivals.now) are w.0 w.1 w.2,
+          w.3,
+        )

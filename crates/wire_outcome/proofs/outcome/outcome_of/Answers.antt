@@ -11,4 +11,5 @@ returns-clause-ok c =
     let trails = c.args.trails.now in
     c.in_ok-outcome.ensures.ok
     ∙ ap (λ scripts. told_outcome (plan_of scripts) trails) same
-    ∙ told_plainly c.args.settled.now c.args.words.now trails (subst (λ scripts. IsSettled (plan_of scripts)) same c.plan.ensures.settled) c.requires.words c.requires.trails (c.all_at_rest.ensures.0 c.if-not-all_at_rest.false)
+    ∙ told_plainly c.args.settled.now c.args.words.now trails (subst (λ scripts. IsSettled (plan_of scripts)) same c.plan.ensures.settled) c.requires.words c.requires.trails
+    (c.all_at_rest.ensures.0 c.if-not-all_at_rest.false)

@@ -9,7 +9,8 @@ returns-in-Some-clause-next c = λ plan are keys once.
     let key = c.args.delivery.key in
     let node = c.args.delivery.node in
     let sent = subst (λ o. IsSentAfter plan p key o) c.in-Some.is (c.sending_commit.ensures plan keys once) in
-    next_found plan p key node c.args.from c.in-Some.commit c.higher-at.result sent c.higher-at.ensures.first c.higher-at.ensures.second c.higher-at.ensures.least c.first_from.result (c.first_from.ensures.first plan are)
+    next_found plan p key node c.args.from c.in-Some.commit c.higher-at.result sent c.higher-at.ensures.first c.higher-at.ensures.second c.higher-at.ensures.least c.first_from.result
+    (c.first_from.ensures.first plan are)
 
 pub returns-in-None-clause-next : goal.returns-in-None-clause-next
 returns-in-None-clause-next c = λ plan are keys once at le delivers.

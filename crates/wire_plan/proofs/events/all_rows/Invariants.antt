@@ -6,7 +6,8 @@ use Rattle.wire_plan.proofs.events.all_rows.Given as goal
 
 abbrev pub invariant-loop-process : goal.invariant-loop-process
 invariant-loop-process l = record {
-  kinds : kinds_planned l.scripts ≡ map (λ row. map (kind_of l.scripts.sets) row.kinds.items) l.all.items ++ map (λ p. kinds_of (map (planned_call l.scripts) p.calls)) (drop l.process-index l.processes);
+  kinds : kinds_planned l.scripts ≡ map (λ row. map (kind_of l.scripts.sets) row.kinds.items) l.all.items
+      ++ map (λ p. kinds_of (map (planned_call l.scripts) p.calls)) (drop l.process-index l.processes);
   calls : calls_planned l.scripts ≡ map (λ row. row.calls.items) l.all.items ++ map (λ p. calls_from 0 (map (planned_call l.scripts) p.calls)) (drop l.process-index l.processes);
   starts : starts_planned l.scripts ≡ map (λ row. row.starts.items) l.all.items ++ map (λ p. starts_from 0 (map (planned_call l.scripts) p.calls)) (drop l.process-index l.processes);
 }

@@ -5,7 +5,8 @@ use Rattle.wire_plan.proofs.meetings.add_event.Goals as goal
 
 pub returns-in_ok-add_arrival : goal.returns-in_ok-add_arrival
 returns-in_ok-add_arrival c are =
-    one_arrival c.args.events.now c.args.fences.now c.args.event c.fence_at.result.number (map (λ v. v.items) c.args.lists.now.items) (map (λ v. v.items) c.add_arrival.new.lists.items) _ _ c.requires.fences c.in-Arrive.ensures c.fence_at.ensures c.in_ok-add_arrival.ensures are
+    one_arrival c.args.events.now c.args.fences.now c.args.event c.fence_at.result.number (map (λ v. v.items) c.args.lists.now.items) (map (λ v. v.items) c.add_arrival.new.lists.items) _ _
+    c.requires.fences c.in-Arrive.ensures c.fence_at.ensures c.in_ok-add_arrival.ensures are
 
 pub returns-in_default : goal.returns-in_default
 returns-in_default c are =

@@ -10,7 +10,8 @@ use Rattle.wire_plan.proofs.node_arrivals.count_lower.Goals as goal
 pub returns : goal.returns
 returns c = λ rising k x is.
     let xs = c.args.list.now in
-    let point = IsPartitionPoint-from_clause (λ (y : CodeEvent). is_below (event_of y) (event_of c.args.event)) xs _ c.partition_point.ensures.partitioned (lower_first xs (event_of c.args.event) rising) (λ a r q h. search rules) in
+    let point = IsPartitionPoint-from_clause (λ (y : CodeEvent). is_below (event_of y) (event_of c.args.event)) xs _ c.partition_point.ensures.partitioned
+    (lower_first xs (event_of c.args.event) rising) (λ a r q h. search rules) in
     let at = stands_at xs k x c.args.event is in
     let lt = at.0 in
     sym (ap (λ (y : Event). is_below y (event_of c.args.event)) at.1)

@@ -14,7 +14,8 @@ loop-call-preserved c =
     record {
       kinds = events_step (kind_of s.sets) (planned_call s) c.args.calls.now c.loop-call.call-index _ c.loop-call-test.true c.loop-call.row.kinds.items c.add_call.new.row.kinds.items
           c.loop-call.invariant.kinds c.in_ok-add_call.ensures.kinds;
-      calls = numbers_step (kind_of s.sets) (planned_call s) c.args.calls.now c.loop-call.call-index _ c.loop-call-test.true c.loop-call.number c.loop-call.row.calls.items c.add_call.new.row.calls.items
+      calls = numbers_step (kind_of s.sets) (planned_call s) c.args.calls.now c.loop-call.call-index _ c.loop-call-test.true c.loop-call.number c.loop-call.row.calls.items
+          c.add_call.new.row.calls.items
           c.loop-call.invariant.calls c.in_ok-add_call.ensures.calls;
       starts = starts_step (kind_of s.sets) (planned_call s) c.args.calls.now c.loop-call.call-index _ c.loop-call-test.true c.loop-call.row.kinds.items c.add_call.new.row.kinds.items
           c.loop-call.row.starts.items c.add_call.new.row.starts.items c.loop-call.invariant.starts c.in_ok-add_call.ensures.kinds c.in_ok-add_call.ensures.starts;

@@ -9,7 +9,8 @@ use Rattle.wire_races.proofs.KeyFates.{get_shown, get_never}
 use Rattle.wire_races.proofs.key_fates.get_reply.Goals as goal
 
 pub node_of-requires : goal.node_of-requires
-node_of-requires c = subst (λ q. q.number < process_count (plan_of c.args.plan.now)) c.in-Some.ensures.0 (process_within (plan_of c.args.plan.now) c.in-Some.put.proc.number c.in-Some.put.at _ c.in-Some.ensures.1.is)
+node_of-requires c = subst (λ q. q.number < process_count (plan_of c.args.plan.now)) c.in-Some.ensures.0
+    (process_within (plan_of c.args.plan.now) c.in-Some.put.proc.number c.in-Some.put.at _ c.in-Some.ensures.1.is)
 
 pub node_of-requires-in-Some : goal.node_of-requires-in-Some
 node_of-requires-in-Some c = process_within (plan_of c.args.plan.now) c.args.event.proc.number c.args.event.at _ c.requires.get
@@ -29,4 +30,5 @@ returns-in-Some c =
     (subst (λ b. GivesSight plan c.in-Some.put.proc.number (served plan c.in-Some.put.proc.number b (Some c.in-Some.put.at)) c.served_reply.result) same c.served_reply.ensures))
 
 pub returns-in-None : goal.returns-in-None
-returns-in-None c = absurd (get_never (plan_of c.args.plan.now) (event_of c.args.event) c.args.owner.number c.args.key c.bare.result c.requires.live c.requires.get (λ e. true≢false (sym (eq-eqb c.args.owner.number c.args.event.proc.number (sym e)) ∙ sym c.eq.ensures ∙ c.if-eq.false)) c.in-None.ensures)
+returns-in-None c = absurd (get_never (plan_of c.args.plan.now) (event_of c.args.event) c.args.owner.number c.args.key c.bare.result c.requires.live c.requires.get
+    (λ e. true≢false (sym (eq-eqb c.args.owner.number c.args.event.proc.number (sym e)) ∙ sym c.eq.ensures ∙ c.if-eq.false)) c.in-None.ensures)

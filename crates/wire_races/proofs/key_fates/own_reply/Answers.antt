@@ -21,7 +21,9 @@ pub returns-else-put-event : goal.returns-else-put-event
 returns-else-put-event c =
     let plan = plan_of c.args.plan.now in
     subst (λ q. GivesSight plan q.number (held (own plan q.number c.args.key c.args.event.at)) c.bare-else-put-event.result) c.in-Some.ensures.0
-    (own_hidden plan c.requires (event_of c.in-Some.put) c.args.key c.in-Some.ensures.1 c.args.event.at c.bare-else-put-event.result c.if-put-event.false (ap (λ r. r ∷ []) (sym c.bare-else-put-event.ensures)))
+    (own_hidden plan c.requires (event_of c.in-Some.put) c.args.key c.in-Some.ensures.1 c.args.event.at c.bare-else-put-event.result c.if-put-event.false
+    (ap (λ r. r ∷ []) (sym c.bare-else-put-event.ensures)))
 
 pub returns-in_default : goal.returns-in_default
-returns-in_default c = own_never (plan_of c.args.plan.now) (event_of c.args.event) c.args.event.proc.number c.args.key c.bare.result c.args.event.at c.in_default.ensures (ap (λ r. r ∷ []) (sym c.bare.ensures))
+returns-in_default c = own_never (plan_of c.args.plan.now) (event_of c.args.event) c.args.event.proc.number c.args.key c.bare.result c.args.event.at c.in_default.ensures
+    (ap (λ r. r ∷ []) (sym c.bare.ensures))

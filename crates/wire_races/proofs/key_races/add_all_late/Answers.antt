@@ -19,7 +19,8 @@ deliveries-preserved c =
     let plan = plan_of c.args.plan.now in
     let p = c.args.asked.owner.number in
     let at = c.in-Some.arrival.at in
-    late_more plan (event_of c.args.asked.get_now) p c.args.asked.key (node_of plan c.args.asked.get_now.proc.number) c.args.found.now c.deliveries.found c.add_late.new.found c.deliveries.from at (at + 1) c.in-Some.ensures.after (omega arith)
+    late_more plan (event_of c.args.asked.get_now) p c.args.asked.key (node_of plan c.args.asked.get_now.proc.number) c.args.found.now c.deliveries.found c.add_late.new.found c.deliveries.from at
+    (at + 1) c.in-Some.ensures.after (omega arith)
     (subst (λ n. (k : ℕ) → c.deliveries.from ≤ k → k < at → IsDelivering plan p c.args.asked.key n k → ⊥) c.requires.node c.in-Some.ensures.others) c.deliveries.invariant c.in_ok-add_late.ensures
 
 pub returns : goal.returns
@@ -40,8 +41,10 @@ returns-then-not-may_be_late c =
     let at = c.in-Some.arrival.at in
     let others = subst (λ n. (k : ℕ) → c.deliveries.from ≤ k → k < at → IsDelivering plan p c.args.asked.key n k → ⊥) c.requires.node c.in-Some.ensures.others in
     let delivers = subst (λ n. IsDelivering plan p c.args.asked.key n at) c.requires.node c.in-Some.ensures.delivers in
-    let never : MayBeLate plan get (record { proc = p; at = at }) → ⊥ = λ m. true≢false (sym (c.may_be_late.ensures.1 (subst (λ q. MayBeLate plan get (record { proc = q; at = at })) (sym c.in-Some.ensures.proc) m)) ∙ c.if-not-may_be_late.true) in
-    late_done plan get p c.args.asked.key node c.args.found.now c.deliveries.found c.deliveries.from (event_count plan p) refl (no_later plan get p c.args.asked.key node c.deliveries.from at others delivers never) c.deliveries.invariant
+    let never : MayBeLate plan get (record { proc = p; at = at }) →
+    ⊥ = λ m. true≢false (sym (c.may_be_late.ensures.1 (subst (λ q. MayBeLate plan get (record { proc = q; at = at })) (sym c.in-Some.ensures.proc) m)) ∙ c.if-not-may_be_late.true) in
+    late_done plan get p c.args.asked.key node c.args.found.now c.deliveries.found c.deliveries.from (event_count plan p) refl
+    (no_later plan get p c.args.asked.key node c.deliveries.from at others delivers never) c.deliveries.invariant
 
 pub add_late-requires-clause-may : goal.add_late-requires-clause-may
 add_late-requires-clause-may c = c.may_be_late.ensures.0 c.if-not-may_be_late.false

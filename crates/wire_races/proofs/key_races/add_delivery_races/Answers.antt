@@ -17,5 +17,6 @@ returns c =
     on_ok_weaker c.add_all_late.result (λ h. adds_late plan (event_of c.args.asked.get_now) c.args.asked.owner.number c.args.asked.key (record {
       opened = c.requires.get;
       other = c.requires.node;
-      not_sure = λ s. true≢false (sym (c.comes_surely.ensures.1 (subst (λ n. ComesSurely plan c.args.asked.owner.number c.args.asked.key n (event_of c.args.asked.get_now)) (sym c.node_of-node.ensures) s)) ∙ c.if-comes_surely.false);
+      not_sure = λ s. true≢false (sym (c.comes_surely.ensures.1 (subst (λ n. ComesSurely plan c.args.asked.owner.number c.args.asked.key n (event_of c.args.asked.get_now)) (sym c.node_of-node.ensures)
+          s)) ∙ c.if-comes_surely.false);
     }) c.args.found.now c.add_all_late.new.found h) c.add_all_late.ensures

@@ -17,7 +17,8 @@ pub returns-in-Some : goal.returns-in-Some
 returns-in-Some c =
     let plan = plan_of c.args.plan.now in
     let x = event_of c.in-Some.source in
-    on_ok_weaker c.add_race.result (λ h. one_late plan (event_of c.args.asked.get_now) c.args.asked.owner.number c.args.asked.key (node_of plan c.args.asked.get_now.proc.number) c.args.found.now c.add_race.new.found c.args.arrival.at x c.requires.delivers
+    on_ok_weaker c.add_race.result (λ h. one_late plan (event_of c.args.asked.get_now) c.args.asked.owner.number c.args.asked.key (node_of plan c.args.asked.get_now.proc.number) c.args.found.now
+    c.add_race.new.found c.args.arrival.at x c.requires.delivers
     (subst (λ q. IsLate plan (event_of c.args.asked.get_now) (record { proc = q.number; at = c.args.arrival.at }) x) c.requires.proc c.in-Some.ensures) h) c.add_race.ensures
 
 pub returns-in-None : goal.returns-in-None

@@ -9,7 +9,8 @@ use Rattle.wire_races.proofs.key_races.add_node_race.Goals as goal
 pub returns-then-are_unordered : goal.returns-then-are_unordered
 returns-then-are_unordered c =
     let plan = plan_of c.args.plan.now in
-    on_ok_weaker c.add_race.result (λ h. adds_node plan (event_of c.args.asked.get_now) c.args.asked.owner.number c.args.asked.key c.requires.get c.requires.node c.args.found.now c.add_race.new.found (event_of c.in-Some.commit)
+    on_ok_weaker c.add_race.result (λ h. adds_node plan (event_of c.args.asked.get_now) c.args.asked.owner.number c.args.asked.key c.requires.get c.requires.node c.args.found.now c.add_race.new.found
+    (event_of c.in-Some.commit)
     (ap (λ q. q.number) c.in-Some.ensures.0) c.in-Some.ensures.1 ((c.are_unordered.ensures plan c.requires.marks).0 c.if-are_unordered.true) h) c.add_race.ensures
 
 pub returns-else-are_unordered : goal.returns-else-are_unordered

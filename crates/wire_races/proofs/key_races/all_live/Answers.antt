@@ -14,7 +14,8 @@ returns-then-not-live c = λ plan m. (
 
 pub loop-x-preserved : goal.loop-x-preserved
 loop-x-preserved c = λ plan m.
-    one_more (Live plan) (map event_of c.args.events.now) c.loop-x.x-index (c.loop-x.x-index + 1) _ (omega arith) (item c.args.events.now c.loop-x.x-index _ c.loop-x-test.true) (c.loop-x.invariant plan m) ((c.live.ensures plan m).0 c.if-not-live.false)
+    one_more (Live plan) (map event_of c.args.events.now) c.loop-x.x-index (c.loop-x.x-index + 1) _ (omega arith) (item c.args.events.now c.loop-x.x-index _ c.loop-x-test.true)
+    (c.loop-x.invariant plan m) ((c.live.ensures plan m).0 c.if-not-live.false)
 
 pub returns : goal.returns
 returns c = λ plan m. (

@@ -10,8 +10,10 @@ pub returns-in-Some : goal.returns-in-Some
 returns-in-Some c =
     let plan = plan_of c.args.plan.now in
     let at = c.in-Some.first.at in (
-      (λ t. surely plan (event_of c.args.asked.get_now) c.args.asked.owner.number c.args.asked.key c.args.node at c.in-Some.ensures.delivers (subst (λ q. IsSure plan (event_of c.args.asked.get_now) (record { proc = q; at = at })) c.in-Some.ensures.proc (c.is_sure.ensures.0 t))),
-      (λ s. c.is_sure.ensures.1 (subst (λ q. IsSure plan (event_of c.args.asked.get_now) (record { proc = q; at = at })) (sym c.in-Some.ensures.proc) (first_sure plan (event_of c.args.asked.get_now) c.args.asked.owner.number c.args.asked.key c.args.node at c.in-Some.ensures.delivers c.in-Some.ensures.others s))),
+      (λ t. surely plan (event_of c.args.asked.get_now) c.args.asked.owner.number c.args.asked.key c.args.node at c.in-Some.ensures.delivers
+          (subst (λ q. IsSure plan (event_of c.args.asked.get_now) (record { proc = q; at = at })) c.in-Some.ensures.proc (c.is_sure.ensures.0 t))),
+      (λ s. c.is_sure.ensures.1 (subst (λ q. IsSure plan (event_of c.args.asked.get_now) (record { proc = q; at = at })) (sym c.in-Some.ensures.proc)
+          (first_sure plan (event_of c.args.asked.get_now) c.args.asked.owner.number c.args.asked.key c.args.node at c.in-Some.ensures.delivers c.in-Some.ensures.others s))),
     )
 
 pub returns-in-None : goal.returns-in-None

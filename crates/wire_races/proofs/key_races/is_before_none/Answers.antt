@@ -14,7 +14,8 @@ returns-then-before c = λ plan m. (
 
 pub loop-x-preserved : goal.loop-x-preserved
 loop-x-preserved c = λ plan m.
-    one_more (λ z. ¬ (Before plan (event_of c.args.get_now) z)) (map event_of c.args.events.now) c.loop-x.x-index (c.loop-x.x-index + 1) _ (omega arith) (item c.args.events.now c.loop-x.x-index _ c.loop-x-test.true) (c.loop-x.invariant plan m) (λ b. true≢false (sym ((c.before-in-loop-x.ensures plan m).1 b) ∙ c.if-before.false))
+    one_more (λ z. ¬ (Before plan (event_of c.args.get_now) z)) (map event_of c.args.events.now) c.loop-x.x-index (c.loop-x.x-index + 1) _ (omega arith)
+    (item c.args.events.now c.loop-x.x-index _ c.loop-x-test.true) (c.loop-x.invariant plan m) (λ b. true≢false (sym ((c.before-in-loop-x.ensures plan m).1 b) ∙ c.if-before.false))
 
 pub returns : goal.returns
 returns c = λ plan m. (

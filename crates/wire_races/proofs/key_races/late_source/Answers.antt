@@ -12,4 +12,5 @@ returns c =
     let fence = c.requires.may.fence in
     let places = map event_of c.all_arrivals.result.now in
     let those = c.all_arrivals.ensures in
-    late_tells plan get arrival fence places those c.first_not_before.result (c.first_not_before.ensures plan c.requires.marks) (may_live plan get arrival fence places those c.requires.may) (may_none_after plan get arrival fence places those c.requires.may)
+    late_tells plan get arrival fence places those c.first_not_before.result (c.first_not_before.ensures plan c.requires.marks) (may_live plan get arrival fence places those c.requires.may)
+    (may_none_after plan get arrival fence places those c.requires.may)

@@ -21,5 +21,6 @@ returns-else-all_live c =
     let plan = plan_of c.args.plan.now in
     let m = c.requires.marks in (
       (λ t. absurd (true≢false (sym t ∙ c.if-all_live.false))),
-      (λ l. (c.all_live.ensures plan m).1 (may_live plan (event_of c.args.get_now) (event_of c.args.arrival) c.requires.fence (map event_of c.all_arrivals-arrivals.result.now) c.all_arrivals-arrivals.ensures l)),
+      (λ l. (c.all_live.ensures plan m).1 (may_live plan (event_of c.args.get_now) (event_of c.args.arrival) c.requires.fence (map event_of c.all_arrivals-arrivals.result.now)
+          c.all_arrivals-arrivals.ensures l)),
     )

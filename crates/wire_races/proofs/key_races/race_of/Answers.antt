@@ -13,10 +13,12 @@ call_of-second-requires c = get_there (plan_of c.args.plan.now) (event_of c.args
 
 pub returns-then-is_lower : goal.returns-then-is_lower
 returns-then-is_lower c =
-    shown_low (plan_of c.args.plan.now) (event_of c.args.source) (event_of c.args.asked.get_now) c.call_of-first.result c.call_of-second.result c.args.asked.owner.number c.args.asked.key c.requires c.call_of-first.ensures c.call_of-second.ensures
+    shown_low (plan_of c.args.plan.now) (event_of c.args.source) (event_of c.args.asked.get_now) c.call_of-first.result c.call_of-second.result c.args.asked.owner.number c.args.asked.key c.requires
+    c.call_of-first.ensures c.call_of-second.ensures
     (c.is_lower.ensures.0 c.if-is_lower.true)
 
 pub returns-else-is_lower : goal.returns-else-is_lower
 returns-else-is_lower c =
-    shown_high (plan_of c.args.plan.now) (event_of c.args.source) (event_of c.args.asked.get_now) c.call_of-first.result c.call_of-second.result c.args.asked.owner.number c.args.asked.key c.requires c.call_of-first.ensures c.call_of-second.ensures
+    shown_high (plan_of c.args.plan.now) (event_of c.args.source) (event_of c.args.asked.get_now) c.call_of-first.result c.call_of-second.result c.args.asked.owner.number c.args.asked.key c.requires
+    c.call_of-first.ensures c.call_of-second.ensures
     (λ low. true≢false (sym (c.is_lower.ensures.1 low) ∙ c.if-is_lower.false))

@@ -15,7 +15,8 @@ bisection-init c = record {
   within = omega arith;
   narrowed = λ plan name settled marks are. record {
     below = λ k z lt. absurd (omega (arith, lt));
-    above = λ k z ge is. absurd (let within = slice_get_within (events_in c.args.updates.now) k z is in let size = length-map c.args.updates.now (λ u. event_of u.event) in omega (arith, within, size, ge));
+    above = λ k z ge is. absurd (let within = slice_get_within (events_in c.args.updates.now) k z is in let size = length-map c.args.updates.now (λ u. event_of u.event) in
+        omega (arith, within, size, ge));
   };
 }
 
@@ -31,7 +32,8 @@ bisection-preserved-then-before c =
       order = omega (arith, lt);
       within = within;
       narrowed = λ plan name settled marks are.
-          low_rises (λ z. Before plan z (event_of c.args.event)) (events_in us) (before_in_front plan settled c.args.marks.now marks name us are (event_of c.args.event)) low high _ _ (event_at us (low + (high - low) / 2) _ (update_at us (low + (high - low) / 2) _ fits))
+          low_rises (λ z. Before plan z (event_of c.args.event)) (events_in us) (before_in_front plan settled c.args.marks.now marks name us are (event_of c.args.event)) low high _ _
+          (event_at us (low + (high - low) / 2) _ (update_at us (low + (high - low) / 2) _ fits))
           ((c.if-before.ensures plan marks).0 refl) (c.bisection.invariant.narrowed plan name settled marks are);
     }
 
@@ -47,7 +49,8 @@ bisection-preserved c =
       order = omega arith;
       within = omega (arith, fits);
       narrowed = λ plan name settled marks are.
-          high_falls (λ z. Before plan z (event_of c.args.event)) (events_in us) (before_in_front plan settled c.args.marks.now marks name us are (event_of c.args.event)) low high _ _ (event_at us (low + (high - low) / 2) _ (update_at us (low + (high - low) / 2) _ fits))
+          high_falls (λ z. Before plan z (event_of c.args.event)) (events_in us) (before_in_front plan settled c.args.marks.now marks name us are (event_of c.args.event)) low high _ _
+          (event_at us (low + (high - low) / 2) _ (update_at us (low + (high - low) / 2) _ fits))
           (λ h. true≢false (sym ((c.if-before.ensures plan marks).1 h))) (c.bisection.invariant.narrowed plan name settled marks are);
     }
 

@@ -12,7 +12,8 @@ abbrev pub invariant-bisection : goal.invariant-bisection
 invariant-bisection l = record {
   order : l.low ≤ l.high;
   within : l.high ≤ length l.updates;
-  narrowed : (plan : Plan) (name : ℕ) → IsSettled plan → AreMarks plan l.marks → AreUpdates plan (Live plan) name l.updates → IsNarrowed (λ z. Before plan z (event_of l.event)) (events_in l.updates) l.low l.high;
+  narrowed : (plan : Plan) (name : ℕ) → IsSettled plan → AreMarks plan l.marks → AreUpdates plan (Live plan) name l.updates →
+      IsNarrowed (λ z. Before plan z (event_of l.event)) (events_in l.updates) l.low l.high;
 }
 
 abbrev pub decreases-bisection : goal.decreases-bisection

@@ -15,7 +15,8 @@ bisection-preserved-then-calls-middle c =
       order = omega (arith, lt);
       within = within;
       narrowed = λ plan name are.
-          low_rises (λ z. z.proc ≤ c.args.proc.number) (map event_of c.args.calls.now) (processes plan name c.args.proc.number (map event_of c.args.calls.now) are) low high _ _ (place_at c.args.calls.now (low + (high - low) / 2) _ fits)
+          low_rises (λ z. z.proc ≤ c.args.proc.number) (map event_of c.args.calls.now) (processes plan name c.args.proc.number (map event_of c.args.calls.now) are) low high _ _
+          (place_at c.args.calls.now (low + (high - low) / 2) _ fits)
           c.if-calls-middle.true (c.bisection.invariant.narrowed plan name are);
     }
 
@@ -30,7 +31,8 @@ bisection-preserved c =
       order = omega arith;
       within = omega (arith, fits);
       narrowed = λ plan name are.
-          high_falls (λ z. z.proc ≤ c.args.proc.number) (map event_of c.args.calls.now) (processes plan name c.args.proc.number (map event_of c.args.calls.now) are) low high _ _ (place_at c.args.calls.now (low + (high - low) / 2) _ fits)
+          high_falls (λ z. z.proc ≤ c.args.proc.number) (map event_of c.args.calls.now) (processes plan name c.args.proc.number (map event_of c.args.calls.now) are) low high _ _
+          (place_at c.args.calls.now (low + (high - low) / 2) _ fits)
           (above_not _ _ c.if-calls-middle.false) (c.bisection.invariant.narrowed plan name are);
     }
 

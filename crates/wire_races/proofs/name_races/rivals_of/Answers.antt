@@ -15,7 +15,8 @@ returns-then-is_write-clause-rivals c =
     let name = c.args.x.name in
     let x = event_of c.args.x.event in
     let calls = map event_of c.args.calls.now in
-    changing plan name x calls (map event_of c.calls_above.result.now) c.requires.calls (sym c.is_write.ensures ∙ c.if-is_write.true) (c.calls_above.ensures plan name (all_calls plan name x calls c.requires.calls))
+    changing plan name x calls (map event_of c.calls_above.result.now) c.requires.calls (sym c.is_write.ensures ∙ c.if-is_write.true)
+    (c.calls_above.ensures plan name (all_calls plan name x calls c.requires.calls))
 
 pub returns-then-is_write-clause-all : goal.returns-then-is_write-clause-all
 returns-then-is_write-clause-all c =
@@ -31,7 +32,8 @@ returns-else-is_write-clause-rivals c =
     let name = c.args.x.name in
     let x = event_of c.args.x.event in
     let writers = map event_of c.args.writers.now in
-    reading plan name x writers (map event_of c.calls_above-else-is_write.result.now) c.requires.writers (c.calls_above-else-is_write.ensures plan name (all_writers plan name x writers c.requires.writers))
+    reading plan name x writers (map event_of c.calls_above-else-is_write.result.now) c.requires.writers
+    (c.calls_above-else-is_write.ensures plan name (all_writers plan name x writers c.requires.writers))
 
 pub returns-else-is_write-clause-all : goal.returns-else-is_write-clause-all
 returns-else-is_write-clause-all c =
@@ -39,4 +41,5 @@ returns-else-is_write-clause-all c =
     let name = c.args.x.name in
     let x = event_of c.args.x.event in
     let writers = map event_of c.args.writers.now in
-    all_reading plan name x writers (map event_of c.calls_above-else-is_write.result.now) c.requires.writers (λ w. true≢false (sym w ∙ sym c.is_write.ensures ∙ c.if-is_write.false)) (c.calls_above-else-is_write.ensures plan name (all_writers plan name x writers c.requires.writers))
+    all_reading plan name x writers (map event_of c.calls_above-else-is_write.result.now) c.requires.writers (λ w. true≢false (sym w ∙ sym c.is_write.ensures ∙ c.if-is_write.false))
+    (c.calls_above-else-is_write.ensures plan name (all_writers plan name x writers c.requires.writers))

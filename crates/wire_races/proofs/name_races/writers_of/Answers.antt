@@ -31,7 +31,8 @@ loop-event-preserved c =
           rw w.writers-is (subst (λ l. AreAll (IsWriterBelow plan name (map event_of calls) (n + 1)) l) (sym items)
           (one_writer plan name (map event_of calls) all n (n + 1) before _ (omega arith) at (sym c.is_write.ensures ∙ w.if-writes.true) c.loop-event.invariant))
       | else-writes w ↦
-          rw w.writers-is (no_writer plan name (map event_of calls) all n (n + 1) before _ (omega arith) at (λ t. true≢false (sym t ∙ sym c.is_write.ensures ∙ w.if-writes.false)) c.loop-event.invariant)
+          rw w.writers-is (no_writer plan name (map event_of calls) all n (n + 1) before _ (omega arith) at (λ t. true≢false (sym t ∙ sym c.is_write.ensures ∙ w.if-writes.false))
+          c.loop-event.invariant)
     ]
 
 pub returns : goal.returns
@@ -39,4 +40,5 @@ returns c =
     let calls = c.name_calls-calls.result.now in
     let size = length-map calls event_of in
     let end = c.loop-event-test.false in
-    every_writer (plan_of c.args.plan.now) c.args.name (map event_of calls) c.name_calls-calls.ensures c.loop-event.event-index (map event_of c.loop-event.writers.items) (omega (arith, size, end)) c.loop-event.invariant
+    every_writer (plan_of c.args.plan.now) c.args.name (map event_of calls) c.name_calls-calls.ensures c.loop-event.event-index (map event_of c.loop-event.writers.items) (omega (arith, size, end))
+    c.loop-event.invariant

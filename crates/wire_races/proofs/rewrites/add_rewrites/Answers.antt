@@ -10,7 +10,8 @@ use Rattle.wire_races.proofs.rewrites.add_rewrites.Goals as goal
 pub loop-number-preserved : goal.loop-number-preserved
 loop-number-preserved c =
     let plan = plan_of c.args.plan.now in
-    one_process plan (IsRewriteBy plan) (rewrite_within plan) c.args.found.now c.loop-number.found c.add_process.new.found c.loop-number.number (c.loop-number.number + 1) (omega arith) c.loop-number.invariant c.in_ok-add_process.ensures
+    one_process plan (IsRewriteBy plan) (rewrite_within plan) c.args.found.now c.loop-number.found c.add_process.new.found c.loop-number.number (c.loop-number.number + 1) (omega arith)
+    c.loop-number.invariant c.in_ok-add_process.ensures
 
 pub returns-clause-found : goal.returns-clause-found
 returns-clause-found c = c.loop-number.invariant.found

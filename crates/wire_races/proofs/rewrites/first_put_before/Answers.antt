@@ -16,4 +16,5 @@ returns-in_default-first_put c =
 
 pub returns-in_default-first_put-2 : goal.returns-in_default-first_put-2
 returns-in_default-first_put-2 c =
-    never_first (plan_of c.args.plan.now) (event_of c.args.event) c.in-Put.key c.in-Put.scope (c.kind.ensures ∙ ap (λ k. Some (kind_of c.args.plan.now.sets k)) c.in-Put.is) c.in_default-first_put.ensures
+    never_first (plan_of c.args.plan.now) (event_of c.args.event) c.in-Put.key c.in-Put.scope (c.kind.ensures ∙ ap (λ k. Some (kind_of c.args.plan.now.sets k)) c.in-Put.is)
+    c.in_default-first_put.ensures

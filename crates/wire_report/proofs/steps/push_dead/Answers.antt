@@ -15,5 +15,11 @@ returns-then-live c =
 pub returns : goal.returns
 returns c =
     on_ok c.push_dead_line.result
-    (λ e. (dead_line c.args.plan.now c.args.call, Dead (λ l. cc (c.if-live.false, (c.live.ensures (plan_of c.args.plan.now) c.requires.marks).1 (subst (Live (plan_of c.args.plan.now)) (sym c.first_event.ensures) l))) refl, e ∙ ap (λ (s : Scripts). c.args.out.now.items ++ dead_line s c.args.call) c.scripts.ensures.scripts))
+    (λ e. (
+      dead_line c.args.plan.now c.args.call,
+      Dead (λ l. cc
+          (c.if-live.false, (c.live.ensures (plan_of c.args.plan.now) c.requires.marks).1 (subst (Live (plan_of c.args.plan.now)) (sym c.first_event.ensures) l))) refl,
+      e
+          ∙ ap (λ (s : Scripts). c.args.out.now.items ++ dead_line s c.args.call) c.scripts.ensures.scripts,
+    ))
     c.push_dead_line.ensures

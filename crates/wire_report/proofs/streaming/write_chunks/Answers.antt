@@ -8,7 +8,8 @@ use Rattle.wire_report.proofs.streaming.write_chunks.Goals as goal
 
 pub unwrap-requires : goal.unwrap-requires
 unwrap-requires g c =
-    has_room c.push_count.result (vec_capacity c.make_room.new.self.waiting) (length c.make_room.new.self.waiting.items) (length (count_line (length c.args.lines.findings.now))) c.args.lines.room (rw c.len.ensures at c.push_count.ensures.full) c.in_default-make_room.ensures.room
+    has_room c.push_count.result (vec_capacity c.make_room.new.self.waiting) (length c.make_room.new.self.waiting.items) (length (count_line (length c.args.lines.findings.now))) c.args.lines.room
+    (rw c.len.ensures at c.push_count.ensures.full) c.in_default-make_room.ensures.room
     (count_short c.args.lines.scripts.now c.args.lines.room (length c.args.lines.findings.now) c.requires.lines c.requires.counted)
 
 pub flush-requires : goal.flush-requires
@@ -17,7 +18,8 @@ flush-requires g c =
     let last = count_line (length c.args.lines.findings.now) in
     let way : IsOnItsWay (g.S.Sink.written c.args.sink.now) (g.S.Sink.written c.make_room.new.sink) (record { waiting = c.push_count.new.out; gone = c.make_room.new.self.gone }) (lines ++ last) =
     more_waits _ _ c.make_room.new.self _ lines last (c.in_default-make_room.ensures.ok _ _ c.in_default.ensures.ok) refl (rw (c.unwrap.ensures, c.len.ensures) at c.push_count.ensures.ok) in
-    let fits = still_counted c.args.lines.room (length c.args.lines.findings.now) (length lines) (length last) c.requires.counted c.in_default.ensures.short (count_short c.args.lines.scripts.now c.args.lines.room (length c.args.lines.findings.now) c.requires.lines c.requires.counted) in
+    let fits = still_counted c.args.lines.room (length c.args.lines.findings.now) (length lines) (length last) c.requires.counted c.in_default.ensures.short
+    (count_short c.args.lines.scripts.now c.args.lines.room (length c.args.lines.findings.now) c.requires.lines c.requires.counted) in
     omega (arith, fits, counts _ _ _ _ way, length-append lines last)
 
 pub returns-clause-ok : goal.returns-clause-ok

@@ -55,7 +55,8 @@ row-preserved c =
     let old = subst (RowingTo c.args.passes.now.items c.row.passes.items c.args.tokens.items) c.in-Some.ensures.items c.row.invariant in
     let q : Pass = record { worker = c.index_mut.result.now.worker; own = c.join_one.new.own; tokens = c.index_mut.result.now.tokens } in
     subst (λ n. Rowing c.args.passes.now.items (set c.row.passes.items n q) c.args.tokens.items c.pop.new.self.items) (sym to)
-    (rowing_more c.args.passes.now.items c.row.passes.items c.args.tokens.items c.pop.new.self.items c.in-Some.token c.index_mut.result.now q old at (refl, c.join_one.ensures.same, refl, c.join_one.ensures.view))
+    (rowing_more c.args.passes.now.items c.row.passes.items c.args.tokens.items c.pop.new.self.items c.in-Some.token c.index_mut.result.now q old at
+    (refl, c.join_one.ensures.same, refl, c.join_one.ensures.view))
 
 pub returns : goal.returns
 returns c =

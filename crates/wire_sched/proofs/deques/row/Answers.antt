@@ -18,7 +18,8 @@ loop-i-preserved c =
     let k : c.loop-i.i < length c.loop-i.passes.items = omega (arith, c.loop-i.invariant.0.same_length) in
     let at = at_index _ _ _ k c.index_mut.ensures.value in
     let q : Pass = record { worker = c.index_mut.result.now.worker; own = c.permit_of.new.own; tokens = c.index_mut.result.now.tokens } in
-    let next = row_goes_on c.args.passes.now.items c.loop-i.passes.items c.loop-i.row.items c.loop-i.i c.index_mut.result.now q c.permit_of.result c.loop-i.invariant.0 at (refl, c.permit_of.ensures.same, refl, c.permit_of.ensures.view) c.permit_of.ensures.token in
+    let next = row_goes_on c.args.passes.now.items c.loop-i.passes.items c.loop-i.row.items c.loop-i.i c.index_mut.result.now q c.permit_of.result c.loop-i.invariant.0 at
+    (refl, c.permit_of.ensures.same, refl, c.permit_of.ensures.view) c.permit_of.ensures.token in
     (subst (RowTo c.args.passes.now.items (set c.loop-i.passes.items c.loop-i.i q) (c.loop-i.i + 1)) (sym c.push_reserved.ensures.items) next, omega arith)
 
 pub returns-clause-cut : goal.returns-clause-cut

@@ -7,9 +7,12 @@ use Rattle.wire_script.proofs.second_pass.number_calls.Given as goal
 
 abbrev pub invariant-loop-placed : goal.invariant-loop-placed
 invariant-loop-placed l = record {
-  so_far : seen_after (declared_of l.draft) (seen_of l.fn.numbering.tables) l.caller.job (map placed_of l.caller.calls.items) ≡ seen_after (declared_of l.draft) (seen_of l.numbering.tables) l.caller.job (map placed_of (drop l.placed-index l.caller.calls.items));
+  so_far : seen_after (declared_of l.draft) (seen_of l.fn.numbering.tables) l.caller.job (map placed_of l.caller.calls.items) ≡ seen_after (declared_of l.draft) (seen_of l.numbering.tables)
+      l.caller.job (map placed_of (drop l.placed-index l.caller.calls.items));
   grown : entry_count (seen_of l.numbering.tables) ≤ entry_count (seen_of l.fn.numbering.tables) + 2 * l.placed-index;
   noted : AreNoted (declared_of l.draft) l.numbering.tables.sets l.numbering.noted;
-  numbers : (later : Seen) → GoOn (seen_of l.numbering.tables) later → l.calls.items ≡ map (λ c. numbered (declared_of l.draft) later l.caller.job c.1) (map placed_of (take l.placed-index l.caller.calls.items));
-  faults : fault_in (declared_of l.draft) (started_of l.caller) (map placed_of l.caller.calls.items) ≡ fault_in (declared_of l.draft) (started_of l.caller) (map placed_of (drop l.placed-index l.caller.calls.items));
+  numbers : (later : Seen) → GoOn (seen_of l.numbering.tables) later →
+      l.calls.items ≡ map (λ c. numbered (declared_of l.draft) later l.caller.job c.1) (map placed_of (take l.placed-index l.caller.calls.items));
+  faults : fault_in (declared_of l.draft) (started_of l.caller) (map placed_of l.caller.calls.items) ≡ fault_in (declared_of l.draft) (started_of l.caller)
+      (map placed_of (drop l.placed-index l.caller.calls.items));
 }

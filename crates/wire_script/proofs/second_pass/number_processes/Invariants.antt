@@ -9,7 +9,8 @@ use Rattle.wire_script.proofs.second_pass.number_processes.Given as goal
 
 abbrev pub invariant-loop-process : goal.invariant-loop-process
 invariant-loop-process l = record {
-  so_far : all_seen (declared_of l.draft) nothing_seen (map started_of l.draft.processes.items) ≡ all_seen (declared_of l.draft) (seen_of l.numbering.tables) (map started_of (drop l.process-index l.draft.processes.items));
+  so_far : all_seen (declared_of l.draft) nothing_seen (map started_of l.draft.processes.items) ≡ all_seen (declared_of l.draft) (seen_of l.numbering.tables)
+      (map started_of (drop l.process-index l.draft.processes.items));
   room : entry_count (seen_of l.numbering.tables) + 2 * started_calls (map started_of (drop l.process-index l.draft.processes.items)) ≤ 2 * limits.calls;
   noted : AreNoted (declared_of l.draft) l.numbering.tables.sets l.numbering.noted;
   numbers : (later : Seen) → GoOn (seen_of l.numbering.tables) later → l.processes.items ≡ map (process_of (declared_of l.draft) later) (map started_of (take l.process-index l.draft.processes.items));

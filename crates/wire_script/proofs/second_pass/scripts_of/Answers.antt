@@ -17,7 +17,8 @@ new-requires-in-Ok c =
 pub returns-in-Ok-clause-ok : goal.returns-in-Ok-clause-ok
 returns-in-Ok-clause-ok c =
     ap (unless_fault (declared_of c.args.draft)) c.in-Ok.ensures.ok
-    ∙ ap Ok (sym (c.new-in-Ok.ensures ∙ scripts_are (declared_of c.args.draft) (seen_of c.number_processes.new.numbering.tables) c.in-Ok.processes.items c.in-Ok.ensures.tables c.in-Ok.ensures.processes))
+    ∙ ap Ok (sym (c.new-in-Ok.ensures ∙ scripts_are (declared_of c.args.draft) (seen_of c.number_processes.new.numbering.tables) c.in-Ok.processes.items c.in-Ok.ensures.tables
+    c.in-Ok.ensures.processes))
 
 pub returns-in-Err-clause-err : goal.returns-in-Err-clause-err
 returns-in-Err-clause-err c = second_fault (declared_of c.args.draft) c.in-Err.fault c.in-Err.ensures.err

@@ -14,7 +14,11 @@ returns-then-not-are_declared-clause-err c =
     let items = map item_by c.in-Listed.items.items in
     let set : set_by c.args.set.now ≡ said.Listed items = ap set_by c.in-Listed.is in
     let named : c.in_ok-targets-in-Listed.targets.items ≡ map (target_by d) items = c.in_ok-targets-in-Listed.ensures ∙ ap (λ l. map (target_by d) (map item_by l)) c.deref.ensures.value in
-    inr (inl (sym (set_declared d (set_by c.args.set.now) items c.in_ok-targets-in-Listed.targets.items set named) ∙ ap (list_all (is_declared_target d)) (sym c.deref-in-Listed.ensures.value) ∙ sym c.if-not-are_declared.ensures, refl))
+    inr (inl (
+      sym (set_declared d (set_by c.args.set.now) items c.in_ok-targets-in-Listed.targets.items set named) ∙ ap (list_all (is_declared_target d)) (sym c.deref-in-Listed.ensures.value)
+          ∙ sym c.if-not-are_declared.ensures,
+      refl,
+    ))
 
 pub returns-then-not-is_named-clause-err : goal.returns-then-not-is_named-clause-err
 returns-then-not-is_named-clause-err c =
@@ -23,8 +27,14 @@ returns-then-not-is_named-clause-err c =
     let set : set_by c.args.set.now ≡ said.Listed items = ap set_by c.in-Listed.is in
     let named : c.in_ok-targets-in-Listed.targets.items ≡ map (target_by d) items = c.in_ok-targets-in-Listed.ensures ∙ ap (λ l. map (target_by d) (map item_by l)) c.deref.ensures.value in
     let declared : is_declared_set d (set_by c.args.set.now) ≡ true =
-    sym (set_declared d (set_by c.args.set.now) items c.in_ok-targets-in-Listed.targets.items set named) ∙ ap (list_all (is_declared_target d)) (sym c.deref-in-Listed.ensures.value) ∙ sym c.if-not-are_declared.ensures in
-    inr (inr (declared, sym (set_named d (set_by c.args.set.now) items c.in_ok-targets-in-Listed.targets.items set named c.args.caller.now.job (started_of c.args.caller.now)) ∙ ap (λ l. is_any_target l (started_of c.args.caller.now)) (sym c.deref-in-Listed-2.ensures.value) ∙ sym c.if-not-is_named.ensures, refl))
+    sym (set_declared d (set_by c.args.set.now) items c.in_ok-targets-in-Listed.targets.items set named) ∙ ap (list_all (is_declared_target d)) (sym c.deref-in-Listed.ensures.value)
+    ∙ sym c.if-not-are_declared.ensures in
+    inr (inr (
+      declared,
+      sym (set_named d (set_by c.args.set.now) items c.in_ok-targets-in-Listed.targets.items set named c.args.caller.now.job (started_of c.args.caller.now))
+          ∙ ap (λ l. is_any_target l (started_of c.args.caller.now)) (sym c.deref-in-Listed-2.ensures.value) ∙ sym c.if-not-is_named.ensures,
+      refl,
+    ))
 
 pub returns-else-not-is_named-clause-declared : goal.returns-else-not-is_named-clause-declared
 returns-else-not-is_named-clause-declared c =
@@ -32,7 +42,8 @@ returns-else-not-is_named-clause-declared c =
     let items = map item_by c.in-Listed.items.items in
     let set : set_by c.args.set.now ≡ said.Listed items = ap set_by c.in-Listed.is in
     let named : c.in_ok-targets-in-Listed.targets.items ≡ map (target_by d) items = c.in_ok-targets-in-Listed.ensures ∙ ap (λ l. map (target_by d) (map item_by l)) c.deref.ensures.value in
-    sym (set_declared d (set_by c.args.set.now) items c.in_ok-targets-in-Listed.targets.items set named) ∙ ap (list_all (is_declared_target d)) (sym c.deref-in-Listed.ensures.value) ∙ sym c.if-not-are_declared.ensures
+    sym (set_declared d (set_by c.args.set.now) items c.in_ok-targets-in-Listed.targets.items set named) ∙ ap (list_all (is_declared_target d)) (sym c.deref-in-Listed.ensures.value)
+    ∙ sym c.if-not-are_declared.ensures
 
 pub returns-else-not-is_named-clause-caller : goal.returns-else-not-is_named-clause-caller
 returns-else-not-is_named-clause-caller c =
@@ -40,7 +51,8 @@ returns-else-not-is_named-clause-caller c =
     let items = map item_by c.in-Listed.items.items in
     let set : set_by c.args.set.now ≡ said.Listed items = ap set_by c.in-Listed.is in
     let named : c.in_ok-targets-in-Listed.targets.items ≡ map (target_by d) items = c.in_ok-targets-in-Listed.ensures ∙ ap (λ l. map (target_by d) (map item_by l)) c.deref.ensures.value in
-    sym (set_named d (set_by c.args.set.now) items c.in_ok-targets-in-Listed.targets.items set named c.args.caller.now.job (started_of c.args.caller.now)) ∙ ap (λ l. is_any_target l (started_of c.args.caller.now)) (sym c.deref-in-Listed-2.ensures.value) ∙ sym c.if-not-is_named.ensures
+    sym (set_named d (set_by c.args.set.now) items c.in_ok-targets-in-Listed.targets.items set named c.args.caller.now.job (started_of c.args.caller.now))
+    ∙ ap (λ l. is_any_target l (started_of c.args.caller.now)) (sym c.deref-in-Listed-2.ensures.value) ∙ sym c.if-not-is_named.ensures
 
 pub returns-else-not-is_named-clause-members : goal.returns-else-not-is_named-clause-members
 returns-else-not-is_named-clause-members c =

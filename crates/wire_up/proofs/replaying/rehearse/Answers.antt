@@ -5,9 +5,12 @@ use Rattle.wire_up.proofs.replaying.rehearse.Goals as goal
 
 pub returns-in_err-write_text-clause-err : goal.returns-in_err-write_text-clause-err
 returns-in_err-write_text-clause-err g c =
-    let broken = rehearsal_broken c.args.mode (g.R.Source.coming c.args.reader.now) (g.W.Sink.written c.args.writer.now) (g.W.Sink.written c.write_text.new.sink) c.in_ok-scripts.scripts c.in_ok-ended.ended c.in_ok-ended.text.items c.as_slice.result.now c.in_err-write_text.field-0.0 c.in_ok-scripts.ensures.ok c.in_ok-ended.ensures.ok c.as_slice.ensures.value c.in_err-write_text.ensures.front in
+    let broken = rehearsal_broken c.args.mode (g.R.Source.coming c.args.reader.now) (g.W.Sink.written c.args.writer.now) (g.W.Sink.written c.write_text.new.sink) c.in_ok-scripts.scripts
+    c.in_ok-ended.ended c.in_ok-ended.text.items c.as_slice.result.now c.in_err-write_text.field-0.0 c.in_ok-scripts.ensures.ok c.in_ok-ended.ensures.ok c.as_slice.ensures.value
+    c.in_err-write_text.ensures.front in
     handed_on c.from_residual-in_err-write_text.result c.in_err-write_text.field-0.0 _ c.from_residual-in_err-write_text.ensures.1 (inr (broken, c.in_err-write_text.ensures.failed))
 
 pub returns-clause-one_end : goal.returns-clause-one_end
 returns-clause-one_end g c =
-    clean_writes c.args.mode (g.R.Source.coming c.args.reader.now) (g.W.Sink.written c.args.writer.now) (g.W.Sink.written c.write_text.new.sink) c.in_ok-scripts.scripts c.in_ok-ended.ended c.in_ok-ended.text.items c.as_slice.result.now c.in_ok-scripts.ensures.ok c.in_ok-ended.ensures.ok c.as_slice.ensures.value c.in_ok-write_text.ensures.ok
+    clean_writes c.args.mode (g.R.Source.coming c.args.reader.now) (g.W.Sink.written c.args.writer.now) (g.W.Sink.written c.write_text.new.sink) c.in_ok-scripts.scripts c.in_ok-ended.ended
+    c.in_ok-ended.text.items c.as_slice.result.now c.in_ok-scripts.ensures.ok c.in_ok-ended.ensures.ok c.as_slice.ensures.value c.in_ok-write_text.ensures.ok

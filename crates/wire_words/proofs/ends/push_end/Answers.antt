@@ -28,5 +28,6 @@ pub returns : goal.returns
 returns c =
     let some = λ (e : c.replied_value-value.result ≡ value.Nothing). let same : true ≡ false = sym (rw e at c.if-eq.ensures) in true≢false same in
     on_ok_weaker c.push_value.result
-    (told c.args.scripts.now c.replied_value-value.result _ _ _ _ _ _ _ c.replied_value-value.ensures some (c.as_bytes.ensures.value ∙ c.end_word.ensures) c.in_ok-extend_from_slice.ensures.items c.in_ok-extend_from_slice-2.ensures.items)
+    (told c.args.scripts.now c.replied_value-value.result _ _ _ _ _ _ _ c.replied_value-value.ensures some (c.as_bytes.ensures.value ∙ c.end_word.ensures) c.in_ok-extend_from_slice.ensures.items
+    c.in_ok-extend_from_slice-2.ensures.items)
     c.push_value.ensures

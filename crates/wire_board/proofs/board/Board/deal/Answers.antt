@@ -11,7 +11,8 @@ loop-rank-preserved c =
     let r = c.loop-rank.rank in
     let inside : r < procs_of board.plan = (let t = c.loop-rank-test.true in let n = c.process_count-count.ensures in let p = ap procs_of c.requires.plan in omega arith) in (
       c.in_ok-cut.ensures.first,
-      rw c.push_reserved.ensures.items (dealt_more board r (procs_of board.plan) c.loop-rank.seats.items (opening_seats board) c.in_ok-cut.field-0 inside c.loop-rank.invariant.1 c.in_ok-cut.ensures.seat),
+      rw c.push_reserved.ensures.items (dealt_more board r (procs_of board.plan) c.loop-rank.seats.items (opening_seats board) c.in_ok-cut.field-0 inside c.loop-rank.invariant.1
+          c.in_ok-cut.ensures.seat),
       grind (arith, common_steps),
       grind (arith, common_steps),
     )

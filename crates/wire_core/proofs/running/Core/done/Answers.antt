@@ -9,7 +9,8 @@ pub returns-in-Some : goal.returns-in-Some
 returns-in-Some c =
     let ranks = c.self.inside.ranks.items in
     let lookup = rw (c.deref.ensures.value, c.index.ensures) at c.in-Some.ensures.lookup in
-    rw (← c.self.view_is) (c.self.invariant.course.told.each c.args.proc.number c.in-Some.rank.now (slice_get_read ranks (length ranks) c.args.proc.number c.in-Some.rank.now refl lookup.3.0 lookup.1)).done
+    rw (← c.self.view_is) (c.self.invariant.course.told.each c.args.proc.number c.in-Some.rank.now
+    (slice_get_read ranks (length ranks) c.args.proc.number c.in-Some.rank.now refl lookup.3.0 lookup.1)).done
 
 pub returns-in-None : goal.returns-in-None
 returns-in-None c =

@@ -39,5 +39,6 @@ events-preserved c =
           (before
           ∙ ap (delivered plan cut p c.args.node key) up
           ∙ delivered_more plan cut p c.args.node key (c.events.at - 1)
-          ∙ ap (λ b. cond b (stored plan p key (c.events.at - 1)) (delivered plan cut p c.args.node key (c.events.at - 1))) (sym (c.brings.ensures cut c.self.invariant.shared.arrived) ∙ c.if-brings.false));
+          ∙ ap (λ b. cond b (stored plan p key (c.events.at - 1)) (delivered plan cut p c.args.node key (c.events.at - 1)))
+          (sym (c.brings.ensures cut c.self.invariant.shared.arrived) ∙ c.if-brings.false));
     }

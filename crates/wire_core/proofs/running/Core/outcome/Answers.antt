@@ -25,7 +25,8 @@ loop-number-preserved c =
       count = c.push_reserved.ensures.len ∙ ap (λ n. n + 1) c.loop-number.invariant.count;
       space = c.push_reserved.ensures.capacity ∙ c.loop-number.invariant.space;
       waiting = elim c.if-is_waiting.branch [
-        | then-is_waiting w ↦ w.waiting-is ∙ ap (λ k. k + 1) before ∙ (let up : waiting_below plan s n + 1 ≡ suc (waiting_below plan s n) = omega arith in up) ∙ sym (ap (λ b. cond b (suc (waiting_below plan s n)) (waiting_below plan s n)) (stands ∙ w.if-is_waiting.true)) ∙ ap (waiting_below plan s) one
+        | then-is_waiting w ↦ w.waiting-is ∙ ap (λ k. k + 1) before ∙ (let up : waiting_below plan s n + 1 ≡ suc (waiting_below plan s n) = omega arith in up)
+            ∙ sym (ap (λ b. cond b (suc (waiting_below plan s n)) (waiting_below plan s n)) (stands ∙ w.if-is_waiting.true)) ∙ ap (waiting_below plan s) one
         | else-is_waiting w ↦ w.waiting-is ∙ before ∙ sym (ap (λ b. cond b (suc (waiting_below plan s n)) (waiting_below plan s n)) (stands ∙ w.if-is_waiting.false)) ∙ ap (waiting_below plan s) one
       ];
       few = elim c.if-is_waiting.branch [

@@ -23,11 +23,13 @@ returns-in-Some-own c =
     let ranks = c.self.inside.ranks.items in
     let lookup = rw (c.deref.ensures.value, c.index.ensures) at c.in-Some.ensures.lookup in
     let told = c.self.invariant.course.told.each c.args.proc.number c.in-Some.rank.now (slice_get_read ranks (length ranks) c.args.proc.number c.in-Some.rank.now refl lookup.3.0 lookup.1) in
-    rw (← c.self.view_is) (ap own_found c.in-Some-own.ensures.kept ∙ own_shown (plan_of c.self.inside.plan.now) (run (plan_of c.self.inside.plan.now) (map (λ p. p.number) c.self.inside.history.items)) c.args.proc.number c.args.key c.in-Some.rank.now told)
+    rw (← c.self.view_is) (ap own_found c.in-Some-own.ensures.kept
+    ∙ own_shown (plan_of c.self.inside.plan.now) (run (plan_of c.self.inside.plan.now) (map (λ p. p.number) c.self.inside.history.items)) c.args.proc.number c.args.key c.in-Some.rank.now told)
 
 pub returns-in-None-own : goal.returns-in-None-own
 returns-in-None-own c =
     let ranks = c.self.inside.ranks.items in
     let lookup = rw (c.deref.ensures.value, c.index.ensures) at c.in-Some.ensures.lookup in
     let told = c.self.invariant.course.told.each c.args.proc.number c.in-Some.rank.now (slice_get_read ranks (length ranks) c.args.proc.number c.in-Some.rank.now refl lookup.3.0 lookup.1) in
-    rw (← c.self.view_is) (ap own_found c.in-None-own.ensures.kept ∙ own_shown (plan_of c.self.inside.plan.now) (run (plan_of c.self.inside.plan.now) (map (λ p. p.number) c.self.inside.history.items)) c.args.proc.number c.args.key c.in-Some.rank.now told)
+    rw (← c.self.view_is) (ap own_found c.in-None-own.ensures.kept
+    ∙ own_shown (plan_of c.self.inside.plan.now) (run (plan_of c.self.inside.plan.now) (map (λ p. p.number) c.self.inside.history.items)) c.args.proc.number c.args.key c.in-Some.rank.now told)

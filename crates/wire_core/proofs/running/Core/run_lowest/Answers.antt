@@ -23,7 +23,8 @@ steps-init c =
     }
 
 pub step-requires : goal.step-requires
-step-requires c = rw c.in-Some.ensures.same (lowest_enabled (plan_of c.steps.self.scripts) (state_of c.steps.self) (process_count (plan_of c.steps.self.scripts)) c.in-Some.proc.number (sym c.in-Some.ensures.lowest))
+step-requires c = rw c.in-Some.ensures.same (lowest_enabled (plan_of c.steps.self.scripts) (state_of c.steps.self) (process_count (plan_of c.steps.self.scripts)) c.in-Some.proc.number
+    (sym c.in-Some.ensures.lowest))
 
 pub steps-smaller : goal.steps-smaller
 steps-smaller c =

@@ -116,7 +116,8 @@ invariant_of-self c =
     let place = rw (← c.self.view_is) at c.next_event-event.ensures in
     let call : c.call_of-call.result ≡ calls_at plan c.args.proc.number (s.done c.args.proc.number) = c.call_of-call.ensures ∙ ap (call_of plan) place in
     let answered : given plan (reply plan s (next_event s c.args.proc.number) (Some (kind_of c.self.inside.plan.now.sets c.in-Some.kind))) ≡ replies_in c.reply-reply.result =
-    subst (λ course. given (plan_of course.scripts) (reply (plan_of course.scripts) (state_of course) (next_event (state_of course) c.args.proc.number) (Some (kind_of course.scripts.sets c.in-Some.kind))) ≡ replies_in c.reply-reply.result) (sym c.self.view_is) c.reply-reply.ensures in
+    subst (λ course. given (plan_of course.scripts) (reply (plan_of course.scripts) (state_of course) (next_event (state_of course) c.args.proc.number)
+    (Some (kind_of course.scripts.sets c.in-Some.kind))) ≡ replies_in c.reply-reply.result) (sym c.self.view_is) c.reply-reply.ensures in
     let after : IsAdvanced old c.advance.new.self (calls_at plan c.args.proc.number (s.done c.args.proc.number)) (kind_of c.self.inside.plan.now.sets c.in-Some.kind) c.reply-reply.result =
     record {
       done = c.advance.ensures.done;
@@ -131,15 +132,30 @@ invariant_of-self c =
     ap (map (λ p. p.number)) c.push_reserved.ensures.items ∙ map-append (λ p. p.number) c.self.inside.history.items (c.args.proc ∷ []) in
     let sets = c.self.inside.plan.now.sets in
     let arriving = subst (λ x. ArrivesAt c.self.inside.plan.now c.self.inside.fences.now x (option_map (λ f. f.number) c.arrived_at-fence.result)) place c.arrived_at-fence.ensures in
-    let shared = shared_step c.self.inside.plan.now s c.self.inside.fences.now c.self.inside.arrivals c.self.inside.names c.args.proc.number (option_map (λ f. f.number) c.arrived_at-fence.result) (kind_of sets c.in-Some.kind) c.self.invariant.shared is arriving in
+    let shared = shared_step c.self.inside.plan.now s c.self.inside.fences.now c.self.inside.arrivals c.self.inside.names c.args.proc.number (option_map (λ f. f.number) c.arrived_at-fence.result)
+    (kind_of sets c.in-Some.kind) c.self.invariant.shared is arriving in
     let noted : c.note_name.new.names ≡ names_after (calls_at plan c.args.proc.number (s.done c.args.proc.number)) (Some (kind_of sets c.in-Some.kind)) c.self.inside.names =
     c.note_name.ensures sets ∙ ap (λ a. names_after a (Some (kind_of sets c.in-Some.kind)) c.self.inside.names) call in
     let comes = c.what_comes.ensures sets ∙ ap (λ missing. coming c.args.proc c.arrived_at-fence.result missing (kind_of sets c.in-Some.kind)) c.note_arrival.ensures in
-    let waits = noted_step c.self.inside.plan.now c.self.inside.fences.now s c.self.inside.arrivals c.args.proc c.arrived_at-fence.result (kind_of sets c.in-Some.kind) c.self.inside.waits is arriving c.self.invariant.shared.arrived shared.arrived within c.self.invariant.noted in record {
+    let waits = noted_step c.self.inside.plan.now c.self.inside.fences.now s c.self.inside.arrivals c.args.proc c.arrived_at-fence.result (kind_of sets c.in-Some.kind) c.self.inside.waits is arriving
+    c.self.invariant.shared.arrived shared.arrived within c.self.invariant.noted in record {
       course = rw (pushed, c.index.ensures) course;
       room = rw c.push_reserved.ensures.capacity c.self.invariant.room;
-      shared = rw (pushed, c.note_arrival.ensures, noted) (subst (λ st. IsShared c.self.inside.plan.now st c.self.inside.fences.now (after_arrival (option_map (λ f. f.number) c.arrived_at-fence.result) c.self.inside.arrivals) (names_after (calls_at plan c.args.proc.number (s.done c.args.proc.number)) (Some (kind_of sets c.in-Some.kind)) c.self.inside.names)) (sym (run_push plan start w c.args.proc.number)) shared);
-      noted = rw (pushed, c.note.ensures, c.wake.ensures, comes) (subst (λ st. AreNoted c.self.inside.plan.now c.self.inside.fences.now st (slice_set (map (known_after (coming c.args.proc c.arrived_at-fence.result (after_arrival (option_map (λ f. f.number) c.arrived_at-fence.result) c.self.inside.arrivals) (kind_of sets c.in-Some.kind))) c.self.inside.waits) c.args.proc.number Unknown)) (sym (run_push plan start w c.args.proc.number)) waits);
+      shared = rw (
+        pushed,
+        c.note_arrival.ensures,
+        noted,
+      ) (subst (λ st. IsShared c.self.inside.plan.now st c.self.inside.fences.now (after_arrival (option_map (λ f. f.number) c.arrived_at-fence.result) c.self.inside.arrivals)
+          (names_after (calls_at plan c.args.proc.number (s.done c.args.proc.number)) (Some (kind_of sets c.in-Some.kind)) c.self.inside.names)) (sym (run_push plan start w c.args.proc.number))
+          shared);
+      noted = rw (
+        pushed,
+        c.note.ensures,
+        c.wake.ensures,
+        comes,
+      ) (subst (λ st. AreNoted c.self.inside.plan.now c.self.inside.fences.now st
+          (slice_set (map (known_after (coming c.args.proc c.arrived_at-fence.result (after_arrival (option_map (λ f. f.number) c.arrived_at-fence.result) c.self.inside.arrivals)
+          (kind_of sets c.in-Some.kind))) c.self.inside.waits) c.args.proc.number Unknown)) (sym (run_push plan start w c.args.proc.number)) waits);
       looked = c.self.invariant.looked;
     }
 

@@ -13,8 +13,12 @@ after_fence : (sets : List (List ℕ)) (call : Call) (which : ℕ) (collect : Bo
     → call ≡ Fence which collect → before ≡ slice_index_or counts which 0 → members ≡ length (set_at sets which)
     → IsCalled rows which (before + 1) members collect n new → IsAfter sets call rows counts (Some n) new (set counts which (before + 1))
 after_fence sets call which collect rows new counts before members n is count size called =
-    subst (λ k. IsAfter sets k rows counts (Some n) new (set counts which (before + 1))) (sym is)
-    (n, refl, subst (λ m. IsCalled rows which (slice_index_or counts which 0 + 1) m collect n new) size (subst (λ b. IsCalled rows which (b + 1) members collect n new) count called), ap (λ b. set counts which (b + 1)) count)
+    subst (λ k. IsAfter sets k rows counts (Some n) new (set counts which (before + 1))) (sym is) (
+      n,
+      refl,
+      subst (λ m. IsCalled rows which (slice_index_or counts which 0 + 1) m collect n new) size (subst (λ b. IsCalled rows which (b + 1) members collect n new) count called),
+      ap (λ b. set counts which (b + 1)) count,
+    )
 
 pub returns-clause-after : goal.returns-clause-after
 returns-clause-after c =

@@ -19,7 +19,8 @@ loop-process-preserved c =
       all = subst
           (λ (xs : List (List (Option ℕ))). AllRead c.read_calls.new.self.rows.items (map (λ v. numbers_of v.items) c.args.sets.now) c.args.processes.now xs (c.loop-process.process-index + 1))
           (sym (ap (map (λ v. v.items)) c.in_ok-push.ensures.items ∙ map_push (λ v. v.items) c.loop-process.numbers.items c.in_ok-numbers_there.numbers_there))
-          (all_more_of c.loop-process.self.rows.items c.read_calls.new.self.rows.items (map (λ v. numbers_of v.items) c.args.sets.now) c.args.processes.now (map (λ v. v.items) c.loop-process.numbers.items) c.in_ok-numbers_there.numbers_there.items c.loop-process.process-index c.process-item.result c.calls.result.now
+          (all_more_of c.loop-process.self.rows.items c.read_calls.new.self.rows.items (map (λ v. numbers_of v.items) c.args.sets.now) c.args.processes.now
+          (map (λ v. v.items) c.loop-process.numbers.items) c.in_ok-numbers_there.numbers_there.items c.loop-process.process-index c.process-item.result c.calls.result.now
           c.loop-process.invariant.all low c.process-item.is c.calls.ensures
           c.in_ok-numbers_there.ensures.few c.in_ok-numbers_there.ensures.numbers c.in_ok-numbers_there.ensures.kept c.in_ok-numbers_there.ensures.read);
     }

@@ -24,7 +24,8 @@ loop-call-init c = record {
 
 pub read-requires-clause-counts : goal.read-requires-clause-counts
 read-requires-clause-counts c = λ n.
-    let fits = count_fits c.args.self.now.rows.items c.loop-call.self.rows.items (map (λ v. numbers_of v.items) c.args.sets.now) c.args.calls.now c.loop-call.counts.items c.loop-call.numbers.items c.loop-call.call-index n c.loop-call.invariant.state (omega arith) in
+    let fits = count_fits c.args.self.now.rows.items c.loop-call.self.rows.items (map (λ v. numbers_of v.items) c.args.sets.now) c.args.calls.now c.loop-call.counts.items c.loop-call.numbers.items
+    c.loop-call.call-index n c.loop-call.invariant.state (omega arith) in
     let room = c.requires.room in
     omega (arith, fits, room)
 
@@ -46,7 +47,8 @@ loop-call-preserved c =
       state = subst
           (λ xs. StateOf c.args.self.now.rows.items c.read.new.self.rows.items (map (λ v. numbers_of v.items) c.args.sets.now) c.args.calls.now c.read.new.counts.items xs (c.loop-call.call-index + 1))
           (sym c.in_ok-push.ensures.items)
-          (state_more c.args.self.now.rows.items c.loop-call.self.rows.items c.read.new.self.rows.items (map (λ v. numbers_of v.items) c.args.sets.now) c.args.calls.now c.loop-call.counts.items c.read.new.counts.items c.loop-call.numbers.items c.in_ok-number.number c.loop-call.call-index (get_or c.args.calls.now c.loop-call.call-index no_call)
+          (state_more c.args.self.now.rows.items c.loop-call.self.rows.items c.read.new.self.rows.items (map (λ v. numbers_of v.items) c.args.sets.now) c.args.calls.now c.loop-call.counts.items
+          c.read.new.counts.items c.loop-call.numbers.items c.in_ok-number.number c.loop-call.call-index (get_or c.args.calls.now c.loop-call.call-index no_call)
           c.loop-call.invariant.state here
           (λ k collect is. let within = c.requires.within c.loop-call.call-index k collect (here ∙ ap Some is) in omega (arith, within, sets))
           c.in_ok-number.ensures.after);

@@ -28,7 +28,11 @@ returns-clause-ok c =
     let read : map (λ v. numbers_of v.items) c.deref-2.result.now ≡ s.sets = ap (map (λ v. numbers_of v.items)) c.deref-2.ensures.value ∙ copied in
     let processes : c.processes-processes.result.now ≡ s.processes = c.processes-processes.ensures.processes in
     let sound = c.processes-processes.ensures.sound in
-    subst (λ (xs : List (List ℕ)). AreFencesOf s (record { fences = map (info_of xs) c.read_all.new.self.rows.items; numbers = map (λ v. v.items) c.in_ok-numbers.numbers.items; nodes = map (λ v. v.items) c.in_ok-nodes.nodes.items })) (sym copied) (
+    subst (λ (xs : List (List ℕ)). AreFencesOf s (record {
+      fences = map (info_of xs) c.read_all.new.self.rows.items;
+      numbers = map (λ v. v.items) c.in_ok-numbers.numbers.items;
+      nodes = map (λ v. v.items) c.in_ok-nodes.nodes.items;
+    })) (sym copied) (
     fences_are s sound c.read_all.new.self.rows.items (map (λ v. v.items) c.in_ok-numbers.numbers.items) (map (λ v. v.items) c.in_ok-nodes.nodes.items)
     (subst (λ (ps : List Process). AreRead s (read_to s (length ps)) c.read_all.new.self.rows.items) processes (c.in_ok-numbers.ensures.read s sound read processes))
     (subst (λ (ps : List Process). AreAllNumbers c.read_all.new.self.rows.items ps (map (λ v. v.items) c.in_ok-numbers.numbers.items) (length ps)) processes c.in_ok-numbers.ensures.numbers)

@@ -22,7 +22,8 @@ returns-in_default c =
     let new = c.finds_all.new.self in
     let plan = lane.settled.now in
     let event : Event = record { proc = c.rank-proc.result.number; at = c.len-done.result } in
-    let next = next_told lane.board.now plan (record { seat = lane.seat; trail = lane.trail.items }) c.args.self.now new _ event c.self.invariant.0 c.self.view_is c.finds_all.ensures.read (ap (λ (p : Proc). p.number) c.rank-proc.ensures.value) (c.len-done.ensures ∙ lane.trail.ok.0) in
+    let next = next_told lane.board.now plan (record { seat = lane.seat; trail = lane.trail.items }) c.args.self.now new _ event c.self.invariant.0 c.self.view_is c.finds_all.ensures.read
+    (ap (λ (p : Proc). p.number) c.rank-proc.ensures.value) (c.len-done.ensures ∙ lane.trail.ok.0) in
     let sources = subst (λ (t : Scripts × Event). ShowsSources (plan_of t.0) new.seat.known t.1) (λ i. (next.0 i, sym next.1 i)) (c.finds_all.ensures.found.0 c.if-not-finds_all.false) in
     let comes : ¬ (HasFate (plan_of plan) event Waits) = λ w. c.in_default.not-Waits (c.fate.ensures.waits.1 w) in
     let there : event.at < event_count (plan_of plan) event.proc =
@@ -41,7 +42,8 @@ finds_all-requires c =
     let lane = c.self.inside in
     let old = c.args.self.now in
     let event : Event = record { proc = c.rank-proc.result.number; at = c.len-done.result } in
-    let next = next_told lane.board.now lane.settled.now (record { seat = lane.seat; trail = lane.trail.items }) old old _ event c.self.invariant.0 c.self.view_is (read_nothing old) (ap (λ (p : Proc). p.number) c.rank-proc.ensures.value) (c.len-done.ensures ∙ lane.trail.ok.0) in
+    let next = next_told lane.board.now lane.settled.now (record { seat = lane.seat; trail = lane.trail.items }) old old _ event c.self.invariant.0 c.self.view_is (read_nothing old)
+    (ap (λ (p : Proc). p.number) c.rank-proc.ensures.value) (c.len-done.ensures ∙ lane.trail.ok.0) in
     let count = c.event_count.ensures in
     let lt = c.if-done-event_count.false in
     let same = ap (λ (p : Scripts). event_count (plan_of p) c.rank-proc.result.number) (next.0 ∙ sym c.plan.ensures.same) in

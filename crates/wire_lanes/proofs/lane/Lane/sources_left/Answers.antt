@@ -24,7 +24,8 @@ returns-in-None c =
     let of = plan_told lane.board.now lane.settled.now (record { seat = lane.seat; trail = lane.trail.items }) now _ c.self.invariant.0 c.self.view_is in
     let all = c.sources.result in
     let xs = source_list all.previous all.awaited all.arrivals.now in
-    left_first (plan_of now.seat.board.plan) now.seat (event_of c.args.event) xs c.requires.event.0 (subst (λ p. AreSources (plan_of p) (event_of c.args.event) xs) (c.plan.ensures.same ∙ sym of) c.sources.ensures.sources)
+    left_first (plan_of now.seat.board.plan) now.seat (event_of c.args.event) xs c.requires.event.0
+    (subst (λ p. AreSources (plan_of p) (event_of c.args.event) xs) (c.plan.ensures.same ∙ sym of) c.sources.ensures.sources)
 
 pub sources-requires : goal.sources-requires
 sources-requires c =

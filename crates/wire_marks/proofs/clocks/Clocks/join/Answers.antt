@@ -8,15 +8,18 @@ use Rattle.wire_marks.proofs.clocks.Clocks.join.Goals as goal
 
 pub raise_to-last-requires-clause-marked : goal.raise_to-last-requires-clause-marked
 raise_to-last-requires-clause-marked c =
-    let at : slice_get (map event_of c.args.events.now) c.loop-event.event-index ≡ Some (event_of _) = slice_get-map event_of c.args.events.now c.loop-event.event-index ∙ ap (option_map event_of) (slice_get-get_or c.args.events.now c.loop-event.event-index _ c.loop-event-test.true) in
+    let at : slice_get (map event_of c.args.events.now) c.loop-event.event-index ≡ Some (event_of _) = slice_get-map event_of c.args.events.now c.loop-event.event-index
+    ∙ ap (option_map event_of) (slice_get-get_or c.args.events.now c.loop-event.event-index _ c.loop-event-test.true) in
     c.requires.marked c.loop-event.event-index (event_of _) (omega arith) at
 
 pub loop-event-preserved : goal.loop-event-preserved
 loop-event-preserved c =
-    let at : slice_get (map event_of c.args.events.now) c.loop-event.event-index ≡ Some (event_of _) = slice_get-map event_of c.args.events.now c.loop-event.event-index ∙ ap (option_map event_of) (slice_get-get_or c.args.events.now c.loop-event.event-index _ c.loop-event-test.true) in
+    let at : slice_get (map event_of c.args.events.now) c.loop-event.event-index ≡ Some (event_of _) = slice_get-map event_of c.args.events.now c.loop-event.event-index
+    ∙ ap (option_map event_of) (slice_get-get_or c.args.events.now c.loop-event.event-index _ c.loop-event-test.true) in
     record {
       width = c.raise_to-last.ensures.width ∙ c.loop-event.invariant.width;
-      join = join_step c.args.self.now (map event_of c.args.events.now) c.loop-event.event-index (event_of _) (λ q. slice_index c.loop-event.clock.items q) (λ q. slice_index c.raise_to-last.new.clock.items q) at c.loop-event.invariant.join c.raise_to-last.ensures.each;
+      join = join_step c.args.self.now (map event_of c.args.events.now) c.loop-event.event-index (event_of _) (λ q. slice_index c.loop-event.clock.items q)
+          (λ q. slice_index c.raise_to-last.new.clock.items q) at c.loop-event.invariant.join c.raise_to-last.ensures.each;
       last = c.raise_to-last.ensures.last;
     }
 

@@ -8,13 +8,16 @@ use Rattle.wire_marks.proofs.joins.Meeting.count_on.Goals as goal
 
 pub returns-then-not-is_marked-clause-missing : goal.returns-then-not-is_marked-clause-missing
 returns-then-not-is_marked-clause-missing c = λ marked.
-    let at : slice_get (map event_of c.args.arrivals.now) c.met.self.count ≡ Some (event_of c.arrival_at.result) = slice_get-map event_of c.args.arrivals.now c.met.self.count ∙ ap (option_map event_of) c.arrival_at.ensures in
+    let at : slice_get (map event_of c.args.arrivals.now) c.met.self.count ≡ Some (event_of c.arrival_at.result) = slice_get-map event_of c.args.arrivals.now c.met.self.count
+    ∙ ap (option_map event_of) c.arrival_at.ensures in
     true≢false (sym (c.is_marked.ensures.1 (marked c.met.self.count (event_of c.arrival_at.result) c.met-test.true at)) ∙ c.if-not-is_marked.true)
 
 pub met-preserved : goal.met-preserved
 met-preserved c =
-    let at : slice_get (map event_of c.args.arrivals.now) c.met.self.count ≡ Some (event_of c.arrival_at.result) = slice_get-map event_of c.args.arrivals.now c.met.self.count ∙ ap (option_map event_of) c.arrival_at.ensures in
+    let at : slice_get (map event_of c.args.arrivals.now) c.met.self.count ≡ Some (event_of c.arrival_at.result) = slice_get-map event_of c.args.arrivals.now c.met.self.count
+    ∙ ap (option_map event_of) c.arrival_at.ensures in
     record {
-      marked = marked_step c.args.clocks.now (map event_of c.args.arrivals.now) c.met.self.count (event_of c.arrival_at.result) at (c.is_marked.ensures.0 c.if-not-is_marked.false) c.met.invariant.marked;
+      marked = marked_step c.args.clocks.now (map event_of c.args.arrivals.now) c.met.self.count (event_of c.arrival_at.result) at (c.is_marked.ensures.0 c.if-not-is_marked.false)
+          c.met.invariant.marked;
       joined = c.met.invariant.joined;
     }

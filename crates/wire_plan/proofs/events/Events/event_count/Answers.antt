@@ -9,7 +9,8 @@ use Rattle.wire_plan.proofs.events.Events.event_count.Goals as goal
 pub overflow_cast-result : goal.overflow_cast-result
 unfolding event_count
 overflow_cast-result c =
-    let counted : length c.events.result.now ≡ event_count (plan_of c.args.self.now) c.args.proc.number = sym (length-map c.events.result.now (kind_of c.args.self.now.sets)) ∙ ap length c.events.ensures in
+    let counted : length c.events.result.now ≡ event_count (plan_of c.args.self.now) c.args.proc.number = sym (length-map c.events.result.now (kind_of c.args.self.now.sets))
+    ∙ ap length c.events.ensures in
     let fits = rw c.self.view_is at (count_fits c.self.inside.scripts c.args.proc.number c.self.invariant.0.sound.counted.few_calls) in
     omega (arith, counted, fits)
 

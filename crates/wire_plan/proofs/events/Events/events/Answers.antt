@@ -17,4 +17,5 @@ returns-in-None c =
     let rows = c.self.inside.rows.items in
     let lookup = rw (c.deref.ensures.value, c.index.ensures) at c.in-None.ensures.lookup in
     rw (← c.self.view_is)
-    (sym (events_past (λ row. map (kind_of c.self.inside.scripts.sets) row.kinds.items) c.self.inside.scripts rows c.self.invariant.0.events c.args.proc.number (slice_get_past rows c.args.proc.number lookup.3)))
+    (sym (events_past (λ row. map (kind_of c.self.inside.scripts.sets) row.kinds.items) c.self.inside.scripts rows c.self.invariant.0.events c.args.proc.number
+    (slice_get_past rows c.args.proc.number lookup.3)))

@@ -9,4 +9,5 @@ pub returns : goal.returns
 returns c =
     let found = rw (c.processes.ensures.processes, c.self.view_is, c.index.ensures) at c.index-processes-index.is in
     let within : c.args.proc.number < length c.args.self.now.processes = rw (← length-map c.args.self.now.processes (planned_process c.args.self.now)) c.requires in
-    c.node.ensures ∙ sym (node_planned c.args.self.now c.args.proc.number c.index-processes-index.result (slice_get_read c.args.self.now.processes (length c.args.self.now.processes) c.args.proc.number c.index-processes-index.result refl within found))
+    c.node.ensures ∙ sym (node_planned c.args.self.now c.args.proc.number c.index-processes-index.result
+    (slice_get_read c.args.self.now.processes (length c.args.self.now.processes) c.args.proc.number c.index-processes-index.result refl within found))

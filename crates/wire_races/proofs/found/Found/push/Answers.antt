@@ -20,5 +20,6 @@ invariant_of-self-2 c =
 pub returns : goal.returns
 returns c =
     ap (all_told_by c.pack.new.subjects.items) c.in_ok-push.ensures.items
-    ∙ one_more c.self.inside.subjects.items c.pack.new.subjects.items c.self.inside.entries.items c.in_ok-entry.entry c.args.finding c.in_ok-entry.ensures.more c.self.invariant c.in_ok-entry.ensures.told
+    ∙ one_more c.self.inside.subjects.items c.pack.new.subjects.items c.self.inside.entries.items c.in_ok-entry.entry c.args.finding c.in_ok-entry.ensures.more c.self.invariant
+    c.in_ok-entry.ensures.told
     ∙ ap (λ l. l ++ c.args.finding ∷ []) c.self.view_is

@@ -10,8 +10,12 @@ MadeTo round ranks workers n x = Made round ranks workers x.0 x.1 n
 
 pub starts-preserved : goal.starts-preserved
 starts-preserved c =
-    let next = made_more c.args.round c.args.ranks c.args.workers c.starts.passes.items c.starts.thieves.items c.starts.worker c.in_ok-pass.pass c.in_ok-pass.thief c.starts.invariant.0 c.in_ok-pass.ensures.start in
-    (subst (MadeTo c.args.round c.args.ranks c.args.workers (c.starts.worker + 1)) (λ i. (sym c.push_reserved.ensures.items i, sym c.push_reserved-in-starts.ensures.items i)) next, omega arith, omega arith)
+    let next = made_more c.args.round c.args.ranks c.args.workers c.starts.passes.items c.starts.thieves.items c.starts.worker c.in_ok-pass.pass c.in_ok-pass.thief c.starts.invariant.0
+    c.in_ok-pass.ensures.start in (
+      subst (MadeTo c.args.round c.args.ranks c.args.workers (c.starts.worker + 1)) (λ i. (sym c.push_reserved.ensures.items i, sym c.push_reserved-in-starts.ensures.items i)) next,
+      omega arith,
+      omega arith,
+    )
 
 pub cuts-init : goal.cuts-init
 cuts-init c = cutting_nothing _ _ _ _ _ _ c.starts.invariant.0

@@ -9,13 +9,15 @@ use Rattle.wire_store.proofs.store.RankStore.as_of.Goals as goal
 
 pub last_stored-stored-requires-clause-there : goal.last_stored-stored-requires-clause-there
 last_stored-stored-requires-clause-there c = λ x is.
-    let within = newest_within c.self.inside.slots.items c.self.inside.committed (get nat_eq c.self.inside.newest) c.args.key x c.self.invariant.0 (sym is ∙ c.copied-newest.ensures ∙ c.get.ensures.value) in
+    let within = newest_within c.self.inside.slots.items c.self.inside.committed (get nat_eq c.self.inside.newest) c.args.key x c.self.invariant.0
+    (sym is ∙ c.copied-newest.ensures ∙ c.get.ensures.value) in
     let same = ap length c.deref.ensures.value in
     omega (arith, within, same)
 
 pub last_before-last-requires-clause-there : goal.last_before-last-requires-clause-there
 last_before-last-requires-clause-there c = λ x is.
-    let last = last_is c.self.inside.slots.items c.deref.result.now c.args.key c.self.inside.committed c.copied-newest.result c.last_stored-stored.result (get nat_eq c.self.inside.newest) c.deref.ensures.value c.self.invariant.0
+    let last = last_is c.self.inside.slots.items c.deref.result.now c.args.key c.self.inside.committed c.copied-newest.result c.last_stored-stored.result (get nat_eq c.self.inside.newest)
+    c.deref.ensures.value c.self.invariant.0
     (c.copied-newest.ensures ∙ c.get.ensures.value) c.last_stored-stored.ensures
     in
     let within = stored_within c.self.inside.slots.items c.self.inside.committed (get nat_eq c.self.inside.newest) c.args.key x c.self.invariant.0 (sym is ∙ last) in
@@ -25,13 +27,15 @@ last_before-last-requires-clause-there c = λ x is.
 pub returns-clause-kept : goal.returns-clause-kept
 returns-clause-kept c =
     let slots = c.self.inside.slots.items in
-    let last = last_is slots c.deref.result.now c.args.key c.self.inside.committed c.copied-newest.result c.last_stored-stored.result (get nat_eq c.self.inside.newest) c.deref.ensures.value c.self.invariant.0
+    let last = last_is slots c.deref.result.now c.args.key c.self.inside.committed c.copied-newest.result c.last_stored-stored.result (get nat_eq c.self.inside.newest) c.deref.ensures.value
+    c.self.invariant.0
     (c.copied-newest.ensures ∙ c.get.ensures.value) c.last_stored-stored.ensures
     in
     c.shown.ensures
     ∙ ap (λ xs. seen false (put_at xs c.last_before-last.result)) c.deref-3.ensures.value
     ∙ ap (seen false) (
-    found_in_part slots c.deref-2.result.now c.args.key c.args.event c.self.inside.committed c.last_stored-stored.result c.last_before-last.result c.deref-2.ensures.value c.self.invariant.0.within last c.last_before-last.ensures.last
+    found_in_part slots c.deref-2.result.now c.args.key c.args.event c.self.inside.committed c.last_stored-stored.result c.last_before-last.result c.deref-2.ensures.value c.self.invariant.0.within
+    last c.last_before-last.ensures.last
     ∙ found_stored slots c.args.key c.args.event c.self.inside.committed c.self.invariant.0.stored c.self.invariant.0.within
     )
     ∙ ap (λ (k : Kept). seen false (last_stored_before c.args.key c.args.event k.puts)) c.self.view_is

@@ -13,7 +13,8 @@ index-requires c =
 pub returns-in-Some-clause-kept : goal.returns-in-Some-clause-kept
 returns-in-Some-clause-kept c =
     rw (← c.self.view_is)
-    (sym (ap (option_map (λ put. put.call)) (own_put_in c.self.inside.slots.items c.self.inside.committed (get nat_eq c.self.inside.newest) c.args.key c.in-Some.i.now c.index.result.now c.self.invariant.0 c.in-Some.ensures.value c.index.ensures)))
+    (sym (ap (option_map (λ put. put.call)) (own_put_in c.self.inside.slots.items c.self.inside.committed (get nat_eq c.self.inside.newest) c.args.key c.in-Some.i.now c.index.result.now
+    c.self.invariant.0 c.in-Some.ensures.value c.index.ensures)))
 
 pub returns-in-None-clause-kept : goal.returns-in-None-clause-kept
 returns-in-None-clause-kept c =

@@ -8,13 +8,15 @@ use Rattle.wire_store.proofs.store.RankStore.seen_from.Goals as goal
 
 pub last_stored-last-requires-clause-there : goal.last_stored-last-requires-clause-there
 last_stored-last-requires-clause-there c = λ x is.
-    let within = newest_within c.self.inside.slots.items c.self.inside.committed (get nat_eq c.self.inside.newest) c.args.key x c.self.invariant.0 (sym is ∙ c.copied-newest.ensures ∙ c.get.ensures.value) in
+    let within = newest_within c.self.inside.slots.items c.self.inside.committed (get nat_eq c.self.inside.newest) c.args.key x c.self.invariant.0
+    (sym is ∙ c.copied-newest.ensures ∙ c.get.ensures.value) in
     let same = ap length c.deref.ensures.value in
     omega (arith, within, same)
 
 pub shown-requires : goal.shown-requires
 shown-requires c = λ x is.
-    let last = last_is c.self.inside.slots.items c.deref.result.now c.args.key c.self.inside.committed c.copied-newest.result c.last_stored-last.result (get nat_eq c.self.inside.newest) c.deref.ensures.value c.self.invariant.0
+    let last = last_is c.self.inside.slots.items c.deref.result.now c.args.key c.self.inside.committed c.copied-newest.result c.last_stored-last.result (get nat_eq c.self.inside.newest)
+    c.deref.ensures.value c.self.invariant.0
     (c.copied-newest.ensures ∙ c.get.ensures.value) c.last_stored-last.ensures
     in
     let within = stored_within c.self.inside.slots.items c.self.inside.committed (get nat_eq c.self.inside.newest) c.args.key x c.self.invariant.0 (sym is ∙ last) in
@@ -23,7 +25,8 @@ shown-requires c = λ x is.
 
 pub returns-clause-kept : goal.returns-clause-kept
 returns-clause-kept c =
-    let last = last_is c.self.inside.slots.items c.deref.result.now c.args.key c.self.inside.committed c.copied-newest.result c.last_stored-last.result (get nat_eq c.self.inside.newest) c.deref.ensures.value c.self.invariant.0
+    let last = last_is c.self.inside.slots.items c.deref.result.now c.args.key c.self.inside.committed c.copied-newest.result c.last_stored-last.result (get nat_eq c.self.inside.newest)
+    c.deref.ensures.value c.self.invariant.0
     (c.copied-newest.ensures ∙ c.get.ensures.value) c.last_stored-last.ensures
     in
     c.shown.ensures
