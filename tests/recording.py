@@ -22,6 +22,7 @@ SHIPPED = os.path.join(TOP, "record", "recordings")
 PROGRAMS = os.path.join(TOP, "record", "programs")
 SECONDS = 60
 RANDOM_PROGRAMS = 150
+FREE_PROGRAMS = 200
 
 
 def loaded():
@@ -432,7 +433,7 @@ class World:
         """Posts a receive that ends later."""
         if self.ready():
             comm, source, target, tag = stream = self.random.choice(self.ready())
-            number = self.tapes[target].begin(f"receive {comm}")
+            number = self.tapes[target].begin(f"receive {comm} {self.comms[comm].index(source)} {tag}")
             self.posted.append((number, stream, self.sent[stream].pop(0)))
 
     def receive(self):
@@ -464,6 +465,126 @@ class World:
             them = {"all": range(len(members)), "none": (), "below": range(place)}.get(sources)
             for it in them if them is not None else map(int, sources.split(",")):
                 self.known[rank] |= before[members[it]]
+
+
+class Free:
+    """A small random program of MPI whose receives may take a message from anywhere. It knows all its runs: for each mark (a name that is
+    published) which marks come before it in every run that reaches it."""
+
+    def __init__(self, seed):
+        self.random = random.Random(seed)
+        self.size = self.random.randint(2, 4)
+        self.scripts = [[] for _ in range(self.size)]
+        for _ in range(self.random.randint(3, 9)):
+            self.add_message()
+        for _ in range(self.random.randint(0, 2)):
+            self.random.choice((self.add_barrier, self.add_probe))()
+        for n in range(3 * self.size):
+            script = self.scripts[n % self.size]
+            script.insert(self.random.randrange(len(script) + 1), ("mark", f"m{n}"))
+        self.always, self.complete = {}, []
+        self.run_all()
+
+    def add_message(self):
+        source, target = self.random.sample(range(self.size), 2)
+        tag = self.random.randrange(2)
+        ask = (self.random.choice((source, None, None)), self.random.choice((tag, tag, None)))
+        here, there = self.scripts[source], self.scripts[target]
+        here.insert(self.random.randint(len(here) // 2, len(here)), ("send", target, tag))
+        there.insert(self.random.randint(len(there) // 2, len(there)), ("receive", *ask))
+
+    def add_barrier(self):
+        for script in self.scripts:
+            script.append(("barrier",))
+        self.add_message()
+        self.add_message()
+
+    def add_probe(self):
+        receives = [(rank, n) for rank, script in enumerate(self.scripts) for n, it in enumerate(script) if it[0] == "receive"]
+        rank, n = self.random.choice(receives)
+        self.scripts[rank].insert(n, ("probe", *self.scripts[rank][n][1:]))
+
+    def run_all(self):
+        """Takes all steps of all runs, each state once."""
+        first = ((0,) * self.size, (frozenset(),) * self.size, ((),) * self.size)
+        states, seen = [(first, ())], {first}
+        while states and len(seen) < 60000:
+            state, steps = states.pop()
+            following = list(self.steps(state))
+            if not following and all(place == len(script) for place, script in zip(state[0], self.scripts)):
+                self.complete.append(steps)
+            for step, it in following:
+                if it not in seen:
+                    seen.add(it)
+                    states.append((it, (*steps, step)))
+        self.is_known = not states
+
+    def steps(self, state):
+        places, knows, boxes = state
+        heads = [script[place] if place < len(script) else None for script, place in zip(self.scripts, places)]
+        if all(it == ("barrier",) for it in heads):
+            yield ("barrier",), (tuple(it + 1 for it in places), (frozenset().union(*knows),) * self.size, boxes)
+            return
+        for rank, head in enumerate(heads):
+            if head and head[0] != "barrier":
+                yield from self.step(state, rank, head)
+
+    def step(self, state, rank, head):
+        places, knows, boxes = ([*it] for it in state)
+        places[rank] += 1
+        if head[0] == "mark":
+            before = self.always.get(head[1])
+            self.always[head[1]] = knows[rank] if before is None else before & knows[rank]
+            knows[rank] = knows[rank] | {head[1]}
+            yield (rank, head, None), (tuple(places), tuple(knows), tuple(boxes))
+        elif head[0] == "send":
+            boxes[head[1]] = (*boxes[head[1]], (rank, head[2], knows[rank]))
+            yield (rank, head, None), (tuple(places), tuple(knows), tuple(boxes))
+        else:
+            yield from self.take(places, knows, boxes, rank, head)
+
+    def take(self, places, knows, boxes, rank, head):
+        """A receive, or a probe, takes the first message that fits of any process."""
+        taken = set()
+        for n, (source, tag, known) in enumerate(boxes[rank]):
+            if head[1] in (None, source) and head[2] in (None, tag) and source not in taken:
+                taken.add(source)
+                left = boxes[rank] if head[0] == "probe" else boxes[rank][:n] + boxes[rank][n + 1 :]
+                new_knows = (*knows[:rank], knows[rank] | known, *knows[rank + 1 :])
+                yield (rank, head, (source, tag)), (tuple(places), new_knows, (*boxes[:rank], left, *boxes[rank + 1 :]))
+
+    def tapes(self):
+        """The recordings of one of its runs."""
+        found = [in_world(rank, self.size) for rank in range(self.size)]
+        for step in self.random.choice(self.complete):
+            if step == ("barrier",):
+                for tape in found:
+                    tape.call("collective barrier 1", "0 all")
+                continue
+            rank, head, came = step
+            if head[0] == "mark":
+                found[rank].call(f"publish blocks {head[1]}=text:x -")
+            elif head[0] == "send":
+                found[rank].begin(f"send 1 {head[1]} {head[2]} 4")
+            else:
+                source, tag = ("any" if it is None else it for it in head[1:])
+                found[rank].call(f"{head[0]} 1 {source} {tag}", f"0 {came[0]} {came[1]} 4")
+        return found
+
+
+def is_free(room, seed):
+    """Whether the plan of a random program, from whichever of its runs, orders no two marks that another run doesn't."""
+    world = Free(seed)
+    if not world.is_known or not world.complete:
+        return None
+    scripts = scripts_of(made(room, world.tapes()).plan())
+    places = {line.split(" ")[1]: (process, n) for process, lines in enumerate(scripts) for n, line in enumerate(lines) if line.endswith(" x")}
+    before = before_of(scripts)
+    for name, place in places.items():
+        more = {it for it, other in places.items() if other in before[place]} - world.always[name]
+        if more:
+            return tell(f"free run {seed}", f"the plan puts {sorted(more)} before {name}, and another run doesn't")
+    return True
 
 
 def is_ordered(room, seed, is_short):
@@ -810,6 +931,8 @@ def all_runs(program):
         well += [is_twisted(room, *it) for it in twisted(room)]
         well += [is_used(*it) for it in usages(room)]
         well += [is_ordered(room, seed, is_short) for seed in range(RANDOM_PROGRAMS) for is_short in (False, True)]
+        free = [it for it in (is_free(room, seed) for seed in range(FREE_PROGRAMS)) if it is not None]
+        well += [*free, len(free) > FREE_PROGRAMS // 3 or tell("free runs", f"only {len(free)} have a run that ends")]
         well.append(is_shortened(room))
     well += [is_refused(*it) for it in damages()]
     well += [ships(program, name, counts) for name, counts in FINDINGS.items()]
