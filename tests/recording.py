@@ -680,11 +680,12 @@ def twisted(room):
     tapes[1].call("receive 1", "0 0 0 4")
     yield "a synchronous send", tapes, [
         ["publish mpi.0.1.1 sent", "lookup-wait mpi.0.1.1.begun"], ["publish mpi.0.1.1.begun sent", "lookup-wait mpi.0.1.1"]], None
-    # A matched probe took its message, so the receive that is there may be of the next one, and had perhaps not begun.
+    # A receive isn't recorded, so the one that is there may be of the next message, and had perhaps not begun.
     tapes = in_world(0, 2), in_world(1, 2)
     tapes[0].call("send 1 1 0 4").begin("send 1 1 0 4")
-    tapes[1].say("other MPI_Mrecv").call("receive 1", "0 0 0 4")
-    yield "a synchronous send to a matched probe", tapes, [["publish mpi.0.1.1 sent"], ["lookup-wait mpi.0.1.1"]], "1 calls of MPI_Mrecv"
+    tapes[1].say("other MPI_Mrecv").call("receive 1 0 0", "0 0 0 4")
+    yield "a synchronous send to a receive that isn't recorded", tapes, [["publish mpi.0.1.1 sent"], ["lookup-wait mpi.0.1.1"]], "1 calls of MPI_Mrecv"
+    yield from free_receives()
     # Messages that can't be matched order nothing.
     tapes = in_world(0, 2), in_world(1, 2)
     tapes[0].begin("send 1 1 0 4")
@@ -726,6 +727,56 @@ def twisted(room):
     # Ended badly.
     tapes = Tape(0).text(False), Tape(1).text()
     yield "a process that ended badly", tapes, [[], []], "1 processes whose recordings end before PMIx_Finalize"
+
+
+def free_receives():
+    """Receives that may take one of several messages, polls, and probes."""
+    def three(*calls):
+        """Ranks 1 and 2 send to 0, which calls so."""
+        tapes = [in_world(rank, 3) for rank in range(3)]
+        for tape in tapes[1:]:
+            tape.begin("send 1 0 0 4")
+        for what, end in calls:
+            tapes[0].call(what, end)
+        return tapes
+
+    one, other = ("receive 1 any 0", "0 1 0 4 wait"), ("receive 1 any any", "0 2 0 4 wait")
+    both = ["lookup-wait mpi.1.0.1", "lookup-wait mpi.2.0.1"]
+    sent = [["publish mpi.1.0.1 sent"], ["publish mpi.2.0.1 sent"]]
+    said = "2 receives that could have got messages of several"
+    yield "two receives from anywhere", three(one, ("commit", "0"), other, ("commit", "0")), [["commit", *both, "commit"], *sent], said
+    yield "one receive from anywhere", three(one), [[], [], []], "1 receives that could have got"
+    yield "a probe from anywhere", three(("probe 1 any 0", "0 1 0 4 wait"), ("receive 1 1 0", "0 1 0 4 wait")), [[], [], []], "1 receives that"
+    yield "a probe of what is left", three(one, ("probe 1 any 0", "0 2 0 4 wait"), ("commit", "0")), [[*both, "commit"], *sent], "1 receives that"
+    yield "a receive of one among those of any", three(("receive 1 2 0", "0 2 0 4 wait"), ("commit", "0"), one), [
+        [both[1], "commit", both[0]], *sent], said
+    # What is sent after a barrier can't have come before it.
+    tapes = three(one, other)
+    for tape in tapes:
+        tape.call("collective barrier 1", "0 all wait")
+    for tape in tapes[1:]:
+        tape.begin("send 1 0 0 4")
+    yield "two receives before a barrier", tapes, [[*both, "fence all"], *([*it, "fence all"] for it in sent)], said
+    # A poll that succeeded: the order is taken, and counted.
+    tapes = in_world(0, 2), in_world(1, 2)
+    tapes[0].begin("send 1 1 0 4")
+    tapes[1].call("receive 1 0 0", "0 0 0 4 poll")
+    yield "a poll", tapes, [["publish mpi.0.1.1 sent"], ["lookup-wait mpi.0.1.1"]], "# 1 ends of requests that another run may have found open"
+
+
+def takes_no_luck(room):
+    """Whether with --strict nothing is taken from polls, and from one of several; and whether both verdicts can be said."""
+    for how, count in (("poll", 0), ("some", 0), ("wait", 1)):
+        tapes = in_world(0, 2), in_world(1, 2)
+        tapes[0].begin("send 1 1 0 4")
+        tapes[1].call("receive 1 0 0", f"0 0 0 4 {how}")
+        for tape in tapes:
+            tape.call("collective ibarrier 1", f"0 all {how}")
+        maker = made(room, tapes, is_strict=True)
+        wanted = [["publish mpi.0.1.1 sent", "fence all"], ["lookup-wait mpi.0.1.1", "fence all"]] if count else [[], []]
+        if scripts_of(maker.plan()) != wanted:
+            return tell(f"strict, {how}", f"becomes {maker.plan()}")
+    return True
 
 
 def is_twisted(room, name, tapes, scripts, comment):
@@ -837,7 +888,7 @@ SOURCES = {
     "barrier": ["all"] * 4, "bcast": ["none", "3", "3", "3"], "gather": ["none", "none", "all", "none"], "scatter": ["1", "none", "1", "1"],
     "reduce": ["none", "none", "all", "none"], "scan": ["below"] * 4, "exscan": ["below"] * 4, "allgather": ["all"] * 4, "allgatherv": ["1,3"] * 4,
     "alltoall": ["all"] * 4, "alltoallv": ["none", "0", "0,1", "all"], "alltoallw": ["none", "0", "0,1", "all"], "reduce_scatter": ["all"] * 4,
-    "reduce_scatter_block": ["all"] * 4, "allreduce": ["all"] * 4,
+    "reduce_scatter_block": ["all"] * 4, "allreduce": ["all"] * 4, "comm_split": ["all"] * 4, "ibarrier": ["all"] * 4,
 }
 STEPS = 20
 
@@ -933,7 +984,7 @@ def all_runs(program):
         well += [is_ordered(room, seed, is_short) for seed in range(RANDOM_PROGRAMS) for is_short in (False, True)]
         free = [it for it in (is_free(room, seed) for seed in range(FREE_PROGRAMS)) if it is not None]
         well += [*free, len(free) > FREE_PROGRAMS // 3 or tell("free runs", f"only {len(free)} have a run that ends")]
-        well.append(is_shortened(room))
+        well += [is_shortened(room), takes_no_luck(room)]
     well += [is_refused(*it) for it in damages()]
     well += [ships(program, name, counts) for name, counts in FINDINGS.items()]
     well += live(program)
