@@ -642,6 +642,34 @@ static void note_refused(unsigned long number, pmix_status_t status, struct pend
     note_end(number, status == PMIX_OPERATION_SUCCEEDED ? PMIX_SUCCESS : status);
 }
 
+/* --- the launcher --- */
+
+extern char **environ;
+
+/* Open MPI's launcher hands variables on to other nodes by a variable or by its option -x, but never by both. Where it has the option, and
+ * the variable is the recorder's own, it begins again with options in its place. */
+__attribute__((constructor)) static void hand_on_by_options(int count, char **words)
+{
+    static char option[] = "-x", preload[] = "LD_PRELOAD", folder[] = "WIRE_UP_RECORD";
+    const char *list = getenv("OMPI_MCA_mca_base_env_list"), *name = program_invocation_short_name;
+    bool is_launcher = begins(name, "mpirun") || begins(name, "mpiexec") || begins(name, "orterun"), has_option = false;
+    for (int n = 1; n < count; n++)
+        has_option = has_option || !strcmp(words[n], option);
+    if (!is_launcher || !has_option || !list || strcmp(list, "LD_PRELOAD;WIRE_UP_RECORD"))
+        return;
+    char **longer = calloc((size_t)count + 5, sizeof *longer);
+    if (!longer)
+        return;
+    longer[0] = words[0];
+    longer[1] = longer[3] = option;
+    longer[2] = preload;
+    longer[4] = folder;
+    memcpy(longer + 5, words + 1, (size_t)(count - 1) * sizeof *longer);
+    unsetenv("OMPI_MCA_mca_base_env_list");
+    execve("/proc/self/exe", longer, environ);
+    free(longer);
+}
+
 /* --- the calls --- */
 
 #define NOTE(number, fill)                                                                                                       \

@@ -217,7 +217,6 @@ def damages():
     two = Tape(0).text(), Tape(1).text()
     yield "none", {}, "there is no recording"
     yield "an empty file", {"a": b""}, "is empty"
-    yield "a cut line", {"a": fine[:-4]}, "line 7 is cut"
     yield "a cut head", {"a": b"".join(fine.splitlines(True)[:2])}, "line 3 doesn't say when it began"
     yield "a cut in the first line", {"a": fine[:9]}, "line 1 is cut"
     yield "foreign bytes", {"a": fine.replace(b"text:v", b"text:\x80")}, "line 5 has a byte"
@@ -261,7 +260,7 @@ def damages():
 
 
 def is_refused(name, files, what):
-    """Whether recordings end with one line and status 2, and no plan."""
+    """Whether recordings end with one line and status 125, and no plan."""
     with tempfile.TemporaryDirectory(prefix="wire-up-") as room:
         for it, data in files.items():
             with open(os.path.join(room, f"{it}.recording"), "wb") as to:
@@ -269,7 +268,7 @@ def is_refused(name, files, what):
         plan = os.path.join(room, "plan")
         ran = command("-o", plan, "--from", room)
         is_one_line = ran.stderr.count("\n") == 1 and ran.stderr.startswith("wire_up-record: ")
-        if ran.returncode != 2 or ran.stdout or not is_one_line or what not in ran.stderr:
+        if ran.returncode != 125 or ran.stdout or not is_one_line or what not in ran.stderr:
             return tell(name, f"ended with {ran.returncode} and said {ran.stderr[:300]}")
         return not os.path.exists(plan) or tell(name, "wrote a plan")
 
@@ -280,18 +279,29 @@ def usages(room):
     with open(good, "wb") as to:
         to.write(Tape(0).text())
     yield "help", ["--help"], 0, ""
-    yield "nothing", [], 5, "-o PLAN says where the plan goes"
-    yield "no command", ["-o", plan], 5, "which command?"
-    yield "no plan", ["true"], 5, "-o PLAN"
-    yield "an unknown option", ["-o", plan, "--loud", "true"], 5, "--loud is no option"
-    yield "an option twice", ["-o", plan, "-o", plan, "true"], 5, "-o stands twice"
-    yield "an option without its word", ["-o"], 5, "-o needs a file"
-    yield "no files", ["-o", plan, "--from"], 5, "which recordings?"
-    yield "a file that isn't there", ["-o", plan, "--from", os.path.join(room, "none")], 4, "none: No such file"
-    yield "a place that isn't there", ["-o", os.path.join(room, "no", "plan"), "--from", good], 4, "No such file"
-    yield "a full device", ["-o", "/dev/full", "--from", good], 4, "No space left"
+    yield "nothing", [], 125, "-o PLAN says where the plan goes"
+    yield "no command", ["-o", plan], 125, "which command?"
+    yield "no plan", ["true"], 125, "-o PLAN"
+    yield "an unknown option", ["-o", plan, "--loud", "true"], 125, "--loud is no option"
+    yield "an option twice", ["-o", plan, "-o", plan, "true"], 125, "-o stands twice"
+    yield "an option without its word", ["-o"], 125, "-o needs a file"
+    yield "no files", ["-o", plan, "--from"], 125, "which recordings?"
+    yield "a file that isn't there", ["-o", plan, "--from", os.path.join(room, "none")], 125, "none: No such file"
+    yield "a place that isn't there", ["-o", os.path.join(room, "no", "plan"), "--from", good], 125, "No such file"
+    yield "a link where the plan goes", ["-o", linked(room), "--from", good], 0, ""
+    yield "a status of the command", ["-o", plan, "sh", "-c", "exit 7"], 125, "there is no recording"
+    yield "a command that isn't there", ["-o", plan, "./no-such-command"], 127, "No such file"
+    yield "a command that can't be run", ["-o", plan, room], 126, "Permission denied"
+    yield "a full device", ["-o", "/dev/full", "--from", good], 125, "No space left"
     yield "a file", ["-o", plan, "--from", good], 0, ""
     yield "standard output", ["-o", "-", "--from", good], 0, ""
+
+
+def linked(room):
+    """A link to a plan elsewhere."""
+    link = os.path.join(room, "link")
+    os.symlink(os.path.join(room, "elsewhere"), link)
+    return link
 
 
 def is_used(name, words, status, said):
@@ -724,6 +734,9 @@ def twisted(room):
     # A fence with a rank that isn't there, which PMIx refused.
     tapes = Tape(0).call("fence blocks job:0,job:7 -", "-27"), Tape(1)
     yield "a fence with no rank", tapes, [[], []], "1 fences with processes that aren't recorded"
+    # A last line that was cut.
+    tapes = Tape(0).call("put global k text:v").text()[:-4], Tape(1).text()
+    yield "a cut line", tapes, [["put global k v"], []], "1 last lines of recordings, which were cut"
     # Ended badly.
     tapes = Tape(0).text(False), Tape(1).text()
     yield "a process that ended badly", tapes, [[], []], "1 processes whose recordings end before PMIx_Finalize"
@@ -917,7 +930,7 @@ def outlives(program, room):
     """Whether the recording of a process that is killed is there up to its end."""
     path, plan = os.path.join(room, "calls"), os.path.join(room, "killed.plan")
     ran = command("-o", plan, "mpirun", "--oversubscribe", "-n", "2", path, "threads", "killed", env=environment())
-    if ran.returncode != 1 or "the command ended" not in ran.stderr:
+    if ran.returncode in (0, 125) or "the command ended" not in ran.stderr:
         return tell("killed, live", f"ended with {ran.returncode} and said {ran.stderr[:300]}")
     with open(plan, encoding="ascii") as it:
         text = it.read()
