@@ -5,15 +5,18 @@ Usage: python3 tests/recording.py [PROGRAM]
 PROGRAM is the built `wire_up`. With none, the plans are made, and not checked.
 Prints a line for each test that went otherwise than it should, one for what was left out, and last 'N passed, M failed'.
 """
+import glob
 import importlib.machinery
 import importlib.util
 import os
 import random
 import re
 import shutil
+import signal
 import subprocess
 import sys
 import tempfile
+import time
 
 sys.dont_write_bytecode = True
 TOP = os.path.dirname(os.path.dirname(os.path.abspath(__file__)))
@@ -218,7 +221,7 @@ def damages():
     yield "none", {}, "there is no recording"
     yield "an empty file", {"a": b""}, "is empty"
     yield "a cut head", {"a": b"".join(fine.splitlines(True)[:2])}, "line 3 doesn't say when it began"
-    yield "a cut in the first line", {"a": fine[:9]}, "line 1 is cut"
+    yield "a cut in the first line", {"a": fine[:9]}, "line 1 isn't the first line of a recording"
     yield "foreign bytes", {"a": fine.replace(b"text:v", b"text:\x80")}, "line 5 has a byte"
     yield "a zero byte", {"a": fine + b"\0\n"}, "line 8 has a byte"
     yield "another file", {"a": b"rehearsal 1\nnode n0\n"}, "line 1 isn't the first line of a recording"
@@ -313,8 +316,16 @@ def is_used(name, words, status, said):
 # --- the recordings that the repository has ---
 
 # What `check` says of each; and what it says where MPI's order is left out.
-RACE = re.compile(r"race app:0 \d+ app:1 \d+ name solver\n")
+RACE = re.compile(r"race app:\d+ \d+ app:\d+ \d+ name \w+\n")
 FINDINGS = {"collectives": (0, 0), "early": (1, 1), "names": (0, 2), "ring": (0, 0), "spawn": (0, 0), "told": (0, 1)}
+# The recordings of `cases`, on how many processes each was made, and the same of them. Those of a race don't replay.
+CASES = {
+    "wild1": (3, 1, 2), "wild2": (3, 1, 2), "poll": (2, 0, 1), "probe": (2, 0, 1), "matched": (2, 0, 1), "later": (2, 0, 1), "split": (2, 0, 1),
+    "window": (2, 0, 2), "inter": (4, 0, 1), "merged": (4, 0, 1), "jump": (2, 0, 1), "limit": (2, 0, 0),
+}
+FINDINGS |= {name: counts for name, (_, *counts) in CASES.items()} | {"mpi4py": (0, 3), "sleep": (0, 0)}
+# What the checker says is in two plans of one recording, where a poll succeeded.
+BOTH = "wire_up-record: findings 0, and findings 1 with --strict, which takes nothing from 1 ends of requests\n"
 
 
 def found(program, plan, count):
@@ -346,13 +357,39 @@ def ships(program, name, counts):
     with tempfile.TemporaryDirectory(prefix="wire-up-") as room:
         plan, answers = os.path.join(room, "plan"), os.path.join(room, "answers")
         for option, count in zip(([], ["--no-mpi"]), counts):
-            ran = command("-o", plan, "--answers", answers, *option, "--from", os.path.join(SHIPPED, name))
-            if ran.returncode or ran.stderr:
+            checker = ["--checker", program or "/dev/null"]
+            ran = command("-o", plan, "--answers", answers, *checker, *option, "--from", os.path.join(SHIPPED, name))
+            if ran.returncode or ran.stderr != BOTH * (name == "poll" and not option and bool(program)):
                 return tell(name, f"ended with {ran.returncode} and said {ran.stderr[:300]}")
             wrong = program and (found(program, plan, count) or (not count and differs(program, plan, answers)))
             if wrong:
                 return tell(f"{name}{' without MPI' if option else ''}", wrong)
     return True
+
+
+def says_where(program):
+    """Whether the calls of a finding lead to the lines of the program that made them, also by the places that are kept."""
+    with tempfile.TemporaryDirectory(prefix="wire-up-") as room:
+        plan = os.path.join(room, "plan")
+        ran = command("-o", plan, "--from", os.path.join(SHIPPED, "wild1"))
+        with open(os.path.join(PROGRAMS, "cases.c"), encoding="ascii") as it:
+            lines = it.read().splitlines()
+        return leads(program, plan, lines, ran.returncode)
+
+
+def leads(program, plan, lines, status):
+    """Whether the two calls of the one finding come from the lines of `cases` that publish and look up."""
+    with open(plan, encoding="ascii") as it:
+        scripts = scripts_of(it.read())
+    calls = [("app:0", scripts[0].index("lookup first") + 1, "look_up"), ("app:1", scripts[1].index("publish first port") + 1, "publish")]
+    if program and answer(program, "check", plan)[1].splitlines()[0] != "race {} {} {} {} name first".format(*calls[0][:2], *calls[1][:2]):
+        return tell("where", "the finding names other calls")
+    for process, number, function in calls:
+        ran = command("--where", process, str(number), plan)
+        read = re.fullmatch(rf"{function} \(cases\.c:(\d+)\)\n", ran.stdout)
+        if status or not read or f"MPI_{'Lookup' if function == 'look_up' else 'Publish'}_name" not in lines[int(read[1]) - 1]:
+            return tell("where", f"call {number} of {process} comes from {ran.stdout or ran.stderr}")
+    return command("--where", "app:0", "99", plan).returncode == 125 or tell("where", "call 99 is there")
 
 
 # --- the order that MPI gives ---
@@ -817,6 +854,7 @@ def is_shortened(room):
 
 # --- live ---
 
+MPIRUN = ("mpirun", "--oversubscribe", "-n")
 # The programs, on how many processes, and how many findings each has.
 LIVE = {"names": (4, 0), "ring": (4, 0), "collectives": (4, 0), "told": (2, 0), "spawn": (2, 0)}
 
@@ -853,7 +891,7 @@ def compiled(room, name):
         flags = subprocess.run(["pkg-config", "--cflags", "--libs", "pmix"], capture_output=True, text=True, check=True).stdout.split()
         words = ["cc", "-o", path, source, *flags, "-pthread"]
     else:
-        words = ["mpicc", "-o", path, source]
+        words = ["mpicc", "-g", "-o", path, source]
     subprocess.run(words, check=True, capture_output=True)
     return path
 
@@ -880,6 +918,72 @@ def lives(program, room, name, processes, count):
         return tell(f"{name}, live", f"ended with {ran.returncode}, wrote {ran.stdout[:300]} and said {ran.stderr[:300]}")
     wrong = program and (found(program, plan, count) or differs(program, plan, answers))
     return not wrong or tell(f"{name}, live", wrong)
+
+
+def cases_live(program, room):
+    """Whether the small programs of `cases` have the findings that they must have, when they run."""
+    path, plan, answers = compiled(room, "cases"), os.path.join(room, "case.plan"), os.path.join(room, "case.answers")
+    for name, (processes, count, _) in CASES.items():
+        ran = command("-o", plan, "--checker", program or "/dev/null", "--answers", answers, *MPIRUN, str(processes), path, name, env=environment())
+        said = {"limit": "no room", "poll": BOTH if program else ""}.get(name, "")
+        if ran.returncode or ran.stdout != f"{name} done\n" or said not in ran.stderr or (ran.stderr and not said):
+            return tell(f"{name}, live", f"ended with {ran.returncode}, wrote {ran.stdout[:300]} and said {ran.stderr[:300]}")
+        wrong = program and (found(program, plan, count) or (not count and differs(program, plan, answers)))
+        if wrong:
+            return tell(f"{name}, live", wrong)
+        if name == "wild1" and shutil.which("addr2line"):
+            with open(os.path.join(PROGRAMS, "cases.c"), encoding="ascii") as it:
+                if not leads(program, plan, it.read().splitlines(), 0):
+                    return False
+    command("-o", plan, "--strict", *MPIRUN, "2", path, "poll", env=environment())
+    wrong = program and found(program, plan, 1)
+    return not wrong or tell("poll, live, strict", wrong)
+
+
+def python_live(program, room):
+    """Whether a program of mpi4py is recorded without false findings; where there is no mpi4py, says so."""
+    python = next((it for it in (sys.executable, "/usr/bin/python3") if not subprocess.run([it, "-c", "import mpi4py"], capture_output=True, check=False).returncode), None)
+    if not python:
+        print("recording: no program of mpi4py was recorded: there is no mpi4py")
+        return True
+    plan, answers = os.path.join(room, "python.plan"), os.path.join(room, "python.answers")
+    ran = command("-o", plan, "--answers", answers, *MPIRUN, "3", python, os.path.join(PROGRAMS, "cases.py"), env=environment())
+    wrong = f"ended with {ran.returncode} and said {ran.stderr[:300]}" if ran.returncode else program and (found(program, plan, 0) or differs(program, plan, answers))
+    return not wrong or tell("mpi4py, live", wrong)
+
+
+def hands_on(room):
+    """Whether signals reach the program, and what was recorded becomes a plan; and nothing else is left."""
+    path, well = os.path.join(room, "cases"), []
+    for number in (signal.SIGTERM, signal.SIGINT, signal.SIGHUP):
+        with tempfile.TemporaryDirectory(prefix="wire-up-") as here:
+            words = [sys.executable, COMMAND, "-o", os.path.join(here, "plan"), *MPIRUN, "2", path, "sleep"]
+            began = time.monotonic()
+            with subprocess.Popen(words, stdout=subprocess.DEVNULL, stderr=subprocess.PIPE, text=True, env=environment()) as ran:
+                wait_for_recordings(here, 2)
+                ran.send_signal(number)
+                said = ran.communicate(timeout=SECONDS)[1]
+            is_well = ran.returncode not in (0, 125) and time.monotonic() - began < 5.5 and os.listdir(here) == ["plan"] and "the command ended" in said
+            well.append(is_well or tell(f"{number.name}, live", f"ended with {ran.returncode}, left {os.listdir(here)} and said {said[-300:]}"))
+    return all(well)
+
+
+def wait_for_recordings(folder, count):
+    """Waits until so many recordings have the world of MPI in them."""
+    for _ in range(200):
+        time.sleep(0.02)
+        files = glob.glob(os.path.join(folder, "wire_up-record-*", "*.recording"))
+        if len(files) == count and all(b" world " in open(it, "rb").read() for it in files):
+            return
+
+
+def runs_scripts(program, room):
+    """Whether a script that holds `mpirun -x` is recorded, and the status of a command is passed on."""
+    plan = os.path.join(room, "script.plan")
+    script = f"WORD=1 mpirun -x WORD --oversubscribe -n 2 {os.path.join(room, 'cases')} split; exit 3"
+    ran = command("-o", plan, "sh", "-c", script, env=environment())
+    wrong = f"ended with {ran.returncode} and said {ran.stderr[:300]}" if ran.returncode != 3 else program and found(program, plan, 0)
+    return not wrong or tell("a script, live", wrong)
 
 
 def sees_the_same(room, option):
@@ -979,6 +1083,7 @@ def live(program):
     with tempfile.TemporaryDirectory(prefix="wire-up-") as room:
         well = [lives(program, room, name, *how) for name, how in LIVE.items()]
         well += [sees_the_same(room, []), sees_the_same(room, ["threads"]), is_followed(program, room), outlives(program, room)]
+        well += [cases_live(program, room), python_live(program, room), hands_on(room), runs_scripts(program, room)]
         if shutil.which("valgrind"):
             well.append(is_without_fault(room))
         else:
@@ -1000,6 +1105,7 @@ def all_runs(program):
         well += [is_shortened(room), takes_no_luck(room)]
     well += [is_refused(*it) for it in damages()]
     well += [ships(program, name, counts) for name, counts in FINDINGS.items()]
+    well.append(says_where(program))
     well += live(program)
     return well.count(True), well.count(False)
 

@@ -5,7 +5,7 @@
  *   probe, matched, later, split, window, inter, merged, jump
  *                     ordered by a probe, a matched probe, a collective that doesn't block, by calls that make a communicator or a window,
  *                     by communicators of two groups, and by a message after a jump out of MPI: no race
- *   limit             the recording gets no more room than 64 KiB
+ *   limit             the recording gets no more room than 16 KiB
  *   sleep             takes six seconds
  */
 #include <mpi.h>
@@ -162,9 +162,9 @@ static void jump(void)
 
 static void limit(void)
 {
-    struct rlimit most = {65536, 65536};
+    struct rlimit most = {16384, 16384};
     setrlimit(RLIMIT_FSIZE, &most);
-    for (int n = 0; n < 5000; n++) {
+    for (int n = 0; n < 500; n++) {
         if (rank == 0)
             MPI_Send(&x, 1, MPI_INT, 1, 0, MPI_COMM_WORLD);
         if (rank == 1)
