@@ -1359,73 +1359,8 @@ int MPI_Win_free(MPI_Win *win)
 
 /* --- what orders processes too, and is counted alone --- */
 
-#define COUNTS(name, parameters, call)                                                                                           \
-    int name parameters                                                                                                          \
-    {                                                                                                                            \
-        REAL(name);                                                                                                              \
-        if (is_noted(caller))                                                                                                          \
-            note_other(#name);                                                                                                   \
-        int result = real call;                                                                                                  \
-        return result;                                                                                                           \
-    }
-
-/* What it makes may have the handle of a communicator that is gone. */
-#define COUNTS_MAKING(name, parameters, call)                                                                                    \
-    int name parameters                                                                                                          \
-    {                                                                                                                            \
-        REAL(name);                                                                                                              \
-        if (is_noted(caller))                                                                                                          \
-            note_other(#name);                                                                                                   \
-        int result = real call;                                                                                                  \
-        if (result == MPI_SUCCESS)                                                                                               \
-            forget_communicator(*made);                                                                                          \
-        return result;                                                                                                           \
-    }
-
-/* Its request may have the handle of a receive that is over. */
-#define COUNTS_LATER(name, parameters, call)                                                                                     \
-    int name parameters                                                                                                          \
-    {                                                                                                                            \
-        REAL(name);                                                                                                              \
-        bool is = is_noted(caller);                                                                                                    \
-        if (is)                                                                                                                  \
-            note_other(#name);                                                                                                   \
-        int result = real call;                                                                                                  \
-        if (is && result == MPI_SUCCESS)                                                                                         \
-            forget_request(*request);                                                                                            \
-        return result;                                                                                                           \
-    }
-
-COUNTS_LATER(MPI_Comm_idup, (MPI_Comm comm, MPI_Comm *made, MPI_Request *request), (comm, made, request))
-COUNTS(MPI_Neighbor_allgather, (const void *a, int n, MPI_Datatype t, void *b, int m, MPI_Datatype u, MPI_Comm comm), (a, n, t, b, m, u, comm))
-COUNTS(MPI_Neighbor_alltoall, (const void *a, int n, MPI_Datatype t, void *b, int m, MPI_Datatype u, MPI_Comm comm), (a, n, t, b, m, u, comm))
-COUNTS(MPI_Put, (const void *a, int n, MPI_Datatype t, int to, MPI_Aint d, int m, MPI_Datatype u, MPI_Win win), (a, n, t, to, d, m, u, win))
-COUNTS(MPI_Get, (void *a, int n, MPI_Datatype t, int to, MPI_Aint d, int m, MPI_Datatype u, MPI_Win win), (a, n, t, to, d, m, u, win))
-COUNTS(MPI_Accumulate, (const void *a, int n, MPI_Datatype t, int to, MPI_Aint d, int m, MPI_Datatype u, MPI_Op op, MPI_Win win),
-       (a, n, t, to, d, m, u, op, win))
-COUNTS(MPI_Get_accumulate,
-       (const void *a, int n, MPI_Datatype t, void *b, int k, MPI_Datatype r, int to, MPI_Aint d, int m, MPI_Datatype u, MPI_Op op, MPI_Win win),
-       (a, n, t, b, k, r, to, d, m, u, op, win))
-COUNTS(MPI_Fetch_and_op, (const void *a, void *b, MPI_Datatype t, int to, MPI_Aint d, MPI_Op op, MPI_Win win), (a, b, t, to, d, op, win))
-COUNTS(MPI_Compare_and_swap, (const void *a, const void *c, void *b, MPI_Datatype t, int to, MPI_Aint d, MPI_Win win), (a, c, b, t, to, d, win))
-COUNTS(MPI_Win_start, (MPI_Group group, int how, MPI_Win win), (group, how, win))
-COUNTS(MPI_Win_complete, (MPI_Win win), (win))
-COUNTS(MPI_Win_post, (MPI_Group group, int how, MPI_Win win), (group, how, win))
-COUNTS(MPI_Win_wait, (MPI_Win win), (win))
-COUNTS(MPI_Win_lock, (int kind, int rank, int how, MPI_Win win), (kind, rank, how, win))
-COUNTS(MPI_Win_unlock, (int rank, MPI_Win win), (rank, win))
-COUNTS(MPI_Win_lock_all, (int how, MPI_Win win), (how, win))
-COUNTS(MPI_Win_unlock_all, (MPI_Win win), (win))
-COUNTS(MPI_Win_flush, (int rank, MPI_Win win), (rank, win))
-COUNTS(MPI_Win_flush_all, (MPI_Win win), (win))
-COUNTS_MAKING(MPI_Comm_spawn,
-       (const char *command, char *words[], int most, MPI_Info info, int root, MPI_Comm comm, MPI_Comm *made, int codes[]),
-       (command, words, most, info, root, comm, made, codes))
-COUNTS_MAKING(MPI_Comm_spawn_multiple,
-       (int count, char *commands[], char **words[], const int most[], const MPI_Info infos[], int root, MPI_Comm comm, MPI_Comm *made, int codes[]),
-       (count, commands, words, most, infos, root, comm, made, codes))
-COUNTS_MAKING(MPI_Comm_connect, (const char *port, MPI_Info info, int root, MPI_Comm comm, MPI_Comm *made), (port, info, root, comm, made))
-COUNTS_MAKING(MPI_Comm_accept, (const char *port, MPI_Info info, int root, MPI_Comm comm, MPI_Comm *made), (port, info, root, comm, made))
+/* All other functions of mpi.h that can order processes, as others.py finds them there. */
+#include "record-mpi-others.h"
 
 /* --- the beginning --- */
 

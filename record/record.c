@@ -912,46 +912,8 @@ pmix_status_t PMIx_Unpublish_nb(char **keys, const pmix_info_t info[], size_t ni
         }                                                                                                                        \
     } while (0)
 
-/* Their inner calls aren't noted either. */
 #define PASS_ON(name, call)                                                                                                      \
-    do {                                                                                                                         \
-        COUNTED(name);                                                                                                           \
-        pmix_status_t status = call;                                                                                             \
-        return status;                                                                                                           \
-    } while (0)
+    COUNTED(name);                                                                                                               \
+    return call
 
-pmix_status_t PMIx_Connect(const pmix_proc_t procs[], size_t nprocs, const pmix_info_t info[], size_t ninfo)
-{
-    BEGIN(PMIx_Connect, PMIX_ERR_NOT_SUPPORTED);
-    PASS_ON("PMIx_Connect", real(procs, nprocs, info, ninfo));
-}
-
-pmix_status_t PMIx_Connect_nb(const pmix_proc_t procs[], size_t nprocs, const pmix_info_t info[], size_t ninfo, pmix_op_cbfunc_t then, void *data)
-{
-    BEGIN(PMIx_Connect_nb, PMIX_ERR_NOT_SUPPORTED);
-    PASS_ON("PMIx_Connect_nb", real(procs, nprocs, info, ninfo, then, data));
-}
-
-pmix_status_t PMIx_Disconnect(const pmix_proc_t procs[], size_t nprocs, const pmix_info_t info[], size_t ninfo)
-{
-    BEGIN(PMIx_Disconnect, PMIX_ERR_NOT_SUPPORTED);
-    PASS_ON("PMIx_Disconnect", real(procs, nprocs, info, ninfo));
-}
-
-pmix_status_t PMIx_Disconnect_nb(const pmix_proc_t procs[], size_t nprocs, const pmix_info_t info[], size_t ninfo, pmix_op_cbfunc_t then, void *data)
-{
-    BEGIN(PMIx_Disconnect_nb, PMIX_ERR_NOT_SUPPORTED);
-    PASS_ON("PMIx_Disconnect_nb", real(procs, nprocs, info, ninfo, then, data));
-}
-
-pmix_status_t PMIx_Spawn(const pmix_info_t job[], size_t njob, const pmix_app_t apps[], size_t napps, pmix_nspace_t nspace)
-{
-    BEGIN(PMIx_Spawn, PMIX_ERR_NOT_SUPPORTED);
-    PASS_ON("PMIx_Spawn", real(job, njob, apps, napps, nspace));
-}
-
-pmix_status_t PMIx_Spawn_nb(const pmix_info_t job[], size_t njob, const pmix_app_t apps[], size_t napps, pmix_spawn_cbfunc_t then, void *data)
-{
-    BEGIN(PMIx_Spawn_nb, PMIX_ERR_NOT_SUPPORTED);
-    PASS_ON("PMIx_Spawn_nb", real(job, njob, apps, napps, then, data));
-}
+#include "record-others.h"

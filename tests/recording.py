@@ -814,6 +814,39 @@ def free_receives():
     yield "a poll", tapes, [["publish mpi.0.1.1 sent"], ["lookup-wait mpi.0.1.1"]], "# 1 ends of requests that another run may have found open"
 
 
+def says_in_part(room):
+    """Whether a plan that is more ordered than the program is said to be so, beside its head."""
+    tapes = Tape(0), Tape(1)
+    fence = tapes[0].begin("fence nb all pmix.collect=number:1:1")
+    tapes[0].call("publish blocks m=text:x -").end(fence)
+    tapes[1].call("fence blocks all pmix.collect=number:1:1")
+    for n, tape in enumerate(tapes):
+        with open(os.path.join(room, f"part.{n}"), "wb") as to:
+            to.write(tape.text())
+    ran = command("-o", os.path.join(room, "part.plan"), "--from", *(os.path.join(room, f"part.{n}") for n in range(2)))
+    said = "a verdict over this plan holds only in part: 1 calls made while one that doesn't block was open"
+    return (not ran.returncode and said in ran.stderr) or tell("in part", f"ended with {ran.returncode} and said {ran.stderr}")
+
+
+HEADER = """
+extern int MPI_Known(int a); extern int MPI_Odd(const int list[][3], MPI_Request *it,  void *f) __attribute__((deprecated("x")));
+extern int MPI_Type_size(MPI_Datatype t, int *size); int MPI_Barrel(void); extern double MPI_Wtime(void);
+"""
+
+
+def counts_others():
+    """Whether the functions of a header that a recorder doesn't have, and that aren't local, are written to be counted."""
+    script = os.path.join(TOP, "record", "others.py")
+    with tempfile.TemporaryDirectory(prefix="wire-up-") as room:
+        source = os.path.join(room, "source.c")
+        with open(source, "w", encoding="ascii") as to:
+            to.write("/* MPI_Odd */ int MPI_Known(int a) {}")
+        ran = subprocess.run([sys.executable, script, "MPI", source], input=HEADER, capture_output=True, text=True, check=False)
+    wrote = re.findall(r"(?m)^int (\w+)\(|real\((.*)\);|(forget_\w+\(.*\));", ran.stdout)
+    wanted = [("MPI_Odd", "", ""), ("", "list, it, f", ""), ("", "", "forget_request(*it)"), ("MPI_Barrel", "", ""), ("", "", "")]
+    return wrote == wanted or tell("others.py", f"wrote {ran.stdout} and said {ran.stderr}")
+
+
 def takes_no_luck(room):
     """Whether with --strict nothing is taken from polls, and from one of several; and whether both verdicts can be said."""
     for how, count in (("poll", 0), ("some", 0), ("wait", 1)):
@@ -1102,7 +1135,7 @@ def all_runs(program):
         well += [is_ordered(room, seed, is_short) for seed in range(RANDOM_PROGRAMS) for is_short in (False, True)]
         free = [it for it in (is_free(room, seed) for seed in range(FREE_PROGRAMS)) if it is not None]
         well += [*free, len(free) > FREE_PROGRAMS // 3 or tell("free runs", f"only {len(free)} have a run that ends")]
-        well += [is_shortened(room), takes_no_luck(room)]
+        well += [is_shortened(room), takes_no_luck(room), says_in_part(room), counts_others()]
     well += [is_refused(*it) for it in damages()]
     well += [ships(program, name, counts) for name, counts in FINDINGS.items()]
     well.append(says_where(program))
