@@ -46,7 +46,7 @@ def tell(name, what):
 
 def command(*words, **how):
     """Runs wire_up-record."""
-    return subprocess.run([sys.executable, COMMAND, *words], capture_output=True, text=True, timeout=2 * SECONDS, check=False, **how)
+    return subprocess.run([sys.executable, COMMAND, *words], capture_output=True, text=True, timeout=4 * SECONDS, check=False, **how)
 
 
 def answer(program, *words):
@@ -814,6 +814,23 @@ def free_receives():
     yield "a poll", tapes, [["publish mpi.0.1.1 sent"], ["lookup-wait mpi.0.1.1"]], "# 1 ends of requests that another run may have found open"
 
 
+def leaves_out_gets(room):
+    """Whether a plan that would be too long loses the gets of what is surely there, and those alone: not one that waits for something, one
+    that doesn't wait, or one of a key that is put twice and races with nothing."""
+    tapes = [in_world(rank, 3) for rank in range(3)]
+    for tape in tapes:
+        tape.call("put global k text:v").call("commit").call("fence blocks all pmix.collect=number:1:1")
+    tapes[0].call("put global late text:v").call("commit")
+    for _ in range(9000):
+        tapes[1].call("get blocks job:0 :late -", "0 text:v").call("get blocks job:2 :k -", "0 text:v")
+    tapes[2].call("get blocks job:0 :late pmix.immediate=number:1:1", "-46")
+    plan = made(room, tapes).plan()
+    begins = ["put global k v", "commit", "fence all collect"]
+    wanted = [[*begins, "put global late v", "commit"], [*begins, "get app:0 late"], [*begins, "get-now app:0 late"]]
+    is_well = scripts_of(plan) == wanted and "17999 gets, since they can't change a finding" in plan
+    return is_well or tell("many gets", f"becomes {plan[:600]}")
+
+
 def says_in_part(room):
     """Whether a plan that is more ordered than the program is said to be so, beside its head."""
     tapes = Tape(0), Tape(1)
@@ -985,6 +1002,18 @@ def python_live(program, room):
     return not wrong or tell("mpi4py, live", wrong)
 
 
+def holds_many(program, room):
+    """Whether a program of 128 processes is recorded and judged; where the machine is too small, says so."""
+    pages = os.sysconf("SC_PHYS_PAGES") * os.sysconf("SC_PAGE_SIZE")
+    if os.cpu_count() < 4 or pages < 8 << 30:
+        print("recording: no program of 128 processes was recorded: that takes 4 cores and 8 GiB of memory")
+        return True
+    plan = os.path.join(room, "many.plan")
+    ran = command("-o", plan, *MPIRUN, "128", os.path.join(room, "collectives"), env=environment())
+    wrong = f"ended with {ran.returncode} and said {ran.stderr[:300]}" if ran.returncode else program and found(program, plan, 0)
+    return not wrong or tell("128 processes, live", wrong)
+
+
 def hands_on(room):
     """Whether signals reach the program, and what was recorded becomes a plan; and nothing else is left."""
     path, well = os.path.join(room, "cases"), []
@@ -1116,7 +1145,7 @@ def live(program):
     with tempfile.TemporaryDirectory(prefix="wire-up-") as room:
         well = [lives(program, room, name, *how) for name, how in LIVE.items()]
         well += [sees_the_same(room, []), sees_the_same(room, ["threads"]), is_followed(program, room), outlives(program, room)]
-        well += [cases_live(program, room), python_live(program, room), hands_on(room), runs_scripts(program, room)]
+        well += [cases_live(program, room), python_live(program, room), hands_on(room), runs_scripts(program, room), holds_many(program, room)]
         if shutil.which("valgrind"):
             well.append(is_without_fault(room))
         else:
@@ -1135,7 +1164,7 @@ def all_runs(program):
         well += [is_ordered(room, seed, is_short) for seed in range(RANDOM_PROGRAMS) for is_short in (False, True)]
         free = [it for it in (is_free(room, seed) for seed in range(FREE_PROGRAMS)) if it is not None]
         well += [*free, len(free) > FREE_PROGRAMS // 3 or tell("free runs", f"only {len(free)} have a run that ends")]
-        well += [is_shortened(room), takes_no_luck(room), says_in_part(room), counts_others()]
+        well += [is_shortened(room), takes_no_luck(room), leaves_out_gets(room), says_in_part(room), counts_others()]
     well += [is_refused(*it) for it in damages()]
     well += [ships(program, name, counts) for name, counts in FINDINGS.items()]
     well.append(says_where(program))
