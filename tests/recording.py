@@ -800,6 +800,10 @@ def free_receives():
     yield "a probe of what is left", three(one, ("probe 1 any 0", "0 2 0 4 wait"), ("commit", "0")), [[*both, "commit"], *sent], "1 receives that"
     yield "a receive of one among those of any", three(("receive 1 2 0", "0 2 0 4 wait"), ("commit", "0"), one), [
         [both[1], "commit", both[0]], *sent], said
+    # Where a process may have sent more than is recorded, nothing is taken from a receive from anywhere.
+    tapes = three(one, other)
+    tapes[2] = tapes[2].text(False)
+    yield "two receives from anywhere, and a process that ended badly", tapes, [[], [], []], "2 messages that can't be matched"
     # What is sent after a barrier can't have come before it.
     tapes = three(one, other)
     for tape in tapes:
