@@ -265,8 +265,7 @@ static bool is_noted(const void *caller)
     if (is) {
         here = wire_up_place(caller);
         is = !here || (here->owner != OF_MPI && here->owner != OF_PMIX);
-        if (here && here->owner != OF_PROGRAM)
-            here = NULL;
+        here = here && here->owner == OF_PROGRAM ? wire_up_in_python(here) : NULL;
     }
     if (is)
         meet_world();

@@ -215,9 +215,11 @@ void wire_up_write(char sign, unsigned long number, struct place *place, const s
         if (place && !__atomic_exchange_n(&place->is_noted, true, __ATOMIC_RELAXED)) {
             struct text it;
             wire_up_text_open(&it);
-            wire_up_text_add(&it, "place %u ", place->number);
+            wire_up_text_add(&it, "%s %u ", place->function ? "line" : "place", place->number);
             add_word(&it, place->module, strlen(place->module));
-            wire_up_text_add(&it, " %llx", (unsigned long long)place->offset);
+            wire_up_text_add(&it, place->function ? " %llu " : " %llx", (unsigned long long)place->offset);
+            if (place->function)
+                add_word(&it, place->function, strlen(place->function));
             write_line(to, '=', 0, 0, &it);
             wire_up_text_close(&it);
         }
@@ -322,6 +324,7 @@ static struct place *new_place(const void *address)
     made->address = address;
     made->number = ++places_known;
     if (dladdr(address, &it) && it.dli_fname && it.dli_fbase) {
+        made->is_mpi4py = strstr(it.dli_fname, "/mpi4py/") != NULL;
         const ElfW(Ehdr) *head = it.dli_fbase;
         made->owner = owner_of(it.dli_fname);
         char *whole = realpath(it.dli_fname, NULL);
@@ -356,6 +359,103 @@ struct place *wire_up_place(const void *address)
     return it;
 }
 
+/* --- places of Python --- */
+
+/* The functions of Python that say where it is, if the process has a Python. */
+static struct {
+    int (*is_initialized)(void);
+    void *(*this_thread)(void);
+    int (*take)(void);
+    void (*give_back)(int);
+    void *(*frame)(void);
+    void *(*before)(void *);
+    int (*line)(void *);
+    void *(*code)(void *);
+    void *(*attribute)(void *, const char *);
+    const char *(*text)(void *);
+    void (*drop)(void *);
+} python;
+static pthread_once_t python_once = PTHREAD_ONCE_INIT;
+static bool has_python;
+static struct place *python_places;
+
+static void learn_python(void)
+{
+    const struct {
+        void *to;
+        const char *name;
+    } them[] = {{&python.is_initialized, "Py_IsInitialized"}, {&python.this_thread, "PyGILState_GetThisThreadState"}, {&python.take, "PyGILState_Ensure"},
+                {&python.give_back, "PyGILState_Release"},    {&python.frame, "PyEval_GetFrame"},                     {&python.before, "PyFrame_GetBack"},
+                {&python.line, "PyFrame_GetLineNumber"},      {&python.code, "PyFrame_GetCode"},                      {&python.text, "PyUnicode_AsUTF8"},
+                {&python.drop, "Py_DecRef"},                  {&python.attribute, "PyObject_GetAttrString"}};
+    bool are_there = true;
+    for (size_t n = 0; n < sizeof them / sizeof *them; n++) {
+        *(void **)them[n].to = dlsym(RTLD_DEFAULT, them[n].name);
+        are_there = are_there && *(void **)them[n].to;
+    }
+    has_python = are_there;
+}
+
+/* The place of a line of Python, one for each. */
+static struct place *python_place(const char *file, unsigned line, const char *function)
+{
+    pthread_mutex_lock(&placing);
+    struct place *it = python_places;
+    while (it && !(it->offset == line && !strcmp(it->module, file) && !strcmp(it->function, function)))
+        it = it->next;
+    if (!it && (it = calloc(1, sizeof *it))) {
+        it->module = strdup(file);
+        it->function = strdup(function);
+        it->offset = line;
+        it->number = ++places_known;
+        it->next = python_places;
+        if (it->module && it->function)
+            python_places = it;
+        else
+            it = NULL;
+    }
+    pthread_mutex_unlock(&placing);
+    return it;
+}
+
+/* The place of a frame, unless it is one of Python's own that imports a module. Called with the lock of Python. */
+static struct place *place_of_frame(void *frame)
+{
+    struct place *found = NULL;
+    void *code = python.code(frame);
+    void *file = code ? python.attribute(code, "co_filename") : NULL, *name = code ? python.attribute(code, "co_name") : NULL;
+    const char *where = file ? python.text(file) : NULL, *function = name ? python.text(name) : NULL;
+    if (where && function && *where != '<')
+        found = python_place(where, (unsigned)python.line(frame), function);
+    void *them[] = {name, file, code};
+    for (size_t n = 0; n < sizeof them / sizeof *them; n++)
+        if (them[n])
+            python.drop(them[n]);
+    return found;
+}
+
+/* The line of Python that called mpi4py, in place of the code of mpi4py. */
+struct place *wire_up_in_python(struct place *place)
+{
+    if (!place || !place->is_mpi4py)
+        return place;
+    pthread_once(&python_once, learn_python);
+    if (!has_python || !python.is_initialized() || !python.this_thread())
+        return place;
+    int was = errno, lock = python.take();
+    struct place *found = NULL;
+    for (void *frame = python.frame(), *mine = NULL; frame && !found;) {
+        found = place_of_frame(frame);
+        void *before = found ? NULL : python.before(frame);
+        if (mine)
+            python.drop(mine);
+        frame = mine = before;
+    }
+    python.give_back(lock);
+    errno = was;
+    return found ? found : place;
+}
+
 static _Unwind_Reason_Code step(struct _Unwind_Context *frame, void *found)
 {
     struct place *it = wire_up_place((const void *)_Unwind_GetIP(frame));
@@ -372,7 +472,7 @@ static struct place *place_in_program(void)
     int was = errno;
     _Unwind_Backtrace(step, &found);
     errno = was;
-    return found;
+    return wire_up_in_python(found);
 }
 
 /* --- the library's own functions --- */

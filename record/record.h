@@ -26,19 +26,23 @@ unsigned long wire_up_number(void);
 /* Whose code calls. */
 enum owner { OF_PROGRAM, OF_BINDINGS, OF_MPI, OF_PMIX, OF_SYSTEM, OF_RECORDER };
 
-/* A place in code: a return address, and the object that it is in. Its number is written once with what it stands for. */
+/* A place in code: a return address, and the object that it is in; or a line of Python, and its function. Its number is written once with
+ * what it stands for. */
 struct place {
     const void *address;
     unsigned number;
     enum owner owner;
-    bool is_noted;
-    const char *module;
+    bool is_noted, is_mpi4py;
+    const char *module, *function;
     size_t offset;
     struct place *next;
 };
 
 /* The place of an address; null where memory is refused. */
 struct place *wire_up_place(const void *address);
+
+/* The line of Python that called, where the place is in mpi4py; else the place itself. */
+struct place *wire_up_in_python(struct place *place);
 
 /* Writes one record: a sign (+ a call begins, - it ended, = anything else), the number, the thread, the time, the place if there is one,
  * and the text. */

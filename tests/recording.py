@@ -374,7 +374,20 @@ def says_where(program):
         ran = command("-o", plan, "--from", os.path.join(SHIPPED, "wild1"))
         with open(os.path.join(PROGRAMS, "cases.c"), encoding="ascii") as it:
             lines = it.read().splitlines()
-        return leads(program, plan, lines, ran.returncode)
+        if not leads(program, plan, lines, ran.returncode):
+            return False
+        ran = command("-o", plan, "--from", os.path.join(SHIPPED, "mpi4py"))
+        return leads_to_python(plan)
+
+
+def leads_to_python(plan):
+    """Whether a call of a program of mpi4py comes from its line of Python."""
+    with open(plan, encoding="ascii") as it:
+        number = scripts_of(it.read())[0].index("publish told port") + 1
+    with open(os.path.join(PROGRAMS, "cases.py"), encoding="ascii") as it:
+        line = 1 + next(n for n, text in enumerate(it) if 'Publish_name("told"' in text)
+    ran = command("--where", "app:0", str(number), plan)
+    return ran.stdout == f"<module> (cases.py:{line})\n" or tell("where, mpi4py", f"call {number} comes from {ran.stdout or ran.stderr}")
 
 
 def leads(program, plan, lines, status):
@@ -1003,7 +1016,7 @@ def python_live(program, room):
     plan, answers = os.path.join(room, "python.plan"), os.path.join(room, "python.answers")
     ran = command("-o", plan, "--answers", answers, *MPIRUN, "3", python, os.path.join(PROGRAMS, "cases.py"), env=environment())
     wrong = f"ended with {ran.returncode} and said {ran.stderr[:300]}" if ran.returncode else program and (found(program, plan, 0) or differs(program, plan, answers))
-    return not wrong or tell("mpi4py, live", wrong)
+    return leads_to_python(plan) if not wrong else tell("mpi4py, live", wrong)
 
 
 def holds_many(program, room):
