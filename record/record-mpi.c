@@ -400,7 +400,7 @@ static void note_received(unsigned long number, int result, MPI_Status *status, 
     int name(const void *buffer, int count, MPI_Datatype type, int to, int tag, MPI_Comm comm)                                   \
     {                                                                                                                            \
         REAL(name);                                                                                                              \
-        if (is_noted(caller))                                                                                                          \
+        if (is_noted(caller))                                                                                                    \
             note_send(#name, comm, to, tag, bytes_of(count, type));                                                              \
         int result = real(buffer, count, type, to, tag, comm);                                                                   \
         return result;                                                                                                           \
@@ -529,7 +529,7 @@ static void complete(MPI_Request was, int result, MPI_Status *status, const char
     int name(const void *buffer, int count, MPI_Datatype type, int to, int tag, MPI_Comm comm, MPI_Request *request)             \
     {                                                                                                                            \
         REAL(name);                                                                                                              \
-        bool is = is_noted(caller);                                                                                                    \
+        bool is = is_noted(caller);                                                                                              \
         if (is)                                                                                                                  \
             note_send(#name, comm, to, tag, bytes_of(count, type));                                                              \
         int result = real(buffer, count, type, to, tag, comm, request);                                                          \
@@ -547,7 +547,7 @@ SENDS_LATER(MPI_Irsend)
     int name(const void *buffer, int count, MPI_Datatype type, int to, int tag, MPI_Comm comm, MPI_Request *request)             \
     {                                                                                                                            \
         REAL(name);                                                                                                              \
-        bool is = is_noted(caller);                                                                                                    \
+        bool is = is_noted(caller);                                                                                              \
         struct request what = {.kind = WILL_SEND, .is_persistent = true, .comm = comm, .peer = to, .tag = tag};                  \
         if (is)                                                                                                                  \
             what.bytes = bytes_of(count, type);                                                                                  \
@@ -841,12 +841,12 @@ int MPI_Testall(int count, MPI_Request list[], int *flag, MPI_Status *statuses)
     int name(int count, MPI_Request list[], int *ended, int which[], MPI_Status *statuses)                                       \
     {                                                                                                                            \
         REAL(name);                                                                                                              \
-        struct watch it = watch(count, list, statuses, caller);                                                                          \
+        struct watch it = watch(count, list, statuses, caller);                                                                  \
         int result = real(count, list, ended, which, it.statuses);                                                               \
         bool is_told = it.is_on && (result == MPI_SUCCESS || result == MPI_ERR_IN_STATUS);                                       \
         int some = is_told && *ended != MPI_UNDEFINED ? *ended : 0;                                                              \
         for (int n = 0; n < some; n++)                                                                                           \
-            complete(it.were[which[n]], result_of(result, &it.statuses[n]), &it.statuses[n], how);                                 \
+            complete(it.were[which[n]], result_of(result, &it.statuses[n]), &it.statuses[n], how);                               \
         return unwatch(&it, result, some);                                                                                       \
     }
 
@@ -959,7 +959,7 @@ static const char *one(char to[16], int rank)
 /* The arguments of one that failed aren't looked at: they may be why. */
 #define COLLECTIVE(kind, name, call)                                                                                             \
     REAL(name);                                                                                                                  \
-    struct collective it = begin(kind, #name, comm, caller);                                                                          \
+    struct collective it = begin(kind, #name, comm, caller);                                                                     \
     int result = call;                                                                                                           \
     if (result != MPI_SUCCESS) {                                                                                                 \
         end(&it, result, "none");                                                                                                \
@@ -1210,7 +1210,7 @@ static void note_made(const struct communicator *parent, int result, const MPI_C
     {                                                                                                                            \
         REAL(name);                                                                                                              \
         struct communicator parent = {.number = 0};                                                                              \
-        if (is_noted(caller))                                                                                                          \
+        if (is_noted(caller))                                                                                                    \
             parent = parent_of(comm);                                                                                            \
         int result = real call;                                                                                                  \
         note_made(&parent, result, made);                                                                                        \

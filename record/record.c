@@ -5,7 +5,7 @@
  * `wire_up-record` sets both and turns the files into a plan. docs/recording.md has the form of the files.
  *
  * A call is noted just before the library's own function runs, and its end just after, each as one line by one `write`. So
- * nothing is lost when the process dies. What the library calls itself, inside a call or on a thread of its own, isn't noted.
+ * nothing is lost when the process dies. What the library's own code calls, on any thread, isn't noted.
  */
 #define _GNU_SOURCE
 #include "record.h"
@@ -778,7 +778,7 @@ __attribute__((constructor)) static void hand_on_by_options(int count, char **wo
         struct text what;                                                                                                        \
         wire_up_text_open(&what);                                                                                                \
         fill;                                                                                                                    \
-        wire_up_write('+', number, place_in_program(), &what);                                                                                     \
+        wire_up_write('+', number, place_in_program(), &what);                                                                   \
         wire_up_text_close(&what);                                                                                               \
         errno = was;                                                                                                             \
     } while (0)
@@ -1007,7 +1007,7 @@ pmix_status_t PMIx_Unpublish_nb(char **keys, const pmix_info_t info[], size_t ni
             struct text what;                                                                                                    \
             wire_up_text_open(&what);                                                                                            \
             wire_up_text_add(&what, "other " name);                                                                              \
-            wire_up_write('=', 0, NULL, &what);                                                                                        \
+            wire_up_write('=', 0, NULL, &what);                                                                                  \
             wire_up_text_close(&what);                                                                                           \
         }                                                                                                                        \
     } while (0)

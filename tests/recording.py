@@ -746,6 +746,11 @@ def twisted(room):
     tapes[1].say("other MPI_Mrecv").call("receive 1 0 0", "0 0 0 4")
     yield "a synchronous send to a receive that isn't recorded", tapes, [["publish mpi.0.1.1 sent"], ["lookup-wait mpi.0.1.1"]], "1 calls of MPI_Mrecv"
     yield from free_receives()
+    # Another receive was cancelled, which had perhaps got the message in its place, and had begun before.
+    tapes = in_world(0, 2), in_world(1, 2)
+    tapes[0].call("send 1 1 0 4")
+    tapes[1].call("receive 1 any 0", "1").call("receive 1 0 0", "0 0 0 4 wait")
+    yield "a synchronous send, and a receive that was cancelled", tapes, [["publish mpi.0.1.1 sent"], ["lookup-wait mpi.0.1.1"]], None
     # Messages that can't be matched order nothing.
     tapes = in_world(0, 2), in_world(1, 2)
     tapes[0].begin("send 1 1 0 4")
@@ -1009,13 +1014,16 @@ def cases_live(program, room):
 
 def python_live(program, room):
     """Whether a program of mpi4py is recorded without false findings; where there is no mpi4py, says so."""
-    python = next((it for it in (sys.executable, "/usr/bin/python3") if not subprocess.run([it, "-c", "import mpi4py"], capture_output=True, check=False).returncode), None)
+    pythons = [it for it in (sys.executable, shutil.which("python3", path=os.defpath)) if it]
+    python = next((it for it in pythons if not subprocess.run([it, "-c", "import mpi4py"], capture_output=True, check=False).returncode), None)
     if not python:
         print("recording: no program of mpi4py was recorded: there is no mpi4py")
         return True
     plan, answers = os.path.join(room, "python.plan"), os.path.join(room, "python.answers")
     ran = command("-o", plan, "--answers", answers, *MPIRUN, "3", python, os.path.join(PROGRAMS, "cases.py"), env=environment())
-    wrong = f"ended with {ran.returncode} and said {ran.stderr[:300]}" if ran.returncode else program and (found(program, plan, 0) or differs(program, plan, answers))
+    wrong = program and not ran.returncode and (found(program, plan, 0) or differs(program, plan, answers))
+    if ran.returncode:
+        wrong = f"ended with {ran.returncode} and said {ran.stderr[:300]}"
     return leads_to_python(plan) if not wrong else tell("mpi4py, live", wrong)
 
 
