@@ -292,12 +292,17 @@ def usages(room):
     yield "a file that isn't there", ["-o", plan, "--from", os.path.join(room, "none")], 125, "none: No such file"
     yield "a place that isn't there", ["-o", os.path.join(room, "no", "plan"), "--from", good], 125, "No such file"
     yield "a link where the plan goes", ["-o", linked(room), "--from", good], 0, ""
-    yield "a status of the command", ["-o", plan, "sh", "-c", "exit 7"], 125, "there is no recording"
-    yield "a command that isn't there", ["-o", plan, "./no-such-command"], 127, "No such file"
-    yield "a command that can't be run", ["-o", plan, room], 126, "Permission denied"
     yield "a full device", ["-o", "/dev/full", "--from", good], 125, "No space left"
     yield "a file", ["-o", plan, "--from", good], 0, ""
     yield "standard output", ["-o", "-", "--from", good], 0, ""
+
+
+def commands(room):
+    """Command lines with a command, for which the recorder must be built."""
+    plan = os.path.join(room, "plan")
+    yield "a status of the command", ["-o", plan, "sh", "-c", "exit 7"], 125, "there is no recording"
+    yield "a command that isn't there", ["-o", plan, "./no-such-command"], 127, "No such file"
+    yield "a command that can't be run", ["-o", plan, room], 126, "Permission denied"
 
 
 def linked(room):
@@ -1170,6 +1175,7 @@ def live(program):
     with tempfile.TemporaryDirectory(prefix="wire-up-") as room:
         well = [lives(program, room, name, *how) for name, how in LIVE.items()]
         well += [sees_the_same(room, []), sees_the_same(room, ["threads"]), is_followed(program, room), outlives(program, room)]
+        well += [is_used(*it) for it in commands(room)]
         well += [cases_live(program, room), python_live(program, room), hands_on(room), runs_scripts(program, room), holds_many(program, room)]
         if shutil.which("valgrind"):
             well.append(is_without_fault(room))
