@@ -37,16 +37,25 @@ bench:
 # The recorder of PMIx calls, which ./wire_up-record preloads. `PMIX_CFLAGS=-I..` says where the headers are, if pkg-config doesn't know.
 record: record/record.so
 
-record/record.so: record/record.c record/record.h
+# What the recorders only count: all functions of the headers that can order processes, and that they don't note.
+record/record-others.h: record/others.py record/record.c
 	@test -n "$(PMIX_CFLAGS)" || pkg-config --exists pmix || { echo "pkg-config doesn't find PMIx: on Debian the package is libpmix-dev"; exit 1; }
+	@echo '#include <pmix.h>' | $(CC) -E $(or $(PMIX_CFLAGS),$$(pkg-config --cflags pmix)) -x c - > $@.header
+	@python3 record/others.py PMIx record/record.c < $@.header > $@.new && rm $@.header && mv $@.new $@
+
+record/record-mpi-others.h: record/others.py record/record-mpi.c
+	@command -v $(MPICC) > /dev/null || { echo "there is no $(MPICC): on Debian the packages are openmpi-bin and libopenmpi-dev"; exit 1; }
+	@echo '#include <mpi.h>' | $(MPICC) -DOMPI_OMIT_MPI1_COMPAT_DECLS=1 -E -x c - > $@.header
+	@python3 record/others.py MPI record/record-mpi.c < $@.header > $@.new && rm $@.header && mv $@.new $@
+
+record/record.so: record/record.c record/record.h record/record-others.h
 	$(CC) $(SHARED) $(or $(PMIX_CFLAGS),$$(pkg-config --cflags pmix)) -o $@.new $< -ldl
 	@mv $@.new $@
 
 # The recorder of MPI's order beside it. It isn't linked with MPI, so that processes without MPI can load it.
 record-mpi: record/record-mpi.so
 
-record/record-mpi.so: record/record-mpi.c record/record.h
-	@command -v $(MPICC) > /dev/null || { echo "there is no $(MPICC): on Debian the packages are openmpi-bin and libopenmpi-dev"; exit 1; }
+record/record-mpi.so: record/record-mpi.c record/record.h record/record-mpi-others.h
 	$(MPICC) $(SHARED) -Wl,--as-needed -o $@.new $< -ldl
 	@mv $@.new $@
 

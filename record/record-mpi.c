@@ -23,7 +23,7 @@
 #include <string.h>
 
 static pthread_mutex_t tables = PTHREAD_MUTEX_INITIALIZER;
-static __thread int inside; /* how many calls of MPI this thread is in: what MPI calls itself isn't noted */
+static __thread struct place *here; /* where the call comes from that this thread notes now */
 
 /* The functions of MPI that this library calls for itself, and the objects that stand for communicators where the MPI library has such. */
 static struct {
@@ -32,20 +32,23 @@ static struct {
     __typeof__(&PMPI_Comm_size) comm_size;
     __typeof__(&PMPI_Comm_group) comm_group;
     __typeof__(&PMPI_Comm_test_inter) comm_test_inter;
+    __typeof__(&PMPI_Comm_remote_size) comm_remote_size;
+    __typeof__(&PMPI_Comm_remote_group) comm_remote_group;
     __typeof__(&PMPI_Group_translate_ranks) group_translate_ranks;
     __typeof__(&PMPI_Group_free) group_free;
     __typeof__(&PMPI_Type_size) type_size;
     __typeof__(&PMPI_Test_cancelled) test_cancelled;
     MPI_Comm world, none;
+    MPI_Request no_request;
 } its;
 static enum { UNKNOWN, LEARNT, HOPELESS } learnt;
 
 #ifdef OPEN_MPI
 /* An object of the MPI library: the program may have the one copy of it that counts. */
-static MPI_Comm object_of(void *mpi, const char *name)
+static void *object_of(void *mpi, const char *name)
 {
     void *found = dlsym(RTLD_DEFAULT, name);
-    return (MPI_Comm)(found ? found : dlsym(mpi, name));
+    return found ? found : dlsym(mpi, name);
 }
 #endif
 
@@ -63,6 +66,8 @@ static void learn(const void *function)
         its.comm_size = (__typeof__(its.comm_size))dlsym(mpi, "PMPI_Comm_size");
         its.comm_group = (__typeof__(its.comm_group))dlsym(mpi, "PMPI_Comm_group");
         its.comm_test_inter = (__typeof__(its.comm_test_inter))dlsym(mpi, "PMPI_Comm_test_inter");
+        its.comm_remote_size = (__typeof__(its.comm_remote_size))dlsym(mpi, "PMPI_Comm_remote_size");
+        its.comm_remote_group = (__typeof__(its.comm_remote_group))dlsym(mpi, "PMPI_Comm_remote_group");
         its.group_translate_ranks = (__typeof__(its.group_translate_ranks))dlsym(mpi, "PMPI_Group_translate_ranks");
         its.group_free = (__typeof__(its.group_free))dlsym(mpi, "PMPI_Group_free");
         its.type_size = (__typeof__(its.type_size))dlsym(mpi, "PMPI_Type_size");
@@ -70,14 +75,16 @@ static void learn(const void *function)
 #ifdef OPEN_MPI
         its.world = object_of(mpi, "ompi_mpi_comm_world");
         its.none = object_of(mpi, "ompi_mpi_comm_null");
-        bool are_there = its.world && its.none;
+        its.no_request = object_of(mpi, "ompi_request_null");
+        bool are_there = its.world && its.none && its.no_request;
 #else
         its.world = MPI_COMM_WORLD;
         its.none = MPI_COMM_NULL;
+        its.no_request = MPI_REQUEST_NULL;
         bool are_there = true;
 #endif
         are_there = are_there && its.initialized && its.comm_rank && its.comm_size && its.comm_group && its.comm_test_inter &&
-                    its.group_translate_ranks && its.group_free && its.type_size && its.test_cancelled;
+                    its.comm_remote_size && its.comm_remote_group && its.group_translate_ranks && its.group_free && its.type_size && its.test_cancelled;
         __atomic_store_n(&learnt, are_there ? LEARNT : HOPELESS, __ATOMIC_RELEASE);
     }
     pthread_mutex_unlock(&tables);
@@ -86,10 +93,12 @@ static void learn(const void *function)
 /* `real` is MPI's own function of this name. */
 #define REAL(name)                                                                                                               \
     static __typeof__(&P##name) its_##name;                                                                                      \
+    void *caller = __builtin_return_address(0);                                                                                  \
+    (void)caller;                                                                                                                \
     __typeof__(&P##name) real = __atomic_load_n(&its_##name, __ATOMIC_RELAXED);                                                  \
     if (!real) {                                                                                                                 \
         int error = errno;                                                                                                       \
-        real = (__typeof__(&P##name))wire_up_find("P" #name, __builtin_return_address(0), (const void *)&name);                  \
+        real = (__typeof__(&P##name))wire_up_find("P" #name, caller, (const void *)&name);                                       \
         if (real)                                                                                                                \
             learn((const void *)real);                                                                                           \
         __atomic_store_n(&its_##name, real, __ATOMIC_RELAXED);                                                                   \
@@ -104,7 +113,8 @@ static void learn(const void *function)
 struct communicator {
     uintptr_t handle;
     unsigned number, made;
-    int size, rank;
+    int size, rank; /* of the processes that its collectives and messages are with: on an intercommunicator the remote ones, and no rank */
+    bool is_inter;
     struct communicator *next;
 };
 
@@ -141,22 +151,18 @@ static void forget_communicator(MPI_Comm comm)
 
 static void write_plain(struct text *what)
 {
-    wire_up_write('=', 0, what);
+    wire_up_write('=', 0, NULL, what);
     wire_up_text_close(what);
 }
 
 /* Adds the ranks in the world of the members, as ranges. False where a member isn't of this world. */
-static bool add_members(struct text *to, MPI_Comm comm, int size)
+static bool add_members(struct text *to, MPI_Group group, int size)
 {
-    MPI_Group group;
-    int *here = malloc(2 * (size_t)size * sizeof *here), *there = here ? here + size : NULL;
-    bool are_all = here && its.comm_group(comm, &group) == MPI_SUCCESS;
-    if (are_all) {
-        for (int n = 0; n < size; n++)
-            here[n] = n;
-        are_all = its.group_translate_ranks(group, size, here, world_group, there) == MPI_SUCCESS;
-        its.group_free(&group);
-    }
+    int *those = calloc(2 * (size_t)(size ? size : 1), sizeof *those), *there = those ? those + size : NULL;
+    bool are_all = those != NULL;
+    for (int n = 0; are_all && n < size; n++)
+        those[n] = n;
+    are_all = are_all && its.group_translate_ranks(group, size, those, world_group, there) == MPI_SUCCESS;
     for (int n = 0; are_all && n < size; n++)
         are_all = there[n] != MPI_UNDEFINED;
     for (int n = 0, last; are_all && n < size; n = last + 1) {
@@ -166,37 +172,62 @@ static bool add_members(struct text *to, MPI_Comm comm, int size)
         if (last > n)
             wire_up_text_add(to, "-%d", there[last]);
     }
-    free(here);
+    free(those);
     return are_all;
+}
+
+static bool add_group(struct text *to, MPI_Comm comm, __typeof__(&PMPI_Comm_group) take, int size)
+{
+    MPI_Group group;
+    if (take(comm, &group) != MPI_SUCCESS)
+        return false;
+    bool is = add_members(to, group, size);
+    its.group_free(&group);
+    return is;
+}
+
+/* Keeps a communicator by its handle. */
+static void keep_communicator(struct communicator it)
+{
+    struct communicator *kept = malloc(sizeof *kept);
+    if (!kept)
+        return;
+    *kept = it;
+    pthread_mutex_lock(&tables);
+    kept->next = communicators[bucket_of(it.handle)];
+    communicators[bucket_of(it.handle)] = kept;
+    pthread_mutex_unlock(&tables);
 }
 
 /* Notes a communicator whose processes are all of this world. It needs the number of its parent, and which making of the parent's
  * it is. */
 static void note_communicator(MPI_Comm comm, unsigned parent, const char *which, long nth)
 {
-    int is_inter = 0, size = 0, rank = 0;
+    int is_inter = 0, size = 0;
     struct text what;
     forget_communicator(comm);
-    struct communicator *it = malloc(sizeof *it);
-    if (!it)
-        return;
+    struct communicator it = {.handle = (uintptr_t)comm, .rank = -1};
     wire_up_text_open(&what);
     its.comm_test_inter(comm, &is_inter);
     its.comm_size(comm, &size);
-    its.comm_rank(comm, &rank);
-    unsigned number = __atomic_add_fetch(&numbers, 1, __ATOMIC_RELAXED);
-    wire_up_text_add(&what, "comm %u %u %s%ld ", number, parent, which, nth);
-    if (is_inter || !add_members(&what, comm, size)) {
-        wire_up_text_close(&what);
-        free(it);
-        return;
+    it.is_inter = is_inter;
+    it.size = size;
+    it.number = __atomic_add_fetch(&numbers, 1, __ATOMIC_RELAXED);
+    wire_up_text_add(&what, "%s %u %u %s%ld ", is_inter ? "inter" : "comm", it.number, parent, which, nth);
+    bool is_known = add_group(&what, comm, its.comm_group, size);
+    if (is_inter) {
+        its.comm_remote_size(comm, &it.size);
+        wire_up_text_add(&what, " ");
+        is_known = is_known && add_group(&what, comm, its.comm_remote_group, it.size);
+    } else {
+        its.comm_rank(comm, &it.rank);
     }
-    *it = (struct communicator){.handle = (uintptr_t)comm, .number = number, .size = size, .rank = rank};
-    pthread_mutex_lock(&tables);
-    it->next = communicators[bucket_of(it->handle)];
-    communicators[bucket_of(it->handle)] = it;
-    pthread_mutex_unlock(&tables);
-    write_plain(&what);
+    if (is_known) {
+        keep_communicator(it);
+        write_plain(&what);
+    } else {
+        wire_up_text_close(&what);
+    }
 }
 
 /* Notes the world the first time that MPI is there. */
@@ -205,7 +236,6 @@ static void meet_world(void)
     int is_there = 0, rank = 0, size = 0;
     if (__atomic_load_n(&has_world, __ATOMIC_ACQUIRE))
         return;
-    inside++;
     if (its.initialized(&is_there) == MPI_SUCCESS && is_there && its.world) {
         pthread_mutex_lock(&tables);
         bool is_first = !has_world;
@@ -224,14 +254,19 @@ static void meet_world(void)
             note_communicator(its.world, 0, "w", 0);
         }
     }
-    inside--;
 }
 
-/* Whether a call of the program is to be noted. */
-static bool is_noted(void)
+/* Whether a call is to be noted: what MPI's own code calls isn't. No count of open calls can say so, since a call may be left by a jump or
+ * an exception. */
+static bool is_noted(const void *caller)
 {
     int was = errno;
-    bool is = !inside && __atomic_load_n(&learnt, __ATOMIC_ACQUIRE) == LEARNT && wire_up_is_recording();
+    bool is = __atomic_load_n(&learnt, __ATOMIC_ACQUIRE) == LEARNT && wire_up_is_recording();
+    if (is) {
+        here = wire_up_place(caller);
+        is = !here || (here->owner != OF_MPI && here->owner != OF_PMIX);
+        here = here && here->owner == OF_PROGRAM ? wire_up_in_python(here) : NULL;
+    }
     if (is)
         meet_world();
     errno = was;
@@ -265,10 +300,8 @@ static void note_other(const char *name)
 static long long bytes_of(int count, MPI_Datatype type)
 {
     int size = 0;
-    inside++;
     if (count > 0)
         its.type_size(type, &size);
-    inside--;
     return count > 0 ? (long long)count * size : 0;
 }
 
@@ -296,15 +329,28 @@ static unsigned long note_send(const char *name, MPI_Comm comm, int to, int tag,
         wire_up_text_open(&what);
         wire_up_text_add(&what, "send %u %d %d %lld", it.number, to, tag, bytes);
         number = wire_up_number();
-        wire_up_write('+', number, &what);
+        wire_up_write('+', number, here, &what);
         wire_up_text_close(&what);
     }
     errno = was;
     return number;
 }
 
-/* Notes that a receive is posted, and answers its number; 0 where it can't be matched. */
-static unsigned long note_posted(const char *name, MPI_Comm comm, int from)
+/* What was asked for: a rank or any, and a tag or any. */
+static void add_ask(struct text *to, int from, int tag)
+{
+    if (from == MPI_ANY_SOURCE)
+        wire_up_text_add(to, " any");
+    else
+        wire_up_text_add(to, " %d", from);
+    if (tag == MPI_ANY_TAG)
+        wire_up_text_add(to, " any");
+    else
+        wire_up_text_add(to, " %d", tag);
+}
+
+/* Notes that a receive is posted, or that a probe begins, and answers its number; 0 where it can't be matched. */
+static unsigned long note_asked(const char *verb, const char *name, MPI_Comm comm, int from, int tag)
 {
     int was = errno;
     unsigned long number = 0;
@@ -315,31 +361,37 @@ static unsigned long note_posted(const char *name, MPI_Comm comm, int from)
     } else {
         struct text what;
         wire_up_text_open(&what);
-        wire_up_text_add(&what, "receive %u", it.number);
+        wire_up_text_add(&what, "%s %u", verb, it.number);
+        add_ask(&what, from, tag);
         number = wire_up_number();
-        wire_up_write('+', number, &what);
+        wire_up_write('+', number, here, &what);
         wire_up_text_close(&what);
     }
     errno = was;
     return number;
 }
 
-static void note_received(unsigned long number, int result, MPI_Status *status)
+static unsigned long note_posted(const char *name, MPI_Comm comm, int from, int tag) { return note_asked("receive", name, comm, from, tag); }
+
+/* How a request ended: the process waited for it, it asked whether it was over, or it waited for any of several. */
+#define WAITED "wait"
+#define POLLED "poll"
+#define ONE_OF_SOME "some"
+
+static void note_received(unsigned long number, int result, MPI_Status *status, const char *how)
 {
     int was = errno, is_cancelled = 0;
     struct text what;
     if (!number)
         return;
-    inside++;
     if (result == MPI_SUCCESS)
         its.test_cancelled(status, &is_cancelled);
-    inside--;
     wire_up_text_open(&what);
     if (result == MPI_SUCCESS && !is_cancelled)
-        wire_up_text_add(&what, "0 %d %d %lld", status->MPI_SOURCE, status->MPI_TAG, bytes_in(status));
+        wire_up_text_add(&what, "0 %d %d %lld %s", status->MPI_SOURCE, status->MPI_TAG, bytes_in(status), how);
     else
         wire_up_text_add(&what, "1");
-    wire_up_write('-', number, &what);
+    wire_up_write('-', number, NULL, &what);
     wire_up_text_close(&what);
     errno = was;
 }
@@ -348,11 +400,9 @@ static void note_received(unsigned long number, int result, MPI_Status *status)
     int name(const void *buffer, int count, MPI_Datatype type, int to, int tag, MPI_Comm comm)                                   \
     {                                                                                                                            \
         REAL(name);                                                                                                              \
-        if (is_noted())                                                                                                          \
+        if (is_noted(caller))                                                                                                    \
             note_send(#name, comm, to, tag, bytes_of(count, type));                                                              \
-        inside++;                                                                                                                \
         int result = real(buffer, count, type, to, tag, comm);                                                                   \
-        inside--;                                                                                                                \
         return result;                                                                                                           \
     }
 
@@ -364,16 +414,14 @@ SENDS(MPI_Rsend)
 int MPI_Ssend(const void *buffer, int count, MPI_Datatype type, int to, int tag, MPI_Comm comm)
 {
     REAL(MPI_Ssend);
-    unsigned long number = is_noted() ? note_send("MPI_Ssend", comm, to, tag, bytes_of(count, type)) : 0;
-    inside++;
+    unsigned long number = is_noted(caller) ? note_send("MPI_Ssend", comm, to, tag, bytes_of(count, type)) : 0;
     int result = real(buffer, count, type, to, tag, comm);
-    inside--;
     if (number && result == MPI_SUCCESS) {
         int was = errno;
         struct text what;
         wire_up_text_open(&what);
         wire_up_text_add(&what, "0");
-        wire_up_write('-', number, &what);
+        wire_up_write('-', number, NULL, &what);
         wire_up_text_close(&what);
         errno = was;
     }
@@ -382,11 +430,12 @@ int MPI_Ssend(const void *buffer, int count, MPI_Datatype type, int to, int tag,
 
 /* --- requests --- */
 
-/* What a request is for: a receive that is posted, or a send or a receive that a start makes. */
+/* What a request is for: a receive that is posted, a collective that has begun, or a send or a receive that a start makes. */
 struct request {
     uintptr_t handle;
-    enum { POSTED, WILL_SEND, WILL_RECEIVE } kind;
-    unsigned long number; /* of the receive that is posted; 0 where none is */
+    enum { POSTED, COLLECTIVE, WILL_SEND, WILL_RECEIVE } kind;
+    unsigned long number; /* of the receive or the collective; 0 where none is open */
+    char *from;           /* for whose data the collective waits; null is all */
     bool is_persistent;
     MPI_Comm comm;
     int peer, tag;
@@ -411,6 +460,8 @@ static void forget_request(MPI_Request request)
     if (it)
         *at = it->next;
     pthread_mutex_unlock(&tables);
+    if (it)
+        free(it->from);
     free(it);
 }
 
@@ -439,16 +490,24 @@ static unsigned long posted_by(MPI_Request request)
     return number;
 }
 
+static void note_collected(unsigned long number, int result, const char *from, const char *how)
+{
+    struct text what;
+    wire_up_text_open(&what);
+    wire_up_text_add(&what, "%d %s %s", result == MPI_SUCCESS ? 0 : 1, result == MPI_SUCCESS ? from : "none", how);
+    wire_up_write('-', number, NULL, &what);
+    wire_up_text_close(&what);
+}
+
 /* A request is complete: `was` is its handle before. */
-static void complete(MPI_Request was, int result, MPI_Status *status)
+static void complete(MPI_Request was, int result, MPI_Status *status, const char *how)
 {
     int error = errno;
-    unsigned long number = 0;
-    struct request *gone = NULL;
+    struct request done = {.number = 0}, *gone = NULL;
     pthread_mutex_lock(&tables);
     struct request **at = place_of((uintptr_t)was), *it = *at;
     if (it) {
-        number = it->number;
+        done = *it;
         it->number = 0;
         if (!it->is_persistent) {
             *at = it->next;
@@ -456,8 +515,13 @@ static void complete(MPI_Request was, int result, MPI_Status *status)
         }
     }
     pthread_mutex_unlock(&tables);
+    if (done.number && done.kind == COLLECTIVE)
+        note_collected(done.number, result, done.from ? done.from : "all", how);
+    else
+        note_received(done.number, result, status, how);
+    if (gone)
+        free(gone->from);
     free(gone);
-    note_received(number, result, status);
     errno = error;
 }
 
@@ -465,12 +529,10 @@ static void complete(MPI_Request was, int result, MPI_Status *status)
     int name(const void *buffer, int count, MPI_Datatype type, int to, int tag, MPI_Comm comm, MPI_Request *request)             \
     {                                                                                                                            \
         REAL(name);                                                                                                              \
-        bool is = is_noted();                                                                                                    \
+        bool is = is_noted(caller);                                                                                              \
         if (is)                                                                                                                  \
             note_send(#name, comm, to, tag, bytes_of(count, type));                                                              \
-        inside++;                                                                                                                \
         int result = real(buffer, count, type, to, tag, comm, request);                                                          \
-        inside--;                                                                                                                \
         if (is && result == MPI_SUCCESS)                                                                                         \
             forget_request(*request);                                                                                            \
         return result;                                                                                                           \
@@ -485,13 +547,11 @@ SENDS_LATER(MPI_Irsend)
     int name(const void *buffer, int count, MPI_Datatype type, int to, int tag, MPI_Comm comm, MPI_Request *request)             \
     {                                                                                                                            \
         REAL(name);                                                                                                              \
-        bool is = is_noted();                                                                                                    \
+        bool is = is_noted(caller);                                                                                              \
         struct request what = {.kind = WILL_SEND, .is_persistent = true, .comm = comm, .peer = to, .tag = tag};                  \
         if (is)                                                                                                                  \
             what.bytes = bytes_of(count, type);                                                                                  \
-        inside++;                                                                                                                \
         int result = real(buffer, count, type, to, tag, comm, request);                                                          \
-        inside--;                                                                                                                \
         if (is && result == MPI_SUCCESS)                                                                                         \
             remember(*request, what);                                                                                            \
         return result;                                                                                                           \
@@ -505,10 +565,8 @@ SENDS_AGAIN(MPI_Rsend_init)
 int MPI_Recv_init(void *buffer, int count, MPI_Datatype type, int from, int tag, MPI_Comm comm, MPI_Request *request)
 {
     REAL(MPI_Recv_init);
-    bool is = is_noted();
-    inside++;
+    bool is = is_noted(caller);
     int result = real(buffer, count, type, from, tag, comm, request);
-    inside--;
     if (is && result == MPI_SUCCESS)
         remember(*request, (struct request){.kind = WILL_RECEIVE, .is_persistent = true, .comm = comm, .peer = from, .tag = tag});
     return result;
@@ -529,7 +587,7 @@ static void about_to_start(MPI_Request request)
         note_send("MPI_Start", it.comm, it.peer, it.tag, it.bytes);
         return;
     }
-    unsigned long number = note_posted("MPI_Start", it.comm, it.peer);
+    unsigned long number = note_posted("MPI_Start", it.comm, it.peer, it.tag);
     pthread_mutex_lock(&tables);
     found = *place_of((uintptr_t)request);
     if (found)
@@ -540,48 +598,40 @@ static void about_to_start(MPI_Request request)
 int MPI_Start(MPI_Request *request)
 {
     REAL(MPI_Start);
-    if (request && is_noted())
+    if (request && is_noted(caller))
         about_to_start(*request);
-    inside++;
     int result = real(request);
-    inside--;
     return result;
 }
 
 int MPI_Startall(int count, MPI_Request list[])
 {
     REAL(MPI_Startall);
-    if (list && is_noted())
+    if (list && is_noted(caller))
         for (int n = 0; n < count; n++)
             about_to_start(list[n]);
-    inside++;
     int result = real(count, list);
-    inside--;
     return result;
 }
 
 int MPI_Request_free(MPI_Request *request)
 {
     REAL(MPI_Request_free);
-    if (request && is_noted()) {
+    if (request && is_noted(caller)) {
         if (posted_by(*request))
             note_other("MPI_Request_free of a receive");
         forget_request(*request);
     }
-    inside++;
     int result = real(request);
-    inside--;
     return result;
 }
 
 int MPI_Irecv(void *buffer, int count, MPI_Datatype type, int from, int tag, MPI_Comm comm, MPI_Request *request)
 {
     REAL(MPI_Irecv);
-    bool is = is_noted();
-    unsigned long number = is ? note_posted("MPI_Irecv", comm, from) : 0;
-    inside++;
+    bool is = is_noted(caller);
+    unsigned long number = is ? note_posted("MPI_Irecv", comm, from, tag) : 0;
     int result = real(buffer, count, type, from, tag, comm, request);
-    inside--;
     if (is && result == MPI_SUCCESS && number)
         remember(*request, (struct request){.kind = POSTED, .number = number});
     else if (is && result == MPI_SUCCESS)
@@ -593,13 +643,11 @@ int MPI_Recv(void *buffer, int count, MPI_Datatype type, int from, int tag, MPI_
 {
     REAL(MPI_Recv);
     MPI_Status mine;
-    bool is = is_noted();
-    unsigned long number = is ? note_posted("MPI_Recv", comm, from) : 0;
+    bool is = is_noted(caller);
+    unsigned long number = is ? note_posted("MPI_Recv", comm, from, tag) : 0;
     MPI_Status *to = number && status == MPI_STATUS_IGNORE ? &mine : status;
-    inside++;
     int result = real(buffer, count, type, from, tag, comm, to);
-    inside--;
-    note_received(number, result, to);
+    note_received(number, result, to, WAITED);
     return result;
 }
 
@@ -608,15 +656,13 @@ int MPI_Sendrecv(const void *out, int outs, MPI_Datatype out_type, int to, int o
 {
     REAL(MPI_Sendrecv);
     MPI_Status mine;
-    bool is = is_noted();
-    unsigned long number = is ? note_posted("MPI_Sendrecv", comm, from) : 0;
+    bool is = is_noted(caller);
+    unsigned long number = is ? note_posted("MPI_Sendrecv", comm, from, in_tag) : 0;
     if (is)
         note_send("MPI_Sendrecv", comm, to, out_tag, bytes_of(outs, out_type));
     MPI_Status *its = number && status == MPI_STATUS_IGNORE ? &mine : status;
-    inside++;
     int result = real(out, outs, out_type, to, out_tag, in, ins, in_type, from, in_tag, comm, its);
-    inside--;
-    note_received(number, result, its);
+    note_received(number, result, its, WAITED);
     return result;
 }
 
@@ -624,15 +670,13 @@ int MPI_Sendrecv_replace(void *buffer, int count, MPI_Datatype type, int to, int
 {
     REAL(MPI_Sendrecv_replace);
     MPI_Status mine;
-    bool is = is_noted();
-    unsigned long number = is ? note_posted("MPI_Sendrecv_replace", comm, from) : 0;
+    bool is = is_noted(caller);
+    unsigned long number = is ? note_posted("MPI_Sendrecv_replace", comm, from, in_tag) : 0;
     if (is)
         note_send("MPI_Sendrecv_replace", comm, to, out_tag, bytes_of(count, type));
     MPI_Status *its = number && status == MPI_STATUS_IGNORE ? &mine : status;
-    inside++;
     int result = real(buffer, count, type, to, out_tag, from, in_tag, comm, its);
-    inside--;
-    note_received(number, result, its);
+    note_received(number, result, its, WAITED);
     return result;
 }
 
@@ -640,14 +684,12 @@ int MPI_Wait(MPI_Request *request, MPI_Status *status)
 {
     REAL(MPI_Wait);
     MPI_Status mine;
-    bool is = request && is_noted();
+    bool is = request && is_noted(caller);
     MPI_Request was = is ? *request : (MPI_Request)0;
     MPI_Status *to = is && status == MPI_STATUS_IGNORE ? &mine : status;
-    inside++;
     int result = real(request, to);
-    inside--;
     if (is)
-        complete(was, result, to);
+        complete(was, result, to, WAITED);
     return result;
 }
 
@@ -655,33 +697,84 @@ int MPI_Test(MPI_Request *request, int *flag, MPI_Status *status)
 {
     REAL(MPI_Test);
     MPI_Status mine;
-    bool is = request && is_noted();
+    bool is = request && is_noted(caller);
     MPI_Request was = is ? *request : (MPI_Request)0;
     MPI_Status *to = is && status == MPI_STATUS_IGNORE ? &mine : status;
-    inside++;
     int result = real(request, flag, to);
-    inside--;
     if (is && (result != MPI_SUCCESS || *flag))
-        complete(was, result, to);
+        complete(was, result, to, POLLED);
     return result;
 }
+
+/* --- probes --- */
+
+#define PROBES(verb, name, parameters, call)                                                                                     \
+    int name parameters                                                                                                          \
+    {                                                                                                                            \
+        REAL(name);                                                                                                              \
+        MPI_Status mine;                                                                                                         \
+        unsigned long number = is_noted(caller) ? note_asked(verb, #name, comm, from, tag) : 0;                                  \
+        MPI_Status *to = number && status == MPI_STATUS_IGNORE ? &mine : status;                                                 \
+        int result = real call;                                                                                                  \
+        note_received(number, result, to, WAITED);                                                                               \
+        return result;                                                                                                           \
+    }
+
+PROBES("probe", MPI_Probe, (int from, int tag, MPI_Comm comm, MPI_Status *status), (from, tag, comm, to))
+/* A message that is matched is received here: MPI_Mrecv only fetches it. */
+PROBES("receive", MPI_Mprobe, (int from, int tag, MPI_Comm comm, MPI_Message *message, MPI_Status *status), (from, tag, comm, message, to))
+
+/* Those that found nothing aren't noted. */
+#define POLLS(verb, name, parameters, call)                                                                                      \
+    int name parameters                                                                                                          \
+    {                                                                                                                            \
+        REAL(name);                                                                                                              \
+        MPI_Status mine;                                                                                                         \
+        bool is = is_noted(caller);                                                                                              \
+        struct place *place = here;                                                                                              \
+        MPI_Status *to = is && status == MPI_STATUS_IGNORE ? &mine : status;                                                     \
+        int result = real call;                                                                                                  \
+        here = place;                                                                                                            \
+        if (is && result == MPI_SUCCESS && *flag)                                                                                \
+            note_received(note_asked(verb, #name, comm, from, tag), result, to, POLLED);                                         \
+        return result;                                                                                                           \
+    }
+
+POLLS("probe", MPI_Iprobe, (int from, int tag, MPI_Comm comm, int *flag, MPI_Status *status), (from, tag, comm, flag, to))
+POLLS("receive", MPI_Improbe, (int from, int tag, MPI_Comm comm, int *flag, MPI_Message *message, MPI_Status *status),
+      (from, tag, comm, flag, message, to))
+
+int MPI_Imrecv(void *buffer, int count, MPI_Datatype type, MPI_Message *message, MPI_Request *request)
+{
+    REAL(MPI_Imrecv);
+    bool is = is_noted(caller);
+    int result = real(buffer, count, type, message, request);
+    if (is && result == MPI_SUCCESS)
+        forget_request(*request);
+    return result;
+}
+
+/* --- several requests --- */
 
 /* The handles before a call that completes several requests, and statuses where the program takes none. Where there is no memory for
  * them, or no receive among the requests, the call isn't watched. */
 struct watch {
     bool is_on, are_mine;
+    int active; /* how many requests there are: one of one alone is waited for */
     MPI_Request *were;
     MPI_Status *statuses;
 };
 
-static struct watch watch(int count, const MPI_Request list[], MPI_Status *statuses)
+static struct watch watch(int count, const MPI_Request list[], MPI_Status *statuses, const void *caller)
 {
     int was = errno;
     struct watch it = {.statuses = statuses};
     bool is = false;
-    if (list && is_noted())
-        for (int n = 0; n < count && !is; n++)
-            is = posted_by(list[n]) != 0;
+    if (list && is_noted(caller))
+        for (int n = 0; n < count; n++) {
+            is = is || posted_by(list[n]) != 0;
+            it.active += list[n] != its.no_request;
+        }
     if (is) {
         it.were = malloc((size_t)count * sizeof *it.were);
         it.are_mine = statuses == MPI_STATUSES_IGNORE;
@@ -725,58 +818,50 @@ static int result_of(int result, const MPI_Status *status)
 int MPI_Waitall(int count, MPI_Request list[], MPI_Status *statuses)
 {
     REAL(MPI_Waitall);
-    struct watch it = watch(count, list, statuses);
-    inside++;
+    struct watch it = watch(count, list, statuses, caller);
     int result = real(count, list, it.statuses);
-    inside--;
     for (int n = 0; it.is_on && n < count; n++)
         if (result_of(result, &it.statuses[n]) != MPI_ERR_PENDING)
-            complete(it.were[n], result_of(result, &it.statuses[n]), &it.statuses[n]);
+            complete(it.were[n], result_of(result, &it.statuses[n]), &it.statuses[n], WAITED);
     return unwatch(&it, result, count);
 }
 
 int MPI_Testall(int count, MPI_Request list[], int *flag, MPI_Status *statuses)
 {
     REAL(MPI_Testall);
-    struct watch it = watch(count, list, statuses);
-    inside++;
+    struct watch it = watch(count, list, statuses, caller);
     int result = real(count, list, flag, it.statuses);
-    inside--;
     for (int n = 0; it.is_on && (result == MPI_ERR_IN_STATUS || (result == MPI_SUCCESS && *flag)) && n < count; n++)
         if (result_of(result, &it.statuses[n]) != MPI_ERR_PENDING)
-            complete(it.were[n], result_of(result, &it.statuses[n]), &it.statuses[n]);
+            complete(it.were[n], result_of(result, &it.statuses[n]), &it.statuses[n], POLLED);
     return unwatch(&it, result, count);
 }
 
-#define ENDS_SOME(name)                                                                                                          \
+#define ENDS_SOME(name, how)                                                                                                     \
     int name(int count, MPI_Request list[], int *ended, int which[], MPI_Status *statuses)                                       \
     {                                                                                                                            \
         REAL(name);                                                                                                              \
-        struct watch it = watch(count, list, statuses);                                                                          \
-        inside++;                                                                                                                \
+        struct watch it = watch(count, list, statuses, caller);                                                                  \
         int result = real(count, list, ended, which, it.statuses);                                                               \
-        inside--;                                                                                                                \
         bool is_told = it.is_on && (result == MPI_SUCCESS || result == MPI_ERR_IN_STATUS);                                       \
         int some = is_told && *ended != MPI_UNDEFINED ? *ended : 0;                                                              \
         for (int n = 0; n < some; n++)                                                                                           \
-            complete(it.were[which[n]], result_of(result, &it.statuses[n]), &it.statuses[n]);                                    \
+            complete(it.were[which[n]], result_of(result, &it.statuses[n]), &it.statuses[n], how);                               \
         return unwatch(&it, result, some);                                                                                       \
     }
 
-ENDS_SOME(MPI_Waitsome)
-ENDS_SOME(MPI_Testsome)
+ENDS_SOME(MPI_Waitsome, it.active > 1 ? ONE_OF_SOME : WAITED)
+ENDS_SOME(MPI_Testsome, POLLED)
 
 int MPI_Waitany(int count, MPI_Request list[], int *which, MPI_Status *status)
 {
     REAL(MPI_Waitany);
     MPI_Status mine;
-    struct watch it = watch(count, list, status == MPI_STATUS_IGNORE ? &mine : status);
+    struct watch it = watch(count, list, status == MPI_STATUS_IGNORE ? &mine : status, caller);
     MPI_Status *to = it.is_on && status == MPI_STATUS_IGNORE ? &mine : status;
-    inside++;
     int result = real(count, list, which, to);
-    inside--;
     if (it.is_on && which && *which != MPI_UNDEFINED && *which >= 0 && *which < count)
-        complete(it.were[*which], result, to);
+        complete(it.were[*which], result, to, it.active > 1 ? ONE_OF_SOME : WAITED);
     return unwatch(&it, result, 0);
 }
 
@@ -784,13 +869,11 @@ int MPI_Testany(int count, MPI_Request list[], int *which, int *flag, MPI_Status
 {
     REAL(MPI_Testany);
     MPI_Status mine;
-    struct watch it = watch(count, list, status == MPI_STATUS_IGNORE ? &mine : status);
+    struct watch it = watch(count, list, status == MPI_STATUS_IGNORE ? &mine : status, caller);
     MPI_Status *to = it.is_on && status == MPI_STATUS_IGNORE ? &mine : status;
-    inside++;
     int result = real(count, list, which, flag, to);
-    inside--;
     if (it.is_on && flag && which && *flag && *which != MPI_UNDEFINED && *which >= 0 && *which < count)
-        complete(it.were[*which], result, to);
+        complete(it.were[*which], result, to, POLLED);
     return unwatch(&it, result, 0);
 }
 
@@ -802,11 +885,11 @@ struct collective {
     struct communicator comm;
 };
 
-static struct collective begin(const char *kind, const char *name, MPI_Comm comm)
+static struct collective begin(const char *kind, const char *name, MPI_Comm comm, const void *caller)
 {
     struct collective it = {.number = 0};
     int was = errno;
-    if (is_noted()) {
+    if (is_noted(caller)) {
         it.comm = known(comm);
         if (!it.comm.number) {
             note_other(name);
@@ -815,7 +898,7 @@ static struct collective begin(const char *kind, const char *name, MPI_Comm comm
             it.number = wire_up_number();
             wire_up_text_open(&what);
             wire_up_text_add(&what, "collective %s %u", kind, it.comm.number);
-            wire_up_write('+', it.number, &what);
+            wire_up_write('+', it.number, here, &what);
             wire_up_text_close(&what);
         }
     }
@@ -827,36 +910,40 @@ static struct collective begin(const char *kind, const char *name, MPI_Comm comm
 static void end(const struct collective *it, int result, const char *from)
 {
     int was = errno;
-    if (it->number) {
-        struct text what;
-        wire_up_text_open(&what);
-        wire_up_text_add(&what, "%d %s", result == MPI_SUCCESS ? 0 : 1, result == MPI_SUCCESS ? from : "none");
-        wire_up_write('-', it->number, &what);
-        wire_up_text_close(&what);
-    }
+    if (it->number)
+        note_collected(it->number, result, from, WAITED);
     errno = was;
 }
 
-/* The ranks whose counts aren't zero, in types that aren't empty. */
+/* The ranks whose counts aren't zero, in types that aren't empty. `from` is room for them. */
+static const char *by_counts(struct text *from, const struct collective *it, const int counts[], MPI_Datatype type, const MPI_Datatype types[])
+{
+    bool are_all = true, is_first = true;
+    for (int n = 0; n < it->comm.size; n++)
+        if (bytes_of(counts[n], types ? types[n] : type) > 0) {
+            wire_up_text_add(from, is_first ? "%d" : ",%d", n);
+            is_first = false;
+        } else if (n != it->comm.rank) {
+            are_all = false;
+        }
+    return are_all ? "all" : is_first || from->is_lost ? "none" : from->at;
+}
+
 static void end_by_counts(const struct collective *it, int result, const int counts[], MPI_Datatype type, const MPI_Datatype types[])
 {
     int was = errno;
     if (it->number) {
         struct text from;
-        bool are_all = true, is_first = true;
         wire_up_text_open(&from);
-        for (int n = 0; n < it->comm.size; n++)
-            if (bytes_of(counts[n], types ? types[n] : type) > 0) {
-                wire_up_text_add(&from, is_first ? "%d" : ",%d", n);
-                is_first = false;
-            } else if (n != it->comm.rank) {
-                are_all = false;
-            }
-        end(it, from.is_lost ? 1 : result, are_all ? "all" : is_first ? "none" : from.at);
+        end(it, result, by_counts(&from, it, counts, type, types));
         wire_up_text_close(&from);
     }
     errno = was;
 }
+
+/* Whether a process gets what the root of a collective has, and whether it is the root. On an intercommunicator the root says so. */
+static bool gets_from(const struct collective *it, int root) { return root >= 0 && (it->comm.is_inter || it->comm.rank != root); }
+static bool is_root(const struct collective *it, int root) { return it->comm.is_inter ? root == MPI_ROOT : it->comm.rank == root; }
 
 static const char *one(char to[16], int rank)
 {
@@ -872,10 +959,8 @@ static const char *one(char to[16], int rank)
 /* The arguments of one that failed aren't looked at: they may be why. */
 #define COLLECTIVE(kind, name, call)                                                                                             \
     REAL(name);                                                                                                                  \
-    struct collective it = begin(kind, #name, comm);                                                                             \
-    inside++;                                                                                                                    \
+    struct collective it = begin(kind, #name, comm, caller);                                                                     \
     int result = call;                                                                                                           \
-    inside--;                                                                                                                    \
     if (result != MPI_SUCCESS) {                                                                                                 \
         end(&it, result, "none");                                                                                                \
         return result;                                                                                                           \
@@ -935,7 +1020,7 @@ int MPI_Alltoallw(const void *out, const int outs[], const int out_at[], const M
 int MPI_Reduce_scatter(const void *out, void *in, const int ins[], MPI_Datatype type, MPI_Op op, MPI_Comm comm)
 {
     COLLECTIVE("reduce_scatter", MPI_Reduce_scatter, real(out, in, ins, type, op, comm));
-    end(&it, result, it.number && bytes_of(ins[it.comm.rank], type) > 0 ? "all" : "none");
+    end(&it, result, it.number && (it.comm.is_inter || bytes_of(ins[it.comm.rank], type) > 0) ? "all" : "none");
     return result;
 }
 
@@ -950,7 +1035,7 @@ int MPI_Bcast(void *buffer, int count, MPI_Datatype type, int root, MPI_Comm com
 {
     char from[16];
     COLLECTIVE("bcast", MPI_Bcast, real(buffer, count, type, root, comm));
-    end(&it, result, it.number && it.comm.rank != root && bytes_of(count, type) > 0 ? one(from, root) : "none");
+    end(&it, result, it.number && gets_from(&it, root) && bytes_of(count, type) > 0 ? one(from, root) : "none");
     return result;
 }
 
@@ -958,7 +1043,7 @@ int MPI_Scatter(const void *out, int outs, MPI_Datatype out_type, void *in, int 
 {
     char from[16];
     COLLECTIVE("scatter", MPI_Scatter, real(out, outs, out_type, in, ins, in_type, root, comm));
-    end(&it, result, it.number && it.comm.rank != root && bytes_of(ins, in_type) > 0 ? one(from, root) : "none");
+    end(&it, result, it.number && gets_from(&it, root) && bytes_of(ins, in_type) > 0 ? one(from, root) : "none");
     return result;
 }
 
@@ -967,14 +1052,14 @@ int MPI_Scatterv(const void *out, const int outs[], const int at[], MPI_Datatype
 {
     char from[16];
     COLLECTIVE("scatterv", MPI_Scatterv, real(out, outs, at, out_type, in, ins, in_type, root, comm));
-    end(&it, result, it.number && it.comm.rank != root && bytes_of(ins, in_type) > 0 ? one(from, root) : "none");
+    end(&it, result, it.number && gets_from(&it, root) && bytes_of(ins, in_type) > 0 ? one(from, root) : "none");
     return result;
 }
 
 int MPI_Gather(const void *out, int outs, MPI_Datatype out_type, void *in, int ins, MPI_Datatype in_type, int root, MPI_Comm comm)
 {
     COLLECTIVE("gather", MPI_Gather, real(out, outs, out_type, in, ins, in_type, root, comm));
-    end(&it, result, it.number && it.comm.rank == root && bytes_of(ins, in_type) > 0 ? "all" : "none");
+    end(&it, result, it.number && is_root(&it, root) && bytes_of(ins, in_type) > 0 ? "all" : "none");
     return result;
 }
 
@@ -982,7 +1067,7 @@ int MPI_Gatherv(const void *out, int outs, MPI_Datatype out_type, void *in, cons
                 MPI_Comm comm)
 {
     COLLECTIVE("gatherv", MPI_Gatherv, real(out, outs, out_type, in, ins, at, in_type, root, comm));
-    if (it.number && it.comm.rank == root)
+    if (it.number && is_root(&it, root))
         end_by_counts(&it, result, ins, in_type, NULL);
     else
         end(&it, result, "none");
@@ -992,7 +1077,7 @@ int MPI_Gatherv(const void *out, int outs, MPI_Datatype out_type, void *in, cons
 int MPI_Reduce(const void *out, void *in, int count, MPI_Datatype type, MPI_Op op, int root, MPI_Comm comm)
 {
     COLLECTIVE("reduce", MPI_Reduce, real(out, in, count, type, op, root, comm));
-    end(&it, result, it.number && it.comm.rank == root && bytes_of(count, type) > 0 ? "all" : "none");
+    end(&it, result, it.number && is_root(&it, root) && bytes_of(count, type) > 0 ? "all" : "none");
     return result;
 }
 
@@ -1009,6 +1094,89 @@ int MPI_Exscan(const void *out, void *in, int count, MPI_Datatype type, MPI_Op o
     end(&it, result, it.number && bytes_of(count, type) > 0 ? "below" : "none");
     return result;
 }
+
+/* --- collectives that end later --- */
+
+/* Keeps a collective with its request, whose end is the collective's. */
+static void pend(const struct collective *it, int result, MPI_Request *request, const char *from)
+{
+    int was = errno;
+    if (it->number && result == MPI_SUCCESS)
+        remember(*request, (struct request){.kind = COLLECTIVE, .number = it->number, .from = strcmp(from, "all") ? strdup(from) : NULL});
+    else if (it->number)
+        note_collected(it->number, result, "none", WAITED);
+    else if (result == MPI_SUCCESS)
+        forget_request(*request);
+    errno = was;
+}
+
+/* `from` says for whose data the process waits; `ranks` and `rank` are room for it. */
+#define COLLECTIVE_LATER(kind, name, parameters, call, from)                                                                     \
+    int name parameters                                                                                                          \
+    {                                                                                                                            \
+        REAL(name);                                                                                                              \
+        struct collective it = begin(kind, #name, comm, caller);                                                                 \
+        struct text ranks;                                                                                                       \
+        char rank[16];                                                                                                           \
+        (void)rank;                                                                                                              \
+        wire_up_text_open(&ranks);                                                                                               \
+        int result = real call;                                                                                                  \
+        pend(&it, result, request, it.number && result == MPI_SUCCESS ? (from) : "none");                                        \
+        wire_up_text_close(&ranks);                                                                                              \
+        return result;                                                                                                           \
+    }
+
+#define ALL_IF(has_data) ((has_data) ? "all" : "none")
+
+COLLECTIVE_LATER("ibarrier", MPI_Ibarrier, (MPI_Comm comm, MPI_Request *request), (comm, request), "all")
+COLLECTIVE_LATER("ibcast", MPI_Ibcast, (void *b, int n, MPI_Datatype t, int root, MPI_Comm comm, MPI_Request *request),
+                 (b, n, t, root, comm, request), gets_from(&it, root) && bytes_of(n, t) > 0 ? one(rank, root) : "none")
+COLLECTIVE_LATER("iallreduce", MPI_Iallreduce, (const void *a, void *b, int n, MPI_Datatype t, MPI_Op op, MPI_Comm comm, MPI_Request *request),
+                 (a, b, n, t, op, comm, request), ALL_IF(bytes_of(n, t) > 0))
+COLLECTIVE_LATER("ireduce", MPI_Ireduce,
+                 (const void *a, void *b, int n, MPI_Datatype t, MPI_Op op, int root, MPI_Comm comm, MPI_Request *request),
+                 (a, b, n, t, op, root, comm, request), ALL_IF(is_root(&it, root) && bytes_of(n, t) > 0))
+COLLECTIVE_LATER("iallgather", MPI_Iallgather,
+                 (const void *a, int n, MPI_Datatype t, void *b, int m, MPI_Datatype u, MPI_Comm comm, MPI_Request *request),
+                 (a, n, t, b, m, u, comm, request), ALL_IF(bytes_of(m, u) > 0))
+COLLECTIVE_LATER("iallgatherv", MPI_Iallgatherv,
+                 (const void *a, int n, MPI_Datatype t, void *b, const int m[], const int d[], MPI_Datatype u, MPI_Comm comm, MPI_Request *request),
+                 (a, n, t, b, m, d, u, comm, request), by_counts(&ranks, &it, m, u, NULL))
+COLLECTIVE_LATER("ialltoall", MPI_Ialltoall,
+                 (const void *a, int n, MPI_Datatype t, void *b, int m, MPI_Datatype u, MPI_Comm comm, MPI_Request *request),
+                 (a, n, t, b, m, u, comm, request), ALL_IF(bytes_of(m, u) > 0))
+COLLECTIVE_LATER("ialltoallv", MPI_Ialltoallv,
+                 (const void *a, const int n[], const int d[], MPI_Datatype t, void *b, const int m[], const int e[], MPI_Datatype u, MPI_Comm comm,
+                  MPI_Request *request),
+                 (a, n, d, t, b, m, e, u, comm, request), by_counts(&ranks, &it, m, u, NULL))
+COLLECTIVE_LATER("ialltoallw", MPI_Ialltoallw,
+                 (const void *a, const int n[], const int d[], const MPI_Datatype t[], void *b, const int m[], const int e[], const MPI_Datatype u[],
+                  MPI_Comm comm, MPI_Request *request),
+                 (a, n, d, t, b, m, e, u, comm, request), by_counts(&ranks, &it, m, u[0], u))
+COLLECTIVE_LATER("igather", MPI_Igather,
+                 (const void *a, int n, MPI_Datatype t, void *b, int m, MPI_Datatype u, int root, MPI_Comm comm, MPI_Request *request),
+                 (a, n, t, b, m, u, root, comm, request), ALL_IF(is_root(&it, root) && bytes_of(m, u) > 0))
+COLLECTIVE_LATER("igatherv", MPI_Igatherv,
+                 (const void *a, int n, MPI_Datatype t, void *b, const int m[], const int d[], MPI_Datatype u, int root, MPI_Comm comm,
+                  MPI_Request *request),
+                 (a, n, t, b, m, d, u, root, comm, request), is_root(&it, root) ? by_counts(&ranks, &it, m, u, NULL) : "none")
+COLLECTIVE_LATER("iscatter", MPI_Iscatter,
+                 (const void *a, int n, MPI_Datatype t, void *b, int m, MPI_Datatype u, int root, MPI_Comm comm, MPI_Request *request),
+                 (a, n, t, b, m, u, root, comm, request), gets_from(&it, root) && bytes_of(m, u) > 0 ? one(rank, root) : "none")
+COLLECTIVE_LATER("iscatterv", MPI_Iscatterv,
+                 (const void *a, const int n[], const int d[], MPI_Datatype t, void *b, int m, MPI_Datatype u, int root, MPI_Comm comm,
+                  MPI_Request *request),
+                 (a, n, d, t, b, m, u, root, comm, request), gets_from(&it, root) && bytes_of(m, u) > 0 ? one(rank, root) : "none")
+COLLECTIVE_LATER("ireduce_scatter", MPI_Ireduce_scatter,
+                 (const void *a, void *b, const int m[], MPI_Datatype t, MPI_Op op, MPI_Comm comm, MPI_Request *request),
+                 (a, b, m, t, op, comm, request), ALL_IF(it.comm.is_inter || bytes_of(m[it.comm.rank], t) > 0))
+COLLECTIVE_LATER("ireduce_scatter_block", MPI_Ireduce_scatter_block,
+                 (const void *a, void *b, int n, MPI_Datatype t, MPI_Op op, MPI_Comm comm, MPI_Request *request),
+                 (a, b, n, t, op, comm, request), ALL_IF(bytes_of(n, t) > 0))
+COLLECTIVE_LATER("iscan", MPI_Iscan, (const void *a, void *b, int n, MPI_Datatype t, MPI_Op op, MPI_Comm comm, MPI_Request *request),
+                 (a, b, n, t, op, comm, request), bytes_of(n, t) > 0 ? "below" : "none")
+COLLECTIVE_LATER("iexscan", MPI_Iexscan, (const void *a, void *b, int n, MPI_Datatype t, MPI_Op op, MPI_Comm comm, MPI_Request *request),
+                 (a, b, n, t, op, comm, request), bytes_of(n, t) > 0 ? "below" : "none")
 
 /* --- making communicators --- */
 
@@ -1030,9 +1198,7 @@ static void note_made(const struct communicator *parent, int result, const MPI_C
 {
     int was = errno;
     if (parent->number && result == MPI_SUCCESS && *made != its.none) {
-        inside++;
         note_communicator(*made, parent->number, "c", (long)parent->made);
-        inside--;
     } else if (result == MPI_SUCCESS) {
         forget_communicator(*made);
     }
@@ -1044,29 +1210,42 @@ static void note_made(const struct communicator *parent, int result, const MPI_C
     {                                                                                                                            \
         REAL(name);                                                                                                              \
         struct communicator parent = {.number = 0};                                                                              \
-        if (is_noted())                                                                                                          \
+        if (is_noted(caller))                                                                                                    \
             parent = parent_of(comm);                                                                                            \
-        inside++;                                                                                                                \
         int result = real call;                                                                                                  \
-        inside--;                                                                                                                \
         note_made(&parent, result, made);                                                                                        \
         return result;                                                                                                           \
     }
 
+/* The same where each process gets data of every other: it is a collective too. */
+#define GATHERS(kind, name, parameters, call)                                                                                    \
+    int name parameters                                                                                                          \
+    {                                                                                                                            \
+        REAL(name);                                                                                                              \
+        struct communicator parent = {.number = 0};                                                                              \
+        struct collective it = begin(kind, #name, comm, caller);                                                                 \
+        if (is_noted(caller))                                                                                                    \
+            parent = parent_of(comm);                                                                                            \
+        int result = real call;                                                                                                  \
+        end(&it, result, "all");                                                                                                 \
+        note_made(&parent, result, made);                                                                                        \
+        return result;                                                                                                           \
+    }
+
+GATHERS("comm_split", MPI_Comm_split, (MPI_Comm comm, int color, int key, MPI_Comm *made), (comm, color, key, made))
+GATHERS("comm_split_type", MPI_Comm_split_type, (MPI_Comm comm, int type, int key, MPI_Info info, MPI_Comm *made), (comm, type, key, info, made))
+GATHERS("dist_graph_create", MPI_Dist_graph_create,
+        (MPI_Comm comm, int count, const int nodes[], const int degrees[], const int targets[], const int weights[], MPI_Info info, int reorder,
+         MPI_Comm *made),
+        (comm, count, nodes, degrees, targets, weights, info, reorder, made))
 MAKES(MPI_Comm_dup, (MPI_Comm comm, MPI_Comm *made), (comm, made))
 MAKES(MPI_Comm_dup_with_info, (MPI_Comm comm, MPI_Info info, MPI_Comm *made), (comm, info, made))
-MAKES(MPI_Comm_split, (MPI_Comm comm, int color, int key, MPI_Comm *made), (comm, color, key, made))
-MAKES(MPI_Comm_split_type, (MPI_Comm comm, int type, int key, MPI_Info info, MPI_Comm *made), (comm, type, key, info, made))
 MAKES(MPI_Comm_create, (MPI_Comm comm, MPI_Group group, MPI_Comm *made), (comm, group, made))
 MAKES(MPI_Cart_create, (MPI_Comm comm, int count, const int sizes[], const int wrap[], int reorder, MPI_Comm *made),
       (comm, count, sizes, wrap, reorder, made))
 MAKES(MPI_Cart_sub, (MPI_Comm comm, const int remain[], MPI_Comm *made), (comm, remain, made))
 MAKES(MPI_Graph_create, (MPI_Comm comm, int count, const int index[], const int edges[], int reorder, MPI_Comm *made),
       (comm, count, index, edges, reorder, made))
-MAKES(MPI_Dist_graph_create,
-      (MPI_Comm comm, int count, const int nodes[], const int degrees[], const int targets[], const int weights[], MPI_Info info, int reorder,
-       MPI_Comm *made),
-      (comm, count, nodes, degrees, targets, weights, info, reorder, made))
 MAKES(MPI_Dist_graph_create_adjacent,
       (MPI_Comm comm, int ins, const int sources[], const int in_weights[], int outs, const int targets[], const int out_weights[], MPI_Info info,
        int reorder, MPI_Comm *made),
@@ -1077,26 +1256,25 @@ int MPI_Comm_create_group(MPI_Comm comm, MPI_Group group, int tag, MPI_Comm *mad
 {
     REAL(MPI_Comm_create_group);
     struct communicator parent = {.number = 0};
-    if (is_noted())
+    if (is_noted(caller))
         parent = known(comm);
-    inside++;
     int result = real(comm, group, tag, made);
     if (result == MPI_SUCCESS)
         forget_communicator(*made);
     if (parent.number && result == MPI_SUCCESS && *made != its.none)
         note_communicator(*made, parent.number, "g", tag);
-    inside--;
     return result;
 }
+
+MAKES(MPI_Intercomm_create, (MPI_Comm comm, int leader, MPI_Comm peer, int remote, int tag, MPI_Comm *made), (comm, leader, peer, remote, tag, made))
+MAKES(MPI_Intercomm_merge, (MPI_Comm comm, int is_high, MPI_Comm *made), (comm, is_high, made))
 
 int MPI_Comm_free(MPI_Comm *comm)
 {
     REAL(MPI_Comm_free);
     if (comm)
         forget_communicator(*comm);
-    inside++;
     int result = real(comm);
-    inside--;
     return result;
 }
 
@@ -1105,113 +1283,83 @@ int MPI_Comm_disconnect(MPI_Comm *comm)
     REAL(MPI_Comm_disconnect);
     if (comm)
         forget_communicator(*comm);
-    inside++;
     int result = real(comm);
-    inside--;
+    return result;
+}
+
+/* --- windows --- */
+
+/* Notes a window as a communicator of the same processes: its fences are collectives of their own. */
+static void note_window(const struct communicator *parent, int result, MPI_Comm comm, MPI_Win made)
+{
+    int was = errno, size = 0;
+    if (result == MPI_SUCCESS)
+        forget_communicator((MPI_Comm)made);
+    if (parent->number && result == MPI_SUCCESS) {
+        struct text what;
+        struct communicator it = *parent;
+        it.handle = (uintptr_t)made;
+        it.number = __atomic_add_fetch(&numbers, 1, __ATOMIC_RELAXED);
+        it.made = 0;
+        its.comm_size(comm, &size);
+        wire_up_text_open(&what);
+        wire_up_text_add(&what, "comm %u %u v%u ", it.number, parent->number, parent->made);
+        if (add_group(&what, comm, its.comm_group, size)) {
+            keep_communicator(it);
+            write_plain(&what);
+        } else {
+            wire_up_text_close(&what);
+        }
+    }
+    errno = was;
+}
+
+#define OPENS(kind, name, parameters, call)                                                                                      \
+    int name parameters                                                                                                          \
+    {                                                                                                                            \
+        REAL(name);                                                                                                              \
+        struct communicator parent = {.number = 0};                                                                              \
+        struct collective it = begin(kind, #name, comm, caller);                                                                 \
+        if (is_noted(caller))                                                                                                    \
+            parent = parent_of(comm);                                                                                            \
+        int result = real call;                                                                                                  \
+        end(&it, result, "all");                                                                                                 \
+        note_window(&parent, result, comm, result == MPI_SUCCESS ? *made : (MPI_Win)0);                                          \
+        return result;                                                                                                           \
+    }
+
+OPENS("win_create", MPI_Win_create, (void *base, MPI_Aint size, int unit, MPI_Info info, MPI_Comm comm, MPI_Win *made),
+      (base, size, unit, info, comm, made))
+OPENS("win_allocate", MPI_Win_allocate, (MPI_Aint size, int unit, MPI_Info info, MPI_Comm comm, void *base, MPI_Win *made),
+      (size, unit, info, comm, base, made))
+OPENS("win_allocate_shared", MPI_Win_allocate_shared, (MPI_Aint size, int unit, MPI_Info info, MPI_Comm comm, void *base, MPI_Win *made),
+      (size, unit, info, comm, base, made))
+
+/* A fence that ends no epoch need not wait. */
+int MPI_Win_fence(int how, MPI_Win win)
+{
+    REAL(MPI_Win_fence);
+    struct collective it = begin("win_fence", "MPI_Win_fence", (MPI_Comm)win, caller);
+    int result = real(how, win);
+    end(&it, result, how & MPI_MODE_NOPRECEDE ? "none" : "all");
+    return result;
+}
+
+int MPI_Win_free(MPI_Win *win)
+{
+    REAL(MPI_Win_free);
+    struct collective it = begin("win_free", "MPI_Win_free", win ? (MPI_Comm)*win : its.none, caller);
+    if (win)
+        forget_communicator((MPI_Comm)*win);
+    int result = real(win);
+    end(&it, result, "all");
     return result;
 }
 
 /* --- what orders processes too, and is counted alone --- */
 
-#define COUNTS(name, parameters, call)                                                                                           \
-    int name parameters                                                                                                          \
-    {                                                                                                                            \
-        REAL(name);                                                                                                              \
-        if (is_noted())                                                                                                          \
-            note_other(#name);                                                                                                   \
-        inside++;                                                                                                                \
-        int result = real call;                                                                                                  \
-        inside--;                                                                                                                \
-        return result;                                                                                                           \
-    }
-
-/* What it makes may have the handle of a communicator that is gone. */
-#define COUNTS_MAKING(name, parameters, call)                                                                                    \
-    int name parameters                                                                                                          \
-    {                                                                                                                            \
-        REAL(name);                                                                                                              \
-        if (is_noted())                                                                                                          \
-            note_other(#name);                                                                                                   \
-        inside++;                                                                                                                \
-        int result = real call;                                                                                                  \
-        inside--;                                                                                                                \
-        if (result == MPI_SUCCESS)                                                                                               \
-            forget_communicator(*made);                                                                                          \
-        return result;                                                                                                           \
-    }
-
-/* Its request may have the handle of a receive that is over. */
-#define COUNTS_LATER(name, parameters, call)                                                                                     \
-    int name parameters                                                                                                          \
-    {                                                                                                                            \
-        REAL(name);                                                                                                              \
-        bool is = is_noted();                                                                                                    \
-        if (is)                                                                                                                  \
-            note_other(#name);                                                                                                   \
-        inside++;                                                                                                                \
-        int result = real call;                                                                                                  \
-        inside--;                                                                                                                \
-        if (is && result == MPI_SUCCESS)                                                                                         \
-            forget_request(*request);                                                                                            \
-        return result;                                                                                                           \
-    }
-
-COUNTS_LATER(MPI_Ibarrier, (MPI_Comm comm, MPI_Request *request), (comm, request))
-COUNTS_LATER(MPI_Ibcast, (void *b, int n, MPI_Datatype t, int root, MPI_Comm comm, MPI_Request *request), (b, n, t, root, comm, request))
-COUNTS_LATER(MPI_Iallreduce, (const void *a, void *b, int n, MPI_Datatype t, MPI_Op op, MPI_Comm comm, MPI_Request *request),
-             (a, b, n, t, op, comm, request))
-COUNTS_LATER(MPI_Ireduce, (const void *a, void *b, int n, MPI_Datatype t, MPI_Op op, int root, MPI_Comm comm, MPI_Request *request),
-             (a, b, n, t, op, root, comm, request))
-COUNTS_LATER(MPI_Iallgather, (const void *a, int n, MPI_Datatype t, void *b, int m, MPI_Datatype u, MPI_Comm comm, MPI_Request *request),
-             (a, n, t, b, m, u, comm, request))
-COUNTS_LATER(MPI_Iallgatherv,
-             (const void *a, int n, MPI_Datatype t, void *b, const int m[], const int d[], MPI_Datatype u, MPI_Comm comm, MPI_Request *request),
-             (a, n, t, b, m, d, u, comm, request))
-COUNTS_LATER(MPI_Ialltoall, (const void *a, int n, MPI_Datatype t, void *b, int m, MPI_Datatype u, MPI_Comm comm, MPI_Request *request),
-             (a, n, t, b, m, u, comm, request))
-COUNTS_LATER(MPI_Ialltoallv,
-             (const void *a, const int n[], const int d[], MPI_Datatype t, void *b, const int m[], const int e[], MPI_Datatype u, MPI_Comm comm,
-              MPI_Request *request),
-             (a, n, d, t, b, m, e, u, comm, request))
-COUNTS_LATER(MPI_Igather, (const void *a, int n, MPI_Datatype t, void *b, int m, MPI_Datatype u, int root, MPI_Comm comm, MPI_Request *request),
-             (a, n, t, b, m, u, root, comm, request))
-COUNTS_LATER(MPI_Iscatter, (const void *a, int n, MPI_Datatype t, void *b, int m, MPI_Datatype u, int root, MPI_Comm comm, MPI_Request *request),
-             (a, n, t, b, m, u, root, comm, request))
-COUNTS_LATER(MPI_Comm_idup, (MPI_Comm comm, MPI_Comm *made, MPI_Request *request), (comm, made, request))
-COUNTS_LATER(MPI_Imrecv, (void *b, int n, MPI_Datatype t, MPI_Message *m, MPI_Request *request), (b, n, t, m, request))
-COUNTS(MPI_Mrecv, (void *b, int n, MPI_Datatype t, MPI_Message *m, MPI_Status *s), (b, n, t, m, s))
-COUNTS(MPI_Neighbor_allgather, (const void *a, int n, MPI_Datatype t, void *b, int m, MPI_Datatype u, MPI_Comm comm), (a, n, t, b, m, u, comm))
-COUNTS(MPI_Neighbor_alltoall, (const void *a, int n, MPI_Datatype t, void *b, int m, MPI_Datatype u, MPI_Comm comm), (a, n, t, b, m, u, comm))
-COUNTS(MPI_Put, (const void *a, int n, MPI_Datatype t, int to, MPI_Aint d, int m, MPI_Datatype u, MPI_Win win), (a, n, t, to, d, m, u, win))
-COUNTS(MPI_Get, (void *a, int n, MPI_Datatype t, int to, MPI_Aint d, int m, MPI_Datatype u, MPI_Win win), (a, n, t, to, d, m, u, win))
-COUNTS(MPI_Accumulate, (const void *a, int n, MPI_Datatype t, int to, MPI_Aint d, int m, MPI_Datatype u, MPI_Op op, MPI_Win win),
-       (a, n, t, to, d, m, u, op, win))
-COUNTS(MPI_Get_accumulate,
-       (const void *a, int n, MPI_Datatype t, void *b, int k, MPI_Datatype r, int to, MPI_Aint d, int m, MPI_Datatype u, MPI_Op op, MPI_Win win),
-       (a, n, t, b, k, r, to, d, m, u, op, win))
-COUNTS(MPI_Fetch_and_op, (const void *a, void *b, MPI_Datatype t, int to, MPI_Aint d, MPI_Op op, MPI_Win win), (a, b, t, to, d, op, win))
-COUNTS(MPI_Compare_and_swap, (const void *a, const void *c, void *b, MPI_Datatype t, int to, MPI_Aint d, MPI_Win win), (a, c, b, t, to, d, win))
-COUNTS(MPI_Win_fence, (int how, MPI_Win win), (how, win))
-COUNTS(MPI_Win_start, (MPI_Group group, int how, MPI_Win win), (group, how, win))
-COUNTS(MPI_Win_complete, (MPI_Win win), (win))
-COUNTS(MPI_Win_post, (MPI_Group group, int how, MPI_Win win), (group, how, win))
-COUNTS(MPI_Win_wait, (MPI_Win win), (win))
-COUNTS(MPI_Win_lock, (int kind, int rank, int how, MPI_Win win), (kind, rank, how, win))
-COUNTS(MPI_Win_unlock, (int rank, MPI_Win win), (rank, win))
-COUNTS(MPI_Win_lock_all, (int how, MPI_Win win), (how, win))
-COUNTS(MPI_Win_unlock_all, (MPI_Win win), (win))
-COUNTS(MPI_Win_flush, (int rank, MPI_Win win), (rank, win))
-COUNTS(MPI_Win_flush_all, (MPI_Win win), (win))
-COUNTS_MAKING(MPI_Comm_spawn,
-       (const char *command, char *words[], int most, MPI_Info info, int root, MPI_Comm comm, MPI_Comm *made, int codes[]),
-       (command, words, most, info, root, comm, made, codes))
-COUNTS_MAKING(MPI_Comm_spawn_multiple,
-       (int count, char *commands[], char **words[], const int most[], const MPI_Info infos[], int root, MPI_Comm comm, MPI_Comm *made, int codes[]),
-       (count, commands, words, most, infos, root, comm, made, codes))
-COUNTS_MAKING(MPI_Comm_connect, (const char *port, MPI_Info info, int root, MPI_Comm comm, MPI_Comm *made), (port, info, root, comm, made))
-COUNTS_MAKING(MPI_Comm_accept, (const char *port, MPI_Info info, int root, MPI_Comm comm, MPI_Comm *made), (port, info, root, comm, made))
-COUNTS_MAKING(MPI_Intercomm_create, (MPI_Comm comm, int leader, MPI_Comm peer, int remote, int tag, MPI_Comm *made), (comm, leader, peer, remote, tag, made))
-COUNTS_MAKING(MPI_Intercomm_merge, (MPI_Comm comm, int is_high, MPI_Comm *made), (comm, is_high, made))
+/* All other functions of mpi.h that can order processes, as others.py finds them there. */
+#include "record-mpi-others.h"
 
 /* --- the beginning --- */
 
@@ -1219,7 +1367,7 @@ int MPI_Init(int *count, char ***words)
 {
     REAL(MPI_Init);
     int result = real(count, words);
-    is_noted();
+    is_noted(caller);
     return result;
 }
 
@@ -1227,6 +1375,6 @@ int MPI_Init_thread(int *count, char ***words, int wanted, int *given)
 {
     REAL(MPI_Init_thread);
     int result = real(count, words, wanted, given);
-    is_noted();
+    is_noted(caller);
     return result;
 }

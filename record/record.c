@@ -5,17 +5,20 @@
  * `wire_up-record` sets both and turns the files into a plan. docs/recording.md has the form of the files.
  *
  * A call is noted just before the library's own function runs, and its end just after, each as one line by one `write`. So
- * nothing is lost when the process dies. What the library calls itself, inside a call or on a thread of its own, isn't noted.
+ * nothing is lost when the process dies. What the library's own code calls, on any thread, isn't noted.
  */
 #define _GNU_SOURCE
 #include "record.h"
 
 #include <dlfcn.h>
+#include <elf.h>
 #include <errno.h>
+#include <link.h>
 #include <fcntl.h>
 #include <limits.h>
 #include <pmix.h>
 #include <pthread.h>
+#include <signal.h>
 #include <stdarg.h>
 #include <stdint.h>
 #include <stdio.h>
@@ -24,6 +27,7 @@
 #include <sys/stat.h>
 #include <time.h>
 #include <unistd.h>
+#include <unwind.h>
 
 /* The longest text that is noted whole. A plan has values of up to 255 bytes. */
 #define LONGEST_TEXT 1024
@@ -38,7 +42,6 @@ static struct timespec began;
 static unsigned long calls, threads;
 static int inits;
 static __thread unsigned long my_thread;
-static __thread int inside; /* how many calls of the library this thread is in */
 
 /* --- texts --- */
 
@@ -129,16 +132,33 @@ static bool is_still_open(int to)
     return fstat(to, &it) == 0 && it.st_dev == its_device && it.st_ino == its_number;
 }
 
+/* Writes without the signal that a limit of file sizes brings: the program isn't to see it. */
+static ssize_t write_quietly(int to, const char *bytes, size_t length)
+{
+    sigset_t of_size, before, pending;
+    sigemptyset(&of_size);
+    sigaddset(&of_size, SIGXFSZ);
+    pthread_sigmask(SIG_BLOCK, &of_size, &before);
+    sigpending(&pending);
+    ssize_t wrote;
+    do
+        wrote = write(to, bytes, length);
+    while (wrote < 0 && errno == EINTR);
+    int error = errno;
+    if (wrote < 0 && error == EFBIG && !sigismember(&pending, SIGXFSZ))
+        sigtimedwait(&of_size, NULL, &(struct timespec){0, 0});
+    pthread_sigmask(SIG_SETMASK, &before, NULL);
+    errno = error;
+    return wrote;
+}
+
 static bool write_whole(int to, const char *bytes, size_t length)
 {
     if (!is_still_open(to)) {
         give_up("the program closed it");
         return false;
     }
-    ssize_t wrote;
-    do
-        wrote = write(to, bytes, length);
-    while (wrote < 0 && errno == EINTR);
+    ssize_t wrote = write_quietly(to, bytes, length);
     if (wrote < 0)
         give_up(strerror(errno));
     else if ((size_t)wrote < length)
@@ -163,27 +183,47 @@ bool wire_up_is_recording(void)
 
 unsigned long wire_up_number(void) { return __atomic_add_fetch(&calls, 1, __ATOMIC_RELAXED); }
 
-void wire_up_write(char sign, unsigned long number, const struct text *what)
+/* Writes one line: what all records begin with, the place if there is one, and the text. */
+static void write_line(int to, char sign, unsigned long number, unsigned place, const struct text *what)
+{
+    struct timespec now;
+    struct text line;
+    clock_gettime(CLOCK_MONOTONIC, &now);
+    long seconds = now.tv_sec - began.tv_sec, nanoseconds = now.tv_nsec - began.tv_nsec;
+    if (nanoseconds < 0) {
+        seconds--;
+        nanoseconds += 1000000000;
+    }
+    if (!my_thread)
+        my_thread = __atomic_add_fetch(&threads, 1, __ATOMIC_RELAXED);
+    wire_up_text_open(&line);
+    wire_up_text_add(&line, "%c %lu %lu %ld.%06ld ", sign, number, my_thread, seconds, nanoseconds / 1000);
+    if (place)
+        wire_up_text_add(&line, "@%u ", place);
+    wire_up_text_add(&line, "%s\n", what->at);
+    if (line.is_lost || what->is_lost)
+        write_whole(to, "lost\n", 5);
+    else
+        write_whole(to, line.at, line.length);
+    wire_up_text_close(&line);
+}
+
+void wire_up_write(char sign, unsigned long number, struct place *place, const struct text *what)
 {
     int was = errno, to = mine();
     if (to >= 0) {
-        struct timespec now;
-        struct text line;
-        clock_gettime(CLOCK_MONOTONIC, &now);
-        long seconds = now.tv_sec - began.tv_sec, nanoseconds = now.tv_nsec - began.tv_nsec;
-        if (nanoseconds < 0) {
-            seconds--;
-            nanoseconds += 1000000000;
+        if (place && !__atomic_exchange_n(&place->is_noted, true, __ATOMIC_RELAXED)) {
+            struct text it;
+            wire_up_text_open(&it);
+            wire_up_text_add(&it, "%s %u ", place->function ? "line" : "place", place->number);
+            add_word(&it, place->module, strlen(place->module));
+            wire_up_text_add(&it, place->function ? " %llu " : " %llx", (unsigned long long)place->offset);
+            if (place->function)
+                add_word(&it, place->function, strlen(place->function));
+            write_line(to, '=', 0, 0, &it);
+            wire_up_text_close(&it);
         }
-        if (!my_thread)
-            my_thread = __atomic_add_fetch(&threads, 1, __ATOMIC_RELAXED);
-        wire_up_text_open(&line);
-        wire_up_text_add(&line, "%c %lu %lu %ld.%06ld %s\n", sign, number, my_thread, seconds, nanoseconds / 1000, what->at);
-        if (line.is_lost || what->is_lost)
-            write_whole(to, "lost\n", 5);
-        else
-            write_whole(to, line.at, line.length);
-        wire_up_text_close(&line);
+        write_line(to, sign, number, place ? place->number : 0, what);
     }
     errno = was;
 }
@@ -248,6 +288,193 @@ static void open_file(const pmix_proc_t *me, const char *version)
     }
 }
 
+/* --- places --- */
+
+#define BUCKETS 1024
+static struct place *places[BUCKETS];
+static unsigned places_known;
+static pthread_mutex_t placing = PTHREAD_MUTEX_INITIALIZER;
+
+static bool begins(const char *text, const char *with) { return !strncmp(text, with, strlen(with)); }
+
+/* Whose code an object has. */
+static enum owner owner_of(const char *file)
+{
+    static const struct {
+        const char *name;
+        enum owner owner;
+    } known[] = {{"libpmix", OF_PMIX}, {"pmix_mca_", OF_PMIX},   {"libmpi_", OF_BINDINGS}, {"libmpi.", OF_MPI},     {"libmpich", OF_MPI},
+                 {"mca_", OF_MPI},     {"libopen-", OF_MPI},     {"libompi", OF_MPI},      {"libc.", OF_SYSTEM},    {"libc-", OF_SYSTEM},
+                 {"libpthread", OF_SYSTEM}, {"libevent", OF_SYSTEM}, {"ld-linux", OF_SYSTEM},  {"record.so", OF_RECORDER}, {"record-mpi.so", OF_RECORDER}};
+    const char *slash = strrchr(file, '/'), *name = slash ? slash + 1 : file, *in_pmix = strstr(file, "/pmix");
+    if (in_pmix && slash && in_pmix < slash && begins(name, "mca_"))
+        return OF_PMIX;
+    for (size_t n = 0; n < sizeof known / sizeof *known; n++)
+        if (begins(name, known[n].name))
+            return known[n].owner;
+    return OF_PROGRAM;
+}
+
+static struct place *new_place(const void *address)
+{
+    Dl_info it;
+    struct place *made = calloc(1, sizeof *made);
+    if (!made)
+        return NULL;
+    made->address = address;
+    made->number = ++places_known;
+    if (dladdr(address, &it) && it.dli_fname && it.dli_fbase) {
+        made->is_mpi4py = strstr(it.dli_fname, "/mpi4py/") != NULL;
+        const ElfW(Ehdr) *head = it.dli_fbase;
+        made->owner = owner_of(it.dli_fname);
+        char *whole = realpath(it.dli_fname, NULL);
+        made->module = whole ? whole : strdup(it.dli_fname);
+        made->offset = (uintptr_t)address - 1 - (head->e_type == ET_EXEC ? 0 : (uintptr_t)it.dli_fbase);
+    } else {
+        made->offset = (uintptr_t)address - 1;
+    }
+    if (!made->module)
+        made->module = "unknown";
+    return made;
+}
+
+struct place *wire_up_place(const void *address)
+{
+    struct place **at = &places[((uintptr_t)address >> 2 ^ (uintptr_t)address >> 12) % BUCKETS];
+    struct place *first = __atomic_load_n(at, __ATOMIC_ACQUIRE), *it = first;
+    while (it && it->address != address)
+        it = it->next;
+    if (it)
+        return it;
+    int was = errno;
+    pthread_mutex_lock(&placing);
+    for (it = *at; it && it->address != address; it = it->next)
+        ;
+    if (!it && (it = new_place(address))) {
+        it->next = *at;
+        __atomic_store_n(at, it, __ATOMIC_RELEASE);
+    }
+    pthread_mutex_unlock(&placing);
+    errno = was;
+    return it;
+}
+
+/* --- places of Python --- */
+
+/* The functions of Python that say where it is, if the process has a Python. */
+static struct {
+    int (*is_initialized)(void);
+    void *(*this_thread)(void);
+    int (*take)(void);
+    void (*give_back)(int);
+    void *(*frame)(void);
+    void *(*before)(void *);
+    int (*line)(void *);
+    void *(*code)(void *);
+    void *(*attribute)(void *, const char *);
+    const char *(*text)(void *);
+    void (*drop)(void *);
+} python;
+static pthread_once_t python_once = PTHREAD_ONCE_INIT;
+static bool has_python;
+static struct place *python_places;
+
+static void learn_python(void)
+{
+    const struct {
+        void *to;
+        const char *name;
+    } them[] = {{&python.is_initialized, "Py_IsInitialized"}, {&python.this_thread, "PyGILState_GetThisThreadState"}, {&python.take, "PyGILState_Ensure"},
+                {&python.give_back, "PyGILState_Release"},    {&python.frame, "PyEval_GetFrame"},                     {&python.before, "PyFrame_GetBack"},
+                {&python.line, "PyFrame_GetLineNumber"},      {&python.code, "PyFrame_GetCode"},                      {&python.text, "PyUnicode_AsUTF8"},
+                {&python.drop, "Py_DecRef"},                  {&python.attribute, "PyObject_GetAttrString"}};
+    bool are_there = true;
+    for (size_t n = 0; n < sizeof them / sizeof *them; n++) {
+        *(void **)them[n].to = dlsym(RTLD_DEFAULT, them[n].name);
+        are_there = are_there && *(void **)them[n].to;
+    }
+    has_python = are_there;
+}
+
+/* The place of a line of Python, one for each. */
+static struct place *python_place(const char *file, unsigned line, const char *function)
+{
+    pthread_mutex_lock(&placing);
+    struct place *it = python_places;
+    while (it && !(it->offset == line && !strcmp(it->module, file) && !strcmp(it->function, function)))
+        it = it->next;
+    if (!it && (it = calloc(1, sizeof *it))) {
+        it->module = strdup(file);
+        it->function = strdup(function);
+        it->offset = line;
+        it->number = ++places_known;
+        it->next = python_places;
+        if (it->module && it->function)
+            python_places = it;
+        else
+            it = NULL;
+    }
+    pthread_mutex_unlock(&placing);
+    return it;
+}
+
+/* The place of a frame, unless it is one of Python's own that imports a module. Called with the lock of Python. */
+static struct place *place_of_frame(void *frame)
+{
+    struct place *found = NULL;
+    void *code = python.code(frame);
+    void *file = code ? python.attribute(code, "co_filename") : NULL, *name = code ? python.attribute(code, "co_name") : NULL;
+    const char *where = file ? python.text(file) : NULL, *function = name ? python.text(name) : NULL;
+    if (where && function && *where != '<')
+        found = python_place(where, (unsigned)python.line(frame), function);
+    void *them[] = {name, file, code};
+    for (size_t n = 0; n < sizeof them / sizeof *them; n++)
+        if (them[n])
+            python.drop(them[n]);
+    return found;
+}
+
+/* The line of Python that called mpi4py, in place of the code of mpi4py. */
+struct place *wire_up_in_python(struct place *place)
+{
+    if (!place || !place->is_mpi4py)
+        return place;
+    pthread_once(&python_once, learn_python);
+    if (!has_python || !python.is_initialized() || !python.this_thread())
+        return place;
+    int was = errno, lock = python.take();
+    struct place *found = NULL;
+    for (void *frame = python.frame(), *mine = NULL; frame && !found;) {
+        found = place_of_frame(frame);
+        void *before = found ? NULL : python.before(frame);
+        if (mine)
+            python.drop(mine);
+        frame = mine = before;
+    }
+    python.give_back(lock);
+    errno = was;
+    return found ? found : place;
+}
+
+static _Unwind_Reason_Code step(struct _Unwind_Context *frame, void *found)
+{
+    struct place *it = wire_up_place((const void *)_Unwind_GetIP(frame));
+    if (!it || it->owner != OF_PROGRAM)
+        return _URC_NO_REASON;
+    *(struct place **)found = it;
+    return _URC_END_OF_STACK;
+}
+
+/* Where in the program this call comes from, through however many calls of MPI. Null on a thread that isn't the program's. */
+static struct place *place_in_program(void)
+{
+    struct place *found = NULL;
+    int was = errno;
+    _Unwind_Backtrace(step, &found);
+    errno = was;
+    return wire_up_in_python(found);
+}
+
 /* --- the library's own functions --- */
 
 static const void *base_of(const void *address)
@@ -280,8 +507,12 @@ void *wire_up_find(const char *name, void *caller, const void *not_this)
     return found;
 }
 
-/* Whether a call comes from the library itself: from inside another call, or from its own code on any thread. */
-static bool is_inner(const void *caller, const void *real) { return inside > 0 || base_of(caller) == base_of(real); }
+/* Whether a call comes from the library's own code, on any thread. */
+static bool is_inner(const void *caller)
+{
+    const struct place *it = wire_up_place(caller);
+    return it && it->owner == OF_PMIX;
+}
 
 /* What each function below begins with: `real` is the library's own function, and `is_noted` says whether to note the call. */
 #define BEGIN(name, otherwise)                                                                                                   \
@@ -294,7 +525,7 @@ static bool is_inner(const void *caller, const void *real) { return inside > 0 |
     }                                                                                                                            \
     if (!real)                                                                                                                   \
         return otherwise;                                                                                                        \
-    bool is_noted = wire_up_is_recording() && !is_inner(caller, (const void *)real)
+    bool is_noted = wire_up_is_recording() && !is_inner(caller)
 
 /* --- the words of a record --- */
 
@@ -409,7 +640,7 @@ static void note_end(unsigned long number, pmix_status_t status)
     struct text what;
     wire_up_text_open(&what);
     wire_up_text_add(&what, "%d", (int)status);
-    wire_up_write('-', number, &what);
+    wire_up_write('-', number, NULL, &what);
     wire_up_text_close(&what);
     errno = was;
 }
@@ -424,7 +655,7 @@ static void note_value(unsigned long number, pmix_status_t status, const pmix_va
         wire_up_text_add(&what, " ");
         add_value(&what, value);
     }
-    wire_up_write('-', number, &what);
+    wire_up_write('-', number, NULL, &what);
     wire_up_text_close(&what);
     errno = was;
 }
@@ -443,7 +674,7 @@ static void note_data(unsigned long number, pmix_status_t status, const pmix_pda
     }
     if (!data || !count)
         wire_up_text_add(&what, "-");
-    wire_up_write('-', number, &what);
+    wire_up_write('-', number, NULL, &what);
     wire_up_text_close(&what);
     errno = was;
 }
@@ -478,21 +709,12 @@ static void unpend(struct pending *it)
     errno = was;
 }
 
-/* The calls that a callback makes are the program's own, on whatever thread it runs. */
-#define CALL_BACK(call)                                                                                                          \
-    do {                                                                                                                         \
-        int depth = inside;                                                                                                      \
-        inside = 0;                                                                                                              \
-        call;                                                                                                                    \
-        inside = depth;                                                                                                          \
-    } while (0)
-
 static void op_ended(pmix_status_t status, void *data)
 {
     struct pending it = *(struct pending *)data;
     unpend(data);
     note_end(it.number, status);
-    CALL_BACK(it.then.of_op(status, it.data));
+    it.then.of_op(status, it.data);
 }
 
 static void value_came(pmix_status_t status, pmix_value_t *value, void *data)
@@ -500,7 +722,7 @@ static void value_came(pmix_status_t status, pmix_value_t *value, void *data)
     struct pending it = *(struct pending *)data;
     unpend(data);
     note_value(it.number, status, value);
-    CALL_BACK(it.then.of_value(status, value, it.data));
+    it.then.of_value(status, value, it.data);
 }
 
 static void data_came(pmix_status_t status, pmix_pdata_t found[], size_t count, void *data)
@@ -508,7 +730,7 @@ static void data_came(pmix_status_t status, pmix_pdata_t found[], size_t count, 
     struct pending it = *(struct pending *)data;
     unpend(data);
     note_data(it.number, status, found, count);
-    CALL_BACK(it.then.of_lookup(status, found, count, it.data));
+    it.then.of_lookup(status, found, count, it.data);
 }
 
 /* Where a call that doesn't block ended at once, no callback comes. */
@@ -520,6 +742,34 @@ static void note_refused(unsigned long number, pmix_status_t status, struct pend
     note_end(number, status == PMIX_OPERATION_SUCCEEDED ? PMIX_SUCCESS : status);
 }
 
+/* --- the launcher --- */
+
+extern char **environ;
+
+/* Open MPI's launcher hands variables on to other nodes by a variable or by its option -x, but never by both. Where it has the option, and
+ * the variable is the recorder's own, it begins again with options in its place. */
+__attribute__((constructor)) static void hand_on_by_options(int count, char **words)
+{
+    static char option[] = "-x", preload[] = "LD_PRELOAD", folder[] = "WIRE_UP_RECORD";
+    const char *list = getenv("OMPI_MCA_mca_base_env_list"), *name = program_invocation_short_name;
+    bool is_launcher = begins(name, "mpirun") || begins(name, "mpiexec") || begins(name, "orterun"), has_option = false;
+    for (int n = 1; n < count; n++)
+        has_option = has_option || !strcmp(words[n], option);
+    if (!is_launcher || !has_option || !list || strcmp(list, "LD_PRELOAD;WIRE_UP_RECORD"))
+        return;
+    char **longer = calloc((size_t)count + 5, sizeof *longer);
+    if (!longer)
+        return;
+    longer[0] = words[0];
+    longer[1] = longer[3] = option;
+    longer[2] = preload;
+    longer[4] = folder;
+    memcpy(longer + 5, words + 1, (size_t)(count - 1) * sizeof *longer);
+    unsetenv("OMPI_MCA_mca_base_env_list");
+    execve("/proc/self/exe", longer, environ);
+    free(longer);
+}
+
 /* --- the calls --- */
 
 #define NOTE(number, fill)                                                                                                       \
@@ -528,7 +778,7 @@ static void note_refused(unsigned long number, pmix_status_t status, struct pend
         struct text what;                                                                                                        \
         wire_up_text_open(&what);                                                                                                \
         fill;                                                                                                                    \
-        wire_up_write('+', number, &what);                                                                                       \
+        wire_up_write('+', number, place_in_program(), &what);                                                                   \
         wire_up_text_close(&what);                                                                                               \
         errno = was;                                                                                                             \
     } while (0)
@@ -539,9 +789,7 @@ static void note_refused(unsigned long number, pmix_status_t status, struct pend
         unsigned long number = is_noted ? wire_up_number() : 0;                                                                  \
         if (is_noted)                                                                                                            \
             NOTE(number, fill);                                                                                                  \
-        inside++;                                                                                                                \
         pmix_status_t status = call;                                                                                             \
-        inside--;                                                                                                                \
         if (is_noted)                                                                                                            \
             note_end(number, status);                                                                                            \
         return status;                                                                                                           \
@@ -556,9 +804,7 @@ static void note_refused(unsigned long number, pmix_status_t status, struct pend
             it->then.field = then;                                                                                               \
         if (is_noted)                                                                                                            \
             NOTE(number, fill);                                                                                                  \
-        inside++;                                                                                                                \
         pmix_status_t status = it ? with : plainly;                                                                              \
-        inside--;                                                                                                                \
         if (is_noted)                                                                                                            \
             note_refused(number, status, it);                                                                                    \
         return status;                                                                                                           \
@@ -574,12 +820,10 @@ pmix_status_t PMIx_Init(pmix_proc_t *proc, pmix_info_t info[], size_t ninfo)
 {
     BEGIN(PMIx_Init, PMIX_ERR_NOT_SUPPORTED);
     (void)is_noted;
-    bool is_outer = !is_inner(caller, (const void *)real);
+    bool is_outer = !is_inner(caller);
     pmix_proc_t me;
     memset(&me, 0, sizeof me);
-    inside++;
     pmix_status_t status = real(proc ? proc : &me, info, ninfo);
-    inside--;
     if (status == PMIX_SUCCESS && is_outer) {
         int was = errno;
         pthread_mutex_lock(&opening);
@@ -605,12 +849,10 @@ pmix_status_t PMIx_Finalize(const pmix_info_t info[], size_t ninfo)
         struct text what;
         wire_up_text_open(&what);
         wire_up_text_add(&what, "finalize");
-        wire_up_write('=', 0, &what);
+        wire_up_write('=', 0, NULL, &what);
         wire_up_text_close(&what);
     }
-    inside++;
     pmix_status_t status = real(info, ninfo);
-    inside--;
     return status;
 }
 
@@ -671,9 +913,7 @@ pmix_status_t PMIx_Get(const pmix_proc_t *proc, const char key[], const pmix_inf
     unsigned long number = is_noted ? wire_up_number() : 0;
     if (is_noted)
         NOTE(number, FILL_GET("blocks"));
-    inside++;
     pmix_status_t status = real(proc, key, info, ninfo, value);
-    inside--;
     if (is_noted)
         note_value(number, status, status == PMIX_SUCCESS && value ? *value : NULL);
     return status;
@@ -728,9 +968,7 @@ pmix_status_t PMIx_Lookup(pmix_pdata_t found[], size_t count, const pmix_info_t 
             wire_up_text_add(&what, found && count ? "" : "-");
             add_directives(&what, info, ninfo, false);
         });
-    inside++;
     pmix_status_t status = real(found, count, info, ninfo);
-    inside--;
     if (is_noted)
         note_data(number, status, found, status == PMIX_SUCCESS || status == PMIX_ERR_PARTIAL_SUCCESS ? count : 0);
     return status;
@@ -769,53 +1007,13 @@ pmix_status_t PMIx_Unpublish_nb(char **keys, const pmix_info_t info[], size_t ni
             struct text what;                                                                                                    \
             wire_up_text_open(&what);                                                                                            \
             wire_up_text_add(&what, "other " name);                                                                              \
-            wire_up_write('=', 0, &what);                                                                                        \
+            wire_up_write('=', 0, NULL, &what);                                                                                  \
             wire_up_text_close(&what);                                                                                           \
         }                                                                                                                        \
     } while (0)
 
-/* Their inner calls aren't noted either. */
 #define PASS_ON(name, call)                                                                                                      \
-    do {                                                                                                                         \
-        COUNTED(name);                                                                                                           \
-        inside++;                                                                                                                \
-        pmix_status_t status = call;                                                                                             \
-        inside--;                                                                                                                \
-        return status;                                                                                                           \
-    } while (0)
+    COUNTED(name);                                                                                                               \
+    return call
 
-pmix_status_t PMIx_Connect(const pmix_proc_t procs[], size_t nprocs, const pmix_info_t info[], size_t ninfo)
-{
-    BEGIN(PMIx_Connect, PMIX_ERR_NOT_SUPPORTED);
-    PASS_ON("PMIx_Connect", real(procs, nprocs, info, ninfo));
-}
-
-pmix_status_t PMIx_Connect_nb(const pmix_proc_t procs[], size_t nprocs, const pmix_info_t info[], size_t ninfo, pmix_op_cbfunc_t then, void *data)
-{
-    BEGIN(PMIx_Connect_nb, PMIX_ERR_NOT_SUPPORTED);
-    PASS_ON("PMIx_Connect_nb", real(procs, nprocs, info, ninfo, then, data));
-}
-
-pmix_status_t PMIx_Disconnect(const pmix_proc_t procs[], size_t nprocs, const pmix_info_t info[], size_t ninfo)
-{
-    BEGIN(PMIx_Disconnect, PMIX_ERR_NOT_SUPPORTED);
-    PASS_ON("PMIx_Disconnect", real(procs, nprocs, info, ninfo));
-}
-
-pmix_status_t PMIx_Disconnect_nb(const pmix_proc_t procs[], size_t nprocs, const pmix_info_t info[], size_t ninfo, pmix_op_cbfunc_t then, void *data)
-{
-    BEGIN(PMIx_Disconnect_nb, PMIX_ERR_NOT_SUPPORTED);
-    PASS_ON("PMIx_Disconnect_nb", real(procs, nprocs, info, ninfo, then, data));
-}
-
-pmix_status_t PMIx_Spawn(const pmix_info_t job[], size_t njob, const pmix_app_t apps[], size_t napps, pmix_nspace_t nspace)
-{
-    BEGIN(PMIx_Spawn, PMIX_ERR_NOT_SUPPORTED);
-    PASS_ON("PMIx_Spawn", real(job, njob, apps, napps, nspace));
-}
-
-pmix_status_t PMIx_Spawn_nb(const pmix_info_t job[], size_t njob, const pmix_app_t apps[], size_t napps, pmix_spawn_cbfunc_t then, void *data)
-{
-    BEGIN(PMIx_Spawn_nb, PMIX_ERR_NOT_SUPPORTED);
-    PASS_ON("PMIx_Spawn_nb", real(job, njob, apps, napps, then, data));
-}
+#include "record-others.h"

@@ -5,15 +5,18 @@ Usage: python3 tests/recording.py [PROGRAM]
 PROGRAM is the built `wire_up`. With none, the plans are made, and not checked.
 Prints a line for each test that went otherwise than it should, one for what was left out, and last 'N passed, M failed'.
 """
+import glob
 import importlib.machinery
 import importlib.util
 import os
 import random
 import re
 import shutil
+import signal
 import subprocess
 import sys
 import tempfile
+import time
 
 sys.dont_write_bytecode = True
 TOP = os.path.dirname(os.path.dirname(os.path.abspath(__file__)))
@@ -22,6 +25,7 @@ SHIPPED = os.path.join(TOP, "record", "recordings")
 PROGRAMS = os.path.join(TOP, "record", "programs")
 SECONDS = 60
 RANDOM_PROGRAMS = 150
+FREE_PROGRAMS = 200
 
 
 def loaded():
@@ -42,7 +46,7 @@ def tell(name, what):
 
 def command(*words, **how):
     """Runs wire_up-record."""
-    return subprocess.run([sys.executable, COMMAND, *words], capture_output=True, text=True, timeout=2 * SECONDS, check=False, **how)
+    return subprocess.run([sys.executable, COMMAND, *words], capture_output=True, text=True, timeout=4 * SECONDS, check=False, **how)
 
 
 def answer(program, *words):
@@ -216,9 +220,8 @@ def damages():
     two = Tape(0).text(), Tape(1).text()
     yield "none", {}, "there is no recording"
     yield "an empty file", {"a": b""}, "is empty"
-    yield "a cut line", {"a": fine[:-4]}, "line 7 is cut"
     yield "a cut head", {"a": b"".join(fine.splitlines(True)[:2])}, "line 3 doesn't say when it began"
-    yield "a cut in the first line", {"a": fine[:9]}, "line 1 is cut"
+    yield "a cut in the first line", {"a": fine[:9]}, "line 1 isn't the first line of a recording"
     yield "foreign bytes", {"a": fine.replace(b"text:v", b"text:\x80")}, "line 5 has a byte"
     yield "a zero byte", {"a": fine + b"\0\n"}, "line 8 has a byte"
     yield "another file", {"a": b"rehearsal 1\nnode n0\n"}, "line 1 isn't the first line of a recording"
@@ -260,7 +263,7 @@ def damages():
 
 
 def is_refused(name, files, what):
-    """Whether recordings end with one line and status 2, and no plan."""
+    """Whether recordings end with one line and status 125, and no plan."""
     with tempfile.TemporaryDirectory(prefix="wire-up-") as room:
         for it, data in files.items():
             with open(os.path.join(room, f"{it}.recording"), "wb") as to:
@@ -268,7 +271,7 @@ def is_refused(name, files, what):
         plan = os.path.join(room, "plan")
         ran = command("-o", plan, "--from", room)
         is_one_line = ran.stderr.count("\n") == 1 and ran.stderr.startswith("wire_up-record: ")
-        if ran.returncode != 2 or ran.stdout or not is_one_line or what not in ran.stderr:
+        if ran.returncode != 125 or ran.stdout or not is_one_line or what not in ran.stderr:
             return tell(name, f"ended with {ran.returncode} and said {ran.stderr[:300]}")
         return not os.path.exists(plan) or tell(name, "wrote a plan")
 
@@ -279,18 +282,34 @@ def usages(room):
     with open(good, "wb") as to:
         to.write(Tape(0).text())
     yield "help", ["--help"], 0, ""
-    yield "nothing", [], 5, "-o PLAN says where the plan goes"
-    yield "no command", ["-o", plan], 5, "which command?"
-    yield "no plan", ["true"], 5, "-o PLAN"
-    yield "an unknown option", ["-o", plan, "--loud", "true"], 5, "--loud is no option"
-    yield "an option twice", ["-o", plan, "-o", plan, "true"], 5, "-o stands twice"
-    yield "an option without its word", ["-o"], 5, "-o needs a file"
-    yield "no files", ["-o", plan, "--from"], 5, "which recordings?"
-    yield "a file that isn't there", ["-o", plan, "--from", os.path.join(room, "none")], 4, "none: No such file"
-    yield "a place that isn't there", ["-o", os.path.join(room, "no", "plan"), "--from", good], 4, "No such file"
-    yield "a full device", ["-o", "/dev/full", "--from", good], 4, "No space left"
+    yield "nothing", [], 125, "-o PLAN says where the plan goes"
+    yield "no command", ["-o", plan], 125, "which command?"
+    yield "no plan", ["true"], 125, "-o PLAN"
+    yield "an unknown option", ["-o", plan, "--loud", "true"], 125, "--loud is no option"
+    yield "an option twice", ["-o", plan, "-o", plan, "true"], 125, "-o stands twice"
+    yield "an option without its word", ["-o"], 125, "-o needs a file"
+    yield "no files", ["-o", plan, "--from"], 125, "which recordings?"
+    yield "a file that isn't there", ["-o", plan, "--from", os.path.join(room, "none")], 125, "none: No such file"
+    yield "a place that isn't there", ["-o", os.path.join(room, "no", "plan"), "--from", good], 125, "No such file"
+    yield "a link where the plan goes", ["-o", linked(room), "--from", good], 0, ""
+    yield "a full device", ["-o", "/dev/full", "--from", good], 125, "No space left"
     yield "a file", ["-o", plan, "--from", good], 0, ""
     yield "standard output", ["-o", "-", "--from", good], 0, ""
+
+
+def commands(room):
+    """Command lines with a command, for which the recorder must be built."""
+    plan = os.path.join(room, "plan")
+    yield "a status of the command", ["-o", plan, "sh", "-c", "exit 7"], 125, "there is no recording"
+    yield "a command that isn't there", ["-o", plan, "./no-such-command"], 127, "No such file"
+    yield "a command that can't be run", ["-o", plan, room], 126, "Permission denied"
+
+
+def linked(room):
+    """A link to a plan elsewhere."""
+    link = os.path.join(room, "link")
+    os.symlink(os.path.join(room, "elsewhere"), link)
+    return link
 
 
 def is_used(name, words, status, said):
@@ -302,8 +321,16 @@ def is_used(name, words, status, said):
 # --- the recordings that the repository has ---
 
 # What `check` says of each; and what it says where MPI's order is left out.
-RACE = re.compile(r"race app:0 \d+ app:1 \d+ name solver\n")
+RACE = re.compile(r"race app:\d+ \d+ app:\d+ \d+ name \w+\n")
 FINDINGS = {"collectives": (0, 0), "early": (1, 1), "names": (0, 2), "ring": (0, 0), "spawn": (0, 0), "told": (0, 1)}
+# The recordings of `cases`, on how many processes each was made, and the same of them. Those of a race don't replay.
+CASES = {
+    "wild1": (3, 1, 2), "wild2": (3, 1, 2), "poll": (2, 0, 1), "probe": (2, 0, 1), "matched": (2, 0, 1), "later": (2, 0, 1), "split": (2, 0, 1),
+    "window": (2, 0, 2), "inter": (4, 0, 1), "merged": (4, 0, 1), "jump": (2, 0, 1), "limit": (2, 0, 0),
+}
+FINDINGS |= {name: counts for name, (_, *counts) in CASES.items()} | {"mpi4py": (0, 3), "sleep": (0, 0)}
+# What the checker says is in two plans of one recording, where a poll succeeded.
+BOTH = "wire_up-record: findings 0, and findings 1 with --strict, which takes nothing from 1 ends of requests\n"
 
 
 def found(program, plan, count):
@@ -335,13 +362,52 @@ def ships(program, name, counts):
     with tempfile.TemporaryDirectory(prefix="wire-up-") as room:
         plan, answers = os.path.join(room, "plan"), os.path.join(room, "answers")
         for option, count in zip(([], ["--no-mpi"]), counts):
-            ran = command("-o", plan, "--answers", answers, *option, "--from", os.path.join(SHIPPED, name))
-            if ran.returncode or ran.stderr:
+            checker = ["--checker", program or "/dev/null"]
+            ran = command("-o", plan, "--answers", answers, *checker, *option, "--from", os.path.join(SHIPPED, name))
+            if ran.returncode or ran.stderr != BOTH * (name == "poll" and not option and bool(program)):
                 return tell(name, f"ended with {ran.returncode} and said {ran.stderr[:300]}")
             wrong = program and (found(program, plan, count) or (not count and differs(program, plan, answers)))
             if wrong:
                 return tell(f"{name}{' without MPI' if option else ''}", wrong)
     return True
+
+
+def says_where(program):
+    """Whether the calls of a finding lead to the lines of the program that made them, also by the places that are kept."""
+    with tempfile.TemporaryDirectory(prefix="wire-up-") as room:
+        plan = os.path.join(room, "plan")
+        ran = command("-o", plan, "--from", os.path.join(SHIPPED, "wild1"))
+        with open(os.path.join(PROGRAMS, "cases.c"), encoding="ascii") as it:
+            lines = it.read().splitlines()
+        if not leads(program, plan, lines, ran.returncode):
+            return False
+        ran = command("-o", plan, "--from", os.path.join(SHIPPED, "mpi4py"))
+        return leads_to_python(plan)
+
+
+def leads_to_python(plan):
+    """Whether a call of a program of mpi4py comes from its line of Python."""
+    with open(plan, encoding="ascii") as it:
+        number = scripts_of(it.read())[0].index("publish told port") + 1
+    with open(os.path.join(PROGRAMS, "cases.py"), encoding="ascii") as it:
+        line = 1 + next(n for n, text in enumerate(it) if 'Publish_name("told"' in text)
+    ran = command("--where", "app:0", str(number), plan)
+    return ran.stdout == f"<module> (cases.py:{line})\n" or tell("where, mpi4py", f"call {number} comes from {ran.stdout or ran.stderr}")
+
+
+def leads(program, plan, lines, status):
+    """Whether the two calls of the one finding come from the lines of `cases` that publish and look up."""
+    with open(plan, encoding="ascii") as it:
+        scripts = scripts_of(it.read())
+    calls = [("app:0", scripts[0].index("lookup first") + 1, "look_up"), ("app:1", scripts[1].index("publish first port") + 1, "publish")]
+    if program and answer(program, "check", plan)[1].splitlines()[0] != "race {} {} {} {} name first".format(*calls[0][:2], *calls[1][:2]):
+        return tell("where", "the finding names other calls")
+    for process, number, function in calls:
+        ran = command("--where", process, str(number), plan)
+        read = re.fullmatch(rf"{function} \(cases\.c:(\d+)\)\n", ran.stdout)
+        if status or not read or f"MPI_{'Lookup' if function == 'look_up' else 'Publish'}_name" not in lines[int(read[1]) - 1]:
+            return tell("where", f"call {number} of {process} comes from {ran.stdout or ran.stderr}")
+    return command("--where", "app:0", "99", plan).returncode == 125 or tell("where", "call 99 is there")
 
 
 # --- the order that MPI gives ---
@@ -432,7 +498,7 @@ class World:
         """Posts a receive that ends later."""
         if self.ready():
             comm, source, target, tag = stream = self.random.choice(self.ready())
-            number = self.tapes[target].begin(f"receive {comm}")
+            number = self.tapes[target].begin(f"receive {comm} {self.comms[comm].index(source)} {tag}")
             self.posted.append((number, stream, self.sent[stream].pop(0)))
 
     def receive(self):
@@ -464,6 +530,126 @@ class World:
             them = {"all": range(len(members)), "none": (), "below": range(place)}.get(sources)
             for it in them if them is not None else map(int, sources.split(",")):
                 self.known[rank] |= before[members[it]]
+
+
+class Free:
+    """A small random program of MPI whose receives may take a message from anywhere. It knows all its runs: for each mark (a name that is
+    published) which marks come before it in every run that reaches it."""
+
+    def __init__(self, seed):
+        self.random = random.Random(seed)
+        self.size = self.random.randint(2, 4)
+        self.scripts = [[] for _ in range(self.size)]
+        for _ in range(self.random.randint(3, 9)):
+            self.add_message()
+        for _ in range(self.random.randint(0, 2)):
+            self.random.choice((self.add_barrier, self.add_probe))()
+        for n in range(3 * self.size):
+            script = self.scripts[n % self.size]
+            script.insert(self.random.randrange(len(script) + 1), ("mark", f"m{n}"))
+        self.always, self.complete = {}, []
+        self.run_all()
+
+    def add_message(self):
+        source, target = self.random.sample(range(self.size), 2)
+        tag = self.random.randrange(2)
+        ask = (self.random.choice((source, None, None)), self.random.choice((tag, tag, None)))
+        here, there = self.scripts[source], self.scripts[target]
+        here.insert(self.random.randint(len(here) // 2, len(here)), ("send", target, tag))
+        there.insert(self.random.randint(len(there) // 2, len(there)), ("receive", *ask))
+
+    def add_barrier(self):
+        for script in self.scripts:
+            script.append(("barrier",))
+        self.add_message()
+        self.add_message()
+
+    def add_probe(self):
+        receives = [(rank, n) for rank, script in enumerate(self.scripts) for n, it in enumerate(script) if it[0] == "receive"]
+        rank, n = self.random.choice(receives)
+        self.scripts[rank].insert(n, ("probe", *self.scripts[rank][n][1:]))
+
+    def run_all(self):
+        """Takes all steps of all runs, each state once."""
+        first = ((0,) * self.size, (frozenset(),) * self.size, ((),) * self.size)
+        states, seen = [(first, ())], {first}
+        while states and len(seen) < 60000:
+            state, steps = states.pop()
+            following = list(self.steps(state))
+            if not following and all(place == len(script) for place, script in zip(state[0], self.scripts)):
+                self.complete.append(steps)
+            for step, it in following:
+                if it not in seen:
+                    seen.add(it)
+                    states.append((it, (*steps, step)))
+        self.is_known = not states
+
+    def steps(self, state):
+        places, knows, boxes = state
+        heads = [script[place] if place < len(script) else None for script, place in zip(self.scripts, places)]
+        if all(it == ("barrier",) for it in heads):
+            yield ("barrier",), (tuple(it + 1 for it in places), (frozenset().union(*knows),) * self.size, boxes)
+            return
+        for rank, head in enumerate(heads):
+            if head and head[0] != "barrier":
+                yield from self.step(state, rank, head)
+
+    def step(self, state, rank, head):
+        places, knows, boxes = ([*it] for it in state)
+        places[rank] += 1
+        if head[0] == "mark":
+            before = self.always.get(head[1])
+            self.always[head[1]] = knows[rank] if before is None else before & knows[rank]
+            knows[rank] = knows[rank] | {head[1]}
+            yield (rank, head, None), (tuple(places), tuple(knows), tuple(boxes))
+        elif head[0] == "send":
+            boxes[head[1]] = (*boxes[head[1]], (rank, head[2], knows[rank]))
+            yield (rank, head, None), (tuple(places), tuple(knows), tuple(boxes))
+        else:
+            yield from self.take(places, knows, boxes, rank, head)
+
+    def take(self, places, knows, boxes, rank, head):
+        """A receive, or a probe, takes the first message that fits of any process."""
+        taken = set()
+        for n, (source, tag, known) in enumerate(boxes[rank]):
+            if head[1] in (None, source) and head[2] in (None, tag) and source not in taken:
+                taken.add(source)
+                left = boxes[rank] if head[0] == "probe" else boxes[rank][:n] + boxes[rank][n + 1 :]
+                new_knows = (*knows[:rank], knows[rank] | known, *knows[rank + 1 :])
+                yield (rank, head, (source, tag)), (tuple(places), new_knows, (*boxes[:rank], left, *boxes[rank + 1 :]))
+
+    def tapes(self):
+        """The recordings of one of its runs."""
+        found = [in_world(rank, self.size) for rank in range(self.size)]
+        for step in self.random.choice(self.complete):
+            if step == ("barrier",):
+                for tape in found:
+                    tape.call("collective barrier 1", "0 all")
+                continue
+            rank, head, came = step
+            if head[0] == "mark":
+                found[rank].call(f"publish blocks {head[1]}=text:x -")
+            elif head[0] == "send":
+                found[rank].begin(f"send 1 {head[1]} {head[2]} 4")
+            else:
+                source, tag = ("any" if it is None else it for it in head[1:])
+                found[rank].call(f"{head[0]} 1 {source} {tag}", f"0 {came[0]} {came[1]} 4")
+        return found
+
+
+def is_free(room, seed):
+    """Whether the plan of a random program, from whichever of its runs, orders no two marks that another run doesn't."""
+    world = Free(seed)
+    if not world.is_known or not world.complete:
+        return None
+    scripts = scripts_of(made(room, world.tapes()).plan())
+    places = {line.split(" ")[1]: (process, n) for process, lines in enumerate(scripts) for n, line in enumerate(lines) if line.endswith(" x")}
+    before = before_of(scripts)
+    for name, place in places.items():
+        more = {it for it, other in places.items() if other in before[place]} - world.always[name]
+        if more:
+            return tell(f"free run {seed}", f"the plan puts {sorted(more)} before {name}, and another run doesn't")
+    return True
 
 
 def is_ordered(room, seed, is_short):
@@ -559,11 +745,17 @@ def twisted(room):
     tapes[1].call("receive 1", "0 0 0 4")
     yield "a synchronous send", tapes, [
         ["publish mpi.0.1.1 sent", "lookup-wait mpi.0.1.1.begun"], ["publish mpi.0.1.1.begun sent", "lookup-wait mpi.0.1.1"]], None
-    # A matched probe took its message, so the receive that is there may be of the next one, and had perhaps not begun.
+    # A receive isn't recorded, so the one that is there may be of the next message, and had perhaps not begun.
     tapes = in_world(0, 2), in_world(1, 2)
     tapes[0].call("send 1 1 0 4").begin("send 1 1 0 4")
-    tapes[1].say("other MPI_Mrecv").call("receive 1", "0 0 0 4")
-    yield "a synchronous send to a matched probe", tapes, [["publish mpi.0.1.1 sent"], ["lookup-wait mpi.0.1.1"]], "1 calls of MPI_Mrecv"
+    tapes[1].say("other MPI_Mrecv").call("receive 1 0 0", "0 0 0 4")
+    yield "a synchronous send to a receive that isn't recorded", tapes, [["publish mpi.0.1.1 sent"], ["lookup-wait mpi.0.1.1"]], "1 calls of MPI_Mrecv"
+    yield from free_receives()
+    # Another receive was cancelled, which had perhaps got the message in its place, and had begun before.
+    tapes = in_world(0, 2), in_world(1, 2)
+    tapes[0].call("send 1 1 0 4")
+    tapes[1].call("receive 1 any 0", "1").call("receive 1 0 0", "0 0 0 4 wait")
+    yield "a synchronous send, and a receive that was cancelled", tapes, [["publish mpi.0.1.1 sent"], ["lookup-wait mpi.0.1.1"]], None
     # Messages that can't be matched order nothing.
     tapes = in_world(0, 2), in_world(1, 2)
     tapes[0].begin("send 1 1 0 4")
@@ -602,9 +794,116 @@ def twisted(room):
     # A fence with a rank that isn't there, which PMIx refused.
     tapes = Tape(0).call("fence blocks job:0,job:7 -", "-27"), Tape(1)
     yield "a fence with no rank", tapes, [[], []], "1 fences with processes that aren't recorded"
+    # A last line that was cut.
+    tapes = Tape(0).call("put global k text:v").text()[:-4], Tape(1).text()
+    yield "a cut line", tapes, [["put global k v"], []], "1 last lines of recordings, which were cut"
     # Ended badly.
     tapes = Tape(0).text(False), Tape(1).text()
     yield "a process that ended badly", tapes, [[], []], "1 processes whose recordings end before PMIx_Finalize"
+
+
+def free_receives():
+    """Receives that may take one of several messages, polls, and probes."""
+    def three(*calls):
+        """Ranks 1 and 2 send to 0, which calls so."""
+        tapes = [in_world(rank, 3) for rank in range(3)]
+        for tape in tapes[1:]:
+            tape.begin("send 1 0 0 4")
+        for what, end in calls:
+            tapes[0].call(what, end)
+        return tapes
+
+    one, other = ("receive 1 any 0", "0 1 0 4 wait"), ("receive 1 any any", "0 2 0 4 wait")
+    both = ["lookup-wait mpi.1.0.1", "lookup-wait mpi.2.0.1"]
+    sent = [["publish mpi.1.0.1 sent"], ["publish mpi.2.0.1 sent"]]
+    said = "2 receives that could have got messages of several"
+    yield "two receives from anywhere", three(one, ("commit", "0"), other, ("commit", "0")), [["commit", *both, "commit"], *sent], said
+    yield "one receive from anywhere", three(one), [[], [], []], "1 receives that could have got"
+    yield "a probe from anywhere", three(("probe 1 any 0", "0 1 0 4 wait"), ("receive 1 1 0", "0 1 0 4 wait")), [[], [], []], "1 receives that"
+    yield "a probe of what is left", three(one, ("probe 1 any 0", "0 2 0 4 wait"), ("commit", "0")), [[*both, "commit"], *sent], "1 receives that"
+    yield "a receive of one among those of any", three(("receive 1 2 0", "0 2 0 4 wait"), ("commit", "0"), one), [
+        [both[1], "commit", both[0]], *sent], said
+    # Where a process may have sent more than is recorded, nothing is taken from a receive from anywhere.
+    tapes = three(one, other)
+    tapes[2] = tapes[2].text(False)
+    yield "two receives from anywhere, and a process that ended badly", tapes, [[], [], []], "2 messages that can't be matched"
+    # What is sent after a barrier can't have come before it.
+    tapes = three(one, other)
+    for tape in tapes:
+        tape.call("collective barrier 1", "0 all wait")
+    for tape in tapes[1:]:
+        tape.begin("send 1 0 0 4")
+    yield "two receives before a barrier", tapes, [[*both, "fence all"], *([*it, "fence all"] for it in sent)], said
+    # A poll that succeeded: the order is taken, and counted.
+    tapes = in_world(0, 2), in_world(1, 2)
+    tapes[0].begin("send 1 1 0 4")
+    tapes[1].call("receive 1 0 0", "0 0 0 4 poll")
+    yield "a poll", tapes, [["publish mpi.0.1.1 sent"], ["lookup-wait mpi.0.1.1"]], "# 1 ends of requests that another run may have found open"
+
+
+def leaves_out_gets(room):
+    """Whether a plan that would be too long loses the gets of what is surely there, and those alone: not one that waits for something, one
+    that doesn't wait, or one of a key that is put twice and races with nothing."""
+    tapes = [in_world(rank, 3) for rank in range(3)]
+    for tape in tapes:
+        tape.call("put global k text:v").call("commit").call("fence blocks all pmix.collect=number:1:1")
+    tapes[0].call("put global late text:v").call("commit")
+    for _ in range(9000):
+        tapes[1].call("get blocks job:0 :late -", "0 text:v").call("get blocks job:2 :k -", "0 text:v")
+    tapes[2].call("get blocks job:0 :late pmix.immediate=number:1:1", "-46")
+    plan = made(room, tapes).plan()
+    begins = ["put global k v", "commit", "fence all collect"]
+    wanted = [[*begins, "put global late v", "commit"], [*begins, "get app:0 late"], [*begins, "get-now app:0 late"]]
+    is_well = scripts_of(plan) == wanted and "17999 gets, since they can't change a finding" in plan
+    return is_well or tell("many gets", f"becomes {plan[:600]}")
+
+
+def says_in_part(room):
+    """Whether a plan that is more ordered than the program is said to be so, beside its head."""
+    tapes = Tape(0), Tape(1)
+    fence = tapes[0].begin("fence nb all pmix.collect=number:1:1")
+    tapes[0].call("publish blocks m=text:x -").end(fence)
+    tapes[1].call("fence blocks all pmix.collect=number:1:1")
+    for n, tape in enumerate(tapes):
+        with open(os.path.join(room, f"part.{n}"), "wb") as to:
+            to.write(tape.text())
+    ran = command("-o", os.path.join(room, "part.plan"), "--from", *(os.path.join(room, f"part.{n}") for n in range(2)))
+    said = "a verdict over this plan holds only in part: 1 calls made while one that doesn't block was open"
+    return (not ran.returncode and said in ran.stderr) or tell("in part", f"ended with {ran.returncode} and said {ran.stderr}")
+
+
+HEADER = """
+extern int MPI_Known(int a); extern int MPI_Odd(const int list[][3], MPI_Request *it,  void *f) __attribute__((deprecated("x")));
+extern int MPI_Type_size(MPI_Datatype t, int *size); int MPI_Barrel(void); extern double MPI_Wtime(void);
+"""
+
+
+def counts_others():
+    """Whether the functions of a header that a recorder doesn't have, and that aren't local, are written to be counted."""
+    script = os.path.join(TOP, "record", "others.py")
+    with tempfile.TemporaryDirectory(prefix="wire-up-") as room:
+        source = os.path.join(room, "source.c")
+        with open(source, "w", encoding="ascii") as to:
+            to.write("/* MPI_Odd */ int MPI_Known(int a) {}")
+        ran = subprocess.run([sys.executable, script, "MPI", source], input=HEADER, capture_output=True, text=True, check=False)
+    wrote = re.findall(r"(?m)^int (\w+)\(|real\((.*)\);|(forget_\w+\(.*\));", ran.stdout)
+    wanted = [("MPI_Odd", "", ""), ("", "list, it, f", ""), ("", "", "forget_request(*it)"), ("MPI_Barrel", "", ""), ("", "", "")]
+    return wrote == wanted or tell("others.py", f"wrote {ran.stdout} and said {ran.stderr}")
+
+
+def takes_no_luck(room):
+    """Whether with --strict nothing is taken from polls, and from one of several; and whether both verdicts can be said."""
+    for how, count in (("poll", 0), ("some", 0), ("wait", 1)):
+        tapes = in_world(0, 2), in_world(1, 2)
+        tapes[0].begin("send 1 1 0 4")
+        tapes[1].call("receive 1 0 0", f"0 0 0 4 {how}")
+        for tape in tapes:
+            tape.call("collective ibarrier 1", f"0 all {how}")
+        maker = made(room, tapes, is_strict=True)
+        wanted = [["publish mpi.0.1.1 sent", "fence all"], ["lookup-wait mpi.0.1.1", "fence all"]] if count else [[], []]
+        if scripts_of(maker.plan()) != wanted:
+            return tell(f"strict, {how}", f"becomes {maker.plan()}")
+    return True
 
 
 def is_twisted(room, name, tapes, scripts, comment):
@@ -632,6 +931,7 @@ def is_shortened(room):
 
 # --- live ---
 
+MPIRUN = ("mpirun", "--oversubscribe", "-n")
 # The programs, on how many processes, and how many findings each has.
 LIVE = {"names": (4, 0), "ring": (4, 0), "collectives": (4, 0), "told": (2, 0), "spawn": (2, 0)}
 
@@ -668,7 +968,7 @@ def compiled(room, name):
         flags = subprocess.run(["pkg-config", "--cflags", "--libs", "pmix"], capture_output=True, text=True, check=True).stdout.split()
         words = ["cc", "-o", path, source, *flags, "-pthread"]
     else:
-        words = ["mpicc", "-o", path, source]
+        words = ["mpicc", "-g", "-o", path, source]
     subprocess.run(words, check=True, capture_output=True)
     return path
 
@@ -697,6 +997,87 @@ def lives(program, room, name, processes, count):
     return not wrong or tell(f"{name}, live", wrong)
 
 
+def cases_live(program, room):
+    """Whether the small programs of `cases` have the findings that they must have, when they run."""
+    path, plan, answers = compiled(room, "cases"), os.path.join(room, "case.plan"), os.path.join(room, "case.answers")
+    for name, (processes, count, _) in CASES.items():
+        ran = command("-o", plan, "--checker", program or "/dev/null", "--answers", answers, *MPIRUN, str(processes), path, name, env=environment())
+        said = {"limit": "no room", "poll": BOTH if program else ""}.get(name, "")
+        if ran.returncode or ran.stdout != f"{name} done\n" or said not in ran.stderr or (ran.stderr and not said):
+            return tell(f"{name}, live", f"ended with {ran.returncode}, wrote {ran.stdout[:300]} and said {ran.stderr[:300]}")
+        wrong = program and (found(program, plan, count) or (not count and differs(program, plan, answers)))
+        if wrong:
+            return tell(f"{name}, live", wrong)
+        if name == "wild1" and shutil.which("addr2line"):
+            with open(os.path.join(PROGRAMS, "cases.c"), encoding="ascii") as it:
+                if not leads(program, plan, it.read().splitlines(), 0):
+                    return False
+    command("-o", plan, "--strict", *MPIRUN, "2", path, "poll", env=environment())
+    wrong = program and found(program, plan, 1)
+    return not wrong or tell("poll, live, strict", wrong)
+
+
+def python_live(program, room):
+    """Whether a program of mpi4py is recorded without false findings; where there is no mpi4py, says so."""
+    pythons = [it for it in (sys.executable, shutil.which("python3", path=os.defpath)) if it]
+    python = next((it for it in pythons if not subprocess.run([it, "-c", "import mpi4py"], capture_output=True, check=False).returncode), None)
+    if not python:
+        print("recording: no program of mpi4py was recorded: there is no mpi4py")
+        return True
+    plan, answers = os.path.join(room, "python.plan"), os.path.join(room, "python.answers")
+    ran = command("-o", plan, "--answers", answers, *MPIRUN, "3", python, os.path.join(PROGRAMS, "cases.py"), env=environment())
+    wrong = program and not ran.returncode and (found(program, plan, 0) or differs(program, plan, answers))
+    if ran.returncode:
+        wrong = f"ended with {ran.returncode} and said {ran.stderr[:300]}"
+    return leads_to_python(plan) if not wrong else tell("mpi4py, live", wrong)
+
+
+def holds_many(program, room):
+    """Whether a program of 128 processes is recorded and judged; where the machine is too small, says so."""
+    pages = os.sysconf("SC_PHYS_PAGES") * os.sysconf("SC_PAGE_SIZE")
+    if os.cpu_count() < 4 or pages < 8 << 30:
+        print("recording: no program of 128 processes was recorded: that takes 4 cores and 8 GiB of memory")
+        return True
+    plan = os.path.join(room, "many.plan")
+    ran = command("-o", plan, *MPIRUN, "128", os.path.join(room, "collectives"), env=environment())
+    wrong = f"ended with {ran.returncode} and said {ran.stderr[:300]}" if ran.returncode else program and found(program, plan, 0)
+    return not wrong or tell("128 processes, live", wrong)
+
+
+def hands_on(room):
+    """Whether signals reach the program, and what was recorded becomes a plan; and nothing else is left."""
+    path, well = os.path.join(room, "cases"), []
+    for number in (signal.SIGTERM, signal.SIGINT, signal.SIGHUP):
+        with tempfile.TemporaryDirectory(prefix="wire-up-") as here:
+            words = [sys.executable, COMMAND, "-o", os.path.join(here, "plan"), *MPIRUN, "2", path, "sleep"]
+            began = time.monotonic()
+            with subprocess.Popen(words, stdout=subprocess.DEVNULL, stderr=subprocess.PIPE, text=True, env=environment()) as ran:
+                wait_for_recordings(here, 2)
+                ran.send_signal(number)
+                said = ran.communicate(timeout=SECONDS)[1]
+            is_well = ran.returncode not in (0, 125) and time.monotonic() - began < 5.5 and os.listdir(here) == ["plan"] and "the command ended" in said
+            well.append(is_well or tell(f"{number.name}, live", f"ended with {ran.returncode}, left {os.listdir(here)} and said {said[-300:]}"))
+    return all(well)
+
+
+def wait_for_recordings(folder, count):
+    """Waits until so many recordings have the world of MPI in them."""
+    for _ in range(200):
+        time.sleep(0.02)
+        files = glob.glob(os.path.join(folder, "wire_up-record-*", "*.recording"))
+        if len(files) == count and all(b" world " in open(it, "rb").read() for it in files):
+            return
+
+
+def runs_scripts(program, room):
+    """Whether a script that holds `mpirun -x` is recorded, and the status of a command is passed on."""
+    plan = os.path.join(room, "script.plan")
+    script = f"WORD=1 mpirun -x WORD --oversubscribe -n 2 {os.path.join(room, 'cases')} split; exit 3"
+    ran = command("-o", plan, "sh", "-c", script, env=environment())
+    wrong = f"ended with {ran.returncode} and said {ran.stderr[:300]}" if ran.returncode != 3 else program and found(program, plan, 0)
+    return not wrong or tell("a script, live", wrong)
+
+
 def sees_the_same(room, option):
     """Whether a program that calls PMIx in many ways is told the same with the recorder as without."""
     path, plan = os.path.join(room, "calls"), os.path.join(room, "calls.plan")
@@ -716,7 +1097,7 @@ SOURCES = {
     "barrier": ["all"] * 4, "bcast": ["none", "3", "3", "3"], "gather": ["none", "none", "all", "none"], "scatter": ["1", "none", "1", "1"],
     "reduce": ["none", "none", "all", "none"], "scan": ["below"] * 4, "exscan": ["below"] * 4, "allgather": ["all"] * 4, "allgatherv": ["1,3"] * 4,
     "alltoall": ["all"] * 4, "alltoallv": ["none", "0", "0,1", "all"], "alltoallw": ["none", "0", "0,1", "all"], "reduce_scatter": ["all"] * 4,
-    "reduce_scatter_block": ["all"] * 4, "allreduce": ["all"] * 4,
+    "reduce_scatter_block": ["all"] * 4, "allreduce": ["all"] * 4, "comm_split": ["all"] * 4, "ibarrier": ["all"] * 4,
 }
 STEPS = 20
 
@@ -745,7 +1126,7 @@ def outlives(program, room):
     """Whether the recording of a process that is killed is there up to its end."""
     path, plan = os.path.join(room, "calls"), os.path.join(room, "killed.plan")
     ran = command("-o", plan, "mpirun", "--oversubscribe", "-n", "2", path, "threads", "killed", env=environment())
-    if ran.returncode != 1 or "the command ended" not in ran.stderr:
+    if ran.returncode in (0, 125) or "the command ended" not in ran.stderr:
         return tell("killed, live", f"ended with {ran.returncode} and said {ran.stderr[:300]}")
     with open(plan, encoding="ascii") as it:
         text = it.read()
@@ -794,6 +1175,8 @@ def live(program):
     with tempfile.TemporaryDirectory(prefix="wire-up-") as room:
         well = [lives(program, room, name, *how) for name, how in LIVE.items()]
         well += [sees_the_same(room, []), sees_the_same(room, ["threads"]), is_followed(program, room), outlives(program, room)]
+        well += [is_used(*it) for it in commands(room)]
+        well += [cases_live(program, room), python_live(program, room), hands_on(room), runs_scripts(program, room), holds_many(program, room)]
         if shutil.which("valgrind"):
             well.append(is_without_fault(room))
         else:
@@ -810,9 +1193,12 @@ def all_runs(program):
         well += [is_twisted(room, *it) for it in twisted(room)]
         well += [is_used(*it) for it in usages(room)]
         well += [is_ordered(room, seed, is_short) for seed in range(RANDOM_PROGRAMS) for is_short in (False, True)]
-        well.append(is_shortened(room))
+        free = [it for it in (is_free(room, seed) for seed in range(FREE_PROGRAMS)) if it is not None]
+        well += [*free, len(free) > FREE_PROGRAMS // 3 or tell("free runs", f"only {len(free)} have a run that ends")]
+        well += [is_shortened(room), takes_no_luck(room), leaves_out_gets(room), says_in_part(room), counts_others()]
     well += [is_refused(*it) for it in damages()]
     well += [ships(program, name, counts) for name, counts in FINDINGS.items()]
+    well.append(says_where(program))
     well += live(program)
     return well.count(True), well.count(False)
 

@@ -163,7 +163,6 @@ int main(int count, char **words)
     MPI_Allreduce(&rank, &x, 1, MPI_INT, MPI_SUM, half); /* 1 and 3 */
     look_up(1);
 
-    /* What orders nothing; MPI_Barrier with another communicator does. */
     MPI_Ibarrier(MPI_COMM_WORLD, &requests[0]);
     MPI_Wait(&requests[0], MPI_STATUS_IGNORE);
     MPI_Comm_free(&half);

@@ -1,0 +1,205 @@
+/* Small programs in each of which one process publishes a name and another looks it up. The first word says which:
+ *
+ *   wild1, wild2      a receive from any source, of which 1 or 2 is the slower sender: a race, whoever sleeps
+ *   poll              a poll that succeeds, for luck: a race that only --strict shows
+ *   probe, matched, later, split, window, inter, merged, jump
+ *                     ordered by a probe, a matched probe, a collective that doesn't block, by calls that make a communicator or a window,
+ *                     by communicators of two groups, and by a message after a jump out of MPI: no race
+ *   limit             the recording gets no more room than 16 KiB
+ *   sleep             takes six seconds
+ */
+#include <mpi.h>
+#include <setjmp.h>
+#include <stdio.h>
+#include <string.h>
+#include <sys/resource.h>
+#include <unistd.h>
+
+static int rank, size, x;
+static jmp_buf back;
+
+static void publish(const char *name)
+{
+    MPI_Publish_name(name, MPI_INFO_NULL, "port");
+}
+
+static void look_up(const char *name)
+{
+    char port[MPI_MAX_PORT_NAME] = "";
+    MPI_Comm_set_errhandler(MPI_COMM_WORLD, MPI_ERRORS_RETURN);
+    MPI_Lookup_name(name, MPI_INFO_NULL, port);
+}
+
+static void wild(int slower)
+{
+    if (rank == 1 || rank == 2) {
+        if (rank == slower)
+            usleep(200000);
+        publish(rank == 1 ? "first" : "second");
+        MPI_Send(&rank, 1, MPI_INT, 0, 0, MPI_COMM_WORLD);
+    }
+    if (rank == 0) {
+        MPI_Recv(&x, 1, MPI_INT, MPI_ANY_SOURCE, 0, MPI_COMM_WORLD, MPI_STATUS_IGNORE);
+        look_up("first"); /* it isn't there for sure if the message of 2 came first */
+        MPI_Recv(&x, 1, MPI_INT, MPI_ANY_SOURCE, 0, MPI_COMM_WORLD, MPI_STATUS_IGNORE);
+        look_up("second");
+    }
+}
+
+static void poll(void)
+{
+    MPI_Request request;
+    int is_there = 0;
+    if (rank == 1) {
+        publish("port");
+        MPI_Send(&rank, 1, MPI_INT, 0, 0, MPI_COMM_WORLD);
+    }
+    if (rank == 0) {
+        MPI_Irecv(&x, 1, MPI_INT, 1, 0, MPI_COMM_WORLD, &request);
+        usleep(300000);
+        MPI_Test(&request, &is_there, MPI_STATUS_IGNORE);
+        look_up("port");
+        if (!is_there)
+            MPI_Wait(&request, MPI_STATUS_IGNORE);
+    }
+}
+
+static void probe(int is_matched)
+{
+    MPI_Status status;
+    MPI_Message message;
+    if (rank == 1) {
+        publish("port");
+        MPI_Send(&rank, 1, MPI_INT, 0, 0, MPI_COMM_WORLD);
+    }
+    if (rank == 0 && is_matched) {
+        MPI_Mprobe(MPI_ANY_SOURCE, 0, MPI_COMM_WORLD, &message, &status);
+        MPI_Mrecv(&x, 1, MPI_INT, &message, MPI_STATUS_IGNORE);
+        look_up("port");
+    } else if (rank == 0) {
+        MPI_Probe(MPI_ANY_SOURCE, 0, MPI_COMM_WORLD, &status);
+        look_up("port");
+        MPI_Recv(&x, 1, MPI_INT, status.MPI_SOURCE, 0, MPI_COMM_WORLD, MPI_STATUS_IGNORE);
+    }
+}
+
+static void later(void)
+{
+    MPI_Request request;
+    if (rank == 0)
+        publish("port");
+    MPI_Ibarrier(MPI_COMM_WORLD, &request);
+    MPI_Wait(&request, MPI_STATUS_IGNORE);
+    if (rank == 1)
+        look_up("port");
+}
+
+static void split(void)
+{
+    MPI_Comm made;
+    if (rank == 0)
+        publish("port");
+    MPI_Comm_split(MPI_COMM_WORLD, 0, rank, &made);
+    if (rank == 1)
+        look_up("port");
+    MPI_Comm_free(&made);
+}
+
+static void window(void)
+{
+    int *there;
+    MPI_Win made;
+    if (rank == 0)
+        publish("made");
+    MPI_Win_allocate_shared(sizeof(int), sizeof(int), MPI_INFO_NULL, MPI_COMM_WORLD, &there, &made);
+    if (rank == 1) {
+        look_up("made");
+        publish("fenced");
+    }
+    MPI_Win_fence(0, made);
+    if (rank == 0)
+        look_up("fenced");
+    MPI_Win_free(&made);
+}
+
+static void inter(int is_merged)
+{
+    MPI_Comm half, both, all;
+    MPI_Comm_split(MPI_COMM_WORLD, rank < size / 2, rank, &half);
+    MPI_Intercomm_create(half, 0, MPI_COMM_WORLD, rank < size / 2 ? size / 2 : 0, 99, &both);
+    if (is_merged)
+        MPI_Intercomm_merge(both, rank < size / 2, &all);
+    if (rank == 0)
+        publish("port");
+    MPI_Barrier(is_merged ? all : both);
+    if (rank == size - 1)
+        look_up("port");
+}
+
+static void jump_back(MPI_Comm *comm, int *error, ...)
+{
+    (void)comm;
+    (void)error;
+    longjmp(back, 1);
+}
+
+static void jump(void)
+{
+    MPI_Errhandler handler;
+    MPI_Comm_create_errhandler(jump_back, &handler);
+    MPI_Comm_set_errhandler(MPI_COMM_WORLD, handler);
+    if (!setjmp(back))
+        MPI_Send(&x, 1, MPI_INT, 999, 0, MPI_COMM_WORLD);
+    if (rank == 0) {
+        publish("port");
+        MPI_Send(&x, 1, MPI_INT, 1, 0, MPI_COMM_WORLD);
+    }
+    if (rank == 1) {
+        MPI_Recv(&x, 1, MPI_INT, 0, 0, MPI_COMM_WORLD, MPI_STATUS_IGNORE);
+        look_up("port");
+    }
+}
+
+static void limit(void)
+{
+    struct rlimit most = {16384, 16384};
+    setrlimit(RLIMIT_FSIZE, &most);
+    for (int n = 0; n < 500; n++) {
+        if (rank == 0)
+            MPI_Send(&x, 1, MPI_INT, 1, 0, MPI_COMM_WORLD);
+        if (rank == 1)
+            MPI_Recv(&x, 1, MPI_INT, 0, 0, MPI_COMM_WORLD, MPI_STATUS_IGNORE);
+    }
+}
+
+int main(int count, char **words)
+{
+    const char *which = count > 1 ? words[1] : "";
+    MPI_Init(&count, &words);
+    MPI_Comm_rank(MPI_COMM_WORLD, &rank);
+    MPI_Comm_size(MPI_COMM_WORLD, &size);
+    if (!strncmp(which, "wild", 4))
+        wild(which[4] - '0');
+    else if (!strcmp(which, "poll"))
+        poll();
+    else if (!strcmp(which, "probe") || !strcmp(which, "matched"))
+        probe(*which == 'm');
+    else if (!strcmp(which, "later"))
+        later();
+    else if (!strcmp(which, "split"))
+        split();
+    else if (!strcmp(which, "window"))
+        window();
+    else if (!strcmp(which, "inter") || !strcmp(which, "merged"))
+        inter(*which == 'm');
+    else if (!strcmp(which, "jump"))
+        jump();
+    else if (!strcmp(which, "limit"))
+        limit();
+    else if (!strcmp(which, "sleep"))
+        sleep(6);
+    if (rank == 0)
+        printf("%s done\n", which);
+    MPI_Finalize();
+    return 0;
+}
