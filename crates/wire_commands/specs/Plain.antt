@@ -1,4 +1,4 @@
--- What a replay of a file of scripts writes: the report of the plain run of what was to come from the reader.
+-- What `plain` writes: the report of the plain run of what was to come from the reader.
 use Rattle.std.specs.Prelude.{◌≡◌, ℕ, ◌<◌, List, Option, Ok, Err, IfSome, length, take}
 use Rattle.std.specs.Io.KnownBytes.{Appends}
 use Rattle.wire_types.specs.declared.Fault.{Fault}

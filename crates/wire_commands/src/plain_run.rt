@@ -1,4 +1,4 @@
-//! The replay of a file of scripts by one thread.
+//! The plain run of a file of scripts.
 
 ghost use Rattle.std.specs.Prelude.{◌≡◌, ◌≢◌, ◌⊎◌, ℕ, Err, OnOk, OnErr, IfOk, IfErr};
 ghost use Rattle.wire_types.specs.declared.Fault.TheVariants.{Memory, Read, Write};
@@ -49,7 +49,7 @@ fn plain_text(alloc: Global, scripts: Scripts) -> Result<Vec<u8>, Fault>
     text
 }
 
-/// Replays a file of scripts: reads it to its end, runs its plan, where at each step the lowest process that can
+/// Runs a file of scripts by the plain run: reads it to its end, runs its plan, where at each step the lowest process that can
 /// run takes one, until none can, and then writes what became of every call.
 ///
 /// After the fault `Write` the front of the report that it counts is written, after any other fault

@@ -187,7 +187,7 @@ impl<'a> Lane<'a> {
     /// Serves the rank as far as it goes: reads afresh the sources of the next event that aren't known to be
     /// done, up to the first that isn't done, and does the event where its seat shows that it can happen,
     /// until it doesn't after fresh reads. Answers how many events that were: so many entries the trail has
-    /// more. It waits for nobody, takes no memory and can't fail.
+    /// more. It waits for nobody, takes no memory and can't fail. No clause says that it reads.
     pub fn advance_far(&mut self) -> usize
         ensures same { SameLane self.old self.new }
         ensures trail { Grows self.old.trail self.new.trail result }

@@ -1,4 +1,4 @@
-//! What an event of a settled plan does in every run.
+//! What an event of a settled plan does once all that is before it has happened.
 
 ghost use Rattle.wire_runs.specs.Plan.{event_of};
 ghost use Rattle.wire_content.specs.Planned.{plan_of};

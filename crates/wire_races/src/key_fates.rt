@@ -10,7 +10,7 @@ ghost use Rattle.wire_runs.specs.Races.{IsSettled};
 ghost use Rattle.wire_plan.specs.Index.{IsFirstPut};
 ghost use Rattle.wire_races.specs.Pasts.{GivesSight, GivesGet, GivesGetNow, GivesServed, GivesBrought};
 
-use crate::key_races::{GetNow, comes_surely};
+use crate::key_races::{KeyRead, comes_surely};
 use wire_marks::MarkedPlan;
 use wire_plan::{Kind, Plan};
 use wire_types::{Event, Proc, Reply, Scope, Status, Value};
@@ -111,7 +111,7 @@ fn away_reply(marked: &MarkedPlan<'_>, event: Event, put: Event, key: u32) -> Re
     ensures { GivesBrought (plan_of marked.now) (event_of event) put.proc.number key result }
 {
     let plan = marked.plan();
-    let asked = GetNow {
+    let asked = KeyRead {
         get_now: event,
         owner: put.proc,
         key,

@@ -30,7 +30,7 @@ use wire_types::{Event, Proc};
 
 /// A get that is answered at once, and the key for which it asks.
 #[derive(Clone, Copy)]
-pub(crate) struct GetNow {
+pub(crate) struct KeyRead {
     pub get_now: Event,
     pub owner: Proc,
     pub key: u32,
@@ -51,7 +51,7 @@ fn are_unordered(marks: &Marks, x: Event, y: Event) -> bool
 }
 
 /// The race of a get with an event, the lower call first.
-fn race_of(plan: &Plan, source: Event, asked: GetNow) -> Finding
+fn race_of(plan: &Plan, source: Event, asked: KeyRead) -> Finding
     requires { IsKeyRace (plan_of plan.now) (event_of source) (event_of asked.get_now) asked.owner.number asked.key }
     ensures { IsRaceOf (event_of source) (event_of asked.get_now) asked.owner.number asked.key (shown (plan_of plan.now) result) }
 {
@@ -65,7 +65,7 @@ fn race_of(plan: &Plan, source: Event, asked: GetNow) -> Finding
 }
 
 /// Adds the race of a get with an event.
-fn add_race(plan: &Plan, found: &mut Found, source: Event, asked: GetNow) -> Result<(), AllocError>
+fn add_race(plan: &Plan, found: &mut Found, source: Event, asked: KeyRead) -> Result<(), AllocError>
     requires race { IsKeyRace (plan_of plan.now) (event_of source) (event_of asked.get_now) asked.owner.number asked.key }
     requires found { AreFound (plan_of plan.now) found.old }
     ensures { OnOk result (Adds (plan_of plan.now) found.old found.new (IsRaceOf (event_of source) (event_of asked.get_now) asked.owner.number asked.key)) }
@@ -78,7 +78,7 @@ fn add_node_race(
     plan: &Plan,
     marks: &Marks,
     found: &mut Found,
-    asked: GetNow,
+    asked: KeyRead,
 ) -> Result<(), AllocError>
     requires marks { AreMarks (plan_of plan.now) marks.now }
     requires found { AreFound (plan_of plan.now) found.old }
@@ -226,7 +226,7 @@ fn next_arrival(plan: &Plan, owner: Proc, key: u32, node: u32, from: u32) -> Opt
 
 /// Whether a delivery of a key to a node comes before a get in every run. If any does, the first one
 /// does: all arrivals at its fence are before each later arrival of the owner.
-pub(crate) fn comes_surely(plan: &Plan, marks: &Marks, asked: GetNow, node: u32) -> bool
+pub(crate) fn comes_surely(plan: &Plan, marks: &Marks, asked: KeyRead, node: u32) -> bool
     requires marks { AreMarks (plan_of plan.now) marks.now }
     requires live { Live (plan_of plan.now) (event_of asked.get_now) }
     requires once { IsPutOnce (plan_of plan.now) asked.owner.number asked.key }
@@ -243,7 +243,7 @@ fn add_late(
     plan: &Plan,
     marks: &Marks,
     found: &mut Found,
-    asked: GetNow,
+    asked: KeyRead,
     arrival: Event,
 ) -> Result<(), AllocError>
     requires marks { AreMarks (plan_of plan.now) marks.now }
@@ -268,7 +268,7 @@ fn add_all_late(
     plan: &Plan,
     marks: &Marks,
     found: &mut Found,
-    asked: GetNow,
+    asked: KeyRead,
     node: u32,
 ) -> Result<(), AllocError>
     requires marks { AreMarks (plan_of plan.now) marks.now }
@@ -299,7 +299,7 @@ fn add_delivery_races(
     plan: &Plan,
     marks: &Marks,
     found: &mut Found,
-    asked: GetNow,
+    asked: KeyRead,
 ) -> Result<(), AllocError>
     requires marks { AreMarks (plan_of plan.now) marks.now }
     requires found { AreFound (plan_of plan.now) found.old }
@@ -315,7 +315,7 @@ fn add_delivery_races(
 }
 
 /// Whether a get that is answered at once is live, and of a key that another process puts once.
-fn is_open(plan: &Plan, marks: &Marks, asked: GetNow) -> bool
+fn is_open(plan: &Plan, marks: &Marks, asked: KeyRead) -> bool
     requires marks { AreMarks (plan_of plan.now) marks.now }
     requires get { kind (plan_of plan.now) (event_of asked.get_now) ≡ Some (GetNow asked.owner.number asked.key) }
     ensures { IsTrue result ↔ IsOpen (plan_of plan.now) (event_of asked.get_now) asked.owner.number asked.key }
@@ -330,7 +330,7 @@ fn add_get_now(
     plan: &Plan,
     marks: &Marks,
     found: &mut Found,
-    asked: GetNow,
+    asked: KeyRead,
 ) -> Result<(), AllocError>
     requires marks { AreMarks (plan_of plan.now) marks.now }
     requires found { AreFound (plan_of plan.now) found.old }
@@ -358,7 +358,7 @@ fn add_event(plan: &Plan, marks: &Marks, found: &mut Found, event: Event) -> Res
 {
     match plan.kind(event) {
         Kind::GetNow { owner, key } => {
-            let asked = GetNow {
+            let asked = KeyRead {
                 get_now: event,
                 owner,
                 key,

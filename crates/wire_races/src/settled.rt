@@ -77,7 +77,7 @@ impl Settled {
         &self.plan
     }
 
-    /// The fate of an event: what it does in every run, once its sources are done. It is `Waits` for an
+    /// The fate of an event: what it does once its sources are done. It is `Waits` for an
     /// event that isn't live, or isn't of the plan, and for a `lookup-wait` whose name is absent after
     /// the calls before it; `Silent` for the arrival at a fence; else the reply that its call gets. In a
     /// state that a run can reach, each reply is the fate of its event, and a process is enabled exactly

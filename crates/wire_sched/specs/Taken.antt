@@ -6,7 +6,7 @@ use Rattle.wire_sched.specs.declared.round.Round.{Round}
 use Rattle.wire_sched.specs.declared.round.Pass.{Pass}
 use Rattle.wire_sched.specs.Rounds.{ranks_of, workers_of, share_at, own_view, permit_views, IsPassOf}
 
--- what was taken of all deques
+-- what these views took, one after the other
 abbrev pub all_of : List DequeView → List Piece
 all_of [] = []
 all_of (v ∷ vs) = v.taken ++ all_of vs

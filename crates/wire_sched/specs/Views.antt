@@ -14,7 +14,7 @@ abbrev pub all_parts : ℕ
 all_parts = 2 ^ 64
 
 -- The pass takes pieces that stand in what was dealt from a place on. The place isn't before the end of what it took
--- last. If the pass has all parts, it took all that stands before the place.
+-- last. If the pass has all parts, it took as many pieces as stand before the place.
 abbrev pub Takes : DequeView → List Piece → DequeView → Type 0
 Takes v xs w =
     (place : ℕ) × (after : List Piece)

@@ -25,7 +25,7 @@ struct Victim {
 /// Serves the pieces of the worker's own deque, and then those that it steals from the other deques in turn. It leaves a
 /// deque that answered `Again` a thousand times. Before each piece it calls the gate, and then it waits for the lock of
 /// that rank's lane. Answers how many events that were; once the sum is at its type's greatest value, it stays there. It
-/// takes no memory.
+/// takes no memory. No clause says which pieces it served, or how many events that were: other threads serve lanes too.
 pub fn work<R: Wait, G: Gate>(
     rt: &R,
     lanes: &Lanes<'_>,

@@ -174,8 +174,8 @@ fn rehearse_scripts<R: Threads + Wait + Sync, G: Gate + Sync>(
     }
 }
 
-/// Rehearses a file of scripts with at most so many workers at once (`run_any` of `wire_collect` says how): reads the file to
-/// its end, judges its plan as `check` does, and writes what came of it, as lines or as JSON.
+/// Rehearses a file of scripts with at most so many workers at once (`run_any` of `wire_collect` says how; no clause says how
+/// many there were): reads the file to its end, judges its plan as `check` does, and writes what came of it, as lines or as JSON.
 ///
 /// Where there is nothing to find, it runs the plan and writes what became of every call: the same for any number of
 /// workers, the report of the plain run. It answers `Clean`. Else it writes the findings, or, with `anyway`, it runs

@@ -8,7 +8,7 @@ use Rattle.wire_races.proofs.Lists.{place_at}
 use Rattle.wire_races.proofs.Calls.{starts_within, starts_named}
 use Rattle.wire_races.proofs.Rivals.{IsWriterBelow, one_writer, no_writer, every_writer}
 use Rattle.wire_races.proofs.name_races.writers_of.Goals as goal
-use Rattle.wire_races.proofs.name_races.writers_of.Goals.{then-writes+in_ok-push, else-writes}
+use Rattle.wire_races.proofs.name_races.writers_of.Goals.{then-is_write+in_ok-push, else-is_write}
 
 pub is_write-requires : goal.is_write-requires
 is_write-requires c =
@@ -26,12 +26,12 @@ loop-event-preserved c =
     let at = place_at calls n _ c.loop-event-test.true in
     let before = map event_of c.loop-event.writers.items in
     elim c.if-is_write.branch [
-      | then-writes+in_ok-push w ↦
+      | then-is_write+in_ok-push w ↦
           let items = ap (map event_of) w.in_ok-push.ensures.items ∙ map-append event_of c.loop-event.writers.items _ in
           rw w.writers-is (subst (λ l. AreAll (IsWriterBelow plan name (map event_of calls) (n + 1)) l) (sym items)
-          (one_writer plan name (map event_of calls) all n (n + 1) before _ (omega arith) at (sym c.is_write.ensures ∙ w.if-writes.true) c.loop-event.invariant))
-      | else-writes w ↦
-          rw w.writers-is (no_writer plan name (map event_of calls) all n (n + 1) before _ (omega arith) at (λ t. true≢false (sym t ∙ sym c.is_write.ensures ∙ w.if-writes.false))
+          (one_writer plan name (map event_of calls) all n (n + 1) before _ (omega arith) at (sym c.is_write.ensures ∙ w.if-is_write.true) c.loop-event.invariant))
+      | else-is_write w ↦
+          rw w.writers-is (no_writer plan name (map event_of calls) all n (n + 1) before _ (omega arith) at (λ t. true≢false (sym t ∙ sym c.is_write.ensures ∙ w.if-is_write.false))
           c.loop-event.invariant)
     ]
 
