@@ -100,4 +100,4 @@ is_whole met = option_map_or (λ m. has_needed m.0 m.1) met false
 abbrev pub RefusedFor : List Text → Error → Type 0
 RefusedFor words e =
     HasKind (fault_of program_line words) e
-    ⊎ ((kind_of e ≡ MissingRequiredArgument) × (is_whole (subcommand_of program_line words) ≡ false))
+    ⊎ ((fault_of program_line words ≡ []) × (kind_of e ≡ MissingRequiredArgument) × (is_whole (subcommand_of program_line words) ≡ false))

@@ -74,5 +74,5 @@ IsRequestOf words request = (fault_of program_line words ≡ []) × IsRequestBy 
 abbrev pub IsRefusalOf : List Text → Refusal → Type 0
 IsRefusalOf words (Usage e) =
     HasKind (fault_of program_line words) e
-    ⊎ ((kind_of e ≡ MissingRequiredArgument) × (is_command (subcommand_of program_line words) ≡ false))
+    ⊎ ((fault_of program_line words ≡ []) × (kind_of e ≡ MissingRequiredArgument) × (is_command (subcommand_of program_line words) ≡ false))
 IsRefusalOf words Workers = (fault_of program_line words ≡ []) × LacksWorkers (subcommand_of program_line words)

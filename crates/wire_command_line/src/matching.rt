@@ -155,7 +155,8 @@ fn asked_in<'a>(alloc: Global, matches: &ArgMatches<'a>) -> Result<Asked<'a>, Er
 ///
 /// Where it is `Ok`, `clap` finds no fault in the words, and the answer is what its matches for them say, each
 /// word among them that the command needs. An error is one of those that `clap` has for the words, want of memory
-/// among them.
+/// among them, or `MissingRequiredArgument` where `clap` finds no fault and a word is missing all the same (no words are
+/// known for which that is so).
 pub fn asked<'a>(alloc: Global, words: &'a [&'a str]) -> Result<Asked<'a>, Error>
     ensures ok { IfOk result (λ asked. AsksFor (map (λ w. w.now) words.entry.now) asked) }
     ensures err { IfErr result (λ e. RefusedFor (map (λ w. w.now) words.entry.now) e) }

@@ -123,7 +123,8 @@ fn read_matches<'a>(matches: &ArgMatches<'a>) -> Result<Request<'a>, Lack>
 ///
 /// Where it is `Ok`, `clap` finds no fault in the words, and each word of the request is the one that its matches have by that
 /// name. `Workers` comes only for a `replay` whose word of `--workers` isn't one or more digits. Any other error is one of those
-/// that `clap` has for the words, want of memory among them.
+/// that `clap` has for the words, want of memory among them, or `MissingRequiredArgument` where `clap` finds no fault and a
+/// word is missing all the same (no words are known for which that is so).
 pub fn read_request<'a>(alloc: Global, words: &'a [&'a str]) -> Result<Request<'a>, Refusal>
     ensures ok { IfOk result (IsRequestOf (map (λ w. w.now) words.entry.now)) }
     ensures err { IfErr result (IsRefusalOf (map (λ w. w.now) words.entry.now)) }
