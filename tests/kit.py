@@ -28,10 +28,32 @@ rt = command()
 rt.rtlib.guarded()
 
 
+def remember(crate_type):
+    """Has each crate remember the libraries below it, and its stamp as long as no file that it is made from changes. The kit goes down to
+    a library by every way that leads there, thousands from the program, and reads its files each time."""
+    below, stamp = crate_type.below, crate_type.stamp
+
+    def known_below(crate):
+        if "known_below" not in crate.__dict__:
+            crate.known_below = below(crate)
+        return list(crate.known_below)
+
+    def known_stamp(crate):
+        files = [path for it in [crate, *crate.below()] for path in rt.rtlib.files_of(it.folder)]
+        looks = [(path, os.stat(path).st_mtime_ns, os.stat(path).st_size) for path in files]
+        if crate.__dict__.get("known_stamp", (None, None))[0] != looks:
+            crate.known_stamp = looks, stamp(crate)
+        return crate.known_stamp[1]
+
+    crate_type.below, crate_type.stamp = known_below, known_stamp
+
+
 def crates_at(top):
     """The crates of a repository, each after those that it uses."""
     return sorted(rt.rtlib.crates_below(top), key=lambda it: len(it.below()))
 
+
+remember(rt.rtlib.Crate)
 
 # What is made in any folder, and isn't copied.
 MADE = shutil.ignore_patterns("out", "*.so", "__pycache__")
