@@ -10,6 +10,8 @@ mod follows;
 #[cfg(test)]
 mod forms;
 #[cfg(test)]
+mod keeps;
+#[cfg(test)]
 mod limits;
 #[cfg(test)]
 mod names;

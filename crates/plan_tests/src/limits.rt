@@ -39,7 +39,7 @@ pub fn all() -> &'static [Large] {
     &LIMITS
 }
 
-static LIMITS: [Large; 40] = [
+static LIMITS: [Large; 43] = [
     Large {
         name: "64 nodes",
         head: "rehearsal 1\n",
@@ -129,6 +129,33 @@ static LIMITS: [Large; 40] = [
         times: 16_385,
         tail: "",
         answer: Err(Fault::TooMany(16389)),
+    },
+    Large {
+        name: "512 ranks of version 2",
+        head: "rehearsal 2\nnode n0\njob app\n",
+        piece: "rank n0\n",
+        numbered: false,
+        times: 512,
+        tail: "",
+        answer: Ok("waiting 0\n"),
+    },
+    Large {
+        name: "513 ranks of version 2",
+        head: "rehearsal 2\nnode n0\njob app\n",
+        piece: "rank n0\n",
+        numbered: false,
+        times: 513,
+        tail: "",
+        answer: Err(Fault::TooMany(516)),
+    },
+    Large {
+        name: "32,769 calls of version 2",
+        head: "rehearsal 2\nnode n0\njob app\nrank n0\n",
+        piece: "commit\n",
+        numbered: false,
+        times: 32_769,
+        tail: "",
+        answer: Err(Fault::TooMany(32773)),
     },
     Large {
         name: "256 commits on 256 ranks",

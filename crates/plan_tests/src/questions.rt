@@ -322,7 +322,7 @@ unordered
     Asked {
         name: "a file that is refused, with a wrong word",
         plan: b"\
-rehearsal 2
+rehearsal 3
 ",
         words: ["app:0", "0", "app:1", "1"],
         answer: Err(Fault::BadHeader(1)),

@@ -289,11 +289,12 @@ job a
         fault: Fault::Twice(3),
     },
     Refusal {
-        name: "the next version",
+        name: "a line of version 2 under version 1",
         plan: b"\
-rehearsal 2
+rehearsal 1
+keep
 ",
-        fault: Fault::BadHeader(1),
+        fault: Fault::BadLine(2),
     },
     Refusal {
         name: "an unknown scope",

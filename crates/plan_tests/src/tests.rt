@@ -14,7 +14,7 @@ use wire_marks::Marks;
 use wire_plan::Plan;
 use wire_script::read;
 use wire_types::{EndlessSource, Event, Fault, MemorySink, MemorySource, Proc};
-use wire_up::{Ended, check, follow, plain, why};
+use wire_up::{Ended, Size, check, check_sized, follow, migrate, plain, why};
 
 /// A reader of these bytes, which gives at most so many a call.
 fn reader(bytes: &[u8], per_call: usize) -> MemorySource<'_> {
@@ -144,7 +144,62 @@ fn reports(rt: HostRuntime) -> Result<(), Fail> {
     let alloc = rt.alloc();
     check_reports(&rt, alloc, crate::reports::all())?;
     check_reports(&rt, alloc, crate::fences::all())?;
-    check_reports(&rt, alloc, crate::names::all())
+    check_reports(&rt, alloc, crate::names::all())?;
+    check_reports(&rt, alloc, crate::keeps::all())
+}
+
+/// The text of a plan under version 2.
+fn migrated(rt: &impl Abort, alloc: Global, name: &str, plan: &[u8]) -> MemorySink {
+    let mut to = writer(alloc, usize::MAX);
+    let answer = migrate(alloc, &mut reader(plan, 7), &mut to);
+    assert_eq!(rt; answer, Ok(()), "{}", name);
+    to
+}
+
+/// Each plan has its report under version 2 too, and that text is migrated to itself.
+#[test]
+fn migrations(rt: HostRuntime) -> Result<(), Fail> {
+    let alloc = rt.alloc();
+    for row in crate::reports::all() {
+        let text = migrated(&rt, alloc, row.name, row.plan);
+        assert!(rt;
+            text.bytes.starts_with(b"rehearsal 2\n".as_slice()),
+            "{}",
+            row.name
+        );
+        check_report(&rt, alloc, row, text.bytes.as_slice(), usize::MAX);
+        let again = migrated(&rt, alloc, row.name, text.bytes.as_slice());
+        assert_same(&rt, row.name, again.bytes.as_slice(), text.bytes.as_slice());
+    }
+    Ok(())
+}
+
+/// A plan past the limits of its version is checked with large limits.
+#[test]
+fn large(rt: HostRuntime) -> Result<(), Fail> {
+    let alloc = rt.alloc();
+    let mut plan = String::from_str(alloc, "rehearsal 1\nnode n0\njob app\n")?;
+    for _ in 0..257 {
+        plan.push_str("rank n0\n")?;
+    }
+    let mut to = writer(alloc, usize::MAX);
+    let small = check(
+        &rt,
+        alloc,
+        &mut reader(plan.as_bytes(), usize::MAX),
+        &mut to,
+    );
+    assert_eq!(rt; small, Err(Fault::TooMany(260)));
+    let mut from = reader(plan.as_bytes(), usize::MAX);
+    let answer = check_sized(&rt, alloc, Size::Large, &mut from, &mut to);
+    assert_eq!(rt; answer, Ok(Ended::Clean));
+    assert_same(
+        &rt,
+        "257 ranks",
+        to.bytes.as_slice(),
+        b"findings 0\n".as_slice(),
+    );
+    Ok(())
 }
 
 #[test]
@@ -178,6 +233,7 @@ fn check_refusals(rt: &impl Abort, alloc: Global, rows: &[Refusal]) {
 fn refusals(rt: HostRuntime) -> Result<(), Fail> {
     check_refusals(&rt, rt.alloc(), crate::refusals::all());
     check_refusals(&rt, rt.alloc(), crate::refusals::later());
+    check_refusals(&rt, rt.alloc(), crate::keeps::refused());
     Ok(())
 }
 
@@ -478,6 +534,7 @@ fn findings(rt: HostRuntime) -> Result<(), Fail> {
     check_reported(&rt, alloc, crate::reports::all());
     check_reported(&rt, alloc, crate::fences::all());
     check_reported(&rt, alloc, crate::names::all());
+    check_reported(&rt, alloc, crate::keeps::all());
     for row in crate::findings::all() {
         check_found(&rt, alloc, row, 1);
         check_found(&rt, alloc, row, usize::MAX);
@@ -486,6 +543,9 @@ fn findings(rt: HostRuntime) -> Result<(), Fail> {
         check_unfound(&rt, alloc, row);
     }
     for row in crate::refusals::later() {
+        check_unfound(&rt, alloc, row);
+    }
+    for row in crate::keeps::refused() {
         check_unfound(&rt, alloc, row);
     }
     Ok(())

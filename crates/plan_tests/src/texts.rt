@@ -12,7 +12,7 @@ pub fn all() -> &'static [Canonical] {
     &TEXTS
 }
 
-static TEXTS: [Canonical; 5] = [
+static TEXTS: [Canonical; 6] = [
     Canonical {
         name: "a set that is the caller's job, spelt in three ways",
         plan: b"\
@@ -180,6 +180,20 @@ rank n0
 job later
 rank n0
 job none
+",
+    },
+    Canonical {
+        name: "keep",
+        plan: b"\
+# version 2
+rehearsal  2
+
+ keep\t\r
+node n0",
+        text: "\
+rehearsal 2
+keep
+node n0
 ",
     },
 ];

@@ -1,20 +1,32 @@
 //! The program `wire_up`: hands its words, its file and the standard streams to the library, and ends
-//! with a status: 0 done without findings, 1 findings, 2 refused, 3 memory, 4 reading or writing, 5 usage.
+//! with a status: 0 done without findings, 1 findings or a call that fails, 2 refused, 3 memory, 4 reading or writing, 5 usage.
 #![tactic(auto)]
+
+mod terminal_line;
+
+ghost use Rattle.std.specs.Thread.{IsSync};
 
 use clap::Error;
 use clap::error::ErrorKind;
 use std::alloc::{AllocError, Global};
-use std::fs::File;
+use std::fs::{File, OpenFile};
 use std::io::Read;
 use std::process::ExitCode;
 use std::rt::{Env, Files};
 use std::sync::Wait;
 use std::thread::Threads;
-use std::{env, io};
+use std::time::Clock;
+use std::{env, io, thread};
+use terminal_line::{NotedReader, NotedWriter, Progress, Streams, start_line};
 use wire_sched::OpenGate;
 use wire_types::{Fault, FromRead, ToWrite, write_out};
-use wire_up::{Ended, Mode, Refusal, Request, check, follow, read_request, rehearse, why};
+use wire_up::{
+    Manner, Mode, Orders, Part, Refusal, Request, Size, check_sized, follow_sized, migrate_sized,
+    read_request, rehearse_complete, rehearse_sized, why_sized, witness, witnesses,
+};
+
+/// The exit status of what was done, where nothing is to be told by it.
+const DONE: u8 = 0;
 
 /// The exit status of a command line that can't be read.
 const USAGE: u8 = 5;
@@ -63,50 +75,122 @@ fn words<'a>(alloc: Global, arguments: &'a [String]) -> Result<Vec<&'a str>, All
     Ok(words)
 }
 
-/// Does what the words request, and answers how that ended.
+/// Does what the words request, and answers the exit status.
 fn obey<'a>(
-    rt: &(impl Files + Input + Print + Eprint + AllocGlobal + Threads + Wait + Sync),
+    rt: &(impl Files + Input + Print + Eprint + AllocGlobal + Clock + Threads + Wait + Sync),
     words: &'a [&'a str],
-) -> Result<Ended, Failure> {
+    streams: Streams,
+) -> Result<u8, Failure> {
     match read_request(rt.alloc(), words) {
-        Ok(request) => Ok(serve(rt, request)?),
+        Ok(request) => {
+            let progress = Progress::new(work_of(&request), streams);
+            Ok(serve_with_line(rt, request, &progress)?)
+        }
         Err(Refusal::Workers) => {
             let _ = rt.eprintln("wire_up: usage --workers");
             Err(Failure::Usage)
         }
+        Err(Refusal::Witness) => {
+            let _ = rt.eprintln("wire_up: usage witness");
+            Err(Failure::Usage)
+        }
         Err(Refusal::Usage(error)) => {
             tell(rt, &error)?;
-            Ok(Ended::Clean)
+            Ok(DONE)
         }
     }
 }
 
-/// Runs the command that was requested.
-fn serve(
-    rt: &(impl Files + Input + Print + AllocGlobal + Threads + Wait + Sync),
-    request: Request<'_>,
-) -> Result<Ended, Fault> {
+/// The limits that hold: the large ones, or those of the plan's version.
+fn size_of(large: bool) -> Size {
+    if large { Size::Large } else { Size::OfVersion }
+}
+
+/// What a command does once it has read all, in one word.
+fn work_of(request: &Request<'_>) -> &'static str {
     match request {
-        Request::Check { plan } => check_plan(rt, plan),
+        Request::Check { .. } => "judging",
+        Request::Replay { .. } => "running",
+        Request::Follow { .. } => "following",
+        Request::Why { .. } | Request::Witness { .. } | Request::Witnesses { .. } => "searching",
+        Request::Migrate { .. } => "migrating",
+    }
+}
+
+/// Runs the command that was requested, with a line on the terminal that says how far it is, and answers the exit status.
+fn serve_with_line<R: Files + Input + Print + Eprint + AllocGlobal + Clock + Threads + Wait + Sync>(
+    rt: &R,
+    request: Request<'_>,
+    progress: &Progress,
+) -> Result<u8, Fault> {
+    thread::scope(
+        thread::scope_env(),
+        rt,
+        |scope| -> Result<u8, Fault>
+            requires { IsSync R.row }
+        {
+            let line = start_line(scope, rt, progress);
+            let answer = serve(rt, request, progress);
+            progress.close(rt);
+            if let Some(line) = line {
+                line.join(rt);
+            }
+            answer
+        },
+    )
+}
+
+/// Runs the command that was requested, and answers the exit status.
+fn serve(
+    rt: &(impl Files + Input + Print + Eprint + AllocGlobal + Threads + Wait + Sync),
+    request: Request<'_>,
+    progress: &Progress,
+) -> Result<u8, Fault> {
+    match request {
+        Request::Check { plan, large } => check_plan(rt, plan, size_of(large), progress),
         Request::Replay {
             plan,
             workers,
             json,
             anyway,
-        } => replay_plan(rt, plan, workers, Mode { json, anyway }),
-        Request::Follow { order, plan } => {
-            follow_order(rt, order, plan)?;
-            Ok(Ended::Clean)
+            complete,
+            large,
+        } => {
+            let manner = Manner {
+                size: size_of(large),
+                workers,
+                mode: Mode { json, anyway },
+                gate: &OpenGate,
+            };
+            if complete {
+                replay_completely(rt, plan, manner, progress)
+            } else {
+                replay_plan(rt, plan, manner, progress)
+            }
+        }
+        Request::Follow { order, plan, large } => {
+            follow_order(rt, order, plan, size_of(large), progress)
         }
         Request::Why {
             first,
             second,
             plan,
+            large,
         } => {
             let words = [first.proc, first.number, second.proc, second.number];
-            answer_question(rt, words, plan)?;
-            Ok(Ended::Clean)
+            answer_question(rt, words, plan, size_of(large), progress)
         }
+        Request::Migrate { plan, large } => migrate_plan(rt, plan, size_of(large), progress),
+        Request::Witness {
+            first,
+            second,
+            orders,
+            plan,
+        } => {
+            let words = [first.proc, first.number, second.proc, second.number];
+            show_race(rt, words, part_of(orders), plan, progress)
+        }
+        Request::Witnesses { most, plan } => show_races(rt, most, plan, progress),
     }
 }
 
@@ -152,86 +236,177 @@ fn judge_read<T>(answer: io::Result<T>) -> Result<T, Fault> {
 }
 
 /// Opens a plan: a file, or standard input where none is named.
-fn open_plan<R: Files + Input>(
+fn open_plan<'p, R: Files + Input + Eprint + Wait>(
     rt: &R,
     plan: Option<&str>,
-) -> Result<FromRead<Opened<R::File, R::Reader>>, Fault> {
-    let opened = match plan {
-        Some(path) => Opened::File(judge_read(File::open(rt, path))?),
-        None => Opened::Standard(rt.reader()),
+    progress: &'p Progress,
+) -> Result<FromRead<NotedReader<'p, Opened<R::File, R::Reader>>>, Fault> {
+    let (opened, size) = match plan {
+        Some(path) => {
+            let file = judge_read(File::open(rt, path))?;
+            let size = length_of(&file);
+            (Opened::File(file), size)
+        }
+        None => {
+            progress.read_standard_input(rt);
+            (Opened::Standard(rt.reader()), None)
+        }
     };
-    Ok(FromRead::new(opened))
+    Ok(FromRead::new(NotedReader::new(opened, progress, size)))
+}
+
+/// How many bytes a file has, where the system says it.
+fn length_of(file: &impl OpenFile) -> Option<u64> {
+    match file.metadata() {
+        Ok(about) => Some(about.len()),
+        Err(_) => None,
+    }
 }
 
 /// Checks a plan.
 fn check_plan(
-    rt: &(impl Files + Input + Print + AllocGlobal + Threads + Sync),
+    rt: &(impl Files + Input + Print + Eprint + AllocGlobal + Threads + Wait + Sync),
     plan: Option<&str>,
-) -> Result<Ended, Fault> {
-    let mut reader = open_plan(rt, plan)?;
-    let mut writer = ToWrite::new(io::writer(rt));
-    check(rt, rt.alloc(), &mut reader, &mut writer)
+    size: Size,
+    progress: &Progress,
+) -> Result<u8, Fault> {
+    let mut reader = open_plan(rt, plan, progress)?;
+    let mut writer = ToWrite::new(NotedWriter::new(rt, progress));
+    Ok(check_sized(rt, rt.alloc(), size, &mut reader, &mut writer)?.status())
 }
 
 /// Replays a plan. It is opened before the number of workers is judged.
 fn replay_plan(
-    rt: &(impl Files + Input + Print + AllocGlobal + Threads + Wait + Sync),
+    rt: &(impl Files + Input + Print + Eprint + AllocGlobal + Threads + Wait + Sync),
     plan: Option<&str>,
-    workers: usize,
-    mode: Mode,
-) -> Result<Ended, Fault> {
-    let mut reader = open_plan(rt, plan)?;
-    let mut writer = ToWrite::new(io::writer(rt));
-    rehearse(
-        rt,
-        rt.alloc(),
-        &mut reader,
-        &mut writer,
-        workers,
-        mode,
-        &OpenGate,
-    )
+    manner: Manner<'_, OpenGate>,
+    progress: &Progress,
+) -> Result<u8, Fault> {
+    let mut reader = open_plan(rt, plan, progress)?;
+    let mut writer = ToWrite::new(NotedWriter::new(rt, progress));
+    Ok(rehearse_sized(rt, rt.alloc(), &mut reader, &mut writer, manner)?.status())
+}
+
+/// Replays a plan, and names the first call that doesn't succeed.
+fn replay_completely(
+    rt: &(impl Files + Input + Print + Eprint + AllocGlobal + Threads + Wait + Sync),
+    plan: Option<&str>,
+    manner: Manner<'_, OpenGate>,
+    progress: &Progress,
+) -> Result<u8, Fault> {
+    let mut reader = open_plan(rt, plan, progress)?;
+    let mut writer = ToWrite::new(NotedWriter::new(rt, progress));
+    let rehearsed = rehearse_complete(rt, rt.alloc(), &mut reader, &mut writer, manner)?;
+    if let Some(line) = &rehearsed.failure {
+        progress.close(rt);
+        tell_call(rt, line.as_slice());
+    }
+    Ok(rehearsed.status())
+}
+
+/// Tells the line of a call on standard error. All words of a plan are printable ASCII.
+fn tell_call(rt: &impl Eprint, line: &[u8]) {
+    if let Ok(text) = str::from_utf8(line) {
+        let _ = rt.eprint("wire_up: ");
+        let _ = rt.eprint(text);
+    }
 }
 
 /// Follows the order of a file on a plan, which is opened first.
 fn follow_order(
-    rt: &(impl Files + Input + Print + AllocGlobal),
+    rt: &(impl Files + Input + Print + Eprint + AllocGlobal + Wait),
     order: &str,
     plan: Option<&str>,
-) -> Result<(), Fault> {
-    let mut reader = open_plan(rt, plan)?;
+    size: Size,
+    progress: &Progress,
+) -> Result<u8, Fault> {
+    let mut reader = open_plan(rt, plan, progress)?;
     if plan.is_none() {
         // Where standard input is closed, the order would be opened in its place, and be read as the
         // plan. A read of no bytes fails there, and takes nothing anywhere else.
         judge_read(reader.inner.read(&mut [0; 0]))?;
     }
-    let mut order = FromRead::new(judge_read(File::open(rt, order))?);
-    let mut writer = ToWrite::new(io::writer(rt));
-    follow(rt.alloc(), &mut reader, &mut order, &mut writer)
+    let order = judge_read(File::open(rt, order))?;
+    let size_of_order = length_of(&order);
+    let mut order = FromRead::new(NotedReader::new(order, progress, size_of_order));
+    let mut writer = ToWrite::new(NotedWriter::new(rt, progress));
+    follow_sized(rt.alloc(), size, &mut reader, &mut order, &mut writer)?;
+    Ok(DONE)
 }
 
 /// Answers a question about a plan.
 fn answer_question(
-    rt: &(impl Files + Input + Print + AllocGlobal),
+    rt: &(impl Files + Input + Print + Eprint + AllocGlobal + Wait),
     words: [&str; 4],
     plan: Option<&str>,
-) -> Result<(), Fault> {
-    let mut reader = open_plan(rt, plan)?;
-    let mut writer = ToWrite::new(io::writer(rt));
-    why(rt.alloc(), &mut reader, &mut writer, words)
+    size: Size,
+    progress: &Progress,
+) -> Result<u8, Fault> {
+    let mut reader = open_plan(rt, plan, progress)?;
+    let mut writer = ToWrite::new(NotedWriter::new(rt, progress));
+    why_sized(rt.alloc(), size, &mut reader, &mut writer, words)?;
+    Ok(DONE)
+}
+
+/// Writes a plan under version 2 of the format.
+fn migrate_plan(
+    rt: &(impl Files + Input + Print + Eprint + AllocGlobal + Wait),
+    plan: Option<&str>,
+    size: Size,
+    progress: &Progress,
+) -> Result<u8, Fault> {
+    let mut reader = open_plan(rt, plan, progress)?;
+    let mut writer = ToWrite::new(NotedWriter::new(rt, progress));
+    migrate_sized(rt.alloc(), size, &mut reader, &mut writer)?;
+    Ok(DONE)
+}
+
+/// What is written of a witness.
+fn part_of(orders: Orders) -> Part {
+    match orders {
+        Orders::Both => Part::Whole,
+        Orders::OfFirst => Part::FirstOrder,
+        Orders::OfSecond => Part::SecondOrder,
+    }
+}
+
+/// Shows the race of two calls of a plan.
+fn show_race(
+    rt: &(impl Files + Input + Print + Eprint + AllocGlobal + Threads + Wait + Sync),
+    words: [&str; 4],
+    part: Part,
+    plan: Option<&str>,
+    progress: &Progress,
+) -> Result<u8, Fault> {
+    let mut reader = open_plan(rt, plan, progress)?;
+    let mut writer = ToWrite::new(NotedWriter::new(rt, progress));
+    Ok(witness(rt, rt.alloc(), &mut reader, &mut writer, words, part)?.status())
+}
+
+/// Tells which races of a plan are shown, so many at most.
+fn show_races(
+    rt: &(impl Files + Input + Print + Eprint + AllocGlobal + Threads + Wait + Sync),
+    most: usize,
+    plan: Option<&str>,
+    progress: &Progress,
+) -> Result<u8, Fault> {
+    let mut reader = open_plan(rt, plan, progress)?;
+    let mut writer = ToWrite::new(NotedWriter::new(rt, progress));
+    Ok(witnesses(rt, rt.alloc(), &mut reader, &mut writer, most)?.status())
 }
 
 fn run(
-    rt: &(impl Env + Files + Input + Print + Eprint + AllocGlobal + Threads + Wait + Sync),
-) -> Result<Ended, Failure> {
+    rt: &(impl Env + Files + Input + Print + Eprint + AllocGlobal + Clock + Threads + Wait + Sync),
+    streams: Streams,
+) -> Result<u8, Failure> {
     let arguments = arguments(rt)?;
     let words = words(rt.alloc(), arguments.as_slice())?;
-    obey(rt, words.as_slice())
+    obey(rt, words.as_slice(), streams)
 }
 
 fn main(rt: HostRuntime) -> ExitCode {
-    match run(&rt) {
-        Ok(ended) => ExitCode::from(ended.status()),
+    match run(&rt, Streams::of(&rt, rt.stdin(), rt.stderr())) {
+        Ok(status) => ExitCode::from(status),
         Err(Failure::Usage) => ExitCode::from(USAGE),
         Err(Failure::Fault(fault)) => {
             let _ = fault.write_line(&mut ToWrite::new(rt.stderr()));

@@ -48,6 +48,25 @@ get-now app:0 k
 rank n0
 ";
 
+/// The second process gets a key from another node, and the third asks for it afterwards without waiting. The
+/// plan keeps what gets bring.
+const KEPT: &[u8] = b"\
+rehearsal 2
+keep
+node n0
+node n1
+job app
+rank n0
+put global k v
+commit
+rank n1
+get app:0 k
+fence app:1,app:2
+rank n1
+fence app:1,app:2
+get-now app:0 k
+";
+
 /// Two processes that wait for nothing.
 pub(crate) const APART: &[u8] = b"\
 rehearsal 1
@@ -203,6 +222,17 @@ fn first_status(outcome: &Outcome, process: usize) -> Option<Status> {
     }
 }
 
+/// What the last call of a process replied.
+fn last_status(outcome: &Outcome, process: usize) -> Option<Status> {
+    let Some(row) = outcome.rows.get(process) else {
+        return None;
+    };
+    match row.last() {
+        Some(CallEnd::Replied(reply)) => Some(reply.status),
+        _ => None,
+    }
+}
+
 /// One worker serves a round of one deque in this thread. Answers how many steps it took.
 fn served_round<R: Wait>(
     rt: &R,
@@ -333,6 +363,19 @@ fn numbers_of_workers(rt: HostRuntime) -> Result<(), Fail> {
         let (outcome, _) = ran(&rt, alloc, IN_A_ROW, workers, &OpenGate)?;
         let settled = ran_settled(&rt, alloc, IN_A_ROW, workers, &OpenGate)?;
         assert!(rt; settled.rows == outcome.rows && settled.waiting == outcome.waiting);
+    }
+    Ok(())
+}
+
+/// However many workers there are, what a get brings to a node stays there where the plan says so.
+#[test]
+fn workers_keep_what_gets_bring(rt: HostRuntime) -> Result<(), Fail> {
+    let alloc = rt.alloc();
+    for workers in [1usize, 2, 7, 64] {
+        let (outcome, _) = ran(&rt, alloc, KEPT, workers, &OpenGate)?;
+        let settled = ran_settled(&rt, alloc, KEPT, workers, &OpenGate)?;
+        assert!(rt; settled.rows == outcome.rows && settled.waiting == outcome.waiting);
+        assert_eq!(rt; last_status(&settled, 2), Some(Status::Success));
     }
     Ok(())
 }

@@ -12,7 +12,7 @@ use Rattle.wire_content.specs.Scripts.{Scripts}
 use Rattle.wire_content.specs.Planned.{plan_of}
 use Rattle.wire_board.specs.declared.hold.Hold.{Hold}
 use Rattle.wire_board.specs.Cuts.{procs_of}
-use Rattle.wire_board.specs.Positions.{hold, Fits, Each, count_of, owners_of, IsKept, holds_from, opening_view, learn, Learns, Stored, ShowsNextIn}
+use Rattle.wire_board.specs.Positions.{hold, Fits, Each, count_of, owners_of, IsKept, holds_from, opening_view, learn, Learns, Stored, ImpliesNextIn}
 use Rattle.wire_board.proofs.Cuts.{cut_start, AreTold, reaches}
 
 -- Lists of numbers
@@ -178,7 +178,7 @@ each_other : (plan : Scripts) (words : List ℕ) (k n : ℕ) → get_or words k 
 each_other plan words k n up [] nobody e = tt
 each_other plan words k n up (h ∷ hs) nobody e = (fits_other plan words k n h (ones h.rank k (omega arith)) up e.0, each_other plan words k n up hs (omega arith) e.1)
 
-pub stores : {S : Type 0} (plan : Scripts) (slots id : ℕ) (h : Hold) (carried : List (ℕ × S)) → AreTold (plan_of plan) → ShowsNextIn (plan_of plan) h
+pub stores : {S : Type 0} (plan : Scripts) (slots id : ℕ) (h : Hold) (carried : List (ℕ × S)) → AreTold (plan_of plan) → ImpliesNextIn (plan_of plan) h
     → Allows (IsKept {S = S} plan) slots id (h ∷ [], carried) h.rank (λ _. get_or h.known h.rank 0 + 1)
     (λ _. Stored (step slots h.rank (get_or h.known h.rank 0 + 1) 0 none) (h ∷ [], carried) (get_or h.known h.rank 0 + 1))
 stores {S} plan slots id h carried told shown s kept sized at small =

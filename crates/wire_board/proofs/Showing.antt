@@ -1,5 +1,5 @@
 -- What the positions that a seat knows show of an event's sources.
-use Rattle.std.proofs.Common.{◌≡◌, ℕ, zero, suc, ◌<◌, List, [], ◌∷◌, ◌++◌, ◌&&◌, Bool, true, false, not, Option, Some, None, ◌↔◌, map, take, drop, length, get_or, refl, sym, ap, ◌∙◌, subst, inl, inr}
+use Rattle.std.proofs.Common.{◌≡◌, ℕ, zero, suc, ◌<◌, List, [], ◌∷◌, ◌++◌, Bool, true, false, not, Option, Some, None, ◌↔◌, map, take, drop, length, get_or, refl, sym, ap, ◌∙◌, subst, inl, inr}
 use Rattle.std.proofs.Common.{arith, lt-ltb, ltb-true}
 use Rattle.std.specs.Prelude.{slice_get, slice_index, option_map, option_to_list, is_some, if◌then◌else◌}
 use Rattle.std.specs.List.{list_all}
@@ -11,7 +11,7 @@ use Rattle.wire_runs.specs.Plan.{Plan, Event, event_of, event_count}
 use Rattle.wire_runs.specs.Fate.{Waits, HasFate}
 use Rattle.wire_content.specs.Scripts.{Scripts}
 use Rattle.wire_content.specs.Planned.{plan_of}
-use Rattle.wire_plan.specs.Index.{AreSources, source_list}
+use Rattle.wire_plan.specs.Index.{AreSources}
 use Rattle.wire_board.specs.Cuts.{shows_event, skip_shown, ShowsSources}
 use Rattle.wire_board.specs.declared.hold.Hold.{Hold}
 use Rattle.wire_board.specs.Positions.{hold, next_in, ShowsNextIn}

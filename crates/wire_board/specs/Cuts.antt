@@ -1,5 +1,5 @@
 -- Words as the cut of a run: for each process the number of its events that are done.
-use Rattle.std.specs.Prelude.{◌≡◌, ℕ, ◌<◌, Bool, List, [], ◌∷◌, nat_lt, slice_index, if◌then◌else◌}
+use Rattle.std.specs.Prelude.{◌≡◌, ℕ, ◌<◌, ◌⊎◌, Bool, List, [], ◌∷◌, nat_lt, slice_index, if◌then◌else◌}
 use Rattle.wire_runs.specs.Plan.{Plan, Event, process_count}
 use Rattle.wire_runs.specs.State.{State}
 use Rattle.wire_runs.specs.Step.{IsReachable}
@@ -31,6 +31,14 @@ skip_shown known (x ∷ xs) = if shows_event known x then skip_shown known xs el
 -- they show that all sources of the event are done
 abbrev pub ShowsSources : Plan → List ℕ → Event → Type 0
 ShowsSources plan known y = (x : Event) → Edge plan x y → x.at < slice_index known x.proc
+
+-- what they show implies that the event is done: it is shown, or an event is shown that waits for it
+abbrev pub Implies : Plan → List ℕ → Event → Type 0
+Implies plan known x = (x.at < slice_index known x.proc) ⊎ ((z : Event) × Edge plan x z × (z.at < slice_index known z.proc))
+
+-- it implies that all sources of the event are done
+abbrev pub ImpliesSources : Plan → List ℕ → Event → Type 0
+ImpliesSources plan known y = (x : Event) → Edge plan x y → Implies plan known x
 
 -- such words, of a settled plan, are a sound cut
 abbrev pub CutsAreSound : Type 0

@@ -1,14 +1,14 @@
 -- The rule of the table of words: what holds of the words, and of what the seats know, between any two steps.
-use Rattle.std.specs.Prelude.{◌≡◌, ◌==◌, ℕ, zero, suc, ◌+◌, ◌<◌, ◌≤◌, List, [], ◌∷◌, length, map, replicate, slice_index, slice_set, if◌then◌else◌}
+use Rattle.std.specs.Prelude.{◌≡◌, ◌==◌, ℕ, zero, suc, ◌+◌, ◌<◌, ◌≤◌, false, List, [], ◌∷◌, length, map, replicate, slice_index, slice_set, if◌then◌else◌}
 use mathlib.Core.Option.{some}
 use lib.ListN.{get_elem?}
 use Rattle.atomic_table.specs.Table.{State, Me, Step}
 use Rattle.wire_runs.specs.Plan.{Plan, Event, event_count}
 use Rattle.wire_runs.specs.Fate.{HasFate, Waits}
-use Rattle.wire_content.specs.Scripts.{Scripts}
+use Rattle.wire_content.specs.Scripts.{Scripts, no_scripts}
 use Rattle.wire_content.specs.Planned.{plan_of}
 use Rattle.wire_board.specs.declared.hold.Hold.{Hold}
-use Rattle.wire_board.specs.Cuts.{procs_of, IsReachedCut, ShowsSources}
+use Rattle.wire_board.specs.Cuts.{procs_of, IsReachedCut, ShowsSources, ImpliesSources}
 
 abbrev pub hold : Scripts → ℕ → List ℕ → Hold
 hold plan rank known = record { plan = plan; rank = rank; known = known }
@@ -76,9 +76,11 @@ pub record ShowsNextIn (plan : Plan) (h : Hold) : Type 0 where
   pub sources : ShowsSources plan h.known (next_in h)
   pub comes : ¬ (HasFate plan (next_in h) Waits)
 
--- scripts of no process
-abbrev pub no_scripts : Scripts
-no_scripts = record { nodes = []; jobs = []; keys = []; names = []; values = []; sets = []; processes = [] }
+-- what the owner of the rank knows implies that its next event can happen
+pub record ImpliesNextIn (plan : Plan) (h : Hold) : Type 0 where
+  pub next : slice_index h.known h.rank < event_count plan h.rank
+  pub sources : ImpliesSources plan h.known (next_in h)
+  pub comes : ¬ (HasFate plan (next_in h) Waits)
 
 -- the scripts of which a seat with these ranks was made
 abbrev pub scripts_in : List Hold → Scripts

@@ -7,7 +7,7 @@ use Rattle.wire_content.specs.Scripts.{Scripts}
 use Rattle.wire_content.specs.Planned.{plan_of}
 use Rattle.wire_board.specs.declared.hold.Hold.{Hold}
 use Rattle.wire_board.specs.Cuts.{procs_of}
-use Rattle.wire_board.specs.Positions.{hold, holds_from, next_in, ShowsNextIn}
+use Rattle.wire_board.specs.Positions.{hold, holds_from, next_in, ShowsNextIn, ImpliesNextIn}
 
 -- which board it is, and the scripts of the plan of which it was made
 pub record BoardIs : Type 0 where
@@ -34,6 +34,10 @@ next_of seat = next_in (hold_of seat)
 -- there is a next event, its fate isn't to wait, and the positions that the seat knows show all its sources
 abbrev pub ShowsNext : SeatIs → Type 0
 ShowsNext seat = ShowsNextIn (plan_of seat.board.plan) (hold_of seat)
+
+-- there is a next event, its fate isn't to wait, and the positions that the seat knows imply that all its sources are done
+abbrev pub ImpliesNext : SeatIs → Type 0
+ImpliesNext seat = ImpliesNextIn (plan_of seat.board.plan) (hold_of seat)
 
 -- what the table knows of a seat
 pub record IsHeld (me : Me (Unit {0}) (List Hold)) (seat : SeatIs) : Type 0 where

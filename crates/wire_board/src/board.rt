@@ -5,7 +5,7 @@ ghost use Rattle.std.specs.Mem.Slots.{slots_items, slots_len, IsFull};
 ghost use Rattle.wire_types.specs.declared.Fault.TheVariants.{Memory};
 ghost use Rattle.wire_content.specs.Planned.{plan_of};
 ghost use Rattle.wire_board.specs.Cuts.{procs_of, IsReachedCut};
-ghost use Rattle.wire_board.specs.Seats.{place_of, hold_of, opening_seat, opening_seats, ranks_from, Has, ShowsNext, IsTrueOf};
+ghost use Rattle.wire_board.specs.Seats.{place_of, hold_of, opening_seat, opening_seats, ranks_from, Has, ShowsNext, ImpliesNext, IsTrueOf};
 
 use crate::hold::{Hold, Positions, Ranks, Reads, Stores, TableSeat};
 use crate::seat::Seat;
@@ -137,6 +137,18 @@ impl Board {
         requires seat { seat.old.board ≡ self.now }
         requires plan { self.now.plan ≡ settled.now }
         requires ready { ShowsNext seat.old }
+        ensures known { seat.new ≡ record seat.old { known = slice_set seat.old.known seat.old.rank (place_of seat.old + 1) } }
+        ensures place { place_of seat.new ≡ place_of seat.old + 1 }
+    {
+        self.advance_implied(seat, settled);
+    }
+
+    /// The same, where the caller ensures less: what the seat knows implies that the event can happen. Each source of it
+    /// is known to be done, or an event is known to be done that waits for this source too.
+    pub fn advance_implied(&self, seat: &mut Seat, settled: &Settled)
+        requires seat { seat.old.board ≡ self.now }
+        requires plan { self.now.plan ≡ settled.now }
+        requires ready { ImpliesNext seat.old }
         ensures known { seat.new ≡ record seat.old { known = slice_set seat.old.known seat.old.rank (place_of seat.old + 1) } }
         ensures place { place_of seat.new ≡ place_of seat.old + 1 }
     {

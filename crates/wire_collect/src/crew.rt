@@ -1,11 +1,11 @@
-//! What the workers of a round share.
+//! What a worker can do in a round.
 
 ghost use Rattle.std.specs.Prelude.{◌≡◌};
 ghost use Rattle.wire_sched.specs.declared.round.Round.{Round};
 ghost use Rattle.wire_sched.specs.Rounds.{IsPassOf, worker_of};
 
 use std::sync::Wait;
-use wire_sched::{Gate, Pass, Round, Serves, serve_pieces};
+use wire_sched::{Crew, Gate, Pass, Round, Serves, take_turns};
 
 /// What a worker can do in a round.
 pub(crate) trait Works {
@@ -22,14 +22,6 @@ pub(crate) trait Works {
         ensures { IsPassOf (dealt self.now) pass.new × (worker_of pass.new ≡ worker_of pass.old) };
 }
 
-/// What is served, the round, and the gate.
-#[derive(Drop)]
-pub(crate) struct Crew<'r, S, G> {
-    pub(crate) served: &'r S,
-    pub(crate) round: &'r Round,
-    pub(crate) gate: &'r G,
-}
-
 impl<'r, S: Serves, G: Gate> Works for Crew<'r, S, G> {
     ghost dealt = { λ c. c.round.now };
 
@@ -38,6 +30,6 @@ impl<'r, S: Serves, G: Gate> Works for Crew<'r, S, G> {
     }
 
     fn work<R: Wait>(&self, rt: &R, pass: &mut Pass) -> usize {
-        serve_pieces(rt, self.served, self.round, pass, self.gate)
+        take_turns(rt, self, pass)
     }
 }

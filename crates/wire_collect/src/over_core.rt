@@ -66,6 +66,7 @@ pub(crate) fn run_core<'a, R: Threads + Wait + Sync, G: Gate + Sync>(
         match Round::deal(alloc, number, plan.process_count(), wanted) {
             Ok((round, passes)) => {
                 let dealt = Dealt {
+                    alloc,
                     round,
                     passes,
                     collector: workers,

@@ -72,6 +72,7 @@ fn run_lanes<R: Threads + Wait + Sync, G: Gate + Sync>(
     'rounds: for number in 0..total as u64 {
         let (round, passes) = Round::deal(alloc, number, plan.process_count(), wanted)?;
         let dealt = Dealt {
+            alloc,
             round,
             passes,
             collector: settings.workers,

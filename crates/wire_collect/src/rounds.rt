@@ -3,11 +3,11 @@
 ghost use Rattle.std.specs.Prelude.{◌<◌};
 ghost use Rattle.wire_sched.specs.Rounds.{ArePassesOf};
 
-use crate::crew::Crew;
 use crate::threads::run_round;
+use std::alloc::Global;
 use std::sync::Wait;
 use std::thread::Threads;
-use wire_sched::{Gate, Pass, Piece, Round, Serves};
+use wire_sched::{Crew, Gate, Pass, Piece, Round, Serves};
 
 // Serves the pieces that no worker took. Answers how many events that were.
 fn serve_left<R: Wait, S: Serves, G: Gate>(
@@ -20,14 +20,16 @@ fn serve_left<R: Wait, S: Serves, G: Gate>(
     let mut events = 0usize;
     for piece in left {
         gate.pass(collector, piece.rank);
-        events = events.saturating_add(served.serve_far(rt, piece.rank));
+        let there = served.serve_far(rt, piece.rank);
+        events = events.saturating_add(there.events);
     }
     events
 }
 
-/// A round that is dealt, with the number that the gate is called with for the collector.
+/// A round that is dealt, with the memory of its workers, and the number that the gate is called with for the collector.
 #[derive(Drop)]
 pub(crate) struct Dealt {
+    pub(crate) alloc: Global,
     pub(crate) round: Round,
     pub(crate) passes: Vec<Pass>,
     pub(crate) collector: usize,
@@ -43,11 +45,13 @@ pub(crate) fn serve_round<R: Threads + Wait + Sync, S: Serves + Sync, G: Gate + 
     requires { ArePassesOf dealt.round dealt.passes.items }
 {
     let Dealt {
+        alloc,
         round,
         passes,
         collector,
     } = dealt;
     let crew = Crew {
+        alloc,
         served,
         round: &round,
         gate,

@@ -25,22 +25,32 @@ flag name = record (new_rule name) { long = Some name; action = Some SetTrue }
 
 -- the commands
 abbrev pub check_line : App
-check_line = with_rule (new_app (codes "check")) (optional_word (codes "FILE"))
+check_line = with_rule (with_rule (new_app (codes "check")) (flag (codes "large"))) (optional_word (codes "FILE"))
 
 abbrev pub replay_line : App
 replay_line =
-    with_rule (with_rule (with_rule (with_rule (new_app (codes "replay"))
-    (option_with_word (codes "workers"))) (flag (codes "json"))) (flag (codes "anyway"))) (optional_word (codes "FILE"))
+    with_rule (with_rule (with_rule (with_rule (with_rule (with_rule (new_app (codes "replay"))
+    (option_with_word (codes "workers"))) (flag (codes "json"))) (flag (codes "anyway"))) (flag (codes "complete"))) (flag (codes "large")))
+    (optional_word (codes "FILE"))
 
 abbrev pub follow_line : App
-follow_line = with_rule (with_rule (new_app (codes "follow")) (needed_word (codes "ORDER"))) (optional_word (codes "FILE"))
+follow_line = with_rule (with_rule (with_rule (new_app (codes "follow")) (needed_word (codes "ORDER"))) (flag (codes "large"))) (optional_word (codes "FILE"))
 
 abbrev pub why_line : App
 why_line =
-    with_rule (with_rule (with_rule (with_rule (with_rule (new_app (codes "why"))
-    (needed_word (codes "P"))) (needed_word (codes "N"))) (needed_word (codes "Q"))) (needed_word (codes "M"))) (optional_word (codes "FILE"))
+    with_rule (with_rule (with_rule (with_rule (with_rule (with_rule (new_app (codes "why"))
+    (needed_word (codes "P"))) (needed_word (codes "N"))) (needed_word (codes "Q"))) (needed_word (codes "M"))) (flag (codes "large"))) (optional_word (codes "FILE"))
 
--- the program: it needs one of the four, and has a version
+abbrev pub migrate_line : App
+migrate_line = with_rule (with_rule (new_app (codes "migrate")) (flag (codes "large"))) (optional_word (codes "FILE"))
+
+abbrev pub witness_line : App
+witness_line =
+    with_rule (with_rule (with_rule (with_rule (with_rule (with_rule (with_rule (with_rule (new_app (codes "witness"))
+    (flag (codes "first"))) (flag (codes "second"))) (option_with_word (codes "most")))
+    (optional_word (codes "P"))) (optional_word (codes "N"))) (optional_word (codes "Q"))) (optional_word (codes "M"))) (optional_word (codes "FILE"))
+
+-- the program: it needs one of the six, and has a version
 abbrev pub program_alone : App
 program_alone = record (new_app (codes "wire_up")) {
   top = record (new_app (codes "wire_up")).top { has_version = true; subcommand_required = true };
@@ -48,8 +58,8 @@ program_alone = record (new_app (codes "wire_up")) {
 
 abbrev pub program_line : App
 program_line =
-    with_subcommand (with_subcommand (with_subcommand (with_subcommand program_alone
-    check_line.top) replay_line.top) follow_line.top) why_line.top
+    with_subcommand (with_subcommand (with_subcommand (with_subcommand (with_subcommand (with_subcommand program_alone
+    check_line.top) replay_line.top) follow_line.top) why_line.top) migrate_line.top) witness_line.top
 
 -- the words of a command's own that were given, in the order in which they stand
 abbrev pub words_given : List Row → List Text
@@ -74,6 +84,10 @@ is_set name rows = option_map_or (λ word. bytes_eq word (codes "true")) (first_
 abbrev pub workers_word : List Row → Text
 workers_word rows = unwrap_or (first_of (codes "workers") rows) (codes "1")
 
+-- the word of `--most`, `1000` where none was given
+abbrev pub most_word : List Row → Text
+most_word rows = unwrap_or (first_of (codes "most") rows) (codes "1000")
+
 -- what the matches of a command say
 pub record SaidBy (name : Text) (rows : List Row) (asked : Asked) : Type 0 where
   pub command : asked.command.now ≡ name
@@ -81,6 +95,8 @@ pub record SaidBy (name : Text) (rows : List Row) (asked : Asked) : Type 0 where
   pub workers : asked.workers.now ≡ workers_word rows
   pub json : asked.json ≡ is_set (codes "json") rows
   pub anyway : asked.anyway ≡ is_set (codes "anyway") rows
+  pub complete : asked.complete ≡ is_set (codes "complete") rows
+  pub large : asked.large ≡ is_set (codes "large") rows
 
 -- what the words of a command line ask for: `clap` finds no fault in them, and it is what its matches for them say, each
 -- needed word among them

@@ -1,18 +1,20 @@
 -- What a command line requests: a command with all that it needs.
-use Rattle.std.specs.Prelude.{◌≡◌, ◌⊎◌, ◌&&◌, Bool, false, List, [], ◌∷◌, Option, Some, None, is_some, option_map, codes}
+use Rattle.std.specs.Prelude.{◌≡◌, ◌⊎◌, ◌&&◌, Bool, true, false, not, if◌then◌else◌, List, [], ◌∷◌, Option, Some, None, is_some, option_map, codes}
 use Rattle.std.specs.Option.{option_map_or}
 use Rattle.std.specs.List.{list_any}
 use Rattle.std.specs.Str.{bytes_eq}
 use Rattle.std.specs.Borrow.{Bor}
 use Rattle.clap.specs.Words.{Row, Text, HasKind, kind_of, fault_of, first_of, subcommand_of}
 use Rattle.clap.specs.declared.error.kind.ErrorKind.TheVariants.{MissingRequiredArgument}
-use Rattle.wire_command_line.specs.CommandLine.{program_line, has_needed, is_set, workers_word}
-use Rattle.wire_command_line.specs.Workers.{workers_said}
+use Rattle.wire_command_line.specs.CommandLine.{program_line, has_needed, is_set, most_word, workers_word}
+use Rattle.wire_command_line.specs.Workers.{most_said, workers_said}
 use Rattle.wire_command_line.specs.declared.request.CallWords.{CallWords}
+use Rattle.wire_command_line.specs.declared.request.Orders.{Orders}
+use Rattle.wire_command_line.specs.declared.request.Orders.TheVariants.{Both, OfFirst, OfSecond}
 use Rattle.wire_command_line.specs.declared.request.Request.{Request}
-use Rattle.wire_command_line.specs.declared.request.Request.TheVariants.{Check, Replay, Follow, Why}
+use Rattle.wire_command_line.specs.declared.request.Request.TheVariants.{Check, Replay, Follow, Why, Migrate, Witness, Witnesses}
 use Rattle.wire_command_line.specs.declared.request.Refusal.{Refusal}
-use Rattle.wire_command_line.specs.declared.request.Refusal.TheVariants.{Usage, Workers}
+use Rattle.wire_command_line.specs.declared.request.Refusal.TheVariants.{Usage, Workers, Witness as Misfit}
 
 -- the text of a word that may be left out
 abbrev pub text_of : Option (Bor Text) → Option Text
@@ -31,18 +33,40 @@ pub record NamesCall (proc number : Text) (rows : List Row) (call : CallWords) :
 abbrev pub has_both : Text → Text → List Row → Bool
 has_both one other rows = is_some (first_of one rows) && is_some (first_of other rows)
 
+-- whether the large limits are asked for
+abbrev pub is_large : List Row → Bool
+is_large rows = is_set (codes "large") rows
+
+-- which orders two flags ask for, nothing where both are given
+abbrev pub orders_of : Bool → Bool → Option Orders
+orders_of false false = Some Both
+orders_of true false = Some OfFirst
+orders_of false true = Some OfSecond
+orders_of true true = None
+
+abbrev pub orders_said : List Row → Option Orders
+orders_said rows = orders_of (is_set (codes "first") rows) (is_set (codes "second") rows)
+
 -- the command of this name requests this, with the words that its matches have: each word is the one that was given by its name
 abbrev pub IsRequest : Text → List Row → Request → Type 0
-IsRequest name rows (Check plan) = (name ≡ codes "check") × (text_of plan ≡ plan_word rows)
-IsRequest name rows (Replay plan workers json anyway) =
+IsRequest name rows (Check plan large) = (name ≡ codes "check") × (text_of plan ≡ plan_word rows) × (large ≡ is_large rows)
+IsRequest name rows (Replay plan workers json anyway complete large) =
     (name ≡ codes "replay") × (text_of plan ≡ plan_word rows)
     × (Some workers ≡ workers_said (workers_word rows))
-    × (json ≡ is_set (codes "json") rows) × (anyway ≡ is_set (codes "anyway") rows)
-IsRequest name rows (Follow order plan) =
-    (name ≡ codes "follow") × (Some order.now ≡ first_of (codes "ORDER") rows) × (text_of plan ≡ plan_word rows)
-IsRequest name rows (Why first second plan) =
+    × (json ≡ is_set (codes "json") rows) × (anyway ≡ is_set (codes "anyway") rows) × (complete ≡ is_set (codes "complete") rows)
+    × (large ≡ is_large rows)
+IsRequest name rows (Follow order plan large) =
+    (name ≡ codes "follow") × (Some order.now ≡ first_of (codes "ORDER") rows) × (text_of plan ≡ plan_word rows) × (large ≡ is_large rows)
+IsRequest name rows (Why first second plan large) =
     (name ≡ codes "why") × NamesCall (codes "P") (codes "N") rows first × NamesCall (codes "Q") (codes "M") rows second
-    × (text_of plan ≡ plan_word rows)
+    × (text_of plan ≡ plan_word rows) × (large ≡ is_large rows)
+IsRequest name rows (Migrate plan large) = (name ≡ codes "migrate") × (text_of plan ≡ plan_word rows) × (large ≡ is_large rows)
+IsRequest name rows (Witness first second orders plan) =
+    (name ≡ codes "witness") × NamesCall (codes "P") (codes "N") rows first × NamesCall (codes "Q") (codes "M") rows second
+    × (Some orders ≡ orders_said rows) × (first_of (codes "most") rows ≡ None) × (text_of plan ≡ plan_word rows)
+IsRequest name rows (Witnesses most plan) =
+    (name ≡ codes "witness") × (first_of (codes "N") rows ≡ None) × (orders_said rows ≡ Some Both)
+    × (Some most ≡ most_said (most_word rows)) × (text_of plan ≡ first_of (codes "P") rows)
 
 -- the command that the words name requests this
 pub record IsRequestBy (command : Option (Text × List Row)) (request : Request) : Type 0 where
@@ -54,7 +78,19 @@ pub record IsRequestBy (command : Option (Text × List Row)) (request : Request)
 -- it is one of the program's commands, with the words that it needs
 abbrev pub is_full : Text → List Row → Bool
 is_full name rows =
-    list_any (bytes_eq name) (codes "check" ∷ codes "replay" ∷ codes "follow" ∷ codes "why" ∷ []) && has_needed name rows
+    list_any (bytes_eq name) (codes "check" ∷ codes "replay" ∷ codes "follow" ∷ codes "why" ∷ codes "migrate" ∷ codes "witness" ∷ []) && has_needed name rows
+
+-- the words of `witness` are those of two calls, and no `--most` goes with them
+abbrev pub is_of_pair : List Row → Bool
+is_of_pair rows =
+    has_both (codes "P") (codes "N") rows && has_both (codes "Q") (codes "M") rows && is_some (orders_said rows) && not (is_some (first_of (codes "most") rows))
+
+-- or there is none of a call, and no order is asked for
+abbrev pub is_of_all : List Row → Bool
+is_of_all rows = not (is_set (codes "first") rows) && not (is_set (codes "second") rows) && is_some (most_said (most_word rows))
+
+abbrev pub is_fitting : List Row → Bool
+is_fitting rows = if is_some (first_of (codes "N") rows) then is_of_pair rows else is_of_all rows
 
 -- there is one
 abbrev pub is_command : Option (Text × List Row) → Bool
@@ -66,13 +102,21 @@ pub record LacksWorkers (command : Option (Text × List Row)) : Type 0 where
   pub named : command ≡ Some (codes "replay", rows)
   pub none : workers_said (workers_word rows) ≡ None
 
+-- it is `witness`, and its words and options don't go together
+pub record LacksFit (command : Option (Text × List Row)) : Type 0 where
+  pub rows : List Row
+  pub named : command ≡ Some (codes "witness", rows)
+  pub none : is_fitting rows ≡ false
+
 -- what the words of a command line request: `clap` finds no fault in them, and the command that they name requests it
 abbrev pub IsRequestOf : List Text → Request → Type 0
 IsRequestOf words request = (fault_of program_line words ≡ []) × IsRequestBy (subcommand_of program_line words) request
 
--- why they request nothing: for a fault that `clap` finds, for want of memory or of a word, or for the word of `--workers`
+-- why they request nothing: for a fault that `clap` finds, for want of memory or of a word, for the word of `--workers`, or for
+-- what doesn't go together
 abbrev pub IsRefusalOf : List Text → Refusal → Type 0
 IsRefusalOf words (Usage e) =
     HasKind (fault_of program_line words) e
     ⊎ ((fault_of program_line words ≡ []) × (kind_of e ≡ MissingRequiredArgument) × (is_command (subcommand_of program_line words) ≡ false))
 IsRefusalOf words Workers = (fault_of program_line words ≡ []) × LacksWorkers (subcommand_of program_line words)
+IsRefusalOf words Misfit = (fault_of program_line words ≡ []) × LacksFit (subcommand_of program_line words)

@@ -14,6 +14,10 @@ is_number word = not (length word == 0) && list_all is_digit word
 abbrev pub number_said : List ℕ → ℕ
 number_said = fold (λ n digit. n * 10 + (digit - 48)) 0
 
+-- how many races are tried: all past 1,000,000,000 are one
+abbrev pub most_said : List ℕ → Option ℕ
+most_said word = if is_number word then Some (min (number_said word) 1000000000) else None
+
 -- how many workers a word says: all past 64 are one
 abbrev pub workers_said : List ℕ → Option ℕ
 workers_said word = if is_number word then Some (min (number_said word) 65) else None

@@ -39,6 +39,16 @@ fn flag<'a>(alloc: Global, name: &'a str, help: &'a str) -> Arg<'a>
         .action(ArgAction::SetTrue)
 }
 
+/// The option that lifts the limits.
+fn large_flag<'a>(alloc: Global) -> Arg<'a>
+    ensures rule { rule_of result ≡ spec.flag (codes "large") }
+    ensures local { result.global ≡ false }
+{
+    let help =
+        "Lifts the limits, up to 65536 nodes, 1048576 ranks, 33554432 calls and files of 1 GiB";
+    flag(alloc, "large", help)
+}
+
 /// The option that says how many workers there are.
 fn workers_argument<'a>(alloc: Global) -> Arg<'a>
     ensures rule { rule_of result ≡ spec.option_with_word (codes "workers") }
@@ -50,12 +60,31 @@ fn workers_argument<'a>(alloc: Global) -> Arg<'a>
         .help("How many threads run the scripts, 1 to 64 (1 if not given)")
 }
 
+/// The option that says how many races are tried.
+fn most_argument<'a>(alloc: Global) -> Arg<'a>
+    ensures rule { rule_of result ≡ spec.option_with_word (codes "most") }
+    ensures local { result.global ≡ false }
+{
+    Arg::new(alloc, "most").long("most").value_name("N").help(
+        "How many races are tried (1000 if not given), where no calls are named",
+    )
+}
+
+/// A word that may be left out.
+fn optional_argument<'a>(alloc: Global, name: &'a str, help: &'a str) -> Arg<'a>
+    ensures rule { rule_of result ≡ spec.optional_word name.entry.now }
+    ensures local { result.global ≡ false }
+{
+    Arg::new(alloc, name).help(help)
+}
+
 fn check_command<'a>(alloc: Global) -> Result<Command<'a>, AllocError>
     ensures app { IfOk result (λ c. app_of c ≡ spec.check_line) }
     ensures local { IfOk result (λ c. (fields_of c).has_globals ≡ false) }
 {
     Command::new(alloc, "check")
         .about("Finds every race between the scripts, and every key that is put twice")
+        .arg(large_flag(alloc))?
         .arg(file_argument(alloc))
 }
 
@@ -65,11 +94,15 @@ fn replay_command<'a>(alloc: Global) -> Result<Command<'a>, AllocError>
 {
     let json = "Writes JSON instead of lines";
     let anyway = "Runs scripts with findings too, and shows in which order their steps came";
+    let complete =
+        "Ends with status 1, and names the first such call, if a call fails or is never answered";
     Command::new(alloc, "replay")
         .about("Runs the scripts if nothing is found in them, and shows what became of every call")
         .arg(workers_argument(alloc))?
         .arg(flag(alloc, "json", json))?
         .arg(flag(alloc, "anyway", anyway))?
+        .arg(flag(alloc, "complete", complete))?
+        .arg(large_flag(alloc))?
         .arg(file_argument(alloc))
 }
 
@@ -81,6 +114,7 @@ fn follow_command<'a>(alloc: Global) -> Result<Command<'a>, AllocError>
     Command::new(alloc, "follow")
         .about("Runs the scripts in the order of a file, and shows what became of every call")
         .arg(needed_argument(alloc, "ORDER", order))?
+        .arg(large_flag(alloc))?
         .arg(file_argument(alloc))
 }
 
@@ -97,6 +131,40 @@ fn why_command<'a>(alloc: Global) -> Result<Command<'a>, AllocError>
         .arg(needed_argument(alloc, "N", number))?
         .arg(needed_argument(alloc, "Q", "The process of the second call"))?
         .arg(needed_argument(alloc, "M", "The number of that call"))?
+        .arg(large_flag(alloc))?
+        .arg(file_argument(alloc))
+}
+
+fn migrate_command<'a>(alloc: Global) -> Result<Command<'a>, AllocError>
+    ensures app { IfOk result (λ c. app_of c ≡ spec.migrate_line) }
+    ensures local { IfOk result (λ c. (fields_of c).has_globals ≡ false) }
+{
+    Command::new(alloc, "migrate")
+        .about("Writes the same scripts under version 2 of the format")
+        .arg(large_flag(alloc))?
+        .arg(file_argument(alloc))
+}
+
+fn witness_command<'a>(alloc: Global) -> Result<Command<'a>, AllocError>
+    ensures app { IfOk result (λ c. app_of c ≡ spec.witness_line) }
+    ensures local { IfOk result (λ c. (fields_of c).has_globals ≡ false) }
+{
+    let about =
+        "Looks for two runs in which the calls of a race come in different orders and one ends differently";
+    let first =
+        "Writes only the order of the run in which the first call comes first, for 'follow'";
+    let second =
+        "Writes only the order of the run in which the second call comes first, for 'follow'";
+    let proc = "The process of the first call, as in 'why'; or FILE, if it is the only word";
+    Command::new(alloc, "witness")
+        .about(about)
+        .arg(flag(alloc, "first", first))?
+        .arg(flag(alloc, "second", second))?
+        .arg(most_argument(alloc))?
+        .arg(optional_argument(alloc, "P", proc))?
+        .arg(optional_argument(alloc, "N", "The number of that call"))?
+        .arg(optional_argument(alloc, "Q", "The process of the second call"))?
+        .arg(optional_argument(alloc, "M", "The number of that call"))?
         .arg(file_argument(alloc))
 }
 
@@ -137,5 +205,7 @@ pub fn command_line<'a>(alloc: Global) -> Result<Command<'a>, AllocError>
     let line = with_command(program(alloc), check_command(alloc))?;
     let line = with_command(line, replay_command(alloc))?;
     let line = with_command(line, follow_command(alloc))?;
-    with_command(line, why_command(alloc))
+    let line = with_command(line, why_command(alloc))?;
+    let line = with_command(line, migrate_command(alloc))?;
+    with_command(line, witness_command(alloc))
 }

@@ -4,13 +4,13 @@
 pub const FAULTS_AND_STATUSES: &str = "\
 Faults, as one line on standard error, such as 'wire_up: fault 4 BadLine 7':
    1 Memory            the system refused memory
-   2 TooLong LINE      the file, a name, a key or a value is longer than its limit
-   3 BadHeader LINE    the first line that isn't blank or a comment isn't 'rehearsal 1'
+   2 TooLong LINE      the file (--large lifts its limit), a name, a key or a value is too long
+   3 BadHeader LINE    the first line that isn't blank or a comment isn't 'rehearsal 1' or 'rehearsal 2'
    4 BadLine LINE      a line isn't one of the format, or stands in the wrong place
    5 UnknownName LINE  a node, a job or a rank isn't declared
    6 Twice LINE        a node or a job is declared twice
    7 NotMember LINE    a rank calls a fence over a set that it isn't in
-   8 TooMany LINE      there are more nodes, jobs, ranks or calls than the limit
+   8 TooMany LINE      there are more nodes, jobs, ranks or calls than the limit, which --large lifts
    9 Workers           the number of workers isn't 1 to 64
   10 Read              a file or standard input can't be opened or read
   11 Write BYTES       the output can't be written, after so many bytes
@@ -19,7 +19,7 @@ Faults, as one line on standard error, such as 'wire_up: fault 4 BadLine 7':
 
 Exit statuses:
    0  done, and nothing was found
-   1  'check' or 'replay' found something, and wrote it
+   1  'check' or 'replay' found something, 'witness' showed something, or with --complete a call didn't succeed
    2  the file, the order, the question or the number of workers is refused (faults 2 to 9, 12 and 13)
    3  out of memory (fault 1)
    4  reading or writing failed (faults 10 and 11)

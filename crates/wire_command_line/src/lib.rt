@@ -12,5 +12,5 @@ pub mod wanted;
 pub use matching::asked;
 pub use number::workers_of;
 pub use reading::read_request;
-pub use request::{CallWords, Refusal, Request};
+pub use request::{CallWords, Orders, Refusal, Request};
 pub use wanted::Asked;

@@ -20,7 +20,7 @@ pub(crate) fn find_word<'a>(found: &ArgMatches<'a>, name: &str) -> Option<&'a st
 }
 
 /// Whether a word of this name was given.
-fn has_word(found: &ArgMatches<'_>, name: &str) -> bool
+pub(crate) fn has_word(found: &ArgMatches<'_>, name: &str) -> bool
     ensures { result ≡ is_some (first_of name.now (rows_of (found_of found.now))) }
 {
     found.get_str(name).is_some()
@@ -88,6 +88,16 @@ pub(crate) fn workers_given<'a>(found: &ArgMatches<'a>) -> &'a str
     }
 }
 
+/// The word of `--most`, `1000` where none was given.
+pub(crate) fn most_given<'a>(found: &ArgMatches<'a>) -> &'a str
+    ensures { result.now ≡ spec.most_word (rows_of (found_of found.now)) }
+{
+    match found.get_str("most") {
+        Some(word) => word,
+        None => "1000",
+    }
+}
+
 /// What the matches of a command ask for.
 fn asked_by<'a>(
     alloc: Global,
@@ -102,6 +112,8 @@ fn asked_by<'a>(
         workers: workers_given(found),
         json: is_set(found, "json"),
         anyway: is_set(found, "anyway"),
+        complete: is_set(found, "complete"),
+        large: is_set(found, "large"),
     })
 }
 

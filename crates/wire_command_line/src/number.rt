@@ -1,12 +1,15 @@
-//! The number of workers, as a word says it.
+//! The number of workers, and how many races are tried, as words say them.
 
 ghost use Rattle.std.specs.List.{list_all};
-ghost use Rattle.std.specs.Prelude.{◌≡◌, true, min};
+ghost use Rattle.std.specs.Prelude.{◌≡◌, ◌≤◌, true, min};
 ghost use Rattle.wire_command_line.specs.Workers as spec;
-ghost use Rattle.wire_command_line.specs.Workers.{number_said, workers_said};
+ghost use Rattle.wire_command_line.specs.Workers.{most_said, number_said, workers_said};
 
 /// The greatest number that a word is told apart by: one more than the most workers.
 const MOST_AND_ONE: usize = 65;
+
+/// More races than any plan has.
+const ALL_RACES: usize = 1_000_000_000;
 
 fn is_digit(byte: u8) -> bool
     ensures { result ≡ spec.is_digit byte }
@@ -20,13 +23,14 @@ fn has_digits(word: &[u8]) -> bool
     word.iter().all(|b| is_digit(*b))
 }
 
-/// The number that the digits say, 65 for every greater one.
-fn number_of(digits: &[u8]) -> usize
-    ensures { result ≡ min (number_said digits.now) 65 }
+/// The number that the digits say, or the limit where that is less.
+fn number_of(digits: &[u8], limit: usize) -> usize
+    requires { limit ≤ 1000000000 }
+    ensures { result ≡ min (number_said digits.now) limit }
 {
     let mut number = 0usize;
     for digit in digits {
-        number = (number * 10 + digit.saturating_sub(48) as usize).min(MOST_AND_ONE);
+        number = (number * 10 + digit.saturating_sub(48) as usize).min(limit);
     }
     number
 }
@@ -40,5 +44,17 @@ pub fn workers_of(word: &str) -> Option<usize>
     if digits.is_empty() || !has_digits(digits) {
         return None;
     }
-    Some(number_of(digits))
+    Some(number_of(digits, MOST_AND_ONE))
+}
+
+/// How many races are tried by what a word says, 1,000,000,000 for every greater number. A word that isn't one or
+/// more digits says none.
+pub(crate) fn most_of(word: &str) -> Option<usize>
+    ensures { result ≡ most_said word.now }
+{
+    let digits = word.as_bytes();
+    if digits.is_empty() || !has_digits(digits) {
+        return None;
+    }
+    Some(number_of(digits, ALL_RACES))
 }

@@ -1,15 +1,17 @@
 //! The request that the words of a command line make.
 
 ghost use Rattle.std.specs.Prelude.{◌≡◌, ◌≢◌, map, codes, false, Some, None, IfOk, IfErr, IfSome, IfNone, Err};
-ghost use Rattle.clap.specs.Words.{found_of, rows_of, subcommand_rows_of};
+ghost use Rattle.clap.specs.Words.{first_of, found_of, rows_of, subcommand_rows_of};
 ghost use Rattle.wire_command_line.specs.CommandLine.{has_needed, workers_word};
 ghost use Rattle.wire_command_line.specs.Requests as spec;
-ghost use Rattle.wire_command_line.specs.Requests.{NamesCall, IsRequest, IsRequestBy, IsRequestOf, IsRefusalOf, LacksWorkers};
+ghost use Rattle.wire_command_line.specs.Requests.{NamesCall, IsRequest, IsRequestBy, IsRequestOf, IsRefusalOf, LacksFit, LacksWorkers};
 ghost use Rattle.wire_command_line.specs.Workers.{workers_said};
 
-use crate::matching::{find_word, is_set, match_words, tell_missing, workers_given};
-use crate::number::workers_of;
-use crate::request::{CallWords, Refusal, Request};
+use crate::matching::{
+    find_word, has_word, is_set, match_words, most_given, tell_missing, workers_given,
+};
+use crate::number::{most_of, workers_of};
+use crate::request::{CallWords, Orders, Refusal, Request};
 use clap::ArgMatches;
 use std::alloc::Global;
 
@@ -20,6 +22,8 @@ enum Lack {
     Word,
     /// A number of workers.
     Workers,
+    /// Words and options of `witness` that go together.
+    Fit,
 }
 
 /// The words of these names as those of a call, where both are given.
@@ -36,6 +40,26 @@ fn read_call<'a>(found: &ArgMatches<'a>, proc: &str, number: &str) -> Option<Cal
     Some(CallWords { proc, number })
 }
 
+/// What `check` is to do.
+fn read_check<'a>(found: &ArgMatches<'a>) -> Request<'a>
+    ensures { IsRequest (codes "check") (rows_of (found_of found.now)) result }
+{
+    Request::Check {
+        plan: find_word(found, "FILE"),
+        large: is_set(found, "large"),
+    }
+}
+
+/// What `migrate` is to do.
+fn read_migrate<'a>(found: &ArgMatches<'a>) -> Request<'a>
+    ensures { IsRequest (codes "migrate") (rows_of (found_of found.now)) result }
+{
+    Request::Migrate {
+        plan: find_word(found, "FILE"),
+        large: is_set(found, "large"),
+    }
+}
+
 /// What `replay` is to do, where the word of `--workers` is a number.
 fn read_replay<'a>(found: &ArgMatches<'a>) -> Option<Request<'a>>
     ensures some { IfSome result (IsRequest (codes "replay") (rows_of (found_of found.now))) }
@@ -49,6 +73,8 @@ fn read_replay<'a>(found: &ArgMatches<'a>) -> Option<Request<'a>>
         workers,
         json: is_set(found, "json"),
         anyway: is_set(found, "anyway"),
+        complete: is_set(found, "complete"),
+        large: is_set(found, "large"),
     })
 }
 
@@ -63,6 +89,7 @@ fn read_follow<'a>(found: &ArgMatches<'a>) -> Option<Request<'a>>
     Some(Request::Follow {
         order,
         plan: find_word(found, "FILE"),
+        large: is_set(found, "large"),
     })
 }
 
@@ -81,7 +108,75 @@ fn read_why<'a>(found: &ArgMatches<'a>) -> Option<Request<'a>>
         first,
         second,
         plan: find_word(found, "FILE"),
+        large: is_set(found, "large"),
     })
+}
+
+/// Which orders `witness` is to write, where not both are asked for by themselves.
+fn read_orders(found: &ArgMatches<'_>) -> Option<Orders>
+    ensures { result ≡ spec.orders_said (rows_of (found_of found.now)) }
+{
+    match (is_set(found, "first"), is_set(found, "second")) {
+        (false, false) => Some(Orders::Both),
+        (true, false) => Some(Orders::OfFirst),
+        (false, true) => Some(Orders::OfSecond),
+        (true, true) => None,
+    }
+}
+
+/// What `witness` is to do about two calls, where they are given and the options go with them.
+fn read_pair<'a>(found: &ArgMatches<'a>) -> Option<Request<'a>>
+    ensures some { IfSome result (IsRequest (codes "witness") (rows_of (found_of found.now))) }
+    ensures none { IfNone result (spec.is_of_pair (rows_of (found_of found.now)) ≡ false) }
+{
+    let Some(first) = read_call(found, "P", "N") else {
+        return None;
+    };
+    let Some(second) = read_call(found, "Q", "M") else {
+        return None;
+    };
+    let Some(orders) = read_orders(found) else {
+        return None;
+    };
+    if has_word(found, "most") {
+        return None;
+    }
+    Some(Request::Witness {
+        first,
+        second,
+        orders,
+        plan: find_word(found, "FILE"),
+    })
+}
+
+/// What `witness` is to do about all races, where the options go with that.
+fn read_all<'a>(found: &ArgMatches<'a>) -> Option<Request<'a>>
+    requires { first_of (codes "N") (rows_of (found_of found.now)) ≡ None }
+    ensures some { IfSome result (IsRequest (codes "witness") (rows_of (found_of found.now))) }
+    ensures none { IfNone result (spec.is_of_all (rows_of (found_of found.now)) ≡ false) }
+{
+    if is_set(found, "first") || is_set(found, "second") {
+        return None;
+    }
+    let Some(most) = most_of(most_given(found)) else {
+        return None;
+    };
+    Some(Request::Witnesses {
+        most,
+        plan: find_word(found, "P"),
+    })
+}
+
+/// What `witness` is to do, where its words and options go together.
+fn read_witness<'a>(found: &ArgMatches<'a>) -> Option<Request<'a>>
+    ensures some { IfSome result (IsRequest (codes "witness") (rows_of (found_of found.now))) }
+    ensures none { IfNone result (spec.is_fitting (rows_of (found_of found.now)) ≡ false) }
+{
+    if has_word(found, "N") {
+        read_pair(found)
+    } else {
+        read_all(found)
+    }
 }
 
 /// What the command of this name is to do, where it has all that it needs.
@@ -90,10 +185,10 @@ fn read_command<'a>(name: &str, found: &ArgMatches<'a>) -> Result<Request<'a>, L
     ensures word { result ≡ Err Lack.Word → spec.is_full name.now (rows_of (found_of found.now)) ≡ false }
     ensures workers { result ≡ Err Lack.Workers
         → (name.now ≡ codes "replay") × (workers_said (workers_word (rows_of (found_of found.now))) ≡ None) }
+    ensures fit { result ≡ Err Lack.Fit → (name.now ≡ codes "witness") × (spec.is_fitting (rows_of (found_of found.now)) ≡ false) }
 {
     if name == "check" {
-        let plan = find_word(found, "FILE");
-        return Ok(Request::Check { plan });
+        return Ok(read_check(found));
     }
     if name == "replay" {
         return read_replay(found).ok_or(Lack::Workers);
@@ -104,6 +199,12 @@ fn read_command<'a>(name: &str, found: &ArgMatches<'a>) -> Result<Request<'a>, L
     if name == "why" {
         return read_why(found).ok_or(Lack::Word);
     }
+    if name == "migrate" {
+        return Ok(read_migrate(found));
+    }
+    if name == "witness" {
+        return read_witness(found).ok_or(Lack::Fit);
+    }
     Err(Lack::Word)
 }
 
@@ -112,6 +213,7 @@ fn read_matches<'a>(matches: &ArgMatches<'a>) -> Result<Request<'a>, Lack>
     ensures ok { IfOk result (IsRequestBy (subcommand_rows_of matches.now)) }
     ensures word { result ≡ Err Lack.Word → spec.is_command (subcommand_rows_of matches.now) ≡ false }
     ensures workers { result ≡ Err Lack.Workers → LacksWorkers (subcommand_rows_of matches.now) }
+    ensures fit { result ≡ Err Lack.Fit → LacksFit (subcommand_rows_of matches.now) }
 {
     match matches.subcommand() {
         Some((name, found)) => read_command(name, found),
@@ -122,7 +224,8 @@ fn read_matches<'a>(matches: &ArgMatches<'a>) -> Result<Request<'a>, Lack>
 /// What the words of a command line request. The first of them is the program's name.
 ///
 /// Where it is `Ok`, `clap` finds no fault in the words, and each word of the request is the one that its matches have by that
-/// name. `Workers` comes only for a `replay` whose word of `--workers` isn't one or more digits. Any other error is one of those
+/// name. `Workers` comes only for a `replay` whose word of `--workers` isn't one or more digits, `Witness`
+/// only for a `witness` whose words and options don't go together. Any other error is one of those
 /// that `clap` has for the words, want of memory among them, or `MissingRequiredArgument` where `clap` finds no fault and a
 /// word is missing all the same (no words are known for which that is so).
 pub fn read_request<'a>(alloc: Global, words: &'a [&'a str]) -> Result<Request<'a>, Refusal>
@@ -135,6 +238,7 @@ pub fn read_request<'a>(alloc: Global, words: &'a [&'a str]) -> Result<Request<'
     match read {
         Ok(request) => Ok(request),
         Err(Lack::Workers) => Err(Refusal::Workers),
+        Err(Lack::Fit) => Err(Refusal::Witness),
         Err(Lack::Word) => Err(Refusal::Usage(tell_missing(alloc)?)),
     }
 }

@@ -11,12 +11,25 @@ pub struct CallWords<'a> {
     pub number: &'a str,
 }
 
+/// What is written of the two runs that show a race.
+#[derive(Clone, Copy, Debug, PartialEq, Eq)]
+pub enum Orders {
+    /// How they differ, and the orders of both.
+    Both,
+    /// The order of the first run alone.
+    OfFirst,
+    /// The order of the second run alone.
+    OfSecond,
+}
+
 /// What the program is to do. Without a plan's name, the plan comes from standard input.
 #[derive(Clone, Copy, Debug)]
 pub enum Request<'a> {
     /// Finds the races of a plan.
     Check {
         plan: Option<&'a str>,
+        /// The large limits hold, in place of those of the plan's version.
+        large: bool,
     },
     /// Runs a plan.
     Replay {
@@ -27,16 +40,39 @@ pub enum Request<'a> {
         json: bool,
         /// Plans in which something is found are run too.
         anyway: bool,
+        /// The first call that doesn't succeed is named.
+        complete: bool,
+        large: bool,
     },
     /// Runs a plan in the order of a file.
     Follow {
         order: &'a str,
         plan: Option<&'a str>,
+        large: bool,
     },
     /// Tells which of two calls is before the other.
     Why {
         first: CallWords<'a>,
         second: CallWords<'a>,
+        plan: Option<&'a str>,
+        large: bool,
+    },
+    /// Writes a plan under version 2 of the format.
+    Migrate {
+        plan: Option<&'a str>,
+        large: bool,
+    },
+    /// Shows the race of two calls by two runs.
+    Witness {
+        first: CallWords<'a>,
+        second: CallWords<'a>,
+        orders: Orders,
+        plan: Option<&'a str>,
+    },
+    /// Tells which races two runs show.
+    Witnesses {
+        /// How many races are tried, 1,000,000,000 for every greater number.
+        most: usize,
         plan: Option<&'a str>,
     },
 }
@@ -48,6 +84,9 @@ pub enum Refusal {
     Usage(Error),
     /// The word of `--workers` isn't one or more digits.
     Workers,
+    /// The words of `witness` aren't those of a file, or of two calls and a file; an option doesn't go with them; or
+    /// the word of `--most` isn't one or more digits.
+    Witness,
 }
 
 impl From<Error> for Refusal {

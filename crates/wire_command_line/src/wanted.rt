@@ -1,6 +1,7 @@
 //! What a command line asks for.
 
-/// What was asked for: a command, its words in order, and its options. Only `replay` has options.
+/// What was asked for: a command, its words in order, and the options of `replay`, `--large` among them. Those of `witness`
+/// are read where its request is made.
 #[derive(Debug, Drop)]
 pub struct Asked<'a> {
     pub command: &'a str,
@@ -9,4 +10,6 @@ pub struct Asked<'a> {
     pub workers: &'a str,
     pub json: bool,
     pub anyway: bool,
+    pub complete: bool,
+    pub large: bool,
 }

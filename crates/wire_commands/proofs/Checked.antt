@@ -12,6 +12,7 @@ use Rattle.wire_runs.proofs.Findings.{races_are_unordered}
 use Rattle.wire_races.specs.declared.finding.Finding.{Finding}
 use Rattle.wire_races.specs.Findings.{AreFindings}
 use Rattle.wire_report.specs.Findings.{findings_report}
+use Rattle.wire_script.specs.declared.Size.{Size}
 use Rattle.wire_commands.specs.declared.checking.Ended.{Ended}
 use Rattle.wire_commands.specs.declared.checking.Ended.TheVariants.{Clean, Found}
 use Rattle.wire_commands.specs.Plain.{ReadAs}
@@ -78,13 +79,13 @@ abbrev pub Ends : Scripts → Option (List ℕ) → Option (List ℕ) → Type 0
 Ends s old new A B e = ((e ≡ Memory) × A) ⊎ (BreaksOffVerdict s old new e × B)
 
 -- what went out of the findings of scripts that were read
-pub writes_findings : (coming old new : Option (List ℕ)) (s : Scripts) (r : Result Ended Fault) → ReadAs coming s → IfOk r (λ ended. WritesVerdict s ended old new) →
-    IfOk r (λ ended. WritesFindings coming ended old new)
+pub writes_findings : {size : Size} (coming old new : Option (List ℕ)) (s : Scripts) (r : Result Ended Fault) → ReadAs size coming s → IfOk r (λ ended. WritesVerdict s ended old new) →
+    IfOk r (λ ended. WritesFindings size coming ended old new)
 writes_findings coming old new s (Ok ended) read wrote = record { scripts = s; read = read; wrote = wrote }
 writes_findings coming old new s (Err e) read wrote = tt
 
-pub breaks_off : (coming old new : Option (List ℕ)) (s : Scripts) (A B : Type 0) (r : Result Ended Fault) → ReadAs coming s → IfErr r (Ends s old new A B) →
-    IfErr r (λ e. (StopsBeforeFindings coming e × A) ⊎ (BreaksOffFindings coming old new e × B))
+pub breaks_off : {size : Size} (coming old new : Option (List ℕ)) (s : Scripts) (A B : Type 0) (r : Result Ended Fault) → ReadAs size coming s → IfErr r (Ends s old new A B) →
+    IfErr r (λ e. (StopsBeforeFindings size coming e × A) ⊎ (BreaksOffFindings size coming old new e × B))
 breaks_off coming old new s A B (Ok ended) read ends = tt
 breaks_off coming old new s A B (Err e) read (inl (memory, none)) = inl (inl memory, none)
 breaks_off coming old new s A B (Err e) read (inr (front, failed)) = inr (record { scripts = s; read = read; broke = front }, failed)
@@ -108,6 +109,6 @@ ended_of (Ok ended) = ended
 ended_of (Err fault) = Clean
 
 -- a check that is clean tells that every run that can't go on has one end
-pub clean_one_end : (coming old new : Option (List ℕ)) (s : Scripts) (r : Result Ended Fault) → ReadAs coming s → IfOk r (λ ended. WritesVerdict s ended old new) → r ≡ Ok Clean → EndsInOneState coming
+pub clean_one_end : {size : Size} (coming old new : Option (List ℕ)) (s : Scripts) (r : Result Ended Fault) → ReadAs size coming s → IfOk r (λ ended. WritesVerdict s ended old new) → r ≡ Ok Clean → EndsInOneState size coming
 clean_one_end coming old new s (Ok ended) read wrote clean = let is : ended ≡ Clean = cc in record { scripts = s; read = read; one_end = wrote.verdict.judged.one_end is }
 clean_one_end coming old new s (Err e) read wrote clean = let bad : Err e ≡ Ok Clean = clean in absurd (cc)

@@ -5,6 +5,7 @@ use Rattle.wire_types.specs.declared.Fault.TheVariants.{Memory, Read, Write, Too
 use Rattle.wire_lines.specs.Said as said
 use Rattle.wire_lines.specs.Text.{lines_of}
 use Rattle.wire_content.specs.Scripts.{Scripts}
+use Rattle.wire_script.specs.declared.Size.{Size}
 use Rattle.wire_script.specs.Statements.{Statement, statements}
 use Rattle.wire_script.specs.FirstPass.{Started, Declared, is_in_place, is_short, is_known, is_again, has_room, after, judged, Judges, JudgesAll, FirstPass, nothing}
 use Rattle.wire_script.specs.Reads.{Reads, ReadsShort, is_declared_call, is_with_caller, call_fault, fault_in, first_fault, first_of, unless_fault}
@@ -45,10 +46,10 @@ all_of_file d [] r is = subst IsOfFile (sym is) tt
 all_of_file d (line ∷ lines) r (Ok e, judges, rest) = all_of_file e lines r rest
 all_of_file d (line ∷ lines) r (Err f, judges, is) = subst IsOfFile (sym is) (judges_of_file d line (Err f) judges)
 
-first_of_file : (lines : List Statement) (n : ℕ) (r : Result Declared Fault) → FirstPass lines n r → IsOfFile r
-first_of_file [] n r is = subst IsOfFile (sym is) refl
-first_of_file (line ∷ lines) n r (inl (header, rest)) = all_of_file nothing lines r rest
-first_of_file (line ∷ lines) n r (inr (other, is)) = subst IsOfFile (sym is) refl
+first_of_file : (size : Size) (lines : List Statement) (n : ℕ) (r : Result Declared Fault) → FirstPass size lines n r → IsOfFile r
+first_of_file size [] n r is = subst IsOfFile (sym is) refl
+first_of_file size (line ∷ lines) n r (inl (version, header, rest)) = all_of_file (nothing size version) lines r rest
+first_of_file size (line ∷ lines) n r (inr (other, is)) = subst IsOfFile (sym is) refl
 
 abbrev IsFaultOfFile : Option Fault → Type 0
 IsFaultOfFile None = Unit {0}
@@ -78,22 +79,22 @@ second_of_file : (d : Declared) (o : Option Fault) → IsFaultOfFile o → IsOfF
 second_of_file d None p = tt
 second_of_file d (Some f) p = p
 
-short_of_file : (bytes : List ℕ) (r : Result Scripts Fault) → ReadsShort bytes r → IsOfFile r
-short_of_file bytes r (Ok d, first, is) = subst IsOfFile (sym is) (second_of_file d (first_fault d d.processes) (processes_of_file d d.processes))
-short_of_file bytes r (Err f, first, is) = subst IsOfFile (sym is) (first_of_file (statements bytes) (length (lines_of bytes)) (Err f) first)
+short_of_file : (size : Size) (bytes : List ℕ) (r : Result Scripts Fault) → ReadsShort size bytes r → IsOfFile r
+short_of_file size bytes r (Ok d, first, is) = subst IsOfFile (sym is) (second_of_file d (first_fault d d.processes) (processes_of_file d d.processes))
+short_of_file size bytes r (Err f, first, is) = subst IsOfFile (sym is) (first_of_file size (statements bytes) (length (lines_of bytes)) (Err f) first)
 
 -- the fault of a text is one of a file
-pub reads_of_file : (bytes : List ℕ) (r : Result Scripts Fault) → Reads bytes r → IsOfFile r
-reads_of_file bytes r (inl (past, is)) = subst IsOfFile (sym is) refl
-reads_of_file bytes r (inr (within, reads)) = short_of_file bytes r reads
+pub reads_of_file : (size : Size) (bytes : List ℕ) (r : Result Scripts Fault) → Reads size bytes r → IsOfFile r
+reads_of_file size bytes r (inl (past, is)) = subst IsOfFile (sym is) refl
+reads_of_file size bytes r (inr (within, reads)) = short_of_file size bytes r reads
 
 -- a fault of memory or of a text is none of reading
-pub not_read : (bytes : List ℕ) (e : Fault) → (e ≡ Memory) ⊎ Reads bytes (Err e) → e ≢ Read
-not_read bytes e (inl memory) is = let bad : Memory ≡ Read = sym memory ∙ is in cc
-not_read bytes e (inr reads) is =
-    let bad : is_of_file Read ≡ true = subst (λ f. is_of_file f ≡ true) is (reads_of_file bytes (Err e) reads) in cc
+pub not_read : (size : Size) (bytes : List ℕ) (e : Fault) → (e ≡ Memory) ⊎ Reads size bytes (Err e) → e ≢ Read
+not_read size bytes e (inl memory) is = let bad : Memory ≡ Read = sym memory ∙ is in cc
+not_read size bytes e (inr reads) is =
+    let bad : is_of_file Read ≡ true = subst (λ f. is_of_file f ≡ true) is (reads_of_file size bytes (Err e) reads) in cc
 
 -- nor of writing
-pub not_write : (bytes : List ℕ) (e : Fault) (n : ℕ) → Reads bytes (Err e) → e ≢ Write n
-not_write bytes e n reads is =
-    let bad : is_of_file (Write n) ≡ true = subst (λ f. is_of_file f ≡ true) is (reads_of_file bytes (Err e) reads) in cc
+pub not_write : (size : Size) (bytes : List ℕ) (e : Fault) (n : ℕ) → Reads size bytes (Err e) → e ≢ Write n
+not_write size bytes e n reads is =
+    let bad : is_of_file (Write n) ≡ true = subst (λ f. is_of_file f ≡ true) is (reads_of_file size bytes (Err e) reads) in cc

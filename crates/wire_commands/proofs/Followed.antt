@@ -8,6 +8,8 @@ use Rattle.wire_types.specs.declared.Fault.TheVariants.{Memory, Read, NotReady, 
 use Rattle.wire_types.specs.Front.{WritesFront}
 use Rattle.wire_types.specs.declared.Proc.{Proc}
 use Rattle.wire_content.specs.Scripts.{Scripts, numbers_of}
+use Rattle.wire_script.specs.declared.Size.{Size}
+use Rattle.wire_script.specs.Limits.{order_bytes}
 use Rattle.wire_script.specs.Statements.{Statement, statements}
 use Rattle.wire_order.specs.Order.{order_read, order_within, order_of, step_of, with_step}
 use Rattle.wire_order.proofs.Limited.{order_limited}
@@ -19,17 +21,17 @@ use Rattle.wire_commands.proofs.Texts.{LeadsTo}
 use Rattle.wire_commands.specs.Follow.{OrdersAs, RefusesSteps, StopsAfter, StopsBefore, OrderedAs, WritesFollowed, BreaksOffFollowed}
 
 -- what came of an order, all that was to come reads as
-pub orders_as : (coming : Option (List ℕ)) (bytes shown : List ℕ) (s : Scripts) (steps : List ℕ) → shown ≡ bytes → IfSome coming (λ all. bytes ≡ take 8388609 all) → order_read s shown ≡ Ok steps →
-    OrdersAs coming s steps
+pub orders_as : {size : Size} (coming : Option (List ℕ)) (bytes shown : List ℕ) (s : Scripts) (steps : List ℕ) → shown ≡ bytes → IfSome coming (λ all. bytes ≡ take (order_bytes size + 1) all) → order_read size s shown ≡ Ok steps →
+    OrdersAs size coming s steps
 orders_as None bytes shown s steps same front reads = record { bytes = shown; came = tt; reads = reads }
-orders_as (Some all) bytes shown s steps same front reads =
-    record { bytes = all; came = refl; reads = sym (order_limited s all) ∙ ap (order_read s) (sym (same ∙ front)) ∙ reads }
+orders_as {size} (Some all) bytes shown s steps same front reads =
+    record { bytes = all; came = refl; reads = sym (order_limited size s all) ∙ ap (order_read size s) (sym (same ∙ front)) ∙ reads }
 
-pub refuses_steps : (coming : Option (List ℕ)) (bytes shown : List ℕ) (s : Scripts) (e : Fault) → shown ≡ bytes → IfSome coming (λ all. bytes ≡ take 8388609 all) → order_read s shown ≡ Err e →
-    RefusesSteps coming s e
+pub refuses_steps : {size : Size} (coming : Option (List ℕ)) (bytes shown : List ℕ) (s : Scripts) (e : Fault) → shown ≡ bytes → IfSome coming (λ all. bytes ≡ take (order_bytes size + 1) all) → order_read size s shown ≡ Err e →
+    RefusesSteps size coming s e
 refuses_steps None bytes shown s e same front reads = record { bytes = shown; came = tt; reads = reads }
-refuses_steps (Some all) bytes shown s e same front reads =
-    record { bytes = all; came = refl; reads = sym (order_limited s all) ∙ ap (order_read s) (sym (same ∙ front)) ∙ reads }
+refuses_steps {size} (Some all) bytes shown s e same front reads =
+    record { bytes = all; came = refl; reads = sym (order_limited size s all) ∙ ap (order_read size s) (sym (same ∙ front)) ∙ reads }
 
 pub ok_too : {A : Type 0} (r : Result A Fault) (P Q : A → Type 0) → ((x : A) → P x → Q x) → IfOk r P → IfOk r Q
 ok_too (Ok x) P Q f p = f x p
@@ -40,47 +42,47 @@ err_too (Ok x) P Q f p = tt
 err_too (Err e) P Q f p = f e p
 
 -- a read of the order failed, or the order is refused
-pub order_fault : (coming : Option (List ℕ)) (s : Scripts) (e : Fault) (bytes shown : List ℕ) → shown ≡ bytes → IfSome coming (λ all. bytes ≡ take 8388609 all) → (e ≡ Memory)
-    ⊎ (order_read s shown ≡ Err e) → (e ≡ Memory) ⊎ ((e ≡ Read) ⊎ RefusesSteps coming s e)
+pub order_fault : {size : Size} (coming : Option (List ℕ)) (s : Scripts) (e : Fault) (bytes shown : List ℕ) → shown ≡ bytes → IfSome coming (λ all. bytes ≡ take (order_bytes size + 1) all) → (e ≡ Memory)
+    ⊎ (order_read size s shown ≡ Err e) → (e ≡ Memory) ⊎ ((e ≡ Read) ⊎ RefusesSteps size coming s e)
 order_fault coming s e bytes shown same front (inl memory) = inl memory
 order_fault coming s e bytes shown same front (inr reads) = inr (inr (refuses_steps coming bytes shown s e same front reads))
 
 -- of an order that is read, and of one that isn't
-pub steps_ok : (coming : Option (List ℕ)) (bytes shown : List ℕ) (s : Scripts) (r : Result (Vec Proc Global) Fault) → shown ≡ bytes → IfSome coming (λ all. bytes ≡ take 8388609 all) →
-    IfOk r (λ order. order_read s shown ≡ Ok (numbers_of order.items)) → IfOk r (λ order. OrdersAs coming s (numbers_of order.items))
-steps_ok coming bytes shown s (Ok order) same front reads = orders_as coming bytes shown s (numbers_of order.items) same front reads
-steps_ok coming bytes shown s (Err e) same front reads = tt
+pub steps_ok : (size : Size) (coming : Option (List ℕ)) (bytes shown : List ℕ) (s : Scripts) (r : Result (Vec Proc Global) Fault) → shown ≡ bytes → IfSome coming (λ all. bytes ≡ take (order_bytes size + 1) all) →
+    IfOk r (λ order. order_read size s shown ≡ Ok (numbers_of order.items)) → IfOk r (λ order. OrdersAs size coming s (numbers_of order.items))
+steps_ok size coming bytes shown s (Ok order) same front reads = orders_as coming bytes shown s (numbers_of order.items) same front reads
+steps_ok size coming bytes shown s (Err e) same front reads = tt
 
-pub steps_err : (coming : Option (List ℕ)) (bytes shown : List ℕ) (s : Scripts) (r : Result (Vec Proc Global) Fault) → shown ≡ bytes → IfSome coming (λ all. bytes ≡ take 8388609 all) →
-    IfErr r (λ e. (e ≡ Memory) ⊎ (order_read s shown ≡ Err e)) → IfErr r (λ e. (e ≡ Memory) ⊎ ((e ≡ Read) ⊎ RefusesSteps coming s e))
-steps_err coming bytes shown s (Ok order) same front reads = tt
-steps_err coming bytes shown s (Err e) same front reads = order_fault coming s e bytes shown same front reads
+pub steps_err : (size : Size) (coming : Option (List ℕ)) (bytes shown : List ℕ) (s : Scripts) (r : Result (Vec Proc Global) Fault) → shown ≡ bytes → IfSome coming (λ all. bytes ≡ take (order_bytes size + 1) all) →
+    IfErr r (λ e. (e ≡ Memory) ⊎ (order_read size s shown ≡ Err e)) → IfErr r (λ e. (e ≡ Memory) ⊎ ((e ≡ Read) ⊎ RefusesSteps size coming s e))
+steps_err size coming bytes shown s (Ok order) same front reads = tt
+steps_err size coming bytes shown s (Err e) same front reads = order_fault coming s e bytes shown same front reads
 
 pub on_ok_too : {A : Type 0} (r : Result A Fault) (P Q : Type 0) → (P → Q) → OnOk r P → OnOk r Q
 on_ok_too (Ok x) P Q f p = f p
 on_ok_too (Err e) P Q f p = tt
 
 -- the faults of the file
-pub of_file : (coming order_coming : Option (List ℕ)) (e : Fault) → (e ≡ Memory) ⊎ ((e ≡ Read) ⊎ Refuses coming e) → StopsBefore coming order_coming e
+pub of_file : {size : Size} (coming order_coming : Option (List ℕ)) (e : Fault) → (e ≡ Memory) ⊎ ((e ≡ Read) ⊎ Refuses size coming e) → StopsBefore size coming order_coming e
 of_file coming order_coming e (inl memory) = inl memory
 of_file coming order_coming e (inr (inl read)) = inr (inl read)
 of_file coming order_coming e (inr (inr refuses)) = inr (inr (inl refuses))
 
 -- of the order
-pub of_order : (coming order_coming : Option (List ℕ)) (s : Scripts) (e : Fault) → ReadAs coming s → (e ≡ Memory) ⊎ ((e ≡ Read) ⊎ RefusesSteps order_coming s e) → StopsBefore coming order_coming e
+pub of_order : {size : Size} (coming order_coming : Option (List ℕ)) (s : Scripts) (e : Fault) → ReadAs size coming s → (e ≡ Memory) ⊎ ((e ≡ Read) ⊎ RefusesSteps size order_coming s e) → StopsBefore size coming order_coming e
 of_order coming order_coming s e read (inl memory) = inl memory
 of_order coming order_coming s e read (inr (inl failed)) = inr (inl failed)
 of_order coming order_coming s e read (inr (inr refuses)) = inr (inr (inr (inl (record { scripts = s; read = read; refuses = refuses }))))
 
 -- the steps of an order that is read, as they are shown
-ordered_as : (coming order_coming : Option (List ℕ)) (s : Scripts) (order shown : List Proc) → shown ≡ order → ReadAs coming s → OrdersAs order_coming s (numbers_of order) →
-    OrderedAs coming order_coming s (numbers_of shown)
-ordered_as coming order_coming s order shown same read orders =
-    record { read = read; order = subst (λ ps. OrdersAs order_coming s (numbers_of ps)) (sym same) orders }
+ordered_as : {size : Size} (coming order_coming : Option (List ℕ)) (s : Scripts) (order shown : List Proc) → shown ≡ order → ReadAs size coming s → OrdersAs size order_coming s (numbers_of order) →
+    OrderedAs size coming order_coming s (numbers_of shown)
+ordered_as {size} coming order_coming s order shown same read orders =
+    record { read = read; order = subst (λ ps. OrdersAs size order_coming s (numbers_of ps)) (sym same) orders }
 
 -- and of the steps
-pub of_steps : (coming order_coming : Option (List ℕ)) (s : Scripts) (order shown : List Proc) (e : Fault) → shown ≡ order → ReadAs coming s → OrdersAs order_coming s (numbers_of order) → (e ≡ Memory)
-    ⊎ StopsAfter s (numbers_of shown) e → StopsBefore coming order_coming e
+pub of_steps : {size : Size} (coming order_coming : Option (List ℕ)) (s : Scripts) (order shown : List Proc) (e : Fault) → shown ≡ order → ReadAs size coming s → OrdersAs size order_coming s (numbers_of order) → (e ≡ Memory)
+    ⊎ StopsAfter s (numbers_of shown) e → StopsBefore size coming order_coming e
 of_steps coming order_coming s order shown e same read orders (inl memory) = inl memory
 of_steps coming order_coming s order shown e same read orders (inr stops) =
     inr (inr (inr (inr (record { scripts = s; steps = numbers_of shown; ordered = ordered_as coming order_coming s order shown same read orders; stops = stops }))))
@@ -90,8 +92,8 @@ pub no_read_of_steps : (s : Scripts) (steps : List ℕ) (e : Fault) → (e ≡ M
 no_read_of_steps s steps e (inl memory) is = let bad : Memory ≡ Read = sym memory ∙ is in cc
 no_read_of_steps s steps e (inr stops) is = let bad : NotReady (suc stops.n) ≡ Read = sym stops.is ∙ is in cc
 
-pub followed_ok : (coming order_coming old new : Option (List ℕ)) (s : Scripts) (order shown : List Proc) (text out : List ℕ) (r : Result (Unit {0}) Fault) → shown ≡ order → ReadAs coming s →
-    OrdersAs order_coming s (numbers_of order) → LeadsTo s (numbers_of shown) text → out ≡ text → OnOk r (Appends old new out) → OnOk r (WritesFollowed coming order_coming old new)
+pub followed_ok : {size : Size} (coming order_coming old new : Option (List ℕ)) (s : Scripts) (order shown : List Proc) (text out : List ℕ) (r : Result (Unit {0}) Fault) → shown ≡ order → ReadAs size coming s →
+    OrdersAs size order_coming s (numbers_of order) → LeadsTo s (numbers_of shown) text → out ≡ text → OnOk r (Appends old new out) → OnOk r (WritesFollowed size coming order_coming old new)
 followed_ok coming order_coming old new s order shown text out (Ok x) same read orders (enabled, is) at wrote =
     record {
       scripts = s;
@@ -102,9 +104,9 @@ followed_ok coming order_coming old new s order shown text out (Ok x) same read 
     }
 followed_ok coming order_coming old new s order shown text out (Err e) same read orders leads at wrote = tt
 
-pub followed_err : (coming order_coming old new : Option (List ℕ)) (s : Scripts) (order shown : List Proc) (text out : List ℕ) (kept failed : Type 0) (r : Result (Unit {0}) Fault) → shown ≡ order →
-    ReadAs coming s → OrdersAs order_coming s (numbers_of order) → LeadsTo s (numbers_of shown) text → out ≡ text → IfErr r (WritesFront old new out) → IfErr r (λ _. failed)
-    → IfErr r (λ e. (StopsBefore coming order_coming e × kept) ⊎ (BreaksOffFollowed coming order_coming old new e × failed))
+pub followed_err : {size : Size} (coming order_coming old new : Option (List ℕ)) (s : Scripts) (order shown : List Proc) (text out : List ℕ) (kept failed : Type 0) (r : Result (Unit {0}) Fault) → shown ≡ order →
+    ReadAs size coming s → OrdersAs size order_coming s (numbers_of order) → LeadsTo s (numbers_of shown) text → out ≡ text → IfErr r (WritesFront old new out) → IfErr r (λ _. failed)
+    → IfErr r (λ e. (StopsBefore size coming order_coming e × kept) ⊎ (BreaksOffFollowed size coming order_coming old new e × failed))
 followed_err coming order_coming old new s order shown text out kept failed (Ok x) same read orders leads at front count = tt
 followed_err coming order_coming old new s order shown text out kept failed (Err e) same read orders (enabled, is) at front count =
     inr (
@@ -138,14 +140,14 @@ either_bad false n r bad = bad
 within_bad : (limit : ℕ) (s : Scripts) (bytes : List ℕ) → IsBad (order_within limit s bytes)
 within_bad limit s bytes = either_bad (nat_lt limit (length bytes)) (count_by (λ b. b == 10) (take limit bytes) + 1) (order_of s (statements bytes)) (all_bad s (statements bytes))
 
-read_bad : (s : Scripts) (bytes : List ℕ) → IsBad (order_read s bytes)
-read_bad s bytes = within_bad 8388608 s bytes
+read_bad : (size : Size) (s : Scripts) (bytes : List ℕ) → IsBad (order_read size s bytes)
+read_bad size s bytes = within_bad (order_bytes size) s bytes
 
-pub no_read_of_order : (s : Scripts) (bytes : List ℕ) (r : Result (Vec Proc Global) Fault) → IfErr r (λ e. (e ≡ Memory) ⊎ (order_read s bytes ≡ Err e)) → r ≡ Err Read → ⊥
-no_read_of_order s bytes (Ok order) told is = let bad : Ok order ≡ Err Read = is in cc
-no_read_of_order s bytes (Err e) (inl memory) is = let bad : Memory ≡ Read = cc in cc
-no_read_of_order s bytes (Err e) (inr reads) is =
-    let found : (n : ℕ) × (e ≡ BadOrder n) = subst IsBad reads (read_bad s bytes) in
+pub no_read_of_order : (size : Size) (s : Scripts) (bytes : List ℕ) (r : Result (Vec Proc Global) Fault) → IfErr r (λ e. (e ≡ Memory) ⊎ (order_read size s bytes ≡ Err e)) → r ≡ Err Read → ⊥
+no_read_of_order size s bytes (Ok order) told is = let bad : Ok order ≡ Err Read = is in cc
+no_read_of_order size s bytes (Err e) (inl memory) is = let bad : Memory ≡ Read = cc in cc
+no_read_of_order size s bytes (Err e) (inr reads) is =
+    let found : (n : ℕ) × (e ≡ BadOrder n) = subst IsBad reads (read_bad size s bytes) in
     let its = found.1 in
     let bad : BadOrder found.0 ≡ Read = cc in
     cc

@@ -6,3 +6,4 @@ pub mod Followed
 pub mod Questioned
 pub mod Texts
 pub mod Checked
+pub mod Written

@@ -10,6 +10,7 @@ use Rattle.wire_types.specs.declared.Fault.TheVariants.{Memory, Read, BadOrder}
 use Rattle.wire_types.specs.Front.{WritesFront}
 use Rattle.wire_content.specs.Scripts.{Scripts, Process, calls_in}
 use Rattle.wire_content.specs.Planned.{plan_of, planned_call, planned_process}
+use Rattle.wire_script.specs.declared.Size.{Size}
 use Rattle.wire_order.specs.Question.{QuestionReads, Asks as AsksBoth, First, Second, Third, Fourth, IsCallNamed, calls_made}
 use Rattle.wire_runs.specs.Ends.{calls_of, process_calls}
 use Rattle.wire_report.specs.Chain.{IsChainText}
@@ -72,28 +73,28 @@ pub refuses_too : (s plan : Scripts) (words : List (List ℕ)) (r : Result (Vec 
 refuses_too s plan words r is refuses = subst (λ t. IfErr r (λ e. (e ≡ Memory) ⊎ Asks t words (Err e))) is refuses
 
 -- all of the answer goes out
-pub answer_ok : (coming : Option (List ℕ)) (words : List (List ℕ)) (old new : Option (List ℕ)) (s : Scripts) (text out : List ℕ) (r : Result (Unit {0}) Fault) → ReadAs coming s →
-    Answers s words text → out ≡ text → OnOk r (Appends old new out) → OnOk r (WritesAnswer coming words old new)
+pub answer_ok : {size : Size} (coming : Option (List ℕ)) (words : List (List ℕ)) (old new : Option (List ℕ)) (s : Scripts) (text out : List ℕ) (r : Result (Unit {0}) Fault) → ReadAs size coming s →
+    Answers s words text → out ≡ text → OnOk r (Appends old new out) → OnOk r (WritesAnswer size coming words old new)
 answer_ok coming words old new s text out (Ok u) read answers at wrote =
     record { scripts = s; read = read; text = text; answers = answers; wrote = subst (λ t. Appends old new t) at wrote }
 answer_ok coming words old new s text out (Err e) read answers at wrote = tt
 
 -- or the front of it that the fault counts
-pub answer_err : (coming : Option (List ℕ)) (words : List (List ℕ)) (old new : Option (List ℕ)) (s : Scripts) (text out : List ℕ) (kept failed : Type 0) (r : Result (Unit {0}) Fault) →
-    ReadAs coming s → Answers s words text → out ≡ text → IfErr r (WritesFront old new out) → IfErr r (λ _. failed)
-    → IfErr r (λ e. (StopsBeforeAnswer coming words e × kept) ⊎ (BreaksOffAnswer coming words old new e × failed))
+pub answer_err : {size : Size} (coming : Option (List ℕ)) (words : List (List ℕ)) (old new : Option (List ℕ)) (s : Scripts) (text out : List ℕ) (kept failed : Type 0) (r : Result (Unit {0}) Fault) →
+    ReadAs size coming s → Answers s words text → out ≡ text → IfErr r (WritesFront old new out) → IfErr r (λ _. failed)
+    → IfErr r (λ e. (StopsBeforeAnswer size coming words e × kept) ⊎ (BreaksOffAnswer size coming words old new e × failed))
 answer_err coming words old new s text out kept failed (Ok u) read answers at front count = tt
 answer_err coming words old new s text out kept failed (Err e) read answers at front count =
     inr (record { scripts = s; read = read; text = text; answers = answers; wrote = subst (λ t. WritesFront old new t e) at front }, count)
 
 -- a fault of the file comes before the writing
-pub file_stops : (coming : Option (List ℕ)) (words : List (List ℕ)) (e : Fault) → (e ≡ Memory) ⊎ ((e ≡ Read) ⊎ Refuses coming e) → StopsBeforeAnswer coming words e
+pub file_stops : {size : Size} (coming : Option (List ℕ)) (words : List (List ℕ)) (e : Fault) → (e ≡ Memory) ⊎ ((e ≡ Read) ⊎ Refuses size coming e) → StopsBeforeAnswer size coming words e
 file_stops coming words e (inl memory) = inl memory
 file_stops coming words e (inr (inl read)) = inr (inl read)
 file_stops coming words e (inr (inr refuses)) = inr (inr (inl refuses))
 
 -- and so does a wrong word
-pub word_stops : (coming : Option (List ℕ)) (words : List (List ℕ)) (s : Scripts) (e : Fault) → ReadAs coming s → (e ≡ Memory) ⊎ Asks s words (Err e) → StopsBeforeAnswer coming words e
+pub word_stops : {size : Size} (coming : Option (List ℕ)) (words : List (List ℕ)) (s : Scripts) (e : Fault) → ReadAs size coming s → (e ≡ Memory) ⊎ Asks s words (Err e) → StopsBeforeAnswer size coming words e
 word_stops coming words s e read (inl memory) = inl memory
 word_stops coming words s e read (inr refuses) = inr (inr (inr (record { scripts = s; read = read; refuses = refuses })))
 

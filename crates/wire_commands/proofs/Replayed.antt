@@ -5,6 +5,7 @@ use Rattle.wire_types.specs.declared.Fault.{Fault}
 use Rattle.wire_types.specs.declared.Fault.TheVariants.{Memory, Read, Write}
 use Rattle.wire_types.specs.Front.{WritesFront}
 use Rattle.wire_content.specs.Scripts.{Scripts}
+use Rattle.wire_script.specs.declared.Size.{Size}
 use Rattle.wire_commands.specs.Plain.{plain_report, ReadAs, Refuses, WritesReport, BreaksOff}
 use Rattle.wire_commands.proofs.FileFaults.{not_write}
 
@@ -32,13 +33,13 @@ same_error (Ok x) e f is at = absurd is
 same_error (Err d) e f is at = let same : d ≡ f = cc in sym is ∙ same
 
 -- a fault before the writing is none of writing
-pub before_writing : (coming : Option (List ℕ)) (e : Fault) (n : ℕ) → (e ≡ Memory) ⊎ ((e ≡ Read) ⊎ Refuses coming e) → e ≢ Write n
+pub before_writing : {size : Size} (coming : Option (List ℕ)) (e : Fault) (n : ℕ) → (e ≡ Memory) ⊎ ((e ≡ Read) ⊎ Refuses size coming e) → e ≢ Write n
 before_writing coming e n (inl memory) is = let bad : Memory ≡ Write n = sym memory ∙ is in cc
 before_writing coming e n (inr (inl read)) is = let bad : Read ≡ Write n = sym read ∙ is in cc
-before_writing coming e n (inr (inr refuses)) is = not_write refuses.bytes e n refuses.reads is
+before_writing {size} coming e n (inr (inr refuses)) is = not_write size refuses.bytes e n refuses.reads is
 
 -- a fault of neither memory nor a read is the file's
-pub only_refused : (coming : Option (List ℕ)) (e : Fault) → (e ≡ Memory) ⊎ ((e ≡ Read) ⊎ Refuses coming e) → e ≢ Memory → e ≢ Read → ((n : ℕ) → e ≢ Write n) → Refuses coming e
+pub only_refused : {size : Size} (coming : Option (List ℕ)) (e : Fault) → (e ≡ Memory) ⊎ ((e ≡ Read) ⊎ Refuses size coming e) → e ≢ Memory → e ≢ Read → ((n : ℕ) → e ≢ Write n) → Refuses size coming e
 only_refused coming e (inl is) memory read write = absurd (memory is)
 only_refused coming e (inr (inl is)) memory read write = absurd (read is)
 only_refused coming e (inr (inr refuses)) memory read write = refuses
@@ -51,14 +52,14 @@ pub memory_no_write : (r : Result (Unit {0}) Fault) (e : Fault) (n : ℕ) → Is
 memory_no_write r e n is memory at = let bad : Memory ≡ Write n = sym memory ∙ same_error r e (Write n) is at in cc
 
 -- the writing of the report of what was read
-pub writes_report : (coming old new : Option (List ℕ)) (s : Scripts) (text : List ℕ) (r : Result (Unit {0}) Fault) → ReadAs coming s → text ≡ plain_report s → OnOk r (Appends old new text) →
-    OnOk r (WritesReport coming old new)
+pub writes_report : {size : Size} (coming old new : Option (List ℕ)) (s : Scripts) (text : List ℕ) (r : Result (Unit {0}) Fault) → ReadAs size coming s → text ≡ plain_report s → OnOk r (Appends old new text) →
+    OnOk r (WritesReport size coming old new)
 writes_report coming old new s text (Ok x) read is wrote = record { scripts = s; read = read; wrote = subst (λ t. Appends old new t) is wrote }
 writes_report coming old new s text (Err e) read is wrote = tt
 
 -- a fault of the writing counts what went out
-pub breaks_off : (coming old new : Option (List ℕ)) (s : Scripts) (text : List ℕ) (r : Result (Unit {0}) Fault) (n : ℕ) → ReadAs coming s → text ≡ plain_report s → IfErr r (WritesFront old new text) →
-    r ≡ Err (Write n) → BreaksOff coming old new n
+pub breaks_off : {size : Size} (coming old new : Option (List ℕ)) (s : Scripts) (text : List ℕ) (r : Result (Unit {0}) Fault) (n : ℕ) → ReadAs size coming s → text ≡ plain_report s → IfErr r (WritesFront old new text) →
+    r ≡ Err (Write n) → BreaksOff size coming old new n
 breaks_off coming old new s text (Ok x) n read is front at = let bad : Ok x ≡ Err (Write n) = at in cc
 breaks_off coming old new s text (Err e) n read is (m, carries, (short, front)) at =
     let same : m ≡ n = cc in
@@ -75,10 +76,10 @@ no_read_writing old new text (Ok x) front is = let bad : Ok x ≡ Err Read = is 
 no_read_writing old new text (Err e) (m, carries, (short, front)) is = let bad : Write m ≡ Read = cc in cc
 
 -- the writing refuses no file
-pub not_refused : (coming old new : Option (List ℕ)) (text : List ℕ) (r : Result (Unit {0}) Fault) → IfErr r (WritesFront old new text) →
-    IfErr r (λ e. e ≢ Memory → e ≢ Read → ((n : ℕ) → e ≢ Write n) → Refuses coming e)
-not_refused coming old new text (Ok x) front = tt
-not_refused coming old new text (Err e) (m, carries, (short, front)) = λ memory read not_write. absurd (not_write m carries)
+pub not_refused : (size : Size) (coming old new : Option (List ℕ)) (text : List ℕ) (r : Result (Unit {0}) Fault) → IfErr r (WritesFront old new text) →
+    IfErr r (λ e. e ≢ Memory → e ≢ Read → ((n : ℕ) → e ≢ Write n) → Refuses size coming e)
+not_refused size coming old new text (Ok x) front = tt
+not_refused size coming old new text (Err e) (m, carries, (short, front)) = λ memory read not_write. absurd (not_write m carries)
 
 -- a fault that isn't of writing comes before it
 pub untouched : {W : Type 0} (old new : W) (written later : Option (List ℕ)) (text : List ℕ) (r : Result (Unit {0}) Fault) → IfErr r (WritesFront written later text) →

@@ -13,6 +13,7 @@ use Rattle.wire_runs.specs.Laws.{HasOneEnd, AreUnordered}
 use Rattle.wire_races.specs.declared.finding.Finding.{Finding}
 use Rattle.wire_races.specs.Findings.{AreFindings, all_shown}
 use Rattle.wire_report.specs.Findings.{findings_report}
+use Rattle.wire_script.specs.declared.Size.{Size}
 use Rattle.wire_commands.specs.declared.checking.Ended.{Ended}
 use Rattle.wire_commands.specs.declared.checking.Ended.TheVariants.{Clean, Found}
 use Rattle.wire_commands.specs.Plain.{ReadAs, Refuses}
@@ -61,23 +62,23 @@ pub record BreaksOffVerdict (scripts : Scripts) (old new : Option (List ℕ)) (f
 
 -- what was to come read as scripts, and every interleaving of their plan that can't go on ends in one state, the plain run's: the
 -- same reply to every call, and the same processes waiting
-pub record EndsInOneState (coming : Option (List ℕ)) : Type 0 where
+pub record EndsInOneState (size : Size) (coming : Option (List ℕ)) : Type 0 where
   pub scripts : Scripts
-  pub read : ReadAs coming scripts
+  pub read : ReadAs size coming scripts
   pub one_end : HasOneEnd (plan_of scripts)
 
 -- all of the findings of what was to come went out
-pub record WritesFindings (coming : Option (List ℕ)) (ended : Ended) (old new : Option (List ℕ)) : Type 0 where
+pub record WritesFindings (size : Size) (coming : Option (List ℕ)) (ended : Ended) (old new : Option (List ℕ)) : Type 0 where
   pub scripts : Scripts
-  pub read : ReadAs coming scripts
+  pub read : ReadAs size coming scripts
   pub wrote : WritesVerdict scripts ended old new
 
 -- exactly as many bytes of the findings went out as the fault says, which aren't all of them
-pub record BreaksOffFindings (coming old new : Option (List ℕ)) (fault : Fault) : Type 0 where
+pub record BreaksOffFindings (size : Size) (coming old new : Option (List ℕ)) (fault : Fault) : Type 0 where
   pub scripts : Scripts
-  pub read : ReadAs coming scripts
+  pub read : ReadAs size coming scripts
   pub broke : BreaksOffVerdict scripts old new fault
 
 -- why nothing is written: memory ran out, a read failed, or the file is refused
-abbrev pub StopsBeforeFindings : Option (List ℕ) → Fault → Type 0
-StopsBeforeFindings coming fault = (fault ≡ Memory) ⊎ ((fault ≡ Read) ⊎ Refuses coming fault)
+abbrev pub StopsBeforeFindings : Size → Option (List ℕ) → Fault → Type 0
+StopsBeforeFindings size coming fault = (fault ≡ Memory) ⊎ ((fault ≡ Read) ⊎ Refuses size coming fault)

@@ -6,6 +6,7 @@ use Rattle.wire_types.specs.declared.CallAt.{CallAt}
 use Rattle.wire_types.specs.declared.Fault.{Fault}
 use Rattle.wire_types.specs.declared.Fault.TheVariants.{Memory, Read}
 use Rattle.wire_content.specs.Scripts.{Scripts}
+use Rattle.wire_script.specs.declared.Size.{Size}
 use Rattle.wire_order.specs.Question.{QuestionReads}
 use Rattle.wire_report.specs.Chain.{IsChainText}
 use Rattle.wire_commands.specs.Plain.{ReadAs, Refuses}
@@ -25,27 +26,27 @@ pub record Answers (scripts : Scripts) (words : List (List ℕ)) (text : List �
   pub tells : IsChainText scripts x y text
 
 -- all of the answer went out
-pub record WritesAnswer (coming : Option (List ℕ)) (words : List (List ℕ)) (old new : Option (List ℕ)) : Type 0 where
+pub record WritesAnswer (size : Size) (coming : Option (List ℕ)) (words : List (List ℕ)) (old new : Option (List ℕ)) : Type 0 where
   pub scripts : Scripts
-  pub read : ReadAs coming scripts
+  pub read : ReadAs size coming scripts
   pub text : List ℕ
   pub answers : Answers scripts words text
   pub wrote : Appends old new text
 
 -- exactly as many bytes of the answer went out as the fault says, which aren't all of it
-pub record BreaksOffAnswer (coming : Option (List ℕ)) (words : List (List ℕ)) (old new : Option (List ℕ)) (fault : Fault) : Type 0 where
+pub record BreaksOffAnswer (size : Size) (coming : Option (List ℕ)) (words : List (List ℕ)) (old new : Option (List ℕ)) (fault : Fault) : Type 0 where
   pub scripts : Scripts
-  pub read : ReadAs coming scripts
+  pub read : ReadAs size coming scripts
   pub text : List ℕ
   pub answers : Answers scripts words text
   pub wrote : WritesFront old new text fault
 
 -- the file reads as scripts, and a word of the question has this fault
-pub record RefusesQuestion (coming : Option (List ℕ)) (words : List (List ℕ)) (fault : Fault) : Type 0 where
+pub record RefusesQuestion (size : Size) (coming : Option (List ℕ)) (words : List (List ℕ)) (fault : Fault) : Type 0 where
   pub scripts : Scripts
-  pub read : ReadAs coming scripts
+  pub read : ReadAs size coming scripts
   pub refuses : Asks scripts words (Err fault)
 
 -- why nothing is written: memory ran out, a read failed, the file is refused, or a word of the question is
-abbrev pub StopsBeforeAnswer : Option (List ℕ) → List (List ℕ) → Fault → Type 0
-StopsBeforeAnswer coming words fault = (fault ≡ Memory) ⊎ ((fault ≡ Read) ⊎ (Refuses coming fault ⊎ RefusesQuestion coming words fault))
+abbrev pub StopsBeforeAnswer : Size → Option (List ℕ) → List (List ℕ) → Fault → Type 0
+StopsBeforeAnswer size coming words fault = (fault ≡ Memory) ⊎ ((fault ≡ Read) ⊎ (Refuses size coming fault ⊎ RefusesQuestion size coming words fault))

@@ -15,6 +15,7 @@ use wire_marks::Marks;
 use wire_order::{Question, calls_asked};
 use wire_plan::Plan;
 use wire_report::{chain_text, write_text};
+use wire_script::Size;
 use wire_types::{CallAt, Fault, Sink, Source};
 
 /// The two calls that the words of a question name.
@@ -84,19 +85,42 @@ pub fn why<R: Source, W: Sink>(
     writer: &mut W,
     words: [&str; 4],
 ) -> Result<(), Fault>
-    ensures ok { OnOk result (WritesAnswer (R.coming reader.old) (map (λ w. w.now) words.entry) (W.written writer.old) (W.written writer.new)) }
+    ensures ok { OnOk result (WritesAnswer Size.OfVersion (R.coming reader.old) (map (λ w. w.now) words.entry) (W.written writer.old) (W.written writer.new)) }
     ensures quiet { OnOk result ((R.failures reader.new ≡ R.failures reader.old) × (W.failures writer.new ≡ W.failures writer.old)) }
 
     // Either nothing was written, or the front of the answer that the fault counts.
-    ensures err { IfErr result (λ e. (StopsBeforeAnswer (R.coming reader.old) (map (λ w. w.now) words.entry) e × (writer.new ≡ writer.old))
-        ⊎ (BreaksOffAnswer (R.coming reader.old) (map (λ w. w.now) words.entry) (W.written writer.old) (W.written writer.new) e
+    ensures err { IfErr result (λ e. (StopsBeforeAnswer Size.OfVersion (R.coming reader.old) (map (λ w. w.now) words.entry) e × (writer.new ≡ writer.old))
+        ⊎ (BreaksOffAnswer Size.OfVersion (R.coming reader.old) (map (λ w. w.now) words.entry) (W.written writer.old) (W.written writer.new) e
         × (W.failures writer.new ≡ one_more (W.failures writer.old)))) }
 
     // A failed read is answered only where the reader failed.
     ensures read_failed { result ≡ Err Read → R.failures reader.new ≡ one_more (R.failures reader.old) }
     ensures unfailed { IfErr result (λ e. e ≢ Memory → e ≢ Read → R.failures reader.new ≡ R.failures reader.old) }
 {
-    let scripts = read_scripts(alloc, reader)?;
+    why_sized(alloc, Size::OfVersion, reader, writer, words)
+}
+
+/// Answers a question about two calls as `why` does, within the limits of this size.
+pub fn why_sized<R: Source, W: Sink>(
+    alloc: Global,
+    size: Size,
+    reader: &mut R,
+    writer: &mut W,
+    words: [&str; 4],
+) -> Result<(), Fault>
+    ensures ok { OnOk result (WritesAnswer size (R.coming reader.old) (map (λ w. w.now) words.entry) (W.written writer.old) (W.written writer.new)) }
+    ensures quiet { OnOk result ((R.failures reader.new ≡ R.failures reader.old) × (W.failures writer.new ≡ W.failures writer.old)) }
+
+    // Either nothing was written, or the front of the answer that the fault counts.
+    ensures err { IfErr result (λ e. (StopsBeforeAnswer size (R.coming reader.old) (map (λ w. w.now) words.entry) e × (writer.new ≡ writer.old))
+        ⊎ (BreaksOffAnswer size (R.coming reader.old) (map (λ w. w.now) words.entry) (W.written writer.old) (W.written writer.new) e
+        × (W.failures writer.new ≡ one_more (W.failures writer.old)))) }
+
+    // A failed read is answered only where the reader failed.
+    ensures read_failed { result ≡ Err Read → R.failures reader.new ≡ one_more (R.failures reader.old) }
+    ensures unfailed { IfErr result (λ e. e ≢ Memory → e ≢ Read → R.failures reader.new ≡ R.failures reader.old) }
+{
+    let scripts = read_scripts(alloc, size, reader)?;
     let text = answer_text(alloc, scripts, words)?;
     write_text(writer, text.as_slice())
 }

@@ -17,6 +17,7 @@ use wire_plan::Plan;
 use wire_races::laws::settled_exactly;
 use wire_races::{Finding, finding_list};
 use wire_report::write_findings;
+use wire_script::Size;
 use wire_types::{Fault, Sink, Source};
 
 /// How a check or a rehearsal ended: without findings, or with so many.
@@ -108,21 +109,47 @@ pub fn check<R: Source, W: Sink>(
     reader: &mut R,
     writer: &mut W,
 ) -> Result<Ended, Fault>
-    ensures ok { IfOk result (λ ended. WritesFindings (R.coming reader.old) ended (W.written writer.old) (W.written writer.new)) }
+    ensures ok { IfOk result (λ ended. WritesFindings Size.OfVersion (R.coming reader.old) ended (W.written writer.old) (W.written writer.new)) }
     ensures quiet { OnOk result ((R.failures reader.new ≡ R.failures reader.old) × (W.failures writer.new ≡ W.failures writer.old)) }
 
     // The headline: where it finds nothing, every interleaving that can't go on ends in one state, the plain run's.
-    ensures one_end { result ≡ Ok Clean → EndsInOneState (R.coming reader.old) }
+    ensures one_end { result ≡ Ok Clean → EndsInOneState Size.OfVersion (R.coming reader.old) }
 
     // Either nothing was written, or the front of the findings that the fault counts.
-    ensures err { IfErr result (λ e. (StopsBeforeFindings (R.coming reader.old) e × (writer.new ≡ writer.old))
-        ⊎ (BreaksOffFindings (R.coming reader.old) (W.written writer.old) (W.written writer.new) e
+    ensures err { IfErr result (λ e. (StopsBeforeFindings Size.OfVersion (R.coming reader.old) e × (writer.new ≡ writer.old))
+        ⊎ (BreaksOffFindings Size.OfVersion (R.coming reader.old) (W.written writer.old) (W.written writer.new) e
         × (W.failures writer.new ≡ one_more (W.failures writer.old)))) }
 
     // A failed read is answered only where the reader failed.
     ensures read_failed { result ≡ Err Read → R.failures reader.new ≡ one_more (R.failures reader.old) }
     ensures unfailed { IfErr result (λ e. e ≢ Memory → e ≢ Read → R.failures reader.new ≡ R.failures reader.old) }
 {
-    let scripts = read_scripts(alloc, reader)?;
+    check_sized(rt, alloc, Size::OfVersion, reader, writer)
+}
+
+/// Checks a file of scripts as `check` does, within the limits of this size.
+pub fn check_sized<R: Source, W: Sink>(
+    rt: &(impl Threads + Sync),
+    alloc: Global,
+    size: Size,
+    reader: &mut R,
+    writer: &mut W,
+) -> Result<Ended, Fault>
+    ensures ok { IfOk result (λ ended. WritesFindings size (R.coming reader.old) ended (W.written writer.old) (W.written writer.new)) }
+    ensures quiet { OnOk result ((R.failures reader.new ≡ R.failures reader.old) × (W.failures writer.new ≡ W.failures writer.old)) }
+
+    // The headline: where it finds nothing, every interleaving that can't go on ends in one state, the plain run's.
+    ensures one_end { result ≡ Ok Clean → EndsInOneState size (R.coming reader.old) }
+
+    // Either nothing was written, or the front of the findings that the fault counts.
+    ensures err { IfErr result (λ e. (StopsBeforeFindings size (R.coming reader.old) e × (writer.new ≡ writer.old))
+        ⊎ (BreaksOffFindings size (R.coming reader.old) (W.written writer.old) (W.written writer.new) e
+        × (W.failures writer.new ≡ one_more (W.failures writer.old)))) }
+
+    // A failed read is answered only where the reader failed.
+    ensures read_failed { result ≡ Err Read → R.failures reader.new ≡ one_more (R.failures reader.old) }
+    ensures unfailed { IfErr result (λ e. e ≢ Memory → e ≢ Read → R.failures reader.new ≡ R.failures reader.old) }
+{
+    let scripts = read_scripts(alloc, size, reader)?;
     check_scripts(rt, alloc, scripts, writer)
 }

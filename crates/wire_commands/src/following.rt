@@ -17,28 +17,28 @@ use crate::reading::read_up_to;
 use std::alloc::Global;
 use wire_content::Scripts;
 use wire_core::Core;
-use wire_order::{ORDER_BYTES, read_order};
+use wire_order::read_order_sized;
 use wire_plan::Plan;
 use wire_report::{report_text, write_text};
+use wire_script::Size;
 use wire_types::{Fault, Outcome, Proc, Sink, Source};
 
-/// One byte more than an order may have, so that a longer one is seen to be too long.
-const ORDER_BYTES_AND_ONE: usize = ORDER_BYTES + 1;
-
-/// The steps of an order that is read to its end.
+/// The steps of an order that is read to its end, or to one byte more than it may have, by which it is seen
+/// to be too long.
 fn read_steps<O: Source>(
     alloc: Global,
+    size: Size,
     scripts: &Scripts,
     order_reader: &mut O,
 ) -> Result<Vec<Proc>, Fault>
-    ensures ok { IfOk result (λ order. OrdersAs (O.coming order_reader.old) scripts.now (numbers_of order.items)) }
+    ensures ok { IfOk result (λ order. OrdersAs size (O.coming order_reader.old) scripts.now (numbers_of order.items)) }
     ensures quiet { OnOk result (O.failures order_reader.new ≡ O.failures order_reader.old) }
-    ensures err { IfErr result (λ e. (e ≡ Memory) ⊎ (e ≡ Read) ⊎ RefusesSteps (O.coming order_reader.old) scripts.now e) }
+    ensures err { IfErr result (λ e. (e ≡ Memory) ⊎ (e ≡ Read) ⊎ RefusesSteps size (O.coming order_reader.old) scripts.now e) }
     ensures read { result ≡ Err Read → O.failures order_reader.new ≡ one_more (O.failures order_reader.old) }
     ensures unfailed { IfErr result (λ e. e ≢ Memory → e ≢ Read → O.failures order_reader.new ≡ O.failures order_reader.old) }
 {
-    let bytes = read_up_to(alloc, order_reader, ORDER_BYTES_AND_ONE)?;
-    read_order(alloc, scripts, bytes.as_slice())
+    let bytes = read_up_to(alloc, order_reader, size.order_bytes() + 1)?;
+    read_order_sized(alloc, size, scripts, bytes.as_slice())
 }
 
 /// What became of every call after these steps.
@@ -88,23 +88,49 @@ pub fn follow<R: Source, O: Source, W: Sink>(
     order_reader: &mut O,
     writer: &mut W,
 ) -> Result<(), Fault>
-    ensures ok { OnOk result (WritesFollowed (R.coming reader.old) (O.coming order_reader.old) (W.written writer.old) (W.written writer.new)) }
+    ensures ok { OnOk result (WritesFollowed Size.OfVersion (R.coming reader.old) (O.coming order_reader.old) (W.written writer.old) (W.written writer.new)) }
     ensures quiet { OnOk result ((R.failures reader.new ≡ R.failures reader.old) × (O.failures order_reader.new ≡ O.failures order_reader.old)
         × (W.failures writer.new ≡ W.failures writer.old)) }
 
     // Either nothing was written, or the front of the report that the fault counts.
-    ensures err { IfErr result (λ e. (StopsBefore (R.coming reader.old) (O.coming order_reader.old) e × (writer.new ≡ writer.old))
-        ⊎ (BreaksOffFollowed (R.coming reader.old) (O.coming order_reader.old) (W.written writer.old) (W.written writer.new) e
+    ensures err { IfErr result (λ e. (StopsBefore Size.OfVersion (R.coming reader.old) (O.coming order_reader.old) e × (writer.new ≡ writer.old))
+        ⊎ (BreaksOffFollowed Size.OfVersion (R.coming reader.old) (O.coming order_reader.old) (W.written writer.old) (W.written writer.new) e
         × (W.failures writer.new ≡ one_more (W.failures writer.old)))) }
 
     // A failed read is answered only where a reader failed, that of the order only where the file reads.
     ensures read_failed { result ≡ Err Read → (R.failures reader.new ≡ one_more (R.failures reader.old))
-        ⊎ ((O.failures order_reader.new ≡ one_more (O.failures order_reader.old)) × (scripts : Scripts) × ReadAs (R.coming reader.old) scripts) }
+        ⊎ ((O.failures order_reader.new ≡ one_more (O.failures order_reader.old)) × (scripts : Scripts) × ReadAs Size.OfVersion (R.coming reader.old) scripts) }
     ensures unfailed { IfErr result (λ e. e ≢ Memory → e ≢ Read → (R.failures reader.new ≡ R.failures reader.old)
         × (O.failures order_reader.new ≡ O.failures order_reader.old)) }
 {
-    let scripts = read_scripts(alloc, reader)?;
-    let order = match read_steps(alloc, &scripts, order_reader) {
+    follow_sized(alloc, Size::OfVersion, reader, order_reader, writer)
+}
+
+/// Runs the steps of an order as `follow` does, within the limits of this size.
+pub fn follow_sized<R: Source, O: Source, W: Sink>(
+    alloc: Global,
+    size: Size,
+    reader: &mut R,
+    order_reader: &mut O,
+    writer: &mut W,
+) -> Result<(), Fault>
+    ensures ok { OnOk result (WritesFollowed size (R.coming reader.old) (O.coming order_reader.old) (W.written writer.old) (W.written writer.new)) }
+    ensures quiet { OnOk result ((R.failures reader.new ≡ R.failures reader.old) × (O.failures order_reader.new ≡ O.failures order_reader.old)
+        × (W.failures writer.new ≡ W.failures writer.old)) }
+
+    // Either nothing was written, or the front of the report that the fault counts.
+    ensures err { IfErr result (λ e. (StopsBefore size (R.coming reader.old) (O.coming order_reader.old) e × (writer.new ≡ writer.old))
+        ⊎ (BreaksOffFollowed size (R.coming reader.old) (O.coming order_reader.old) (W.written writer.old) (W.written writer.new) e
+        × (W.failures writer.new ≡ one_more (W.failures writer.old)))) }
+
+    // A failed read is answered only where a reader failed, that of the order only where the file reads.
+    ensures read_failed { result ≡ Err Read → (R.failures reader.new ≡ one_more (R.failures reader.old))
+        ⊎ ((O.failures order_reader.new ≡ one_more (O.failures order_reader.old)) × (scripts : Scripts) × ReadAs size (R.coming reader.old) scripts) }
+    ensures unfailed { IfErr result (λ e. e ≢ Memory → e ≢ Read → (R.failures reader.new ≡ R.failures reader.old)
+        × (O.failures order_reader.new ≡ O.failures order_reader.old)) }
+{
+    let scripts = read_scripts(alloc, size, reader)?;
+    let order = match read_steps(alloc, size, &scripts, order_reader) {
         Ok(order) => order,
         Err(fault) => {
             drop(scripts);

@@ -1,14 +1,16 @@
-//! The commands that start no workers, from bytes to bytes: what races in a plan, its plain run, a run that takes the steps of an order, and
-//! which of two calls comes first.
+//! The commands that start no workers, from bytes to bytes: what races in a plan, its plain run, a run that takes the steps of an order,
+//! which of two calls comes first, and the same plan under version 2 of the format.
 #![tactic(auto)]
 
 mod asking;
 mod checking;
 mod following;
+mod migrating;
 mod plain_run;
 mod reading;
 
-pub use asking::why;
-pub use checking::{Ended, check};
-pub use following::follow;
+pub use asking::{why, why_sized};
+pub use checking::{Ended, check, check_sized};
+pub use following::{follow, follow_sized};
+pub use migrating::{migrate, migrate_sized};
 pub use plain_run::{plain, read_scripts};

@@ -11,22 +11,20 @@ use wire_content::Scripts;
 use wire_core::plain_outcome;
 use wire_plan::Plan;
 use wire_report::{report_text, write_text};
-use wire_script::{FILE_BYTES, read};
+use wire_script::{Size, read_sized};
 use wire_types::{Fault, Sink, Source};
 
-/// One byte more than a file may have, so that a longer one is seen to be too long.
-const FILE_BYTES_AND_ONE: usize = FILE_BYTES + 1;
-
-/// The scripts of a file that is read to its end.
-pub fn read_scripts<R: Source>(alloc: Global, reader: &mut R) -> Result<Scripts, Fault>
-    ensures ok { IfOk result (λ scripts. ReadAs (R.coming reader.old) scripts) }
+/// The scripts of a file that is read to its end, or to one byte more than it may have, by which it is seen
+/// to be too long.
+pub fn read_scripts<R: Source>(alloc: Global, size: Size, reader: &mut R) -> Result<Scripts, Fault>
+    ensures ok { IfOk result (λ scripts. ReadAs size (R.coming reader.old) scripts) }
     ensures quiet { OnOk result (R.failures reader.new ≡ R.failures reader.old) }
-    ensures err { IfErr result (λ e. (e ≡ Memory) ⊎ (e ≡ Read) ⊎ Refuses (R.coming reader.old) e) }
+    ensures err { IfErr result (λ e. (e ≡ Memory) ⊎ (e ≡ Read) ⊎ Refuses size (R.coming reader.old) e) }
     ensures read { result ≡ Err Read → R.failures reader.new ≡ one_more (R.failures reader.old) }
     ensures unfailed { IfErr result (λ e. e ≢ Memory → e ≢ Read → R.failures reader.new ≡ R.failures reader.old) }
 {
-    let bytes = read_up_to(alloc, reader, FILE_BYTES_AND_ONE)?;
-    read(alloc, bytes.as_slice())
+    let bytes = read_up_to(alloc, reader, size.file_bytes() + 1)?;
+    read_sized(alloc, size, bytes.as_slice())
 }
 
 /// The report of the plain run of a plan.
@@ -56,18 +54,18 @@ fn plain_text(alloc: Global, scripts: Scripts) -> Result<Vec<u8>, Fault>
 /// nothing. `Memory` may come in place of any other answer. What is said of bytes is said where the
 /// reader and the writer tell theirs.
 pub fn plain<R: Source, W: Sink>(alloc: Global, reader: &mut R, writer: &mut W) -> Result<(), Fault>
-    ensures ok { OnOk result (WritesReport (R.coming reader.old) (W.written writer.old) (W.written writer.new)) }
+    ensures ok { OnOk result (WritesReport Size.OfVersion (R.coming reader.old) (W.written writer.old) (W.written writer.new)) }
     ensures quiet { OnOk result ((R.failures reader.new ≡ R.failures reader.old) × (W.failures writer.new ≡ W.failures writer.old)) }
 
     // The fault of a file is the first that it has.
-    ensures refused { IfErr result (λ e. e ≢ Memory → e ≢ Read → ((n : ℕ) → e ≢ Write n) → Refuses (R.coming reader.old) e) }
+    ensures refused { IfErr result (λ e. e ≢ Memory → e ≢ Read → ((n : ℕ) → e ≢ Write n) → Refuses Size.OfVersion (R.coming reader.old) e) }
     ensures read_failed { result ≡ Err Read → R.failures reader.new ≡ one_more (R.failures reader.old) }
     ensures unfailed { IfErr result (λ e. e ≢ Memory → e ≢ Read → R.failures reader.new ≡ R.failures reader.old) }
-    ensures front { (n : ℕ) → result ≡ Err (Write n) → BreaksOff (R.coming reader.old) (W.written writer.old) (W.written writer.new) n }
+    ensures front { (n : ℕ) → result ≡ Err (Write n) → BreaksOff Size.OfVersion (R.coming reader.old) (W.written writer.old) (W.written writer.new) n }
     ensures write_failed { (n : ℕ) → result ≡ Err (Write n) → W.failures writer.new ≡ one_more (W.failures writer.old) }
     ensures untouched { OnErr result (((n : ℕ) → result ≢ Err (Write n)) → writer.new ≡ writer.old) }
 {
-    let scripts = read_scripts(alloc, reader)?;
+    let scripts = read_scripts(alloc, Size::OfVersion, reader)?;
     let text = plain_text(alloc, scripts)?;
     write_text(writer, text.as_slice())
 }

@@ -1,5 +1,5 @@
 -- The canonical text of scripts.
-use Rattle.std.specs.Prelude.{ℕ, ◌+◌, ◌==◌, Bool, List, [], ◌∷◌, ◌++◌, map, filter, flat_map}
+use Rattle.std.specs.Prelude.{ℕ, ◌+◌, ◌==◌, Bool, true, false, List, [], ◌∷◌, ◌++◌, map, filter, flat_map}
 use Rattle.std.specs.Prelude.{slice_index_or, if◌then◌else◌}
 use Rattle.std.specs.List.{list_all, join_with_byte}
 use Rattle.std.specs.Str.{bytes_eq as same_members}
@@ -85,9 +85,18 @@ abbrev pub jobs_said : Scripts → ℕ → List (List ℕ) → List said.Said
 jobs_said s n [] = []
 jobs_said s n (job ∷ jobs) = job_said s n job ++ jobs_said s (n + 1) jobs
 
--- all lines: the header, the nodes, the jobs
+-- the lines of the nodes and the jobs
+abbrev pub body_said : Scripts → List said.Said
+body_said s = map (λ n. said.Node n) s.nodes ++ jobs_said s 0 s.jobs
+
+-- the line of scripts that keep what gets bring
+abbrev pub keep_said : Bool → List said.Said
+keep_said true = said.Keep ∷ []
+keep_said false = []
+
+-- the header, whether they keep, the nodes, the jobs
 abbrev pub lines_said : Scripts → List said.Said
-lines_said s = said.Header ∷ (map (λ n. said.Node n) s.nodes ++ jobs_said s 0 s.jobs)
+lines_said s = said.Header s.version ∷ (keep_said s.keeps ++ body_said s)
 
 -- words with a space between each two, and a line feed
 abbrev pub words_text : List (List ℕ) → List ℕ

@@ -33,5 +33,6 @@ planned_call s (Unpublish name) = unless_reserved (text_at s.names name) (bare B
 abbrev pub planned_process : Scripts → Process → plan.Process
 planned_process s p = record { node = p.node; calls = map (planned_call s) p.calls }
 
+-- none of their calls takes away all names
 abbrev pub plan_of : Scripts → Plan
-plan_of s = record { processes = map (planned_process s) s.processes }
+plan_of s = record { processes = map (planned_process s) s.processes; keep = s.keeps }

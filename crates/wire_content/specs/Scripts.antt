@@ -1,16 +1,20 @@
 -- What a file of scripts says. Nodes and jobs are numbered as declared, keys, names, values and sets of processes as first
 -- seen, and processes as they stand.
-use Rattle.std.specs.Prelude.{◌≡◌, ℕ, ◌<◌, ◌≤◌, ◌^◌, Bool, true, List, [], length, map, sum_by, nat_lt, Option, Some, None, slice_get, slice_index_or}
+use Rattle.std.specs.Prelude.{◌≡◌, ℕ, ◌<◌, ◌≤◌, ◌^◌, Bool, true, false, List, [], length, map, sum_by, nat_lt, Option, Some, None, slice_get, slice_index_or}
 use Rattle.std.specs.List.{list_all}
 use Rattle.wire_runs.specs.Plan.{set_of}
 use Rattle.wire_runs.specs.Fences.{is_member}
 use Rattle.wire_types.specs.declared.Call.{Call}
 use Rattle.wire_types.specs.declared.Call.TheVariants.{Fence, Get, GetNow, Publish, Lookup, LookupWait, Unpublish}
 use Rattle.wire_types.specs.declared.Proc.{Proc}
+use Rattle.wire_lines.specs.declared.Version.{Version}
+use Rattle.wire_lines.specs.declared.Version.TheVariants.{One, Two}
 use Rattle.wire_content.specs.Map.{job_at, rank_of}
 pub use Rattle.wire_content.specs.Process.{Process}
 
+-- keeps: whether what a get brings to a node stays there
 pub record Scripts : Type 0 where
+  pub version : Version
   pub nodes : List (List ℕ)
   pub jobs : List (List ℕ)
   pub keys : List (List ℕ)
@@ -18,6 +22,15 @@ pub record Scripts : Type 0 where
   pub values : List (List ℕ)
   pub sets : List (List ℕ)
   pub processes : List Process
+  pub keeps : Bool
+
+-- scripts of no process
+abbrev pub no_scripts : Scripts
+no_scripts = record { version = One; nodes = []; jobs = []; keys = []; names = []; values = []; sets = []; processes = []; keeps = false }
+
+-- the same under version 2 of the format
+abbrev pub under_version_2 : Scripts → Scripts
+under_version_2 s = record s { version = Two }
 
 -- the numbers of processes
 abbrev pub numbers_of : List Proc → List ℕ

@@ -2,16 +2,16 @@
 
 ghost use Rattle.std.specs.Prelude.{◌≡◌, ◌++◌, ◌∷◌, [], map, flat_map, codes, OnOk, IfOk, IfErr};
 ghost use Rattle.wire_lines.specs.Said as said;
-ghost use Rattle.wire_lines.specs.Said.{spelled_scope};
+ghost use Rattle.wire_lines.specs.Said.{spelled_scope, spelled_version};
 ghost use Rattle.wire_content.specs.Scripts.{text_at, set_at};
 ghost use Rattle.wire_content.specs.Canonical.{process_at, process_text, words_text, line_text, set_said};
-ghost use Rattle.wire_content.specs.Canonical.{call_said, process_said, job_said, jobs_said};
+ghost use Rattle.wire_content.specs.Canonical.{call_said, process_said, job_said, jobs_said, keep_said};
 
 use crate::process::Process;
 use crate::scripts::Scripts;
 use crate::set_word::{job_and_rank, set_word};
 use std::alloc::{AllocError, Global};
-use wire_lines::proc_word;
+use wire_lines::{Version, proc_word};
 use wire_types::{Call, Fault, Proc, Scope};
 
 /// Writes a line: its words with a space between each two, and a line feed.
@@ -35,6 +35,15 @@ fn scope_word(scope: Scope) -> &'static [u8]
         Scope::Local => b"local".as_slice(),
         Scope::Remote => b"remote".as_slice(),
         Scope::Global => b"global".as_slice(),
+    }
+}
+
+fn version_word(version: Version) -> &'static [u8]
+    ensures { result.now ≡ spelled_version version }
+{
+    match version {
+        Version::One => b"1".as_slice(),
+        Version::Two => b"2".as_slice(),
     }
 }
 
@@ -213,19 +222,35 @@ fn write_jobs(alloc: Global, out: &mut Vec<u8>, scripts: &Scripts) -> Result<(),
     Ok(())
 }
 
+/// Writes the line of scripts that keep what gets bring.
+fn write_keep(out: &mut Vec<u8>, scripts: &Scripts) -> Result<(), AllocError>
+    ensures { OnOk result (out.new.items ≡ out.old.items ++ flat_map line_text (keep_said scripts.now.keeps)) }
+{
+    if scripts.keeps() {
+        write_line(out, b"keep".as_slice(), &[])
+    } else {
+        Ok(())
+    }
+}
+
 impl Scripts {
     ghost use Rattle.wire_content.specs.Canonical.{canonical};
 
-    /// The canonical text: the header, the nodes, then the jobs with their processes and calls, one
-    /// space between words and a line feed after every line. The set of a fence is `all` where it is
-    /// just the caller's job, else the jobs that it has whole and its other processes, in process order.
-    /// The only fault is `Memory`.
+    /// The canonical text: the header, `keep` where they keep what gets bring, the nodes, then the jobs with
+    /// their processes and calls, one space between words and a line feed after every line. The set of a
+    /// fence is `all` where it is just the caller's job, else the jobs that it has whole and its other
+    /// processes, in process order. The only fault is `Memory`.
     pub fn to_text(&self, alloc: Global) -> Result<Vec<u8>, Fault>
         ensures ok { IfOk result (λ text. text.items ≡ canonical self.now) }
         ensures err { IfErr result (λ e. e ≡ Fault.Memory) }
     {
         let mut out = Vec::new(alloc);
-        write_line(&mut out, b"rehearsal".as_slice(), &[b"1".as_slice()])?;
+        write_line(
+            &mut out,
+            b"rehearsal".as_slice(),
+            &[version_word(self.version())],
+        )?;
+        write_keep(&mut out, self)?;
         write_nodes(&mut out, self)?;
         write_jobs(alloc, &mut out, self)?;
         Ok(out)

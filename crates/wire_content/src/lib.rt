@@ -9,6 +9,7 @@ mod sets;
 mod texts;
 
 pub use process::Process;
-pub use scripts::{Scripts, Tables};
+pub use scripts::{Format, Scripts, Tables};
 pub use sets::Sets;
 pub use texts::Texts;
+pub use wire_lines::Version;

@@ -1,13 +1,15 @@
 //! The scripts of all processes.
 
 ghost use Rattle.std.specs.Prelude.{◌≡◌};
-ghost use Rattle.wire_content.specs.Scripts.{IsSound};
+ghost use Rattle.wire_content.specs.Scripts.{IsSound, under_version_2};
+ghost use Rattle.wire_content.specs.Planned.{plan_of};
 ghost use Rattle.wire_content.specs.Tabled.{scripts_from_parts};
 
 use crate::process::Process;
 use crate::sets::Sets;
 use crate::texts::Texts;
 use std::marker::Model;
+use wire_lines::Version;
 
 /// What calls name, numbered as first seen: keys of puts and gets, published names, values of puts and
 /// publishes, and the sets of processes of fences.
@@ -19,10 +21,19 @@ pub struct Tables {
     pub sets: Sets,
 }
 
-/// What a file of scripts says: its nodes and jobs as declared, what its calls name, and its processes
-/// in process order, which is the file's job order, then rank.
+/// What the first lines of a file say of all its scripts: the version of its format, and whether what a get
+/// brings to a node stays there.
+#[derive(Clone, Copy, Debug, PartialEq, Eq)]
+pub struct Format {
+    pub version: Version,
+    pub keeps: bool,
+}
+
+/// What a file of scripts says: its format, its nodes and jobs as declared, what its calls
+/// name, and its processes in process order, which is the file's job order, then rank.
 #[derive(Drop)]
 pub struct Scripts {
+    format: Format,
     nodes: Texts,
     jobs: Texts,
     tables: Tables,
@@ -35,22 +46,61 @@ impl Model for Scripts {
 
     ghost Value = { spec.Scripts };
 
-    ghost view = { λ s. scripts_from_parts s.nodes s.jobs s.tables s.processes.items };
+    ghost view = { λ s. scripts_from_parts s.format s.nodes s.jobs s.tables s.processes.items };
 
-    ghost invariant = { λ s. spec.IsSound (scripts_from_parts s.nodes s.jobs s.tables s.processes.items) };
+    ghost invariant = { λ s. spec.IsSound (scripts_from_parts s.format s.nodes s.jobs s.tables s.processes.items) };
 }
 
 impl Scripts {
-    pub fn new(nodes: Texts, jobs: Texts, tables: Tables, processes: Vec<Process>) -> Scripts
-        requires { IsSound (scripts_from_parts nodes jobs tables processes.items) }
-        ensures { result ≡ scripts_from_parts nodes jobs tables processes.items }
+    /// Scripts of these parts.
+    pub fn new(
+        format: Format,
+        nodes: Texts,
+        jobs: Texts,
+        tables: Tables,
+        processes: Vec<Process>,
+    ) -> Scripts
+        requires { IsSound (scripts_from_parts format nodes jobs tables processes.items) }
+        ensures { result ≡ scripts_from_parts format nodes jobs tables processes.items }
     {
         Scripts {
+            format,
             nodes,
             jobs,
             tables,
             processes,
         }
+    }
+
+    /// The same nodes, jobs and calls under version 2 of the format: they are the same plan. Takes no memory.
+    pub fn into_version_2(self) -> Scripts
+        ensures scripts { result ≡ under_version_2 self }
+        ensures plan { plan_of result ≡ plan_of self }
+    {
+        let Scripts {
+            format: was,
+            nodes,
+            jobs,
+            tables,
+            processes,
+        } = self;
+        Scripts {
+            format: Format {
+                version: Version::Two,
+                keeps: was.keeps,
+            },
+            nodes,
+            jobs,
+            tables,
+            processes,
+        }
+    }
+
+    /// The version of the format.
+    pub fn version(&self) -> Version
+        ensures { result ≡ self.now.version }
+    {
+        self.format.version
     }
 
     /// The names of the nodes, by number.
@@ -104,6 +154,14 @@ impl Scripts {
     {
         self.processes.as_slice()
     }
+
+    /// Whether what a get brings to a node stays there, for gets of the node's processes that are answered
+    /// at once.
+    pub fn keeps(&self) -> bool
+        ensures { result ≡ self.now.keeps }
+    {
+        self.format.keeps
+    }
 }
 
 impl Scripts {
@@ -113,13 +171,15 @@ impl Scripts {
     fn has_same_parts(&self, other: &Scripts) -> bool
         ensures { result ≡ same_scripts self.now other.now }
     {
-        self.nodes == other.nodes
+        self.format.version == other.format.version
+            && self.nodes == other.nodes
             && self.jobs == other.jobs
             && self.tables.keys == other.tables.keys
             && self.tables.names == other.tables.names
             && self.tables.values == other.tables.values
             && self.tables.sets == other.tables.sets
             && self.processes.as_slice() == other.processes.as_slice()
+            && self.format.keeps == other.format.keeps
     }
 }
 

@@ -3,5 +3,8 @@ pub mod Bring
 pub mod Shared
 pub mod Waiting
 pub mod Ranks
+pub mod LastPuts
+pub mod Gains
 pub mod Steps
 pub mod Following
+pub mod Limits

@@ -1,10 +1,10 @@
 -- What a core reads of its ranks is what the state says.
-use Rattle.std.proofs.Common.{◌≡◌, ◌∙◌, ap, sym, refl, ℕ, ◌≤◌, List, length, Bool, true, false, cond, Option, Some, None, arith}
+use Rattle.std.proofs.Common.{◌≡◌, ◌≢◌, ◌∙◌, ap, sym, refl, ℕ, zero, suc, ◌≤◌, List, [], ◌∷◌, length, Bool, true, false, cond, Option, Some, None, arith, inl, inr, eq-eqb}
 use Rattle.std.specs.Prelude.{option_map, slice_get, is_some, not, IsTrue, ◌↔◌, ◌==◌}
-use Rattle.std.proofs.lemmas.Bool.{true≢false, false_from_ne_true}
+use Rattle.std.proofs.lemmas.Bool.{cond-true, cond-false, cases_Bool, true≢false, false_from_ne_true}
 use Rattle.std.proofs.lemmas.Option.{slice_get_past}
 use Rattle.wire_runs.specs.Plan.{Plan, admits, kinds, process_kinds, event_count, process_count, kind_at, node_of, same_node}
-use Rattle.wire_runs.specs.Puts.{own, stored, scope_of}
+use Rattle.wire_runs.specs.Puts.{own, stored, stored_with, scope_of}
 use Rattle.wire_types.specs.declared.CallAt.{CallAt}
 use Rattle.wire_store.specs.declared.Seen.{Seen}
 use Rattle.wire_store.specs.declared.Seen.TheVariants as seen
@@ -12,7 +12,7 @@ use Rattle.wire_store.specs.Kept.{last_put, last_stored, last_stored_before, see
 use Rattle.wire_store.specs.Told.{seen_put}
 use Rattle.wire_store.proofs.Told.{store_tells}
 use Rattle.wire_runs.specs.State.{State, start}
-use Rattle.wire_runs.specs.Sight.{Outside, Shown, held, served, for_others, delivered, brought, get_now_sees}
+use Rattle.wire_runs.specs.Sight.{Sight, Nothing, Outside, Shown, held, served, for_others, delivered, greater, kept, get_now_sees}
 use Rattle.wire_runs.specs.Step.{IsInterleaving, run}
 use Rattle.wire_runs.specs.Step.{IsEnd}
 use Rattle.wire_runs.specs.PlainRun.{lowest}
@@ -20,7 +20,10 @@ use Rattle.wire_runs.proofs.Due.{reachable_sound}
 use Rattle.wire_runs.proofs.PlainRun.{enabled_within, lowest_enabled, none_enabled}
 use Rattle.wire_types.specs.declared.Proc.{Proc}
 use Rattle.wire_core.specs.Ranks.{calls_at, IsRankOf}
-use Rattle.wire_core.specs.Seeing.{seen_as, brought_of}
+use Rattle.wire_core.specs.Seeing.{seen_as, brought_of, is_something, reply_to}
+use Rattle.wire_runs.specs.Ends.{given}
+use Rattle.wire_runs.specs.Step.{sight_reply}
+use Rattle.wire_core.specs.Met.{stored_at}
 use Rattle.wire_core.specs.declared.rank.Rank.{Rank}
 
 -- who isn't of the plan has done nothing
@@ -31,21 +34,47 @@ done_past plan w p legal past =
     let none : length (process_kinds (slice_get plan.processes p)) ≡ 0 = ap (λ o. length (process_kinds o)) (slice_get_past plan.processes p past) in
     omega (arith, within, none)
 
--- and shows nothing
-pub now_past : (plan : Plan) (w : List ℕ) (q i p key : ℕ) → IsInterleaving plan start w → process_count plan ≤ p → (q == p) ≡ false →
-    seen.Nothing ≡ seen_as plan p (get_now_sees plan (run plan w) q i p key)
-unfolding event_count kinds
-now_past plan w q i p key legal past other =
-    go (same_node plan p q)
-    ∙ ap (λ b. seen_as plan p (cond b (held (own plan p key i)) (cond (same_node plan p q) (served plan p true (stored plan p key ((run plan w).done p)))
-    (held (brought plan (run plan w) p key (node_of plan q)))))) (sym other)
-  where
-    none : length (process_kinds (slice_get plan.processes p)) ≡ 0
-    none = ap (λ o. length (process_kinds o)) (slice_get_past plan.processes p past)
+-- the reply to what is seen
+pub seen_given : (plan : Plan) (owner : ℕ) (sight : Sight) → given plan (sight_reply owner sight) ≡ reply_to (seen_as plan owner sight) ∷ []
+seen_given plan owner Nothing = refl
+seen_given plan owner Outside = refl
+seen_given plan owner (Shown put) = refl
 
-    go : (b : Bool) → seen.Nothing ≡ seen_as plan p (cond b (served plan p true (stored plan p key ((run plan w).done p))) (held (brought plan (run plan w) p key (node_of plan q))))
-    go true = ap (λ n. seen_as plan p (served plan p true (stored plan p key n))) (sym (done_past plan w p legal past))
-    go false = ap (λ n. seen_as plan p (held (for_others plan p (delivered plan (run plan w).done p (node_of plan q) key n)))) (sym none)
+-- something is shown where something was held
+pub held_something : (plan : Plan) (p : ℕ) (o : Option ℕ) → is_something (seen_as plan p (held o)) ≡ is_some o
+held_something plan p None = refl
+held_something plan p (Some put) = refl
+
+-- past its last event a process has none
+pub event_past : (plan : Plan) (p n : ℕ) → event_count plan p ≤ n → kind_at plan p n ≡ None
+unfolding kind_at event_count
+event_past plan p n past = slice_get_past (kinds plan p) n past
+
+-- has stored nothing
+stored_past : (plan : Plan) (p key n : ℕ) → process_count plan ≤ p → stored plan p key n ≡ None
+unfolding event_count kinds
+stored_past plan p key zero past = refl
+stored_past plan p key (suc n) past =
+    let none : event_count plan p ≡ 0 = ap (λ o. length (process_kinds o)) (slice_get_past plan.processes p past) in
+    ap (stored_with (own plan p key n) (stored plan p key n)) (event_past plan p n (omega (arith, none))) ∙ stored_past plan p key n past
+
+stored_at_past : (plan : Plan) (p key : ℕ) (o : Option ℕ) → process_count plan ≤ p → stored_at plan p key o ≡ None
+stored_at_past plan p key None past = refl
+stored_at_past plan p key (Some n) past = stored_past plan p key n past
+
+-- and shows nothing
+pub now_past : (plan : Plan) (w : List ℕ) (q i p key : ℕ) (count : ℕ → Option ℕ) → ((node : ℕ) → node_of plan p ≢ node → stored_at plan p key (count node) ≡ kept plan (run plan w) p key node) →
+    IsInterleaving plan start w → process_count plan ≤ p → (q == p) ≡ false → seen.Nothing ≡ seen_as plan p (get_now_sees plan (run plan w) q i p key)
+unfolding event_count kinds
+now_past plan w q i p key count told legal past other = elim (cases_Bool (same_node plan p q)) [
+  | inl t ↦ sym (ap (seen_as plan p) (cond-false _ _ _ other ∙ cond-true _ _ _ t) ∙ ap (λ o. seen_as plan p (served plan p true o)) (stored_past plan p key ((run plan w).done p) past))
+  | inr f ↦ sym (ap (seen_as plan p) (cond-false _ _ _ other ∙ cond-false _ _ _ f) ∙ ap (λ o. seen_as plan p (held o)) (ap (λ o. greater o (kept plan (run plan w) p key (node_of plan q)))
+      (ap (λ n. for_others plan p (delivered plan (run plan w).done p (node_of plan q) key n)) none)
+      ∙ ap (greater None) (sym (told (node_of plan q) (λ e. true≢false (sym (eq-eqb _ _ e) ∙ f))) ∙ stored_at_past plan p key (count (node_of plan q)) past)))
+]
+  where
+    none : event_count plan p ≡ 0
+    none = ap (λ o. length (process_kinds o)) (slice_get_past plan.processes p past)
 
 -- what a look-up of one's own put says
 abbrev pub own_found : Option CallAt → Seen
@@ -90,11 +119,6 @@ before_shown plan s p key at rank told le =
     go : (o : Option ℕ) → brought_of (seen_put (kind_at plan p) (calls_at plan p) false o) ≡ seen_as plan p (held (for_others plan p o))
     go None = refl
     go (Some put) = either (admits (scope_of plan p put) false) put
-
--- past its last event a process has none
-pub event_past : (plan : Plan) (p n : ℕ) → event_count plan p ≤ n → kind_at plan p n ≡ None
-unfolding kind_at event_count
-event_past plan p n past = slice_get_past (kinds plan p) n past
 
 -- where there is no lowest process that is enabled, nobody is
 pub nobody : (plan : Plan) (s : State) → lowest plan s (process_count plan) ≡ None → IsEnd plan s

@@ -1,7 +1,7 @@
 -- What is kept of all processes together follows each step.
 use Rattle.std.proofs.Common.{◌≡◌, ◌∙◌, ap, sym, refl, ℕ, zero, suc, ◌<◌, List, length, Bool, true, false, cond, Option, Some, None, inl, inr, arith}
 use Rattle.std.specs.Prelude.{option_map, is_some, ◌==◌, replicate, IfSome}
-use Rattle.wire_runs.specs.Plan.{Plan, Kind, Put, Commit, Arrive, Leave, Get, GetNow, Publish, Lookup, LookupWait, Unpublish, Fixed, Event, kind_at}
+use Rattle.wire_runs.specs.Plan.{Plan, Kind, Put, Commit, Arrive, Leave, Get, GetNow, Publish, Lookup, LookupWait, Unpublish, UnpublishAll, Fixed, Event, kind_at}
 use Rattle.wire_types.specs.declared.CallAt.{CallAt}
 use Rattle.wire_content.specs.Scripts.{Scripts, IsSound}
 use Rattle.wire_content.specs.Planned.{plan_of}
@@ -90,6 +90,7 @@ module _ (plan : Plan) (x : Event) where
   standing (Lookup other) name o = refl
   standing (LookupWait other) name o = refl
   standing (Unpublish other) name o = removed_by (other == name) o
+  standing UnpublishAll name o = removed_by true o
   standing (Fixed reply) name o = refl
 
 -- the table has the name of an event that changes one
@@ -122,6 +123,7 @@ has_name s p at e names sound count is = let b = event_behind s p at e is in go 
     go (GetNow owner key) is b q = tt
     go (Lookup name) is b q = tt
     go (LookupWait name) is b q = tt
+    go UnpublishAll is b q = tt
     go (Fixed reply) is b q = tt
 
 -- one step

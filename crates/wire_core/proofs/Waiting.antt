@@ -5,7 +5,7 @@ use Rattle.std.proofs.lemmas.Bool.{true≢false, cases_eq, cases_lt, cases_Bool,
 use Rattle.std.proofs.lemmas.Option.{same_Some}
 use Rattle.std.proofs.lemmas.List.{length-map, length-set, length-replicate, get_or-set_same, get_or-set_other, get_or_past}
 use Rattle.wire_types.specs.declared.Proc.{Proc}
-use Rattle.wire_runs.specs.Plan.{Plan, Kind, Put, Commit, Arrive, Leave, Get, GetNow, Publish, Lookup, LookupWait, Unpublish, Fixed, Event, kind, kind_at, process_count, same_node}
+use Rattle.wire_runs.specs.Plan.{Plan, Kind, Put, Commit, Arrive, Leave, Get, GetNow, Publish, Lookup, LookupWait, Unpublish, UnpublishAll, Fixed, Event, kind, kind_at, process_count, same_node}
 use Rattle.wire_runs.specs.Puts.{own, stored}
 use Rattle.wire_runs.specs.Fences.{arrivals, is_complete}
 use Rattle.wire_runs.specs.State.{State, next_event}
@@ -38,6 +38,7 @@ stored_still plan p key n (Some (Publish name)) is other = rw is refl
 stored_still plan p key n (Some (Lookup name)) is other = rw is refl
 stored_still plan p key n (Some (LookupWait name)) is other = rw is refl
 stored_still plan p key n (Some (Unpublish name)) is other = rw is refl
+stored_still plan p key n (Some UnpublishAll) is other = rw is refl
 stored_still plan p key n (Some (Fixed reply)) is other = rw is refl
 stored_still plan p key n None is other = rw is refl
 
@@ -47,6 +48,7 @@ unnamed_still before x name (Some (Publish n)) other none =
     cond_both (n == name) _ before (λ b. is_some b ≡ false) (λ same. absurd (other (ap (λ m. Some (Publish m)) (eqb-true n name same)))) (λ _. none)
 unnamed_still before x name (Some (Unpublish n)) other none =
     cond_both (n == name) _ before (λ b. is_some b ≡ false) (λ _. cond_both (is_publisher x.proc before) None before (λ b. is_some b ≡ false) (λ _. refl) (λ _. none)) (λ _. none)
+unnamed_still before x name (Some UnpublishAll) other none = cond_both (is_publisher x.proc before) None before (λ b. is_some b ≡ false) (λ _. refl) (λ _. none)
 unnamed_still before x name _ other none = none
 
 -- what doesn't come with an event

@@ -3,8 +3,10 @@ pub mod Course
 pub mod Seeing
 pub mod Met
 pub mod Looks
+pub mod Keeping
 pub mod Waiting
 pub mod Ranks
 pub mod Following
 pub mod Core
 pub mod EndsAfter
+pub mod Within

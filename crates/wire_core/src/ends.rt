@@ -1,6 +1,6 @@
 //! What became of the calls of a process.
 
-ghost use Rattle.std.specs.Prelude.{◌≡◌, ◌++◌, map, replicate, OnOk, IfOk};
+ghost use Rattle.std.specs.Prelude.{◌≡◌, ◌<◌, ◌-◌, ◌++◌, ℕ, Some, length, map, replicate, slice_get, OnOk, IfOk};
 ghost use Rattle.wire_types.specs.declared.CallEnd.TheVariants.{Replied, Unreached};
 ghost use Rattle.wire_runs.specs.Ends.{standing, unanswered};
 
@@ -53,4 +53,16 @@ pub fn add_unanswered(ends: &mut Vec<CallEnd>, ready: bool, count: usize) -> Res
     ends.push(standing_end(ready))?;
     add_unreached(ends, count - 1)?;
     Ok(())
+}
+
+/// What became of the call of this number, from 0, of a process of which the first calls have these replies.
+pub(crate) fn end_at(replies: &[Reply], ready: bool, number: usize) -> CallEnd
+    ensures { (calls : ℕ) → number < calls →
+        slice_get (map Replied replies.now ++ unanswered ready (calls - length replies.now)) number ≡ Some result }
+{
+    match replies.get(number) {
+        Some(reply) => CallEnd::Replied(*reply),
+        None if number == replies.len() => standing_end(ready),
+        None => CallEnd::Unreached,
+    }
 }

@@ -2,6 +2,7 @@
 #![tactic(auto)]
 
 mod ends;
+mod keeping;
 mod looks;
 mod lowest;
 mod met;
@@ -13,6 +14,7 @@ mod replies;
 mod running;
 mod sight;
 mod waits;
+mod within;
 
 pub use ends::add_unanswered;
 pub use plain::plain_outcome;

@@ -13,7 +13,7 @@ use wire_types::Proc;
 
 impl<'a> Core<'a> {
     /// Notes what a process that isn't ready waits for.
-    fn note(&mut self, proc: Proc)
+    pub(crate) fn note(&mut self, proc: Proc)
         requires within { proc.number < process_count (plan_of self.old.scripts) }
         requires waits { is_enabled (plan_of self.old.scripts) (state_of self.old) proc.number ≡ false }
         ensures { self.new ≡ self.old }

@@ -11,13 +11,14 @@ ghost use Rattle.wire_runs.specs.Step.{is_enabled, run, IsInterleaving, IsEnd, r
 ghost use Rattle.wire_runs.specs.PlainRun.{lowest, plain_from, plain_run};
 ghost use Rattle.wire_runs.specs.Races.{IsSettled};
 ghost use Rattle.wire_runs.specs.Plan.{event_total};
-ghost use Rattle.wire_runs.specs.Ends.{given, is_waiting, outcome, row};
+ghost use Rattle.wire_runs.specs.Ends.{calls_of, given, is_waiting, outcome, row};
 ghost use Rattle.wire_core.specs.Course.{plan_in, state_of};
 ghost use Rattle.wire_core.specs.Seeing.{replies_in};
 ghost use Rattle.wire_core.specs.Ranks.{AreRanksOf};
 ghost use Rattle.wire_core.specs.Following.{Follows, StopsAt};
 
-use crate::ends::{add_unanswered, replied};
+use crate::ends::{add_unanswered, end_at, replied};
+use crate::keeping::Keeping;
 use crate::looks::Looks;
 use crate::met::{arrived_at, is_complete, note_arrival};
 use crate::names::note_name;
@@ -31,7 +32,7 @@ use std::marker::Model;
 use wire_fence::{Arrivals, Fences};
 use wire_names::Names;
 use wire_plan::{Kind, Plan};
-use wire_types::{CallEnd, Event, Fault, Outcome, Proc, Reply, Status};
+use wire_types::{CallAt, CallEnd, Event, Fault, Outcome, Proc, Reply, Status};
 
 /// A run of a plan: the history of its steps, each of one event of a process that was ready when it came.
 #[derive(Drop)]
@@ -43,6 +44,7 @@ pub struct Core<'a> {
     pub(crate) names: Names,
     pub(crate) waits: Waits,
     pub(crate) looks: Looks,
+    pub(crate) keeping: Keeping,
     history: Vec<Proc>,
 }
 
@@ -56,7 +58,7 @@ impl<'a> Model for Core<'a> {
     ghost view = { λ c. record { scripts = c.plan.now; history = map (λ p. p.number) c.history.items } };
 
     ghost invariant = { λ c. IsCore c.plan.now c.fences.now (map (λ p. p.number) c.history.items) (vec_capacity c.history) c.ranks.items
-        c.arrivals c.names c.waits c.looks };
+        c.arrivals c.names c.waits c.looks c.keeping };
 }
 
 /// The ranks of processes that haven't begun.
@@ -73,7 +75,7 @@ fn new_ranks(alloc: Global, plan: &Plan) -> Result<Vec<Rank>, Fault>
 }
 
 impl<'a> Core<'a> {
-    /// The run of a plan that hasn't begun, with memory for the whole history. The one fault is
+    /// The run of a plan that hasn't begun, with memory for the whole history, and for all that gets bring. The one fault is
     /// `Fault::Memory`.
     pub fn new(alloc: Global, plan: &'a Plan) -> Result<Core<'a>, Fault>
         ensures ok { IfOk result (λ core. core ≡ record { scripts = plan.now; history = [] }) }
@@ -85,6 +87,7 @@ impl<'a> Core<'a> {
         let names = Names::new(alloc, plan.scripts().names().len())?;
         let waits = Waits::new(alloc, plan.process_count())?;
         let looks = Looks::new(alloc, plan.process_count(), plan.scripts().nodes().len())?;
+        let keeping = Keeping::new(alloc, plan)?;
         let history = Vec::with_capacity(alloc, plan.event_total())?;
         Ok(Core {
             plan,
@@ -94,6 +97,7 @@ impl<'a> Core<'a> {
             names,
             waits,
             looks,
+            keeping,
             history,
         })
     }
@@ -207,6 +211,7 @@ impl<'a> Core<'a> {
         };
         let event = self.next_event(proc);
         let reply = self.reply(proc, kind);
+        let gain = self.gain_of(proc, kind);
         let fence = arrived_at(self.plan, self.fences, event, kind);
         let call = self.plan.call_of(event);
         note_arrival(&mut self.arrivals, fence, proc);
@@ -214,6 +219,7 @@ impl<'a> Core<'a> {
         self.waits
             .wake(what_comes(&self.arrivals, fence, kind, proc));
         self.waits.note(proc, Awaited::Unknown);
+        self.keeping.note(gain);
         let rank = &mut self.ranks[proc.index()];
         rank.advance(kind, call, reply);
         self.history.push_reserved(proc);
@@ -304,6 +310,15 @@ impl<'a> Core<'a> {
             calls.saturating_sub(replies.len()),
         )?;
         Ok(ends)
+    }
+
+    /// What became of a call of the plan. It takes no memory.
+    pub fn end_of(&self, call: CallAt) -> CallEnd
+        requires { call.call < length (calls_of (plan_of self.now.scripts) call.proc.number) }
+        ensures { slice_get (row (plan_of self.now.scripts) (state_of self.now) call.proc.number) call.call ≡ Some result }
+    {
+        let replies = self.ranks[call.proc.index()].replies.as_slice();
+        end_at(replies, self.ready(call.proc), call.call as usize)
     }
 
     /// What became of every call, and how many processes wait.

@@ -1,17 +1,30 @@
 //! What gets see.
 
-ghost use Rattle.std.specs.Prelude.{◌≡◌, ◌<◌};
-ghost use Rattle.wire_runs.specs.Plan.{process_count, same_node};
+ghost use Rattle.std.specs.Prelude.{◌≡◌, ◌≢◌, ◌<◌, ◌≤◌, IfSome};
+ghost use Rattle.wire_runs.specs.Plan.{process_count, node_of, same_node};
 ghost use Rattle.wire_runs.specs.Puts.{own, stored};
 ghost use Rattle.wire_content.specs.Planned.{plan_of};
-ghost use Rattle.wire_runs.specs.Sight.{held, served, get_sees, get_now_sees, brought};
+ghost use Rattle.wire_runs.specs.Sight.{held, served, get_sees, for_others, get_now_sees, brought};
 ghost use Rattle.wire_core.specs.Course.{plan_in, state_of};
 ghost use Rattle.wire_core.specs.Seeing.{seen_as};
+ghost use Rattle.wire_core.specs.Met.{stored_at};
+ghost use Rattle.wire_core.specs.Keeping.{is_later as stands_later};
 
-use crate::replies::brought_of;
+use crate::replies::{brought_of, is_shown};
 use crate::running::Core;
 use wire_store::Seen;
 use wire_types::Proc;
+
+/// Whether an arrival, where there is one, stands after so many events.
+fn is_later(arrival: Option<u32>, count: Option<u32>) -> bool
+    ensures { result ≡ stands_later arrival count }
+{
+    match (arrival, count) {
+        (Some(at), Some(count)) => count < at,
+        (Some(_), None) => true,
+        (None, _) => false,
+    }
+}
 
 impl<'a> Core<'a> {
     /// What a process sees of its own key.
@@ -74,15 +87,33 @@ impl<'a> Core<'a> {
         self.brought_seen(owner, key, self.plan.node_of(reader))
     }
 
-    /// What fences have brought of a process's key to a node.
-    fn brought_seen(&self, owner: Proc, key: u32, node: u32) -> Seen
-        requires { owner.number < process_count (plan_in self.now) }
-        ensures { result ≡ seen_as (plan_in self.now) owner.number (held (brought (plan_in self.now) (state_of self.now) owner.number key node)) }
+    /// What another node is shown of what an owner had stored under a key before an event of it.
+    fn shown_at(&self, owner: Proc, key: u32, at: Option<u32>) -> Seen
+        requires there { owner.number < process_count (plan_in self.now) }
+        requires done { IfSome at (λ n. n ≤ (state_of self.now).done owner.number) }
+        ensures { result ≡ seen_as (plan_in self.now) owner.number
+            (held (for_others (plan_in self.now) owner.number (stored_at (plan_in self.now) owner.number key at))) }
     {
-        let done = self.done(owner);
-        match self.last_bringing(owner, node, done) {
+        match at {
             None => Seen::Nothing,
             Some(at) => brought_of(self.ranks[owner.index()].store.as_of(key, at)),
+        }
+    }
+
+    /// What has come of a process's key to another node: what fences have brought, or what gets have, where
+    /// the plan keeps that and it is newer.
+    fn brought_seen(&self, owner: Proc, key: u32, node: u32) -> Seen
+        requires there { owner.number < process_count (plan_in self.now) }
+        requires away { node_of (plan_in self.now) owner.number ≢ node }
+        ensures { result ≡ seen_as (plan_in self.now) owner.number (held (brought (plan_in self.now) (state_of self.now) owner.number key node)) }
+    {
+        let arrival = self.last_bringing(owner, node, self.done(owner));
+        let count = self.keeping.count(owner, key, node);
+        let by_fence = self.shown_at(owner, key, arrival);
+        if is_shown(by_fence) && is_later(arrival, count) {
+            by_fence
+        } else {
+            self.shown_at(owner, key, count)
         }
     }
 }

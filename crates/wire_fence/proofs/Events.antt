@@ -8,8 +8,8 @@ use Rattle.std.proofs.lemmas.Bool.{cases_eq, cond_both, eq-eqb, ne_eqb, false_fr
 use Rattle.std.proofs.lemmas.Option.{none-some, same_Some, slice_get-map, slice_get-get_or}
 use Rattle.std.proofs.lemmas.List.{map-append}
 use Rattle.std.proofs.lemmas.List.Sums.{sum_by_push}
-use Rattle.wire_runs.specs.Plan.{Plan, Kind, Put, Commit, Arrive, Leave, Get, GetNow, Publish, Lookup, LookupWait, Unpublish, Fixed, CallPut, CallCommit, CallFence, CallGet, CallGetNow, CallPublish}
-use Rattle.wire_runs.specs.Plan.{CallLookup, CallLookupWait, CallUnpublish, CallFixed, set_of, kinds_of, process_kinds, kinds, kind_at, event_count}
+use Rattle.wire_runs.specs.Plan.{Plan, Kind, Put, Commit, Arrive, Leave, Get, GetNow, Publish, Lookup, LookupWait, Unpublish, UnpublishAll, Fixed, CallPut, CallCommit, CallFence, CallGet}
+use Rattle.wire_runs.specs.Plan.{CallGetNow, CallPublish, CallLookup, CallLookupWait, CallUnpublish, CallUnpublishAll, CallFixed, set_of, kinds_of, process_kinds, kinds, kind_at, event_count}
 use Rattle.wire_runs.specs.Plan as plan
 use Rattle.wire_runs.specs.Fences.{arrivals_with, arrivals, collects_with, collects}
 use Rattle.wire_types.specs.declared.Call.{Call}
@@ -59,6 +59,7 @@ events-append (CallPublish name ∷ xs) ys = ap (λ es. Publish name ∷ es) (ev
 events-append (CallLookup name ∷ xs) ys = ap (λ es. Lookup name ∷ es) (events-append xs ys)
 events-append (CallLookupWait name ∷ xs) ys = ap (λ es. LookupWait name ∷ es) (events-append xs ys)
 events-append (CallUnpublish name ∷ xs) ys = ap (λ es. Unpublish name ∷ es) (events-append xs ys)
+events-append (CallUnpublishAll ∷ xs) ys = ap (λ es. UnpublishAll ∷ es) (events-append xs ys)
 events-append (CallFixed reply ∷ xs) ys = ap (λ es. Fixed reply ∷ es) (events-append xs ys)
 
 -- a call that is no fence is one event, which is no arrival
@@ -82,6 +83,7 @@ plain_event (CallPublish name) plain = record { event = Publish name; one = λ _
 plain_event (CallLookup name) plain = record { event = Lookup name; one = λ _. refl; arrives = λ _ _. refl; says = λ _ _ _ _. refl }
 plain_event (CallLookupWait name) plain = record { event = LookupWait name; one = λ _. refl; arrives = λ _ _. refl; says = λ _ _ _ _. refl }
 plain_event (CallUnpublish name) plain = record { event = Unpublish name; one = λ _. refl; arrives = λ _ _. refl; says = λ _ _ _ _. refl }
+plain_event CallUnpublishAll plain = record { event = UnpublishAll; one = λ _. refl; arrives = λ _ _. refl; says = λ _ _ _ _. refl }
 plain_event (CallFixed reply) plain = record { event = Fixed reply; one = λ _. refl; arrives = λ _ _. refl; says = λ _ _ _ _. refl }
 
 unless_plain : (b : Bool) (reply : Reply) (k : plan.Call) → IsPlain k → IsPlain (cond b (CallFixed reply) k)

@@ -71,10 +71,10 @@ fence_call : (rows : List FenceDraft) (calls : List Call) (c number : ℕ) (o : 
 fence_call rows calls c number (Some (Fence k collect)) found is there = (k, collect, refl)
 fence_call rows calls c number _ found is there = absurd (none-some number (sym is ∙ there))
 
-module _ (s : Scripts) (sound : IsSound s) (rows : List FenceDraft) (numbers : List (List (Option ℕ))) (nodes : List (List Bool)) (are : AreRead s (read_to s (length s.processes)) rows)
+module _ (s : Scripts) (sound : IsSound s) (rows : List FenceDraft) (numbers : List (List (Option ℕ))) (pairs : List (ℕ × ℕ)) (are : AreRead s (read_to s (length s.processes)) rows)
     (numbered : AreAllNumbers rows s.processes numbers (length s.processes)) where
   abbrev table : FenceTable
-  table = record { fences = map (info_of s.sets) rows; numbers = numbers; nodes = nodes }
+  table = record { fences = map (info_of s.sets) rows; numbers = numbers; reached = pairs }
 
   all : AreRead s (all_calls s) rows
   all = let path : read_to s (length s.processes) ≡ all_calls s = λ i m. read_all s m i in subst (λ (r : ℕ → ℕ). AreRead s r rows) path are

@@ -6,3 +6,4 @@ pub mod Nodes
 pub mod ReadRows
 pub mod States
 pub mod FenceTable
+pub mod Forgotten

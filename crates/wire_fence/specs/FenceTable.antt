@@ -1,6 +1,7 @@
 -- The fences of scripts (PMIx Standard 5.0, PMIx_Fence).
 -- A fence is a set of processes and a number j: it is the j-th fence call of each member over that set.
-use Rattle.std.specs.Prelude.{◌≡◌, ℕ, suc, ◌<◌, List, [], Bool, false, Option, Some, None, length, take, count_by, slice_get, slice_index_or, ◌==◌}
+use Rattle.std.specs.Prelude.{◌≡◌, ℕ, suc, ◌<◌, List, [], Bool, false, Option, Some, None, length, take, count_by, slice_get, slice_index_or, ◌==◌, ◌&&◌}
+use Rattle.std.specs.List.{list_any}
 use Rattle.wire_runs.specs.Fences.{is_full, is_collecting, has_node}
 use Rattle.wire_types.specs.declared.Call.{Call}
 use Rattle.wire_types.specs.declared.Call.TheVariants.{Fence}
@@ -17,12 +18,12 @@ pub record FenceInfo : Type 0 where
   pub full : Bool
   pub collects : Bool
 
--- the fences by number; for each call of each process the number of its fence, where it is a fence call; and for each set of
--- processes, by the numbers of nodes, whether a member is on the node
+-- the fences by number; for each call of each process the number of its fence, where it is a fence call; and each set of
+-- processes, by its number, with each node that a member is on
 pub record FenceTable : Type 0 where
   pub fences : List FenceInfo
   pub numbers : List (List (Option ℕ))
-  pub nodes : List (List Bool)
+  pub reached : List (ℕ × ℕ)
 
 -- the fence of a number
 abbrev pub fence_at : FenceTable → ℕ → Option FenceInfo
@@ -32,9 +33,13 @@ fence_at table number = slice_get table.fences number
 abbrev pub fence_number : FenceTable → ℕ → ℕ → Option ℕ
 fence_number table p c = slice_index_or (slice_index_or table.numbers p []) c None
 
+-- whether a set and a node are among these pairs
+unfoldable pub is_noted : List (ℕ × ℕ) → ℕ → ℕ → Bool
+is_noted pairs set node = list_any (λ (r : ℕ × ℕ). (set == r.0) && (node == r.1)) pairs
+
 -- whether a member of a set is on the node
 abbrev pub is_reached : FenceTable → ℕ → ℕ → Bool
-is_reached table set node = slice_index_or (slice_index_or table.nodes set []) node false
+is_reached table set node = is_noted table.reached set node
 
 -- what a look at a fence tells, where it is there
 abbrev pub members_in : Option FenceInfo → List ℕ

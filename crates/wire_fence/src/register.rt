@@ -1,11 +1,11 @@
 //! The fences as calls are read: a row for each, by number.
 
-ghost use Rattle.std.specs.Prelude.{◌≡◌, ◌+◌, ◌<◌, ◌≤◌, ◌^◌, [], ℕ, map, length, slice_get, slice_index_or, OnOk, IfOk, Some};
+ghost use Rattle.std.specs.Prelude.{◌≡◌, ◌+◌, ◌<◌, ◌≤◌, ◌^◌, [], ℕ, map, length, replicate, slice_get, slice_index_or, OnOk, IfOk, Some};
 ghost use Rattle.wire_types.specs.declared.Call.TheVariants.{Fence as TheFence};
 ghost use Rattle.wire_runs.specs.Plan.{update};
 ghost use Rattle.wire_content.specs.Scripts.{Scripts, IsSound, IsCounted, numbers_of, call_at, set_at};
 ghost use Rattle.wire_fence.specs.FenceTable.{written_calls};
-ghost use Rattle.wire_fence.specs.Register.{IsKeyed, HasRow, IsCalled, IsAfter, AreNumbers, AreAllNumbers, AreRead, read_to, called};
+ghost use Rattle.wire_fence.specs.Register.{IsKeyed, HasRow, IsCalled, IsAfter, AreNumbers, AreAllNumbers, AreRead, AreForgotten, read_to, called};
 
 use indexmap::IndexSet;
 use std::alloc::{AllocError, Global};
@@ -49,6 +49,18 @@ pub(crate) fn members_of(sets: &[Vec<Proc>], set: usize) -> &[Proc]
     match sets.get(set) {
         Some(members) => members.as_slice(),
         None => &[],
+    }
+}
+
+// Sets the counts of the sets that are called back to 0.
+fn forget(counts: &mut Vec<usize>, calls: &[Call])
+    requires { (c set : ℕ) (collect : _) → slice_get calls.now c ≡ Some (TheFence set collect) → set < length counts.old.items }
+    ensures { AreForgotten counts.old.items calls.now (length calls.now) counts.new.items }
+{
+    for call in calls {
+        if let Call::Fence { set, .. } = *call {
+            counts[set as usize] = 0;
+        }
     }
 }
 
@@ -116,16 +128,20 @@ impl Register {
         Ok(Some(number as u32))
     }
 
-    // Reads the calls of a process, and says the number of the fence of each that is a fence call.
+    // Reads the calls of a process, and says the number of the fence of each that is a fence call. The counts
+    // are all 0 before and after.
     fn read_calls(
         &mut self,
         alloc: Global,
+        counts: &mut Vec<usize>,
         sets: &[Vec<Proc>],
         calls: &[Call],
     ) -> Result<Vec<Option<u32>>, AllocError>
+        requires zeros { counts.old.items ≡ replicate (length sets.now) 0 }
         requires keyed { IsKeyed self.old }
         requires room { length self.old.rows.items + length calls.now < 2 ^ 32 }
         requires within { (c set : ℕ) (collect : _) → slice_get calls.now c ≡ Some (TheFence set collect) → set < length sets.now }
+        ensures zeros { OnOk result (counts.new.items ≡ replicate (length sets.now) 0) }
         ensures keyed { OnOk result (IsKeyed self.new) }
         ensures few { OnOk result (length self.new.rows.items ≤ length self.old.rows.items + length calls.now) }
         ensures numbers { IfOk result (λ numbers. AreNumbers self.new.rows.items calls.now numbers.items (length calls.now)) }
@@ -134,12 +150,12 @@ impl Register {
             → calls.now ≡ written_calls s p → read p ≡ 0 → AreRead s read self.old.rows.items →
             AreRead s (update read p (length calls.now)) self.new.rows.items) }
     {
-        let mut counts = vec![in alloc; 0; sets.len()]?;
         let mut numbers = Vec::with_capacity(alloc, calls.len())?;
         for call in calls {
-            let number = self.read(&mut counts, sets, *call)?;
+            let number = self.read(counts, sets, *call)?;
             numbers.push(number)?;
         }
+        forget(counts, calls);
         Ok(numbers)
     }
 
@@ -158,9 +174,10 @@ impl Register {
         ensures read { OnOk result ((s : Scripts) → IsSound s → map (λ v. numbers_of v.items) sets.now ≡ s.sets → processes.now ≡ s.processes
             → AreRead s (read_to s (length processes.now)) self.new.rows.items) }
     {
+        let mut counts = vec![in alloc; 0; sets.len()]?;
         let mut numbers = Vec::with_capacity(alloc, processes.len())?;
         for process in processes {
-            let numbers_there = self.read_calls(alloc, sets, process.calls())?;
+            let numbers_there = self.read_calls(alloc, &mut counts, sets, process.calls())?;
             numbers.push(numbers_there)?;
         }
         Ok(numbers)

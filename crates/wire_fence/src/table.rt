@@ -1,14 +1,15 @@
 //! The fences of scripts.
 
-ghost use Rattle.std.specs.Prelude.{◌≡◌, ◌<◌, ◌||◌, ◌==◌, ℕ, Some, false, is_some, true, [], length, map as map_list, slice_index_or, IfOk, OnOk, IsOkUnless};
+ghost use Rattle.std.specs.Prelude.{◌≡◌, ◌<◌, ◌||◌, ◌&&◌, ◌==◌, ℕ, Some, false, is_some, true, [], length, map as map_list, slice_index_or, IfOk, OnOk, IsOkUnless};
 ghost use Rattle.std.specs.List.{list_all};
 ghost use Rattle.wire_runs.specs.Fences.{has_node};
 ghost use Rattle.wire_content.specs.Scripts.{Scripts as TheScripts, numbers_of, set_at};
 ghost use Rattle.wire_content.specs.Planned.{plan_of};
 ghost use Rattle.wire_procmap.specs.Map.{map_of, row_count};
-ghost use Rattle.wire_fence.specs.FenceTable.{FenceInfo, AreFencesOf, fence_at, members_in, full_in, collects_in, reaches_in, fence_number as the_fence_number};
+ghost use Rattle.wire_fence.specs.FenceTable.{FenceInfo, AreFencesOf, fence_at, members_in, full_in, collects_in, reaches_in, is_noted, fence_number as the_fence_number};
 
 use crate::register::{FenceDraft, Register, members_of};
+use indexmap::IndexSet;
 use std::alloc::{AllocError, Global};
 use std::marker::Model;
 use wire_content::{Scripts, Sets};
@@ -26,7 +27,7 @@ pub struct FenceId {
 #[derive(Drop)]
 pub struct Fences {
     sets: Vec<Vec<Proc>>,
-    nodes: Vec<Vec<bool>>,
+    reached: IndexSet<(u32, u32)>,
     rows: Vec<FenceDraft>,
     numbers: Vec<Vec<Option<u32>>>,
 }
@@ -42,7 +43,7 @@ impl Model for Fences {
     ghost view = { λ f. record {
       fences = map (info_of (map (λ v. numbers_of v.items) f.sets.items)) f.rows.items;
       numbers = map (λ v. v.items) f.numbers.items;
-      nodes = map (λ v. v.items) f.nodes.items;
+      reached = f.reached.keys;
     } };
 }
 
@@ -57,60 +58,47 @@ fn copy_sets(alloc: Global, sets: &Sets) -> Result<Vec<Vec<Proc>>, AllocError>
     Ok(copy)
 }
 
-// Notes that a member is on the node.
-fn mark(nodes: &mut Vec<bool>, node: u32) -> Result<(), AllocError>
-    ensures { OnOk result ((n : ℕ) → slice_index_or nodes.new.items n false ≡ (slice_index_or nodes.old.items n false || (node == n))) }
+// Notes the node of each member of a set, with the set.
+fn note_nodes(
+    reached: &mut IndexSet<(u32, u32)>,
+    map: &ProcMap,
+    set: u32,
+    members: &[Proc],
+) -> Result<(), AllocError>
+    requires { (k : ℕ) → k < length members.now → slice_index_or (numbers_of members.now) k 0 < row_count map.now }
+    ensures { OnOk result ((s : TheScripts) (other node : ℕ) → map.now ≡ map_of s
+        → is_noted reached.new.keys other node ≡ (is_noted reached.old.keys other node || ((other == set) && has_node (plan_of s) (numbers_of members.now) node))) }
 {
-    let place = node as usize;
-    if nodes.len() <= place {
-        nodes.resize(place + 1, false)?;
+    for member in members {
+        reached.insert_full((set, map.node_of(*member)))?;
     }
-    nodes[place] = true;
     Ok(())
 }
 
-// Of each node whether one of the members is on it, up to the last node that has one.
-fn nodes_of(alloc: Global, map: &ProcMap, members: &[Proc]) -> Result<Vec<bool>, AllocError>
-    requires { (k : ℕ) → k < length members.now → slice_index_or (numbers_of members.now) k 0 < row_count map.now }
-    ensures { IfOk result (λ nodes. (s : TheScripts) (node : ℕ) → map.now ≡ map_of s
-        → slice_index_or nodes.items node false ≡ has_node (plan_of s) (numbers_of members.now) node) }
-{
-    let mut nodes = Vec::new(alloc);
-    for member in members {
-        mark(&mut nodes, map.node_of(*member))?;
-    }
-    Ok(nodes)
-}
-
-// The nodes of each set's members, by set.
+// Each set with the nodes of its members.
+#[tactic(auto, unfolding(crate::specs::FenceTable::is_noted))]
 fn nodes_of_sets(
     alloc: Global,
     map: &ProcMap,
-    sets: &[Vec<Proc>],
-) -> Result<Vec<Vec<bool>>, AllocError>
-    requires { (set k : ℕ) → k < length (set_at (map_list (λ v. numbers_of v.items) sets.now) set)
-        → slice_index_or (set_at (map_list (λ v. numbers_of v.items) sets.now) set) k 0 < row_count map.now }
-    ensures { IfOk result (λ nodes. (s : TheScripts) (set node : ℕ) → map.now ≡ map_of s
-        → slice_index_or (slice_index_or (map_list (λ v. v.items) nodes.items) set []) node false ≡ has_node (plan_of s)
-        (set_at (map_list (λ v. numbers_of v.items) sets.now) set) node) }
+    sets: &Sets,
+) -> Result<IndexSet<(u32, u32)>, AllocError>
+    requires { (set k : ℕ) → k < length (set_at sets.now set) → slice_index_or (set_at sets.now set) k 0 < row_count map.now }
+    ensures { IfOk result (λ reached. (s : TheScripts) (set node : ℕ) → map.now ≡ map_of s
+        → is_noted reached.keys set node ≡ has_node (plan_of s) (set_at sets.now set) node) }
 {
-    let mut nodes = Vec::with_capacity(alloc, sets.len())?;
+    let mut reached = IndexSet::new(alloc);
     for set in 0..sets.len() {
-        nodes.push(nodes_of(alloc, map, members_of(sets, set))?)?;
+        note_nodes(&mut reached, map, set, sets.members(set))?;
     }
-    Ok(nodes)
+    Ok(reached)
 }
 
-fn is_reached(nodes: &[Vec<bool>], set: usize, node: usize) -> bool
-    ensures { result ≡ slice_index_or (slice_index_or (map_list (λ v. v.items) nodes.now) set []) node false }
+// Whether a set and a node are noted.
+#[tactic(auto, unfolding(crate::specs::FenceTable::is_noted))]
+fn is_reached(reached: &IndexSet<(u32, u32)>, set: u32, node: u32) -> bool
+    ensures { result ≡ is_noted reached.now.keys set node }
 {
-    match nodes.get(set) {
-        Some(of_set) => match of_set.get(node) {
-            Some(reached) => *reached,
-            None => false,
-        },
-        None => false,
-    }
+    reached.contains(&(set, node))
 }
 
 // How many members the fence of each row has.
@@ -137,12 +125,12 @@ impl Fences {
     {
         let processes = scripts.processes();
         let sets = copy_sets(alloc, scripts.sets())?;
-        let nodes = nodes_of_sets(alloc, map, &sets)?;
+        let reached = nodes_of_sets(alloc, map, scripts.sets())?;
         let mut register = Register::new(alloc);
         let numbers = register.read_all(alloc, &sets, processes)?;
         Ok(Fences {
             sets,
-            nodes,
+            reached,
             rows: register.rows,
             numbers,
         })
@@ -208,7 +196,7 @@ impl Fences {
             result ≡ has_node (plan_of s) info.members node }
     {
         match self.rows.get(fence.number as usize) {
-            Some(row) => is_reached(&self.nodes, row.set as usize, node as usize),
+            Some(row) => is_reached(&self.reached, row.set, node),
             None => false,
         }
     }

@@ -1,5 +1,5 @@
 -- Small replays as JSON: the definitions compute.
-use Rattle.std.proofs.Common.{◌≡◌, [], ◌∷◌, refl, codes}
+use Rattle.std.proofs.Common.{◌≡◌, false, [], ◌∷◌, refl, codes}
 use Rattle.std.specs.Fmt.{digits}
 use Rattle.wire_types.specs.declared.Call.TheVariants.{Put, Commit, Get}
 use Rattle.wire_types.specs.declared.Scope.TheVariants.{Global}
@@ -8,12 +8,14 @@ use Rattle.wire_types.specs.declared.CallEnd.TheVariants.{Replied, Waiting}
 use Rattle.wire_types.specs.declared.Status.TheVariants.{Success}
 use Rattle.wire_types.specs.declared.Value.TheVariants as value
 use Rattle.wire_types.specs.Outcome.{Ends}
+use Rattle.wire_lines.specs.declared.Version.TheVariants.{One}
 use Rattle.wire_content.specs.Scripts.{Scripts}
 use Rattle.wire_json.specs.Json.{json_report, json_findings, json_unsettled}
 
 -- the job app: a put and a commit, and a get of that key; the value has a quote and a backslash
 unfoldable pub row : Scripts
 row = record {
+  version = One;
   nodes = codes "n0" ∷ (codes "n1" ∷ []);
   jobs = codes "app" ∷ [];
   keys = codes "k" ∷ [];
@@ -24,6 +26,7 @@ row = record {
       record { job = 0; rank = 0; node = 0; calls = Put Global 0 0 ∷ (Commit ∷ []) }
       ∷ (record { job = 0; rank = 1; node = 1; calls = Get (record { number = 0 }) 0 ∷ [] }
       ∷ (record { job = 0; rank = 2; node = 1; calls = [] } ∷ []));
+  keeps = false;
 }
 
 unfoldable pub done : CallEnd

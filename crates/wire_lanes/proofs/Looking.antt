@@ -1,17 +1,22 @@
 -- What a lane's seat shows once it has read words.
 use Rattle.std.proofs.Common.{◌≡◌, ◌∙◌, ◌⊎◌, ap, sym, refl, subst, inl, inr, ℕ, zero, suc, ◌<◌, ◌≤◌, List, [], ◌∷◌, true, false, Option, Some, None, IfSome, get_or, set, length, arith, lt-ltb}
 use Rattle.std.proofs.Common.{ltb-true}
-use Rattle.std.specs.Prelude.{slice_get, slice_index, slice_set}
+use Rattle.std.specs.Prelude.{◌≢◌, ◌↔◌, MatchOption, option_map, slice_get, slice_index, slice_set}
 use Rattle.std.proofs.lemmas.Bool.{cases_Bool, true≢false}
-use Rattle.std.proofs.lemmas.Option.{same_Some, IfSome_then}
-use Rattle.wire_runs.specs.Plan.{Plan, Event}
+use Rattle.std.proofs.lemmas.Option.{same_Some, none-some, IfSome_then}
+use Rattle.wire_types.specs.declared.Event.{Event as CodeEvent}
+use Rattle.wire_runs.specs.Plan.{Plan, Event, event_of, event_count}
+use Rattle.wire_runs.specs.Fate.{HasFate, Waits}
 use Rattle.wire_runs.specs.Order.{Edge}
 use Rattle.wire_content.specs.Scripts.{Scripts}
 use Rattle.wire_content.specs.Planned.{plan_of}
 use Rattle.wire_plan.specs.Index.{AreSources}
 use Rattle.wire_races.specs.declared.Fate.{Fate}
-use Rattle.wire_board.specs.Cuts.{shows_event, skip_shown, ShowsSources}
-use Rattle.wire_board.specs.Seats.{BoardIs, SeatIs, place_of, next_of}
+use Rattle.wire_races.specs.declared.Fate.TheVariants.{Waits as CodeWaits}
+use Rattle.wire_races.specs.Fates.{IsFateOf}
+use Rattle.wire_board.specs.Cuts.{shows_event, skip_shown, ShowsSources, ImpliesSources}
+use Rattle.wire_board.specs.Seats.{BoardIs, SeatIs, place_of, hold_of, next_of, ShowsNext, ImpliesNext}
+use Rattle.wire_board.proofs.Cuts.{shown_implied}
 use Rattle.wire_board.proofs.Showing.{skip_one, skip_none}
 use Rattle.wire_lanes.specs.Lanes.{LaneIs, HasRead, IsLane, AreLeft}
 use Rattle.wire_lanes.proofs.Trails.{get_set, kept_reading}
@@ -169,3 +174,44 @@ next_told board settled inside now new capacity y kept view read here long = (
   plan_still now new settled read (subst (λ (l : LaneIs). l.seat.board.plan ≡ settled) view (lane_plan board settled inside capacity kept)),
   next_still now new y read (subst (λ (l : LaneIs). y ≡ next_of l.seat) view (λ i. record { proc = here i; at = (long ∙ kept.as_long) i })),
 )
+
+-- the first of those that are left is one for which the next event waits
+pub first_missing : (plan : Plan) (seat : SeatIs) (xs : List Event) (o : Option CodeEvent) → option_map event_of o ≡ slice_get xs 0 → AreLeft plan seat xs
+    → IfSome o (λ x. Edge plan (event_of x) (next_of seat))
+first_missing plan seat xs None first left = tt
+first_missing plan seat xs (Some x) first left = left.only 0 (event_of x) (sym first)
+
+-- What the fate of the next event tells, once the seat has read
+
+there_still : (old new : LaneIs) (y : Event) → HasRead old new → y ≡ next_of old.seat → y.at < event_count (plan_of old.seat.board.plan) y.proc
+    → place_of new.seat < event_count (plan_of new.seat.board.plan) new.seat.rank
+there_still old new y r is there =
+    let plans = ap (λ (b : BoardIs). b.plan) (sym r.board) in
+    let next = next_still old new y r is in
+    subst (λ (t : Scripts × Event). t.1.at < event_count (plan_of t.0) t.1.proc) (λ i. (plans i, next i)) there
+
+-- the fate, or that it is to wait
+abbrev IsNextFate : SeatIs → Option Fate → Type 0
+IsNextFate seat o = MatchOption o (HasFate (plan_of seat.board.plan) (next_of seat) Waits)
+    (λ fate. ¬ (HasFate (plan_of seat.board.plan) (next_of seat) Waits) × IsFateOf (plan_of seat.board.plan) (next_of seat) fate × (fate ≢ CodeWaits))
+
+pub shown_fate : (old new : LaneIs) (y : Event) (o : Option Fate) → HasRead old new → y ≡ next_of old.seat → y.at < event_count (plan_of old.seat.board.plan) y.proc
+    → ShowsSources (plan_of new.seat.board.plan) new.seat.known (next_of new.seat) → IsNextFate new.seat o → (o ≢ None) ↔ ShowsNext new.seat
+shown_fate old new y None r is there sources told = (λ ne. absurd (ne refl), λ shown. absurd (shown.comes told))
+shown_fate old new y (Some fate) r is there sources told = (λ _. record { next = there_still old new y r is there; sources = sources; comes = told.0 }, λ _ none. none-some fate (sym none))
+
+pub implied_fate : (old new : LaneIs) (y : Event) (o : Option Fate) → HasRead old new → y ≡ next_of old.seat → y.at < event_count (plan_of old.seat.board.plan) y.proc
+    → ImpliesSources (plan_of new.seat.board.plan) new.seat.known (next_of new.seat) → IsNextFate new.seat o
+    → IfSome o (λ fate. ImpliesNext new.seat × IsFateOf (plan_of new.seat.board.plan) (next_of new.seat) fate × (fate ≢ CodeWaits))
+implied_fate old new y None r is there sources told = tt
+implied_fate old new y (Some fate) r is there sources told = (record { next = there_still old new y r is there; sources = sources; comes = told.0 }, told.1, told.2)
+
+pub fate_alone : (seat : SeatIs) (o : Option Fate) → IsNextFate seat o → IfSome o (λ fate. IsFateOf (plan_of seat.board.plan) (next_of seat) fate × (fate ≢ CodeWaits))
+fate_alone seat None told = tt
+fate_alone seat (Some fate) told = (told.1, told.2)
+
+-- what is shown is implied
+pub due_told : (seat : SeatIs) (o : Option Fate) → (o ≢ None) ↔ ShowsNext seat → IfSome o (λ fate. IsFateOf (plan_of seat.board.plan) (next_of seat) fate × (fate ≢ CodeWaits))
+    → MatchOption o (¬ (ShowsNext seat)) (λ fate. ImpliesNext seat × IsFateOf (plan_of seat.board.plan) (next_of seat) fate × (fate ≢ CodeWaits))
+due_told seat None ready fate = λ shown. ready.1 shown refl
+due_told seat (Some x) ready fate = (shown_implied (plan_of seat.board.plan) (hold_of seat) (ready.0 (λ none. none-some x (sym none))), fate.0, fate.1)

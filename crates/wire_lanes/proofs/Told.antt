@@ -1,13 +1,13 @@
 -- What the trails of a row of lanes tell.
 use Rattle.std.proofs.Common.{◌≡◌, ℕ, zero, suc, ◌+◌, List, [], ◌∷◌, ◌++◌, Option, Some, None, IfSome, Vec, Global, length, refl, sym, ap, ◌∙◌, subst, inl, inr, arith, append-nil, append_assoc}
 use Rattle.std.proofs.Common.{length-append}
-use Rattle.std.specs.Prelude.{◌≢◌, slice_get}
+use Rattle.std.specs.Prelude.{slice_get}
 use mathlib.Core.List.{reverse}
 use Rattle.std.proofs.lemmas.List.{reverse-append}
-use Rattle.std.proofs.lemmas.Option.{same_Some, none-some, slice_get_cases, slice_get_within}
+use Rattle.std.proofs.lemmas.Option.{same_Some, slice_get_cases, slice_get_within}
 use Rattle.wire_runs.specs.Plan.{Plan, process_count}
 use Rattle.wire_races.specs.declared.Fate.{Fate}
-use Rattle.wire_lanes.specs.Lanes.{LaneIs, AreFates, IsLaneOf, AreLanesOf, IsTrailOf, AreTrailsOf, Tell, IsToldBy, AreTrails}
+use Rattle.wire_lanes.specs.Lanes.{LaneIs, AreFates, IsLaneOf, AreLanesOf, IsTrailOf, Tell, IsToldBy, AreTrails}
 
 -- these are lanes of the ranks from r on, and their trails
 abbrev pub ToldFrom : Plan → ℕ → List LaneIs → List (Vec Fate Global) → Type 0

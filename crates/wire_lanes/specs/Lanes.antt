@@ -1,5 +1,5 @@
 -- What clauses see of a lane, and what its type keeps.
-use Rattle.std.specs.Prelude.{◌≡◌, ◌≢◌, ◌↔◌, ◌⊎◌, ℕ, true, ◌++◌, ◌≤◌, List, [], Option, Some, None, IfSome, Vec, length, slice_get, slice_index}
+use Rattle.std.specs.Prelude.{◌≡◌, ◌≢◌, ◌↔◌, ◌⊎◌, ℕ, suc, true, ◌++◌, ◌≤◌, List, [], Option, Some, None, IfSome, Vec, length, slice_get, slice_index}
 use Rattle.std.specs.declared.alloc.Global.{Global}
 use Rattle.wire_runs.specs.Plan.{Plan, Event, event_count, process_count}
 use Rattle.wire_runs.specs.Order.{Edge}
@@ -57,6 +57,15 @@ pub record HasRead (old new : LaneIs) : Type 0 where
 pub record AreLeft (plan : Plan) (seat : SeatIs) (xs : List Event) : Type 0 where
   pub only : (k : ℕ) (x : Event) → slice_get xs k ≡ Some x → Edge plan x (next_of seat)
   pub all : (x : Event) → Edge plan x (next_of seat) → (shows_event seat.known x ≡ true) ⊎ ((k : ℕ) × (slice_get xs k ≡ Some x))
+
+-- z waits for each event for which y waits, but perhaps for the one before y in its process
+abbrev pub WaitsForMore : Plan → Event → Event → Type 0
+WaitsForMore plan y z = (x : Event) → Edge plan x y → ((x.proc ≡ y.proc) × (suc x.at ≡ y.at)) ⊎ Edge plan x z
+
+-- the same events stand in both lists, in whatever order and however often
+pub record SameEvents (xs ys : List Event) : Type 0 where
+  pub to : (k : ℕ) (x : Event) → slice_get xs k ≡ Some x → (j : ℕ) × (slice_get ys j ≡ Some x)
+  pub from : (k : ℕ) (x : Event) → slice_get ys k ≡ Some x → (j : ℕ) × (slice_get xs j ≡ Some x)
 
 -- how many lanes there are
 pub record LanesAre : Type 0 where

@@ -1,15 +1,18 @@
 //! One rank's seat, and the trail of what its events did.
 
-ghost use Rattle.std.specs.Prelude.{◌≡◌, ◌≢◌, ◌+◌, ◌<◌, [], length, None, IfOk, IfSome, IsOkUnless, IsTrue, ◌↔◌};
+ghost use Rattle.std.specs.Prelude.{◌≡◌, ◌≢◌, ◌+◌, ◌<◌, ◌≤◌, [], length, None, IfOk, IfSome, MatchOption, IsOkUnless, IsTrue, ◌↔◌};
 ghost use Rattle.wire_types.specs.declared.Fault.TheVariants.{Memory};
 ghost use Rattle.wire_runs.specs.Plan.{event_of, event_count};
+ghost use Rattle.wire_runs.specs.Fate.{HasFate, Waits};
+ghost use Rattle.wire_runs.specs.Order.{Edge};
 ghost use Rattle.wire_content.specs.Planned.{plan_of};
 ghost use Rattle.wire_races.specs.Fates.{IsFateOf};
 ghost use Rattle.wire_plan.specs.Index.{source_list};
-ghost use Rattle.wire_board.specs.Cuts.{shows_event, ShowsSources};
-ghost use Rattle.wire_board.specs.Seats.{place_of, next_of, ShowsNext};
+ghost use Rattle.wire_board.specs.Cuts.{shows_event, ShowsSources, ImpliesSources};
+ghost use Rattle.wire_board.specs.Seats.{place_of, next_of, ShowsNext, ImpliesNext};
 ghost use Rattle.wire_lanes.specs.Lanes.{AreFates, IsTrail, IsLaneOf, IsTrailOf, Grows, HasRead, AreLeft, SameLane};
 
+use crate::fence_end::{end_before, next_member_first};
 use std::alloc::Global;
 use std::marker::Model;
 use wire_board::{Board, Seat, first_source};
@@ -86,6 +89,16 @@ impl<'a> Lane<'a> {
         self.trail.as_slice()
     }
 
+    /// The event that was missing when the next event was looked at last: one for which it waits; `None` where none was.
+    pub fn missing(&self) -> Option<Event>
+        ensures { IfSome result (λ x. Edge (plan_of self.now.seat.board.plan) (event_of x) (next_of self.now.seat)) }
+    {
+        match self.left {
+            Some(left) => first_source(left),
+            None => None,
+        }
+    }
+
     // Whether the seat knows that an event is done. Where it doesn't, it reads the word of the event's process afresh first.
     fn finds(&mut self, source: Event) -> bool
         ensures read { HasRead self.old self.new }
@@ -113,7 +126,7 @@ impl<'a> Lane<'a> {
             Some(left) => left,
             None => {
                 let settled = self.settled;
-                settled.plan().sources(event)
+                next_member_first(settled.plan().sources(event), event.proc)
             }
         }
     }
@@ -144,12 +157,24 @@ impl<'a> Lane<'a> {
         true
     }
 
-    // The fate of the next event, where the seat shows that it can happen after it read afresh the words of sources that
-    // it didn't know to be done; else `None`.
-    fn next_fate(&mut self) -> Option<Fate>
+    // Whether all members have arrived at the fence that the next event ends, as the word of another member tells: that
+    // member has left the fence. False where the next event doesn't end a fence.
+    fn finds_other_left(&mut self, event: Event) -> bool
+        requires event { (event_of event ≡ next_of self.old.seat) × (event.at < event_count (plan_of self.old.seat.board.plan) event.proc.number) }
         ensures read { HasRead self.old self.new }
-        ensures ready { (result ≢ None) ↔ ShowsNext self.new.seat }
-        ensures fate { IfSome result (λ fate. IsFateOf (plan_of self.new.seat.board.plan) (next_of self.new.seat) fate × (fate ≢ Fate.Waits)) }
+        ensures found { IsTrue result → ImpliesSources (plan_of self.new.seat.board.plan) self.new.seat.known (next_of self.new.seat) }
+    {
+        let settled = self.settled;
+        match end_before(settled.plan(), event) {
+            Some(end) => self.finds(end),
+            None => false,
+        }
+    }
+
+    // The next event of the rank, if there is one.
+    fn next_event(&self) -> Option<Event>
+        ensures { MatchOption result (event_count (plan_of self.now.seat.board.plan) self.now.seat.rank ≤ place_of self.now.seat)
+            (λ event. (event_of event ≡ next_of self.now.seat) × (event.at < event_count (plan_of self.now.seat.board.plan) event.proc.number)) }
     {
         let settled = self.settled;
         let proc = self.seat.rank();
@@ -157,36 +182,87 @@ impl<'a> Lane<'a> {
         if done >= settled.plan().event_count(proc) as usize {
             return None;
         }
-        let event = Event {
+        Some(Event {
             proc,
             at: done as u32,
-        };
-        if !self.finds_all(event) {
-            return None;
-        }
+        })
+    }
+
+    // The fate of the next event; `None` where that is to wait.
+    fn fate_of(&self, event: Event) -> Option<Fate>
+        requires { event_of event ≡ next_of self.now.seat }
+        ensures { MatchOption result (HasFate (plan_of self.now.seat.board.plan) (next_of self.now.seat) Waits)
+            (λ fate. ¬ (HasFate (plan_of self.now.seat.board.plan) (next_of self.now.seat) Waits)
+            × IsFateOf (plan_of self.now.seat.board.plan) (next_of self.now.seat) fate × (fate ≢ Fate.Waits)) }
+    {
+        let settled = self.settled;
         match settled.fate(event) {
             Fate::Waits => None,
             fate => Some(fate),
         }
     }
 
+    // The fate of the next event, where the seat shows that it can happen after it read afresh the words of sources that
+    // it didn't know to be done; else `None`.
+    fn next_fate(&mut self) -> Option<Fate>
+        ensures read { HasRead self.old self.new }
+        ensures ready { (result ≢ None) ↔ ShowsNext self.new.seat }
+        ensures fate { IfSome result (λ fate. IsFateOf (plan_of self.new.seat.board.plan) (next_of self.new.seat) fate × (fate ≢ Fate.Waits)) }
+    {
+        let Some(event) = self.next_event() else {
+            return None;
+        };
+        if !self.finds_all(event) {
+            return None;
+        }
+        self.fate_of(event)
+    }
+
+    // The fate of the next event, where that ends a fence which another member has left already; else `None`.
+    fn fate_after_other(&mut self) -> Option<Fate>
+        ensures read { HasRead self.old self.new }
+        ensures fate { IfSome result (λ fate. ImpliesNext self.new.seat
+            × IsFateOf (plan_of self.new.seat.board.plan) (next_of self.new.seat) fate × (fate ≢ Fate.Waits)) }
+    {
+        let Some(event) = self.next_event() else {
+            return None;
+        };
+        if !self.finds_other_left(event) {
+            return None;
+        }
+        self.fate_of(event)
+    }
+
+    // The fate of the next event, where what the seat knows after fresh reads implies that it can happen; else `None`.
+    fn due_fate(&mut self) -> Option<Fate>
+        ensures read { HasRead self.old self.new }
+        ensures fate { MatchOption result (¬ (ShowsNext self.new.seat)) (λ fate. ImpliesNext self.new.seat
+            × IsFateOf (plan_of self.new.seat.board.plan) (next_of self.new.seat) fate × (fate ≢ Fate.Waits)) }
+    {
+        match self.fate_after_other() {
+            Some(fate) => Some(fate),
+            None => self.next_fate(),
+        }
+    }
+
     // The next event happens, with this fate.
     fn happen(&mut self, fate: Fate)
-        requires ready { ShowsNext self.old.seat }
+        requires ready { ImpliesNext self.old.seat }
         requires fate { IsFateOf (plan_of self.old.seat.board.plan) (next_of self.old.seat) fate × (fate ≢ Fate.Waits) }
         ensures same { SameLane self.old self.new }
         ensures more { Grows self.old.trail self.new.trail 1 × (length self.old.trail < event_count (plan_of self.old.seat.board.plan) self.old.seat.rank) }
     {
         let board = self.board;
         let settled = self.settled;
-        board.advance(&mut self.seat, settled);
+        board.advance_implied(&mut self.seat, settled);
         self.trail.push_reserved(fate);
         self.left = None;
     }
 
     /// Serves the rank as far as it goes: reads afresh the sources of the next event that aren't known to be
     /// done, up to the first that isn't done, and does the event where its seat shows that it can happen,
-    /// until it doesn't after fresh reads. Answers how many events that were: so many entries the trail has
+    /// until it doesn't after fresh reads. At the end of a fence it first looks whether another member has left
+    /// the fence; then it needn't read the words of the others. Answers how many events that were: so many entries the trail has
     /// more. It waits for nobody, takes no memory and can't fail. No clause says that it reads.
     pub fn advance_far(&mut self) -> usize
         ensures same { SameLane self.old self.new }
@@ -194,7 +270,7 @@ impl<'a> Lane<'a> {
         ensures rests { ¬ (ShowsNext self.new.seat) }
     {
         let before = self.trail.len();
-        'events: while let Some(fate) = self.next_fate() {
+        'events: while let Some(fate) = self.due_fate() {
             self.happen(fate);
         }
         self.trail.len() - before

@@ -14,7 +14,16 @@ use std::marker::Model;
 use std::sync::{Mutex, Wait};
 use wire_board::{Board, Seat};
 use wire_races::{Fate, Settled};
-use wire_types::{Fault, Proc};
+use wire_types::{Event, Fault, Proc};
+
+/// What became of a rank that was served: how many events that were, how many of its events are done, and the event that
+/// was missing, for which its next one waits.
+#[derive(Clone, Copy, Debug, PartialEq, Eq)]
+pub struct Served {
+    pub events: usize,
+    pub done: usize,
+    pub missing: Option<Event>,
+}
 
 /// A lane for each rank, in process order, each under a lock of its own. Whenever the lock is free, the
 /// lane's trail has the fates of its rank's first events, as many as are done. Contracts see how many lanes
@@ -60,6 +69,26 @@ impl<'a> Lanes<'a> {
         match self.lanes.get(proc.index()) {
             Some(lane) => lane.lock(rt).advance_far(),
             None => 0,
+        }
+    }
+
+    /// The same, and tells how far the rank is then, and for which event it waits (`Lane::missing`).
+    pub fn serve_far<R: Wait>(&self, rt: &R, proc: Proc) -> Served {
+        match self.lanes.get(proc.index()) {
+            Some(lane) => {
+                let mut lane = lane.lock(rt);
+                let events = lane.advance_far();
+                Served {
+                    events,
+                    done: lane.trail().len(),
+                    missing: lane.missing(),
+                }
+            }
+            None => Served {
+                events: 0,
+                done: 0,
+                missing: None,
+            },
         }
     }
 

@@ -1,7 +1,7 @@
 -- Each line that can be said begins with the word of a kind.
 use Rattle.std.proofs.Common.{◌≡◌, refl, ℕ, List, [], ◌∷◌, map, get_or}
 use Rattle.std.specs.Borrow.{Bor}
-use Rattle.wire_lines.specs.Said.{Said, Header, Node, Job, Rank, Calls, Call, first_word, first_of_call, verb_in}
+use Rattle.wire_lines.specs.Said.{Said, Header, Keep, Node, Job, Rank, Calls, Call, first_word, first_of_call, verb_in}
 use Rattle.wire_lines.specs.Kind.{text_of}
 use Rattle.wire_lines.specs.Verbs.{text_of_verb}
 use Rattle.wire_lines.specs.declared.call.Verb.{Verb}
@@ -12,7 +12,8 @@ pub some_verb : (call : Call) → (v : Verb) × (first_of_call call ≡ text_of_
 some_verb call = (verb_in call, refl)
 
 pub some_kind : (said : Said) → (k : Kind) × (first_word said ≡ text_of k)
-some_kind Header = (kind.Header, refl)
+some_kind (Header version) = (kind.Header, refl)
+some_kind Keep = (kind.Keep, refl)
 some_kind (Node name) = (kind.Node, refl)
 some_kind (Job name) = (kind.Job, refl)
 some_kind (Rank node) = (kind.Rank, refl)

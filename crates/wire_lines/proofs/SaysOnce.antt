@@ -3,22 +3,25 @@ use Rattle.std.proofs.Common.{◌≡◌, ◌∙◌, ap, sym, refl, ℕ, List, []
 use Rattle.std.specs.Str.{bytes_eq}
 use Rattle.std.proofs.lemmas.Fmt.{decimal_injective}
 use Rattle.std.specs.List.{slice_split}
-use Rattle.wire_lines.specs.Said.{Item, One, Every, Set, Own, Listed, Call, Put, Commit, Fence, Get, GetNow, Publish, Lookup, LookupWait, Unpublish, Said, Header, Node, Job, Rank, Calls}
-use Rattle.wire_lines.specs.Said.{IsLawful, IsLawfulCall, IsLawfulSet, IsLawfulItem, AreLawful, first_word, other_words, first_of_call, others_of_call, collect_words, spelled_proc, spelled_scope}
+use Rattle.wire_lines.specs.Said.{Item, One, Every, Set, Own, Listed, Call, Put, Commit, Fence, Get, GetNow, Publish, Lookup, LookupWait, Unpublish, Said, Header, Keep, Node, Job, Rank, Calls}
+use Rattle.wire_lines.specs.Said.{IsLawful, IsLawfulCall, IsLawfulSet, IsLawfulItem, AreLawful, first_word, other_words, first_of_call, others_of_call, collect_words, spelled_proc, spelled_scope, spelled_version}
 use Rattle.wire_lines.specs.Said.{spelled_item, spelled_set, is_name, is_key}
 use Rattle.wire_types.specs.declared.Scope.{Scope}
 use Rattle.wire_types.specs.declared.Scope.TheVariants.{Local, Remote, Global}
+use Rattle.wire_lines.specs.declared.line.Version.{Version}
+use Rattle.wire_lines.specs.declared.line.Version.TheVariants as version
 use Rattle.wire_lines.specs.Once.{SaysOnce}
 use Rattle.wire_lines.proofs.Colon.{names_plain, cut_once, and_right, colon_none}
 use Rattle.wire_lines.proofs.Joined.{comma, cut_items, decimal_digits, no_colon_item}
 
 -- each kind of line, of call and of scope has a number that its word shows
 abbrev kind : Said → ℕ
-kind Header = 0
+kind (Header version) = 0
 kind (Node name) = 1
 kind (Job name) = 2
 kind (Rank node) = 3
 kind (Calls call) = 4
+kind Keep = 5
 
 abbrev kind_of_call : Call → ℕ
 kind_of_call (Put scope key value) = 0
@@ -32,7 +35,7 @@ kind_of_call (LookupWait name) = 7
 kind_of_call (Unpublish name) = 8
 
 abbrev shown : List ℕ → ℕ
-shown w = if bytes_eq w (codes "rehearsal") then 0 else if bytes_eq w (codes "node") then 1 else if bytes_eq w (codes "job") then 2 else if bytes_eq w (codes "rank") then 3 else 4
+shown w = if bytes_eq w (codes "rehearsal") then 0 else if bytes_eq w (codes "node") then 1 else if bytes_eq w (codes "job") then 2 else if bytes_eq w (codes "rank") then 3 else if bytes_eq w (codes "keep") then 5 else 4
 
 abbrev shown_of_call : List ℕ → ℕ
 shown_of_call w =
@@ -41,7 +44,8 @@ shown_of_call w =
     else if bytes_eq w (codes "lookup") then 6 else if bytes_eq w (codes "lookup-wait") then 7 else 8
 
 shows : (a : Said) → shown (first_word a) ≡ kind a
-shows Header = refl
+shows (Header version) = refl
+shows Keep = refl
 shows (Node name) = refl
 shows (Job name) = refl
 shows (Rank node) = refl
@@ -165,8 +169,19 @@ call_once (LookupWait x) (LookupWait y) h e la lb = cc
 call_once (Unpublish x) (Unpublish y) h e la lb = cc
 call_once _ _ h e la lb = absurd (omega arith)
 
+version_once : (v w : Version) → spelled_version v ≡ spelled_version w → v ≡ w
+version_once v w e = sym (shows_version v) ∙ ap shown_version e ∙ shows_version w
+  where
+    shown_version : List ℕ → Version
+    shown_version word = if bytes_eq word (codes "1") then version.One else version.Two
+
+    shows_version : (x : Version) → shown_version (spelled_version x) ≡ x
+    shows_version version.One = refl
+    shows_version version.Two = refl
+
 once : (a b : Said) → kind a ≡ kind b → (kind_of : first_word a ≡ first_word b) → other_words a ≡ other_words b → IsLawful a → IsLawful b → a ≡ b
-once Header Header h f e la lb = refl
+once (Header v) (Header w) h f e la lb = let spelled : spelled_version v ≡ spelled_version w = cc in ap Header (version_once v w spelled)
+once Keep Keep h f e la lb = refl
 once (Node x) (Node y) h f e la lb = cc
 once (Job x) (Job y) h f e la lb = cc
 once (Rank x) (Rank y) h f e la lb = cc

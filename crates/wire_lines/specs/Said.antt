@@ -7,6 +7,8 @@ use Rattle.wire_types.specs.declared.Scope.{Scope}
 use Rattle.wire_types.specs.declared.Scope.TheVariants.{Local, Remote, Global}
 use Rattle.wire_lines.specs.declared.call.Verb.{Verb}
 use Rattle.wire_lines.specs.declared.call.Verb.TheVariants as verb
+use Rattle.wire_lines.specs.declared.line.Version.{Version}
+use Rattle.wire_lines.specs.declared.line.Version.TheVariants as version
 use Rattle.wire_lines.specs.Verbs.{text_of_verb}
 
 -- a byte of a word
@@ -34,6 +36,10 @@ begins_with front word = bytes_eq front (take (length front) word)
 -- a key that the standard keeps for itself
 unfoldable pub is_reserved : List ℕ → Bool
 is_reserved word = begins_with (codes "pmix") word || begins_with (codes "PMIX_") word
+
+abbrev pub spelled_version : Version → List ℕ
+spelled_version version.One = codes "1"
+spelled_version version.Two = codes "2"
 
 abbrev pub spelled_scope : Scope → List ℕ
 spelled_scope Local = codes "local"
@@ -75,8 +81,10 @@ pub data Call : Type 0 where
   LookupWait : (name : List ℕ) → Call
   Unpublish : (name : List ℕ) → Call
 
+-- keep: what a get brings to a node stays there
 pub data Said : Type 0 where
-  Header : Said
+  Header : Version → Said
+  Keep : Said
   Node : (name : List ℕ) → Said
   Job : (name : List ℕ) → Said
   Rank : (node : List ℕ) → Said
@@ -99,7 +107,8 @@ abbrev pub first_of_call : Call → List ℕ
 first_of_call call = text_of_verb (verb_in call)
 
 abbrev pub first_word : Said → List ℕ
-first_word Header = codes "rehearsal"
+first_word (Header version) = codes "rehearsal"
+first_word Keep = codes "keep"
 first_word (Node name) = codes "node"
 first_word (Job name) = codes "job"
 first_word (Rank node) = codes "rank"
@@ -123,7 +132,8 @@ others_of_call (LookupWait name) = name ∷ []
 others_of_call (Unpublish name) = name ∷ []
 
 abbrev pub other_words : Said → List (List ℕ)
-other_words Header = codes "1" ∷ []
+other_words (Header version) = spelled_version version ∷ []
+other_words Keep = []
 other_words (Node name) = name ∷ []
 other_words (Job name) = name ∷ []
 other_words (Rank node) = node ∷ []
@@ -154,7 +164,8 @@ IsLawfulCall (LookupWait name) = IsTrue (is_key name)
 IsLawfulCall (Unpublish name) = IsTrue (is_key name)
 
 abbrev pub IsLawful : Said → Type 0
-IsLawful Header = ⊤
+IsLawful (Header version) = ⊤
+IsLawful Keep = ⊤
 IsLawful (Node name) = IsTrue (is_name name)
 IsLawful (Job name) = IsTrue (is_name name)
 IsLawful (Rank node) = IsTrue (is_name node)

@@ -9,7 +9,7 @@ use Rattle.wire_lines.specs.declared.sets.Set.TheVariants.{Own, Listed}
 use Rattle.wire_lines.specs.declared.call.CallLine.{CallLine}
 use Rattle.wire_lines.specs.declared.call.CallLine.TheVariants.{Put, Commit, Fence, Get, GetNow, Publish, Lookup, LookupWait, Unpublish}
 use Rattle.wire_lines.specs.declared.line.Line.{Line}
-use Rattle.wire_lines.specs.declared.line.Line.TheVariants.{Header, Node, Job, Rank, Calls}
+use Rattle.wire_lines.specs.declared.line.Line.TheVariants.{Header, Keep, Node, Job, Rank, Calls}
 
 abbrev pub item_by : Item → said.Item
 item_by (One owner) = said.One owner.job.now owner.rank
@@ -31,7 +31,8 @@ call_by (LookupWait name) = said.LookupWait name.now
 call_by (Unpublish name) = said.Unpublish name.now
 
 abbrev pub said_by : Line → Said
-said_by Header = said.Header
+said_by (Header version) = said.Header version
+said_by Keep = said.Keep
 said_by (Node name) = said.Node name.now
 said_by (Job name) = said.Job name.now
 said_by (Rank node) = said.Rank node.now

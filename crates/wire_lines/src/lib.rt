@@ -8,7 +8,7 @@ mod text;
 mod word;
 
 pub use call::{CallLine, Verb};
-pub use line::{Line, is_header, read_line, says_once};
+pub use line::{Line, Version, header_version, read_line, says_once};
 pub use sets::{Item, Set};
 pub use text::{cut_piece, cut_words, line_past, trim_return};
 pub use word::{ProcName, is_reserved, number_of, proc_word, write_proc};

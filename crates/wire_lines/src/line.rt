@@ -7,15 +7,25 @@ ghost use Rattle.wire_lines.specs.Shown.{said_by};
 ghost use Rattle.wire_lines.specs.Kind.{text_of};
 ghost use Rattle.wire_lines.specs.Once.{SaysOnce};
 ghost use Rattle.wire_lines.specs.declared.line.Kind.{Kind};
+ghost use Rattle.wire_lines.specs.declared.line.Version.{Version};
 
 use crate::call::{CallLine, Verb, call_of, verb_of};
 use crate::word::is_name;
 use std::alloc::{AllocError, Global};
 
+/// The version of the format, as the header says it.
+#[derive(Clone, Copy, Debug, PartialEq, Eq)]
+pub enum Version {
+    One,
+    Two,
+}
+
 /// A line, with its parts as they stand in the text.
 #[derive(Drop)]
 pub enum Line<'a> {
-    Header,
+    Header(Version),
+    /// What a get brings to a node stays there.
+    Keep,
     Node(&'a [u8]),
     Job(&'a [u8]),
     /// A process, with the name of its node.
@@ -48,13 +58,46 @@ fn is_one(word: &[u8]) -> bool
     word == b"1".as_slice()
 }
 
-/// Whether the words are those after the header's first.
-fn is_version(words: &[&[u8]]) -> bool
-    ensures { IsTrue result ↔ (map (λ w. w.now) words.now ≡ codes "1" ∷ []) }
+fn is_two(word: &[u8]) -> bool
+    ensures { IsTrue result ↔ (word.now ≡ codes "2") }
+{
+    word == b"2".as_slice()
+}
+
+/// The version that a word says.
+fn version_said(word: &[u8]) -> Option<Version>
+    ensures found { IfSome result (λ v. word.now ≡ spec.spelled_version v) }
+    ensures none { IfNone result ((v : Version) → word.now ≢ spec.spelled_version v) }
+{
+    if is_one(word) {
+        Some(Version::One)
+    } else if is_two(word) {
+        Some(Version::Two)
+    } else {
+        None
+    }
+}
+
+/// The version of a header, by the words after its first.
+fn version_in(words: &[&[u8]]) -> Option<Version>
+    ensures found { IfSome result (λ v. map (λ w. w.now) words.now ≡ spec.spelled_version v ∷ []) }
+    ensures none { IfNone result ((v : Version) → map (λ w. w.now) words.now ≢ spec.spelled_version v ∷ []) }
 {
     match words {
-        [version] => is_one(version),
-        _ => false,
+        [version] => version_said(version),
+        _ => None,
+    }
+}
+
+/// The line `keep`, by the words after its first: there are none.
+fn keep_in<'a>(words: &[&[u8]]) -> Option<Line<'a>>
+    ensures found { IfSome result (λ l. (words.now ≡ []) × (said_by l ≡ spec.Keep)) }
+    ensures none { IfNone result (words.now ≢ []) }
+{
+    if words.is_empty() {
+        Some(Line::Keep)
+    } else {
+        None
     }
 }
 
@@ -62,6 +105,7 @@ fn is_version(words: &[&[u8]]) -> bool
 #[derive(Clone, Copy)]
 enum Kind {
     Header,
+    Keep,
     Node,
     Job,
     Rank,
@@ -74,6 +118,8 @@ fn kind_of(word: &[u8]) -> Option<Kind>
 {
     if is_rehearsal(word) {
         Some(Kind::Header)
+    } else if word == b"keep".as_slice() {
+        Some(Kind::Keep)
     } else if word == b"node".as_slice() {
         Some(Kind::Node)
     } else if word == b"job".as_slice() {
@@ -85,17 +131,18 @@ fn kind_of(word: &[u8]) -> Option<Kind>
     }
 }
 
-/// Whether the words are those of the header. Takes no memory.
-pub fn is_header(words: &[&[u8]]) -> bool
-    ensures { IsTrue result ↔ Says (map (λ w. w.now) words.now) Header }
+/// The version of the header whose words these are, or nothing where they are none. Takes no memory.
+pub fn header_version(words: &[&[u8]]) -> Option<Version>
+    ensures found { IfSome result (λ v. Says (map (λ w. w.now) words.now) (Header v)) }
+    ensures none { IfNone result ((v : Version) → Says (map (λ w. w.now) words.now) (Header v) → ⊥) }
 {
     let [first, others @ ..] = words else {
-        return false;
+        return None;
     };
     if is_rehearsal(first) {
-        is_version(others)
+        version_in(others)
     } else {
-        false
+        None
     }
 }
 
@@ -109,13 +156,11 @@ pub fn read_line<'a>(alloc: Global, words: &[&'a [u8]]) -> Result<Option<Line<'a
     };
     match kind_of(first) {
         None => Ok(None),
-        Some(Kind::Header) => {
-            if is_version(others) {
-                Ok(Some(Line::Header))
-            } else {
-                Ok(None)
-            }
-        }
+        Some(Kind::Header) => match version_in(others) {
+            Some(version) => Ok(Some(Line::Header(version))),
+            None => Ok(None),
+        },
+        Some(Kind::Keep) => Ok(keep_in(others)),
         Some(Kind::Node) => Ok(name_of(others).map(Line::Node)),
         Some(Kind::Job) => Ok(name_of(others).map(Line::Job)),
         Some(Kind::Rank) => Ok(name_of(others).map(Line::Rank)),

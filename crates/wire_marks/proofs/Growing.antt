@@ -1,5 +1,5 @@
 -- One more event is marked.
-use Rattle.std.proofs.Common.{◌≡◌, ◌⊎◌, ◌↔◌, inl, inr, ℕ, zero, suc, ◌-◌, ◌^◌, ◌<◌, ◌≤◌, [], ◌∷◌, true, max, Option, Some, None, length, slice_index, refl, sym, ap, ◌∙◌, subst, arith, length-append}
+use Rattle.std.proofs.Common.{◌≡◌, ◌⊎◌, ◌↔◌, inl, inr, ℕ, zero, suc, ◌-◌, ◌^◌, ◌<◌, ◌≤◌, [], ◌∷◌, true, max, Option, Some, None, length, refl, sym, ap, ◌∙◌, subst, arith, length-append}
 use Rattle.std.specs.Prelude.{slice_get}
 use Rattle.std.proofs.lemmas.Bool.{cases_eq, cases_lt, true≢false}
 use Rattle.std.proofs.lemmas.Option.{slice_get_past, slice_get_within, same_Some}
@@ -10,7 +10,9 @@ use Rattle.wire_runs.proofs.Basics.{event_within}
 use Rattle.wire_runs.proofs.Due.{live_source, live_may, place_path}
 use Rattle.wire_runs.proofs.Histories.{no_cycle, before_live}
 use Rattle.wire_marks.specs.Clocks.{items_at}
-use Rattle.wire_marks.specs.Clocks.{Clocks, marked_count, number_at, base_at, own_of, clock_over, clock_of, IsClock, AreMarks}
+use Rattle.wire_clocks.specs.ClockTrees.{says, IsRoot, Holds}
+use Rattle.wire_clocks.proofs.Staying.{clocks_stay_through, holds_kept}
+use Rattle.wire_marks.specs.Clocks.{Clocks, marked_count, root_at, base_at, own_of, clock_over, clock_of, IsClock, AreMarks}
 use Rattle.wire_marks.specs.Marking.{IsReady, IsStuck, AreBased, AreClocks, next_of, IsStuckAt, IsNextBase, sum_to, unmarked, IsGrown, Adds, Notes}
 use Rattle.wire_marks.specs.Updates.{updates_at, AreUpdates}
 use Rattle.wire_marks.proofs.Noting.{chain_within, updates_same, updates_more}
@@ -43,38 +45,53 @@ same_clock plan y c d same h = record {
   all = λ x l. let e = same x.proc in let lt = h.all x l in omega (arith, lt, e);
 }
 
--- what is marked keeps its clock, and a base its numbers
+-- what is marked keeps its clock, and a base says what it said
 pub record Keeps (old new : Clocks) : Type 0 where
   pub marked : (y : Event) → y.at < marked_count old y.proc → y.at < marked_count new y.proc
   pub clocks : (y : Event) → y.at < marked_count old y.proc → (q : ℕ) → clock_of new y q ≡ clock_of old y q
-  pub more : length old.bases.items ≤ length new.bases.items
-  pub bases : (n : ℕ) → n < length old.bases.items → items_at new.bases.items n ≡ items_at old.bases.items n
+  pub roots : (n : ℕ) → IsRoot old.trees n → IsRoot new.trees n
+  pub bases : (n : ℕ) → IsRoot old.trees n → (q : ℕ) → base_at new n q ≡ base_at old n q
+
+pub grown_through : (a b c : Clocks) → IsGrown a b → IsGrown b c → IsGrown a c
+grown_through a b c ab bc = record {
+  roots = bc.roots ∙ ab.roots;
+  updates = bc.updates ∙ ab.updates;
+  trees = clocks_stay_through a.trees b.trees c.trees ab.trees bc.trees;
+}
+
+-- only the trees have grown
+pub trees_grown : (old new : Clocks) → AreBased old → IsGrown old new → AreBased new
+trees_grown old new based grown = record {
+  there = λ y n e. grown.trees.roots n (based.there y n (sym (ap (λ ns. slice_get (items_at ns y.proc) y.at) grown.roots) ∙ e));
+  room = λ p lt. holds_kept old.trees new.trees p grown.trees (based.room p (let same = ap length grown.roots in omega (arith, lt, same)));
+  few = λ p. let same = ap (λ ns. length (items_at ns p)) grown.roots in let few = based.few p in omega (arith, same, few);
+}
 
 module _ (old new : Clocks) (based : AreBased old) (grown : IsGrown old new) where
   pub count_grown : (p : ℕ) → marked_count new p ≡ marked_count old p
-  count_grown p = ap (λ ns. length (items_at ns p)) grown.numbers
+  count_grown p = ap (λ ns. length (items_at ns p)) grown.roots
 
-  number_grown : (y : Event) → number_at new y ≡ number_at old y
-  number_grown y = ap (λ ns. slice_get (items_at ns y.proc) y.at) grown.numbers
+  root_grown : (y : Event) → root_at new y ≡ root_at old y
+  root_grown y = ap (λ ns. slice_get (items_at ns y.proc) y.at) grown.roots
 
-  over_grown : (y : Event) (q : ℕ) (o : Option ℕ) → number_at old y ≡ o → clock_over new y o q ≡ clock_over old y o q
+  over_grown : (y : Event) (q : ℕ) (o : Option ℕ) → root_at old y ≡ o → clock_over new y o q ≡ clock_over old y o q
   over_grown y q None e = refl
-  over_grown y q (Some n) e = ap (λ b. max (slice_index b q) (own_of y q)) (grown.bases n (based.there y n e))
+  over_grown y q (Some n) e = ap (λ b. max b (own_of y q)) (grown.trees.same n (based.there y n e) q)
 
   pub clock_grown : (y : Event) (q : ℕ) → clock_of new y q ≡ clock_of old y q
-  clock_grown y q = ap (λ o. clock_over new y o q) (number_grown y) ∙ over_grown y q (number_at old y) refl
+  clock_grown y q = ap (λ o. clock_over new y o q) (root_grown y) ∙ over_grown y q (root_at old y) refl
 
   pub grown_keeps : Keeps old new
   grown_keeps = record {
     marked = λ y lt. let e = count_grown y.proc in omega (arith, lt, e);
     clocks = λ y lt q. clock_grown y q;
-    more = grown.more;
-    bases = grown.bases;
+    roots = grown.trees.roots;
+    bases = grown.trees.same;
   }
 
   pub sound_grown : (plan : Plan) → AreClocks plan old → AreBased new → AreClocks plan new
   sound_grown plan sound still = record {
-    processes = ap length grown.numbers ∙ sound.processes;
+    processes = ap length grown.roots ∙ sound.processes;
     based = still;
     live = λ y lt. sound.live y (let e = count_grown y.proc in omega (arith, lt, e));
     closed = λ x y e lt. (let a = count_grown x.proc in let b = count_grown y.proc in let h = sound.closed x y e (omega (arith, lt, b)) in omega (arith, h, a));
@@ -86,7 +103,7 @@ module _ (old new : Clocks) (based : AreBased old) (grown : IsGrown old new) whe
 
 module _ (plan : Plan) (old new : Clocks) (p n : ℕ) (there : p < process_count plan) (sound : AreClocks plan old) (next : IsNextBase plan old p n) (adds : Adds old new p n) where
   count_here : marked_count new p ≡ suc (marked_count old p)
-  count_here = rw adds.here (omega (arith, length-append (items_at old.numbers.items p) (n ∷ [])))
+  count_here = rw adds.here (omega (arith, length-append (items_at old.roots.items p) (n ∷ [])))
 
   count_other : (q : ℕ) → (q ≡ p → ⊥) → marked_count new q ≡ marked_count old q
   count_other q ne = ap length (adds.others q ne)
@@ -112,27 +129,27 @@ module _ (plan : Plan) (old new : Clocks) (p n : ℕ) (there : p < process_count
     | inr ne ↦ let c = count_other y.proc ne in omega (arith, c, lt)
   ]
 
-  number_here : number_at new (next_of old p) ≡ Some n
-  number_here = ap (λ ns. slice_get ns (marked_count old p)) adds.here ∙ slice_get-append_last (items_at old.numbers.items p) n (marked_count old p) refl
+  root_here : root_at new (next_of old p) ≡ Some n
+  root_here = ap (λ ns. slice_get ns (marked_count old p)) adds.here ∙ slice_get-append_last (items_at old.roots.items p) n (marked_count old p) refl
 
-  number_kept : (y : Event) → y.at < marked_count old y.proc → number_at new y ≡ number_at old y
-  number_kept y lt = elim (cases_eq y.proc p) [
+  root_kept : (y : Event) → y.at < marked_count old y.proc → root_at new y ≡ root_at old y
+  root_kept y lt = elim (cases_eq y.proc p) [
     | inl e ↦
         let lt' : y.at < marked_count old p = subst (λ q. y.at < marked_count old q) e lt in
-        subst (λ q. slice_get (items_at new.numbers.items q) y.at ≡ slice_get (items_at old.numbers.items q) y.at) (sym e)
-        (ap (λ ns. slice_get ns y.at) adds.here ∙ slice_get-append_left (items_at old.numbers.items p) (n ∷ []) y.at lt')
+        subst (λ q. slice_get (items_at new.roots.items q) y.at ≡ slice_get (items_at old.roots.items q) y.at) (sym e)
+        (ap (λ ns. slice_get ns y.at) adds.here ∙ slice_get-append_left (items_at old.roots.items p) (n ∷ []) y.at lt')
     | inr ne ↦ ap (λ ns. slice_get ns y.at) (adds.others y.proc ne)
   ]
 
   over_kept : (y : Event) (q : ℕ) (o : Option ℕ) → clock_over new y o q ≡ clock_over old y o q
   over_kept y q None = refl
-  over_kept y q (Some m) = ap (λ bases. max (slice_index (items_at bases m) q) (own_of y q)) adds.bases
+  over_kept y q (Some m) = ap (λ trees. max (says trees m q) (own_of y q)) adds.trees
 
   clock_kept : (y : Event) → y.at < marked_count old y.proc → (q : ℕ) → clock_of new y q ≡ clock_of old y q
-  clock_kept y lt q = ap (λ o. clock_over new y o q) (number_kept y lt) ∙ over_kept y q (number_at old y)
+  clock_kept y lt q = ap (λ o. clock_over new y o q) (root_kept y lt) ∙ over_kept y q (root_at old y)
 
   clock_here : (q : ℕ) → clock_of new (next_of old p) q ≡ max (base_at old n q) (own_of (next_of old p) q)
-  clock_here q = ap (λ o. clock_over new (next_of old p) o q) number_here ∙ over_kept (next_of old p) q (Some n)
+  clock_here q = ap (λ o. clock_over new (next_of old p) o q) root_here ∙ over_kept (next_of old p) q (Some n)
 
   next_live : Live plan (next_of old p)
   next_live = ready_live plan (marked_count old) (next_of old p) sound.live next.ready
@@ -142,13 +159,11 @@ module _ (plan : Plan) (old new : Clocks) (p n : ℕ) (there : p < process_count
 
   based_added : AreBased new
   based_added = record {
-    there = λ y m e. subst (λ bases. m < length bases) (sym adds.bases) (elim (was_or_next y (slice_get_within (items_at new.numbers.items y.proc) y.at m e)) [
-      | inl was ↦ sound.based.there y m (sym (number_kept y was) ∙ e)
-      | inr is ↦ let same : n ≡ m = same_Some _ _ (sym number_here ∙ (ap (number_at new) (sym is) ∙ e)) in let lt = next.there in omega (arith, lt, same)
+    there = λ y m e. subst (λ trees. IsRoot trees m) (sym adds.trees) (elim (was_or_next y (slice_get_within (items_at new.roots.items y.proc) y.at m e)) [
+      | inl was ↦ sound.based.there y m (sym (root_kept y was) ∙ e)
+      | inr is ↦ let same : n ≡ m = same_Some _ _ (sym root_here ∙ (ap (root_at new) (sym is) ∙ e)) in subst (λ k. IsRoot old.trees k) same next.there
     ]);
-    widths = λ m. subst (λ bases. length (items_at bases m) ≤ length new.numbers.items) (sym adds.bases) (let w = sound.based.widths m in let same = adds.same in omega (arith, w, same));
-    first = ap (λ bases. items_at bases 0) adds.bases ∙ sound.based.first;
-    some = subst (λ bases. 0 < length bases) (sym adds.bases) sound.based.some;
+    room = λ q lt. subst (λ trees. Holds trees q) (sym adds.trees) (sound.based.room q (let same = adds.same in omega (arith, lt, same)));
     few = λ q. elim (cases_eq q p) [
       | inl e ↦ subst (λ k. marked_count new k < 2 ^ 32) (sym e) (let here = count_here in let few = next.few in omega (arith, here, few))
       | inr ne ↦ let c = count_other q ne in let few = sound.based.few q in omega (arith, c, few)
@@ -190,8 +205,8 @@ module _ (plan : Plan) (old new : Clocks) (p n : ℕ) (there : p < process_count
   added_keeps = record {
     marked = marked_up;
     clocks = clock_kept;
-    more = let e : length new.bases.items ≡ length old.bases.items = ap length adds.bases in omega (arith, e);
-    bases = λ m lt. ap (λ bases. items_at bases m) adds.bases;
+    roots = λ m root. subst (λ trees. IsRoot trees m) (sym adds.trees) root;
+    bases = λ m root q. ap (λ trees. says trees m q) adds.trees;
   }
 
   sum_same : (n : ℕ) (f g : ℕ → ℕ) → ((q : ℕ) → q < n → g q ≡ f q) → sum_to n g ≡ sum_to n f
@@ -215,10 +230,10 @@ module _ (plan : Plan) (old new : Clocks) (p n : ℕ) (there : p < process_count
       sum_falls (process_count plan) _ _ there (omega (arith, within, here)) (λ q ne. ap (λ n. event_count plan q - n) (count_other q ne))
 
 -- what is left is told by what is marked
-pub left_same : (plan : Plan) (old new : Clocks) → new.numbers.items ≡ old.numbers.items → unmarked plan new ≡ unmarked plan old
+pub left_same : (plan : Plan) (old new : Clocks) → new.roots.items ≡ old.roots.items → unmarked plan new ≡ unmarked plan old
 left_same plan old new same = ap (λ ns. sum_to (process_count plan) (λ p. event_count plan p - length (items_at ns p))) same
 
-pub stuck_same : (plan : Plan) (old new : Clocks) (p : ℕ) → new.numbers.items ≡ old.numbers.items → IsStuckAt plan old p → IsStuckAt plan new p
+pub stuck_same : (plan : Plan) (old new : Clocks) (p : ℕ) → new.roots.items ≡ old.roots.items → IsStuckAt plan old p → IsStuckAt plan new p
 stuck_same plan old new p same stuck = subst (λ ns. IsReady plan (λ q. length (items_at ns q)) (record { proc = p; at = length (items_at ns p) }) → ⊥) (sym same) stuck
 
 -- where no process of the plan has a ready event, the marks are whole
@@ -239,7 +254,7 @@ marks_whole plan clocks sound stuck = record {
 
 -- an event that isn't marked counts none
 pub clock_past : (clocks : Clocks) (y : Event) (q : ℕ) → marked_count clocks y.proc ≤ y.at → clock_of clocks y q ≡ 0
-clock_past clocks y q ge = ap (λ o. clock_over clocks y o q) (slice_get_past (items_at clocks.numbers.items y.proc) y.at ge)
+clock_past clocks y q ge = ap (λ o. clock_over clocks y o q) (slice_get_past (items_at clocks.roots.items y.proc) y.at ge)
 
 -- what the clock says, for two places
 pub before_told : (plan : Plan) (clocks : Clocks) (x y : Event) → AreMarks plan clocks → (x ≡ y → ⊥) → x.at < clock_of clocks y x.proc → Before plan x y

@@ -1,9 +1,9 @@
 -- A base of the next event, from its sources: those of a fence's arrivals are joined into one.
-use Rattle.std.proofs.Common.{◌≡◌, ◌⊎◌, inl, inr, ℕ, zero, suc, ◌+◌, ◌<◌, ◌≤◌, ◌^◌, List, [], ◌∷◌, ◌++◌, true, Option, Some, None, length, slice_index, slice_set, max, refl, sym, ap, ◌∙◌, subst}
+use Rattle.std.proofs.Common.{◌≡◌, ◌⊎◌, inl, inr, ℕ, zero, suc, ◌+◌, ◌<◌, ◌≤◌, ◌^◌, List, [], ◌∷◌, ◌++◌, true, false, Option, Some, None, length, slice_set, max, refl, sym, ap, ◌∙◌, subst}
 use Rattle.std.proofs.Common.{arith}
-use Rattle.std.specs.Prelude.{slice_get, option_to_list}
+use Rattle.std.specs.Prelude.{Bool, slice_get, option_to_list, if◌then◌else◌}
 use Rattle.std.proofs.lemmas.Bool.{cases_eq, cases_lt}
-use Rattle.std.proofs.lemmas.Option.{slice_get_within, same_Some}
+use Rattle.std.proofs.lemmas.Option.{slice_get_past, slice_get_within, same_Some}
 use Rattle.wire_runs.specs.Plan.{Plan, Event, Leave, kind, process_count}
 use Rattle.wire_runs.specs.Fences.{arrivals, arrivals_with, is_member}
 use Rattle.wire_content.specs.Scripts.{Scripts}
@@ -13,14 +13,28 @@ use Rattle.wire_runs.specs.Order.{Edge, IsArrival, may_come}
 use Rattle.wire_plan.specs.Index.{AreSources, AreArrivals, AwaitsCommit, AwaitsPublish, Awaits, IsAwaited, previous_at, previous_of}
 use Rattle.wire_plan.specs.Meetings.{fence_members}
 use Rattle.wire_marks.specs.declared.joins.Meeting.{Meeting}
-use Rattle.wire_marks.specs.Clocks.{Clocks, items_at, marked_count, number_at, base_at, own_of, clock_of, LeadsTo}
-use Rattle.wire_marks.specs.Marking.{AreBased, AreClocks, IsReady, IsBase, next_of, IsNextBase, IsGrown, Adds, number_or_first, number_before, Counts, IsRaised, Notes}
+use Rattle.wire_clocks.specs.ClockTrees.{IsRoot, Holds}
+use Rattle.wire_clocks.proofs.Staying.{zero_is_root, zero_says}
+use Rattle.wire_marks.specs.Clocks.{Clocks, items_in, items_at, marked_count, root_at, base_at, own_of, clock_of, LeadsTo}
+use Rattle.wire_marks.specs.Marking.{AreBased, AreClocks, IsReady, IsBase, next_of, IsNextBase, IsGrown, Adds, root_or_zero, root_before, Counts, IsRaised, Notes}
 use Rattle.wire_marks.specs.Meeting.{AreMarked, IsJoin, IsJoined, IsMeeting, IsMeetingAt, IsEmpty, AreMeetings, AreGrowing, AreAdded, AreOthersKept, IsLeaveOf}
 use Rattle.wire_marks.proofs.Tables.{slice_get-set_same, slice_get-set_other}
 use Rattle.wire_marks.proofs.Same.{at_head, same_places}
 use Rattle.wire_marks.proofs.Marking.{own_rises, leads_through}
 use Rattle.wire_marks.proofs.Growing.{Keeps, grown_keeps, added_keeps, sound_added, count_grown}
 use Rattle.wire_marks.proofs.Leaving.{leave_after}
+
+-- a clock that is raised says no less
+pub raised_not_below : (here : Bool) (new old number : ℕ) → new ≡ (if here then max old number else old) → old ≤ new
+raised_not_below true new old number is = omega (arith, is)
+raised_not_below false new old number is = omega (arith, is)
+
+-- the trees have numbers for the process of a marked event
+pub marked_room : (clocks : Clocks) (z : Event) → AreBased clocks → z.at < marked_count clocks z.proc → Holds clocks.trees z.proc
+marked_room clocks z based lt = based.room z.proc (elim (cases_lt z.proc (length clocks.roots.items)) [
+  | inl within ↦ within
+  | inr past ↦ absurd (let e : marked_count clocks z.proc ≡ 0 = ap (λ o. length (items_in o)) (slice_get_past clocks.roots.items z.proc past) in omega (arith, lt, e))
+])
 
 -- one more place is joined
 pub join_step : (clocks : Clocks) (places : List Event) (k : ℕ) (x : Event) (old new : ℕ → ℕ) → slice_get places k ≡ Some x → IsJoin clocks places k old →
@@ -40,6 +54,16 @@ join_step clocks places k x old new at join each = record {
             subst (λ y. clock_of clocks y q ≤ new q) is (omega (arith, e))
         | inr ne ↦ let c = join.covers q j z (omega arith) h in omega (arith, e, c)
       ];
+}
+
+-- the same clock
+pub join_as : (clocks : Clocks) (places : List Event) (n : ℕ) (clock same : ℕ → ℕ) → ((q : ℕ) → same q ≡ clock q) → IsJoin clocks places n clock → IsJoin clocks places n same
+join_as clocks places n clock same is join = record {
+  from = λ q m lt. join.from q m (let e = is q in omega (arith, lt, e));
+  covers = λ q k z lt h.
+      let e = is q in
+      let c = join.covers q k z lt h in
+      omega (arith, e, c);
 }
 
 pub marked_step : (clocks : Clocks) (places : List Event) (k : ℕ) (x : Event) → slice_get places k ≡ Some x → x.at < marked_count clocks x.proc → AreMarked clocks places k →
@@ -62,19 +86,21 @@ marked_kept old new places n keeps h = λ k z lt e. keeps.marked z (h k z lt e)
 
 joined_kept : (old new : Clocks) (places : List Event) (n : ℕ) → Keeps old new → IsJoined old places n → IsJoined new places n
 joined_kept old new places n keeps h = record {
-  there = let lt = h.there in let more = keeps.more in omega (arith, lt, more);
+  there = keeps.roots n h.there;
   marked = marked_kept old new places (length places) keeps h.marked;
-  join = subst (λ b. IsJoin new places (length places) (λ q. slice_index b q)) (sym (keeps.bases n h.there)) (record {
+  join = record {
     from = λ q m lt.
-        let w = h.join.from q m lt in
+        let same = keeps.bases n h.there q in
+        let w = h.join.from q m (omega (arith, lt, same)) in
         let e = keeps.clocks w.1 (h.marked w.0 w.1 w.2 w.3) q in
         let at = w.4 in
         (w.0, w.1, w.2, w.3, omega (arith, at, e));
     covers = λ q k z lt f.
+        let same = keeps.bases n h.there q in
         let e = keeps.clocks z (h.marked k z lt f) q in
         let c = h.join.covers q k z lt f in
-        omega (arith, e, c);
-  });
+        omega (arith, e, c, same);
+  };
 }
 
 pub meeting_kept : (old new : Clocks) (places : List Event) (meeting : Meeting) → Keeps old new → IsMeeting old places meeting → IsMeeting new places meeting
@@ -84,12 +110,12 @@ meeting_kept old new places meeting keeps h = record {
 }
 
 -- all arrivals are joined into a base of their own
-pub joined_new : (old new : Clocks) (places : List Event) (n : ℕ) (base : List ℕ) → Keeps old new → n < length new.bases.items → items_at new.bases.items n ≡ base →
-    AreMarked old places (length places) → IsJoin old places (length places) (λ q. slice_index base q) → IsJoined new places n
-joined_new old new places n base keeps there here marked join = record {
+pub joined_new : (old new : Clocks) (places : List Event) (n : ℕ) → Keeps old new → IsRoot new.trees n → AreMarked old places (length places) →
+    IsJoin old places (length places) (base_at new n) → IsJoined new places n
+joined_new old new places n keeps there marked join = record {
   there = there;
   marked = marked_kept old new places (length places) keeps marked;
-  join = subst (λ b. IsJoin new places (length places) (λ q. slice_index b q)) (sym here) (record {
+  join = record {
     from = λ q m lt.
         let w = join.from q m lt in
         let e = keeps.clocks w.1 (marked w.0 w.1 w.2 w.3) q in
@@ -99,7 +125,7 @@ joined_new old new places n base keeps there here marked join = record {
         let e = keeps.clocks z (marked k z lt f) q in
         let c = join.covers q k z lt f in
         omega (arith, e, c);
-  });
+  };
 }
 
 -- what is kept of a fence, with the base that was made
@@ -130,7 +156,8 @@ pub meetings_kept : (plan : Plan) (table : FenceTable) (old new : Clocks) (meeti
 meetings_kept plan table old new meetings keeps h = λ n info list f a meeting g. meeting_kept old new list meeting keeps (h n info list f a meeting g)
 
 -- what is kept stays right when an event is marked
-pub growing_added : (plan : Plan) (table : FenceTable) (old new : Clocks) (meetings : List Meeting) (p n : ℕ) → p < process_count plan → AreGrowing plan table old meetings → IsNextBase plan old p n →
+pub growing_added : (plan : Plan) (table : FenceTable) (old new : Clocks) (meetings : List Meeting) (p n : ℕ) → p < process_count plan → AreGrowing plan table old meetings →
+    IsNextBase plan old p n →
     Adds old new p n → Notes plan (next_of old p) old new → AreGrowing plan table new meetings
 growing_added plan table old new meetings p n there growing next adds notes = record {
   marked = sound_added plan old new p n there growing.marked next adds notes;
@@ -150,7 +177,8 @@ pub previous_edge : (plan : Plan) (y : Event) (previous awaited : Option Event) 
 previous_edge plan y None awaited xs are z e = absurd (cc)
 previous_edge plan y (Some p) awaited xs are z e = are.only 0 z e
 
-pub arrival_edge : (plan : Plan) (y : Event) (previous awaited : Option Event) (xs : List Event) → AreSources plan y (option_to_list previous ++ (option_to_list awaited ++ xs)) → (k : ℕ) (z : Event) →
+pub arrival_edge : (plan : Plan) (y : Event) (previous awaited : Option Event) (xs : List Event) → AreSources plan y (option_to_list previous ++ (option_to_list awaited ++ xs)) →
+    (k : ℕ) (z : Event) →
     slice_get xs k ≡ Some z → Edge plan z y
 arrival_edge plan y None None xs are k z e = are.only k z e
 arrival_edge plan y None (Some s) xs are k z e = are.only (suc k) z e
@@ -196,9 +224,9 @@ ready_is plan clocks p previous awaited xs may are before awaited_marked marked 
   ];
 }
 
--- the number of the base of what is marked
-number_of : (clocks : Clocks) (z : Event) → z.at < marked_count clocks z.proc → (n : ℕ) × (number_at clocks z ≡ Some n)
-number_of clocks z lt = go (items_at clocks.numbers.items z.proc) z.at lt
+-- the root of the base of what is marked
+pub root_of : (clocks : Clocks) (z : Event) → z.at < marked_count clocks z.proc → (n : ℕ) × (root_at clocks z ≡ Some n)
+root_of clocks z lt = go (items_at clocks.roots.items z.proc) z.at lt
   where
     go : (xs : List ℕ) (i : ℕ) → i < length xs → (n : ℕ) × (slice_get xs i ≡ Some n)
     go [] i lt = absurd (omega (arith, lt))
@@ -218,19 +246,19 @@ counted_below plan clocks z w sound mz mw lt q = elim (cases_lt (clock_of clocks
   | inr ge ↦ ge
 ]
 
-pub before_fits : (clocks : Clocks) (previous : Option Event) → AreBased clocks → number_before clocks previous < length clocks.bases.items
-before_fits clocks None based = based.some
-before_fits clocks (Some z) based = go (number_at clocks z) refl
+pub before_fits : (clocks : Clocks) (previous : Option Event) → AreBased clocks → IsRoot clocks.trees (root_before clocks previous)
+before_fits clocks None based = zero_is_root clocks.trees
+before_fits clocks (Some z) based = go (root_at clocks z) refl
   where
-    go : (o : Option ℕ) → number_at clocks z ≡ o → number_or_first o < length clocks.bases.items
-    go None e = based.some
+    go : (o : Option ℕ) → root_at clocks z ≡ o → IsRoot clocks.trees (root_or_zero o)
+    go None e = zero_is_root clocks.trees
     go (Some n) e = based.there z n e
 
 -- the base of the event before, raised to the clock of what is awaited
-pub raised_here : (clocks : Clocks) (previous : Option Event) (z : Event) (base : ℕ → ℕ) → ((q : ℕ) → base q ≡ max (base_at clocks (number_before clocks previous) q) (clock_of clocks z q)) →
+pub raised_here : (clocks : Clocks) (previous : Option Event) (z : Event) (base : ℕ → ℕ) → ((q : ℕ) → base q ≡ max (base_at clocks (root_before clocks previous) q) (clock_of clocks z q)) →
     IsRaised clocks previous (Some z) base
 raised_here clocks previous z base each = record {
-  from = λ q n lt. elim (cases_lt n (base_at clocks (number_before clocks previous) q)) [
+  from = λ q n lt. elim (cases_lt n (base_at clocks (root_before clocks previous) q)) [
     | inl was ↦ inl was
     | inr ge ↦ inr (let e = each q in (z, refl, omega (arith, lt, e, ge)))
   ];
@@ -245,15 +273,15 @@ module _ (plan : Plan) (clocks : Clocks) (p : ℕ) (previous awaited : Option Ev
   previous_counted z is = previous_marked clocks p z (sym before ∙ is)
 
   -- the clock of the event before
-  previous_over : (z : Event) → previous ≡ Some z → (q : ℕ) → clock_of clocks z q ≡ max (base_at clocks (number_before clocks previous) q) (own_of z q)
+  previous_over : (z : Event) → previous ≡ Some z → (q : ℕ) → clock_of clocks z q ≡ max (base_at clocks (root_before clocks previous) q) (own_of z q)
   previous_over z is q =
-      let m = number_of clocks z (previous_counted z is) in
+      let m = root_of clocks z (previous_counted z is) in
       rw (is, m.1) refl
 
-  previous_from : (o : Option Event) → previous ≡ o → (q n : ℕ) → n < base_at clocks (number_before clocks o) q → (z : Event) × Edge plan z (next_of clocks p) × (n < clock_of clocks z q)
-  previous_from None is q n lt = absurd (let none : base_at clocks 0 q ≡ 0 = ap (λ b. slice_index b q) sound.based.first in omega (arith, lt, none))
+  previous_from : (o : Option Event) → previous ≡ o → (q n : ℕ) → n < base_at clocks (root_before clocks o) q → (z : Event) × Edge plan z (next_of clocks p) × (n < clock_of clocks z q)
+  previous_from None is q n lt = absurd (let none : base_at clocks 0 q ≡ 0 = zero_says clocks.trees q in omega (arith, lt, none))
   previous_from (Some z) is q n lt =
-      let e = subst (λ o. clock_of clocks z q ≡ max (base_at clocks (number_before clocks o) q) (own_of z q)) is (previous_over z is q) in
+      let e = subst (λ o. clock_of clocks z q ≡ max (base_at clocks (root_before clocks o) q) (own_of z q)) is (previous_over z is q) in
       (z, previous_edge plan (next_of clocks p) previous awaited [] are z is, omega (arith, lt, e))
 
   previous_below : (z : Event) → previous ≡ Some z → (q : ℕ) → clock_of clocks z q ≤ max (base q) (own_of (next_of clocks p) q)
@@ -313,12 +341,12 @@ joined_base plan clocks y previous awaited xs n are none among joined = record {
 
 -- the same, once bases are added
 pub next_grown : (plan : Plan) (old new : Clocks) (p n : ℕ) → AreBased old → IsGrown old new → IsReady plan (marked_count old) (next_of old p) → suc (marked_count old p) < 2 ^ 32 →
-    n < length new.bases.items → IsBase plan (clock_of old) (next_of old p) (base_at new n) → IsNextBase plan new p n
+    IsRoot new.trees n → IsBase plan (clock_of old) (next_of old p) (base_at new n) → IsNextBase plan new p n
 next_grown plan old new p n based grown ready few there base = record {
-  ready = subst (λ ns. IsReady plan (λ q. length (items_at ns q)) (record { proc = p; at = length (items_at ns p) })) (sym grown.numbers) ready;
+  ready = subst (λ ns. IsReady plan (λ q. length (items_at ns q)) (record { proc = p; at = length (items_at ns p) })) (sym grown.roots) ready;
   few = let e = count_grown old new based grown p in omega (arith, few, e);
   there = there;
-  base = subst (λ ns. IsBase plan (clock_of new) (record { proc = p; at = length (items_at ns p) }) (base_at new n)) (sym grown.numbers) (record {
+  base = subst (λ ns. IsBase plan (clock_of new) (record { proc = p; at = length (items_at ns p) }) (base_at new n)) (sym grown.roots) (record {
     from = λ q m lt.
         let w = base.from q m lt in
         let e = keeps.clocks w.0 (ready.sources w.0 w.1) q in
@@ -336,12 +364,12 @@ next_grown plan old new p n based grown ready few there base = record {
 
 -- the same of a base that is one by the new clocks
 pub next_joined : (plan : Plan) (old new : Clocks) (p n : ℕ) → AreBased old → IsGrown old new → IsReady plan (marked_count old) (next_of old p) → suc (marked_count old p) < 2 ^ 32 →
-    n < length new.bases.items → IsBase plan (clock_of new) (next_of old p) (base_at new n) → IsNextBase plan new p n
+    IsRoot new.trees n → IsBase plan (clock_of new) (next_of old p) (base_at new n) → IsNextBase plan new p n
 next_joined plan old new p n based grown ready few there base = record {
-  ready = subst (λ ns. IsReady plan (λ q. length (items_at ns q)) (record { proc = p; at = length (items_at ns p) })) (sym grown.numbers) ready;
+  ready = subst (λ ns. IsReady plan (λ q. length (items_at ns q)) (record { proc = p; at = length (items_at ns p) })) (sym grown.roots) ready;
   few = let e = count_grown old new based grown p in omega (arith, few, e);
   there = there;
-  base = subst (λ ns. IsBase plan (clock_of new) (record { proc = p; at = length (items_at ns p) }) (base_at new n)) (sym grown.numbers) base;
+  base = subst (λ ns. IsBase plan (clock_of new) (record { proc = p; at = length (items_at ns p) }) (base_at new n)) (sym grown.roots) base;
 }
 
 -- the arrivals that the sources of the end of a fence name are those of that fence
@@ -376,7 +404,7 @@ leave_awaits_none plan y members (Some z) is h = absurd (no_leave plan y z membe
 -- a base of the next event that ends no fence
 pub next_unmet : (plan : Plan) (old new : Clocks) (p n : ℕ) (previous awaited : Option Event) → AreClocks plan old → may_come plan (next_of old p) (kind plan (next_of old p)) ≡ true →
     AreSources plan (next_of old p) (option_to_list previous ++ (option_to_list awaited ++ [])) → previous ≡ previous_of (next_of old p) →
-    ((z : Event) → awaited ≡ Some z → z.at < marked_count old z.proc) → suc (marked_count old p) < 2 ^ 32 → IsGrown old new → n < length new.bases.items →
+    ((z : Event) → awaited ≡ Some z → z.at < marked_count old z.proc) → suc (marked_count old p) < 2 ^ 32 → IsGrown old new → IsRoot new.trees n →
     IsRaised old previous awaited (base_at new n) → IsNextBase plan new p n
 next_unmet plan old new p n previous awaited sound may are before marked few grown there raised =
     next_grown plan old new p n sound.based grown

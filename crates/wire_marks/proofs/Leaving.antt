@@ -3,8 +3,8 @@ use Rattle.std.proofs.Common.{◌≡◌, ◌∙◌, ap, sym, subst, refl, ℕ, z
 use Rattle.std.specs.Prelude.{slice_get}
 use Rattle.std.proofs.lemmas.Bool.{true≢false}
 use Rattle.std.proofs.lemmas.Option.{slice_get_within, same_Some}
-use Rattle.wire_runs.specs.Plan.{Plan, Event, Process, Call, CallPut, CallCommit, CallFence, CallGet, CallGetNow, CallPublish, CallLookup, CallLookupWait, CallUnpublish, CallFixed, Kind, Put, Commit}
-use Rattle.wire_runs.specs.Plan.{Arrive, Leave, Get, GetNow, Publish, Lookup, LookupWait, Unpublish, Fixed, set_of, kinds_of, process_kinds, kinds, kind_at}
+use Rattle.wire_runs.specs.Plan.{Plan, Event, Process, Call, CallPut, CallCommit, CallFence, CallGet, CallGetNow, CallPublish, CallLookup, CallLookupWait, CallUnpublish, CallUnpublishAll, CallFixed}
+use Rattle.wire_runs.specs.Plan.{Kind, Put, Commit, Arrive, Leave, Get, GetNow, Publish, Lookup, LookupWait, Unpublish, UnpublishAll, Fixed, set_of, kinds_of, process_kinds, kinds, kind_at}
 use Rattle.wire_runs.specs.Fences.{arrivals, is_member}
 use Rattle.wire_runs.specs.Order.{IsArrival}
 use Rattle.wire_plan.specs.Index.{previous_at}
@@ -58,6 +58,7 @@ led_all (CallPublish name ∷ calls) = led_one (Publish name) _ refl (led_all ca
 led_all (CallLookup name ∷ calls) = led_one (Lookup name) _ refl (led_all calls)
 led_all (CallLookupWait name ∷ calls) = led_one (LookupWait name) _ refl (led_all calls)
 led_all (CallUnpublish name ∷ calls) = led_one (Unpublish name) _ refl (led_all calls)
+led_all (CallUnpublishAll ∷ calls) = led_one UnpublishAll _ refl (led_all calls)
 led_all (CallFixed reply ∷ calls) = led_one (Fixed reply) _ refl (led_all calls)
 
 led_in : (o : Option Process) → AreLed (process_kinds o)

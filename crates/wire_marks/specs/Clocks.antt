@@ -1,9 +1,10 @@
 -- What the marks of a plan are: how many events of each process are live, a clock for each of them, and the live publishes and
 -- unpublishes of each name.
-use Rattle.std.specs.Prelude.{◌≡◌, ◌⊎◌, ◌↔◌, ◌<◌, ◌==◌, ℕ, suc, List, [], Option, Some, None, Vec, max, length, slice_get, slice_index, if◌then◌else◌}
+use Rattle.std.specs.Prelude.{◌≡◌, ◌⊎◌, ◌↔◌, ◌<◌, ◌==◌, ℕ, suc, List, [], Option, Some, None, Vec, max, length, slice_get, if◌then◌else◌}
 use Rattle.std.specs.declared.alloc.Global.{Global}
 use Rattle.wire_runs.specs.Plan.{Plan, Event}
 use Rattle.wire_runs.specs.Order.{Live, Before}
+use Rattle.wire_clocks.specs.ClockTrees.{says}
 use Rattle.wire_marks.specs.Updates.{updates_at, AreUpdates}
 use Rattle.wire_marks.specs.declared.clocks.Clocks.{Clocks as Kept}
 
@@ -15,34 +16,34 @@ items_in (Some v) = v.items
 abbrev pub items_at : {A : Type 0} → List (Vec A Global) → ℕ → List A
 items_at xs i = items_in (slice_get xs i)
 
--- the number of a base for each live event of each process, the bases: each has for each process a number; and the updates of each name
+-- for each live event of each process the root of its base, and the trees that these are roots of; and the updates of each name
 abbrev pub Clocks : Type 0
 Clocks = Kept
 
 -- how many events of the process are marked
 abbrev pub marked_count : Clocks → ℕ → ℕ
-marked_count clocks p = length (items_at clocks.numbers.items p)
+marked_count clocks p = length (items_at clocks.roots.items p)
 
--- the number of the base of y, if y is marked
-abbrev pub number_at : Clocks → Event → Option ℕ
-number_at clocks y = slice_get (items_at clocks.numbers.items y.proc) y.at
+-- the root of the base of y, if y is marked
+abbrev pub root_at : Clocks → Event → Option ℕ
+root_at clocks y = slice_get (items_at clocks.roots.items y.proc) y.at
 
--- what a base says of the process q
+-- what the base of this root says of the process q
 abbrev pub base_at : Clocks → ℕ → ℕ → ℕ
-base_at clocks n q = slice_index (items_at clocks.bases.items n) q
+base_at clocks root q = says clocks.trees root q
 
 -- how many events of the process q are y or stand before y in its process
 abbrev pub own_of : Event → ℕ → ℕ
 own_of y q = if q == y.proc then suc y.at else 0
 
--- the clock of y over the base of this number
+-- the clock of y over the base of this root
 abbrev pub clock_over : Clocks → Event → Option ℕ → ℕ → ℕ
 clock_over clocks y None q = 0
 clock_over clocks y (Some n) q = max (base_at clocks n q) (own_of y q)
 
 -- what the clock of y says of the process q, 0 where y isn't marked
 abbrev pub clock_of : Clocks → Event → ℕ → ℕ
-clock_of clocks y q = clock_over clocks y (number_at clocks y) q
+clock_of clocks y q = clock_over clocks y (root_at clocks y) q
 
 -- x is y, or before it
 abbrev pub LeadsTo : Plan → Event → Event → Type 0

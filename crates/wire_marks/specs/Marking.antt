@@ -2,8 +2,9 @@
 use Rattle.std.specs.Prelude.{Some, None, Option, ◌≡◌, ◌≢◌, ◌⊎◌, ◌<◌, ◌≤◌, ◌+◌, ◌-◌, ◌^◌, zero, ◌++◌, ◌∷◌, [], ℕ, suc, true, max, length}
 use Rattle.wire_runs.specs.Plan.{Plan, Event, kind, event_count, process_count}
 use Rattle.wire_runs.specs.Order.{Edge, may_come, Live}
+use Rattle.wire_clocks.specs.ClockTrees.{IsRoot, Holds, Keeps}
 use Rattle.wire_marks.specs.Updates.{updates_at, AreUpdates, IsNoted}
-use Rattle.wire_marks.specs.Clocks.{items_at, Clocks, marked_count, number_at, base_at, own_of, clock_of, IsClock}
+use Rattle.wire_marks.specs.Clocks.{items_at, Clocks, marked_count, root_at, base_at, own_of, clock_of, IsClock}
 
 -- the event may come, and all its sources are marked
 pub record IsReady (plan : Plan) (count : ℕ → ℕ) (y : Event) : Type 0 where
@@ -23,17 +24,15 @@ pub record IsBase (plan : Plan) (clock : Event → ℕ → ℕ) (y : Event) (bas
   pub from : (q n : ℕ) → n < base q → (z : Event) × Edge plan z y × (n < clock z q)
   pub covers : (q : ℕ) (z : Event) → Edge plan z y → clock z q ≤ max (base q) (own_of y q)
 
--- the numbers are those of bases, the first base is empty, and all numbers fit
+-- each marked event has the root of a base, the bases have numbers for each process, and all numbers fit
 pub record AreBased (clocks : Clocks) : Type 0 where
-  pub there : (y : Event) (n : ℕ) → number_at clocks y ≡ Some n → n < length clocks.bases.items
-  pub widths : (n : ℕ) → length (items_at clocks.bases.items n) ≤ length clocks.numbers.items
-  pub first : items_at clocks.bases.items 0 ≡ []
-  pub some : 0 < length clocks.bases.items
+  pub there : (y : Event) (n : ℕ) → root_at clocks y ≡ Some n → IsRoot clocks.trees n
+  pub room : (p : ℕ) → p < length clocks.roots.items → Holds clocks.trees p
   pub few : (p : ℕ) → marked_count clocks p < 2 ^ 32
 
 -- what holds of the clocks while they grow
 pub record AreClocks (plan : Plan) (clocks : Clocks) : Type 0 where
-  pub processes : length clocks.numbers.items ≡ process_count plan
+  pub processes : length clocks.roots.items ≡ process_count plan
   pub based : AreBased clocks
   pub live : AllLive plan (marked_count clocks)
   pub closed : (x y : Event) → Edge plan x y → y.at < marked_count clocks y.proc → x.at < marked_count clocks x.proc
@@ -48,11 +47,11 @@ next_of clocks p = record { proc = p; at = marked_count clocks p }
 abbrev pub IsStuckAt : Plan → Clocks → ℕ → Type 0
 IsStuckAt plan clocks p = IsReady plan (marked_count clocks) (next_of clocks p) → ⊥
 
--- the process's next event is ready, and the base of this number is one for it
+-- the process's next event is ready, and the base of this root is one for it
 pub record IsNextBase (plan : Plan) (clocks : Clocks) (p n : ℕ) : Type 0 where
   pub ready : IsReady plan (marked_count clocks) (next_of clocks p)
   pub few : suc (marked_count clocks p) < 2 ^ 32
-  pub there : n < length clocks.bases.items
+  pub there : IsRoot clocks.trees n
   pub base : IsBase plan (clock_of clocks) (next_of clocks p) (base_at clocks n)
 
 abbrev pub sum_to : ℕ → (ℕ → ℕ) → ℕ
@@ -63,32 +62,31 @@ sum_to (suc n) f = sum_to n f + f n
 abbrev pub unmarked : Plan → Clocks → ℕ
 unmarked plan clocks = sum_to (process_count plan) (λ p. event_count plan p - marked_count clocks p)
 
--- no event more is marked, and no base is another
+-- no event more is marked, and each base stays, and says what it said
 pub record IsGrown (old new : Clocks) : Type 0 where
-  pub numbers : new.numbers.items ≡ old.numbers.items
+  pub roots : new.roots.items ≡ old.roots.items
   pub updates : new.updates ≡ old.updates
-  pub more : length old.bases.items ≤ length new.bases.items
-  pub bases : (n : ℕ) → n < length old.bases.items → items_at new.bases.items n ≡ items_at old.bases.items n
+  pub trees : Keeps old.trees new.trees
 
--- p's next event is marked, with the base of this number
+-- p's next event is marked, with the base of this root
 pub record Adds (old new : Clocks) (p n : ℕ) : Type 0 where
-  pub bases : new.bases.items ≡ old.bases.items
-  pub same : length new.numbers.items ≡ length old.numbers.items
-  pub here : items_at new.numbers.items p ≡ items_at old.numbers.items p ++ n ∷ []
-  pub others : (q : ℕ) → q ≢ p → items_at new.numbers.items q ≡ items_at old.numbers.items q
+  pub trees : new.trees ≡ old.trees
+  pub same : length new.roots.items ≡ length old.roots.items
+  pub here : items_at new.roots.items p ≡ items_at old.roots.items p ++ n ∷ []
+  pub others : (q : ℕ) → q ≢ p → items_at new.roots.items q ≡ items_at old.roots.items q
 
 -- z is noted, if it is a publish or an unpublish
 abbrev pub Notes : Plan → Event → Clocks → Clocks → Type 0
 Notes plan z old new = (name : ℕ) → IsNoted plan z name (updates_at old.updates name) (updates_at new.updates name)
 
-abbrev pub number_or_first : Option ℕ → ℕ
-number_or_first None = 0
-number_or_first (Some n) = n
+abbrev pub root_or_zero : Option ℕ → ℕ
+root_or_zero None = 0
+root_or_zero (Some n) = n
 
--- the number of the base of the event before, the first one where there is none
-abbrev pub number_before : Clocks → Option Event → ℕ
-number_before clocks None = 0
-number_before clocks (Some z) = number_or_first (number_at clocks z)
+-- the root of the base of the event before, that of zeros where there is none
+abbrev pub root_before : Clocks → Option Event → ℕ
+root_before clocks None = 0
+root_before clocks (Some z) = root_or_zero (root_at clocks z)
 
 -- whether z counts the event x
 abbrev pub Counts : Clocks → Option Event → Event → Type 0
@@ -97,6 +95,6 @@ Counts clocks (Some z) x = x.at < clock_of clocks z x.proc
 
 -- the base of the event before, raised to the clock of what is awaited where that event doesn't count it
 pub record IsRaised (clocks : Clocks) (previous awaited : Option Event) (base : ℕ → ℕ) : Type 0 where
-  pub from : (q n : ℕ) → n < base q → (n < base_at clocks (number_before clocks previous) q) ⊎ ((z : Event) × (awaited ≡ Some z) × (n < clock_of clocks z q))
-  pub keeps : (q : ℕ) → base_at clocks (number_before clocks previous) q ≤ base q
+  pub from : (q n : ℕ) → n < base q → (n < base_at clocks (root_before clocks previous) q) ⊎ ((z : Event) × (awaited ≡ Some z) × (n < clock_of clocks z q))
+  pub keeps : (q : ℕ) → base_at clocks (root_before clocks previous) q ≤ base q
   pub covers : (z : Event) → awaited ≡ Some z → Counts clocks previous z ⊎ ((q : ℕ) → clock_of clocks z q ≤ base q)

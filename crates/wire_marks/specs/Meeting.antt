@@ -7,6 +7,7 @@ use Rattle.wire_fence.specs.FenceTable.{FenceInfo, FenceTable, fence_at}
 use Rattle.wire_fence.specs.declared.table.FenceId.{FenceId}
 use Rattle.wire_plan.specs.Index.{AreArrivals}
 use Rattle.wire_plan.specs.Meetings.{IsMet}
+use Rattle.wire_clocks.specs.ClockTrees.{IsRoot}
 use Rattle.wire_marks.specs.Clocks.{Clocks, marked_count, base_at, clock_of}
 use Rattle.wire_marks.specs.Marking.{AreClocks}
 use Rattle.wire_marks.specs.declared.joins.Meeting.{Meeting}
@@ -20,9 +21,9 @@ pub record IsJoin (clocks : Clocks) (places : List Event) (n : ℕ) (clock : ℕ
   pub from : (q m : ℕ) → m < clock q → (k : ℕ) × (z : Event) × (k < n) × (slice_get places k ≡ Some z) × (m < clock_of clocks z q)
   pub covers : (q k : ℕ) (z : Event) → k < n → slice_get places k ≡ Some z → clock_of clocks z q ≤ clock q
 
--- all these events are marked, and the base of this number is the join of their clocks
+-- all these events are marked, and the base of this root is the join of their clocks
 pub record IsJoined (clocks : Clocks) (places : List Event) (n : ℕ) : Type 0 where
-  pub there : n < length clocks.bases.items
+  pub there : IsRoot clocks.trees n
   pub marked : AreMarked clocks places (length places)
   pub join : IsJoin clocks places (length places) (base_at clocks n)
 

@@ -14,58 +14,48 @@ use crate::joins::{Growth, fence_ended, meet};
 use crate::updates::Updates;
 use crate::way::{Way, waits_for};
 use std::alloc::{AllocError, Global};
+use wire_clocks::ClockTrees;
 use wire_fence::Fences;
 use wire_plan::Plan;
 use wire_types::{Event, Proc};
 
-// For each process no number, with room for one for each of its events.
-fn no_numbers(alloc: Global, plan: &Plan) -> Result<Vec<Vec<usize>>, AllocError>
+// For each process no root, with room for one for each of its events.
+fn no_roots(alloc: Global, plan: &Plan) -> Result<Vec<Vec<u32>>, AllocError>
     ensures count { IfOk result (λ v. length v.items ≡ process_count (plan_of plan.now)) }
     ensures none { IfOk result (λ v. (p : ℕ) → items_at v.items p ≡ []) }
 {
-    let mut numbers = Vec::with_capacity(alloc, plan.process_count() as usize)?;
+    let mut roots = Vec::with_capacity(alloc, plan.process_count() as usize)?;
     for number in 0..plan.process_count() {
         let count = plan.event_count(Proc::new(number));
-        numbers.push(Vec::with_capacity(alloc, count as usize)?)?;
+        roots.push(Vec::with_capacity(alloc, count as usize)?)?;
     }
-    Ok(numbers)
-}
-
-// One base, an empty one.
-fn first_base(alloc: Global) -> Result<Vec<Vec<u32>>, AllocError>
-    ensures one { IfOk result (λ v. length v.items ≡ 1) }
-    ensures none { IfOk result (λ v. (n : ℕ) → items_at v.items n ≡ []) }
-{
-    let mut bases = Vec::new(alloc);
-    bases.push(Vec::new(alloc))?;
-    Ok(bases)
+    Ok(roots)
 }
 
 // No event is marked.
 fn no_clocks(alloc: Global, plan: &Plan) -> Result<Clocks, AllocError>
     ensures { IfOk result (λ clocks. AreClocks (plan_of plan.now) clocks) }
 {
-    let numbers = no_numbers(alloc, plan)?;
-    let bases = first_base(alloc)?;
+    let roots = no_roots(alloc, plan)?;
+    let trees = ClockTrees::new(alloc, plan.process_count())?;
     Ok(Clocks {
-        numbers,
-        bases,
+        roots,
+        trees,
         updates: Updates::empty(alloc),
     })
 }
 
-// The number of a base for the process's next event, if it is ready.
+// The root of a base for the process's next event, if it is ready.
 fn next_base(
-    alloc: Global,
     plan: &Plan,
     fences: &Fences,
     growth: &mut Growth,
     proc: Proc,
-) -> Result<Option<usize>, AllocError>
+) -> Result<Option<u32>, AllocError>
     requires fences { AreFencesOf plan.now fences.now }
     requires growing { AreGrowing (plan_of plan.now) fences.now growth.old.clocks growth.old.meetings.items }
     ensures growing { OnOk result (AreGrowing (plan_of plan.now) fences.now growth.new.clocks growth.new.meetings.items) }
-    ensures same { OnOk result (growth.new.clocks.numbers.items ≡ growth.old.clocks.numbers.items) }
+    ensures same { OnOk result (growth.new.clocks.roots.items ≡ growth.old.clocks.roots.items) }
     ensures next { IfOk result (λ o. MatchOption o (IsStuckAt (plan_of plan.now) growth.old.clocks proc.number)
         (λ n. IsNextBase (plan_of plan.now) growth.new.clocks proc.number n)) }
 {
@@ -86,11 +76,10 @@ fn next_base(
     }
     let Some(fence) = fence_ended(plan, fences, event) else {
         let clocks = &mut growth.clocks;
-        let number = clocks.base_after(alloc, sources.previous, sources.awaited)?;
-        return Ok(Some(number));
+        let root = clocks.base_after(sources.previous, sources.awaited)?;
+        return Ok(Some(root));
     };
     let met = meet(
-        alloc,
         &mut growth.clocks,
         &mut growth.meetings,
         fence,
@@ -111,15 +100,15 @@ fn mark_next(
     requires growing { AreGrowing (plan_of plan.now) fences.now growth.old.clocks growth.old.meetings.items }
     ensures growing { OnOk result (AreGrowing (plan_of plan.now) fences.now growth.new.clocks growth.new.meetings.items) }
     ensures falls { IfOk result (λ b. OnTrue b (unmarked (plan_of plan.now) growth.new.clocks < unmarked (plan_of plan.now) growth.old.clocks)) }
-    ensures same { IfOk result (λ b. OnFalse b (growth.new.clocks.numbers.items ≡ growth.old.clocks.numbers.items)) }
+    ensures same { IfOk result (λ b. OnFalse b (growth.new.clocks.roots.items ≡ growth.old.clocks.roots.items)) }
     ensures stuck { IfOk result (λ b. OnFalse b (IsStuckAt (plan_of plan.now) growth.new.clocks proc.number)) }
 {
-    let Some(number) = next_base(alloc, plan, fences, growth, proc)? else {
+    let Some(root) = next_base(plan, fences, growth, proc)? else {
         return Ok(false);
     };
     let at = growth.clocks.marked(proc) as u32;
     let event = Event { proc, at };
-    growth.clocks.mark(alloc, plan, event, number)?;
+    growth.clocks.mark(alloc, plan, event, root)?;
     Ok(true)
 }
 
@@ -136,7 +125,7 @@ fn mark_run(
     ensures growing { OnOk result (AreGrowing (plan_of plan.now) fences.now growth.new.clocks growth.new.meetings.items) }
     ensures not_more { OnOk result (unmarked (plan_of plan.now) growth.new.clocks ≤ unmarked (plan_of plan.now) growth.old.clocks) }
     ensures falls { IfOk result (λ b. OnTrue b (unmarked (plan_of plan.now) growth.new.clocks < unmarked (plan_of plan.now) growth.old.clocks)) }
-    ensures same { IfOk result (λ b. OnFalse b (growth.new.clocks.numbers.items ≡ growth.old.clocks.numbers.items)) }
+    ensures same { IfOk result (λ b. OnFalse b (growth.new.clocks.roots.items ≡ growth.old.clocks.roots.items)) }
     ensures stuck { OnOk result (IsStuckAt (plan_of plan.now) growth.new.clocks proc.number) }
 {
     let mut moved = false;

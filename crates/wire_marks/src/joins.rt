@@ -11,17 +11,17 @@ ghost use Rattle.wire_marks.specs.Marking.{AreBased, IsGrown};
 ghost use Rattle.wire_marks.specs.Meeting.{AreMarked, IsJoined, IsMeeting, IsMeetingAt, AreAdded, AreOthersKept, IsEndOf};
 
 use crate::clocks::Clocks;
-use std::alloc::{AllocError, Global};
+use std::alloc::AllocError;
 use wire_fence::{FenceId, Fences};
 use wire_plan::{Kind, Plan, fence_of};
 use wire_types::{Event, Proc};
 
-/// How many of the arrivals at a fence, from the first on, are marked; and once all are, the number of the
-/// base that is the join of their clocks.
+/// How many of the arrivals at a fence, from the first on, are marked; and once all are, the root of the base
+/// that is the join of their clocks.
 #[derive(Drop)]
 pub(crate) struct Meeting {
     pub count: usize,
-    pub base: Option<usize>,
+    pub base: Option<u32>,
 }
 
 // The arrival of a number.
@@ -56,13 +56,8 @@ impl Meeting {
         true
     }
 
-    // The number of the join of the clocks of the arrivals, all of them marked.
-    fn joined(
-        &mut self,
-        alloc: Global,
-        clocks: &mut Clocks,
-        arrivals: &[Event],
-    ) -> Result<usize, AllocError>
+    // The root of the join of the clocks of the arrivals, all of them marked.
+    fn joined(&mut self, clocks: &mut Clocks, arrivals: &[Event]) -> Result<u32, AllocError>
         requires based { AreBased clocks.old }
         requires kept { IsMeeting clocks.old (map event_of arrivals.now) self.old }
         requires marked { AreMarked clocks.old (map event_of arrivals.now) (length arrivals.now) }
@@ -71,22 +66,16 @@ impl Meeting {
         ensures kept { OnOk result (IsMeeting clocks.new (map event_of arrivals.now) self.new) }
         ensures joined { IfOk result (λ n. IsJoined clocks.new (map event_of arrivals.now) n) }
     {
-        if let Some(number) = self.base {
-            return Ok(number);
+        if let Some(root) = self.base {
+            return Ok(root);
         }
-        let base = clocks.join(alloc, arrivals)?;
-        let number = clocks.add_base(base)?;
-        self.base = Some(number);
-        Ok(number)
+        let root = clocks.join(arrivals)?;
+        self.base = Some(root);
+        Ok(root)
     }
 
-    // Counts further arrivals. The number of the join of their clocks, once all of them are marked.
-    fn meet(
-        &mut self,
-        alloc: Global,
-        clocks: &mut Clocks,
-        arrivals: &[Event],
-    ) -> Result<Option<usize>, AllocError>
+    // Counts further arrivals. The root of the join of their clocks, once all of them are marked.
+    fn meet(&mut self, clocks: &mut Clocks, arrivals: &[Event]) -> Result<Option<u32>, AllocError>
         requires based { AreBased clocks.old }
         requires kept { IsMeeting clocks.old (map event_of arrivals.now) self.old }
         ensures based { OnOk result (AreBased clocks.new) }
@@ -98,8 +87,8 @@ impl Meeting {
         if !self.count_on(clocks, arrivals) {
             return Ok(None);
         }
-        let number = self.joined(alloc, clocks, arrivals)?;
-        Ok(Some(number))
+        let root = self.joined(clocks, arrivals)?;
+        Ok(Some(root))
     }
 }
 
@@ -117,14 +106,13 @@ fn add_meetings(meetings: &mut Vec<Meeting>, fence: FenceId) -> Result<(), Alloc
     Ok(())
 }
 
-/// The number of the join of the clocks of the arrivals at a fence, once all of them are marked.
+/// The root of the join of the clocks of the arrivals at a fence, once all of them are marked.
 pub(crate) fn meet(
-    alloc: Global,
     clocks: &mut Clocks,
     meetings: &mut Vec<Meeting>,
     fence: FenceId,
     arrivals: &[Event],
-) -> Result<Option<usize>, AllocError>
+) -> Result<Option<u32>, AllocError>
     requires based { AreBased clocks.old }
     requires kept { IsMeetingAt clocks.old meetings.old.items fence.number (map event_of arrivals.now) }
     ensures based { OnOk result (AreBased clocks.new) }
@@ -135,7 +123,7 @@ pub(crate) fn meet(
         (λ n. IsJoined clocks.new (map event_of arrivals.now) n)) }
 {
     add_meetings(meetings, fence)?;
-    let met = meetings[fence.number as usize].meet(alloc, clocks, arrivals)?;
+    let met = meetings[fence.number as usize].meet(clocks, arrivals)?;
     Ok(met)
 }
 

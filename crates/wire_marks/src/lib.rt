@@ -8,7 +8,6 @@ mod law;
 mod marked;
 mod marks;
 mod steps;
-mod table;
 mod updates;
 mod way;
 

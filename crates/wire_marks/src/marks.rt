@@ -89,7 +89,8 @@ impl Marks {
     ) -> Result<Option<Vec<Event>>, Fault>
         requires { AreMarks (plan_of plan.now) self.now }
         ensures shown { IfOk result (λ o. MatchOption o (Before (plan_of plan.now) (event_of x) (event_of y) → ⊥)
-            (λ chain. IsShown (plan_of plan.now) (event_of x) (event_of y) (map event_of chain.items) × Before (plan_of plan.now) (event_of x) (event_of y))) }
+            (λ chain. IsShown (plan_of plan.now) (event_of x) (event_of y) (map event_of chain.items) × Before (plan_of plan.now) (event_of x)
+            (event_of y))) }
         ensures memory { IsOkUnless result Fault.Memory }
     {
         if !self.before(x, y) {

@@ -1,6 +1,6 @@
 -- What stands under published names (PMIx Standard 5.0, Publish/Lookup Operations). Names are numbers, and a table
 -- has for each name the publish that set it, where something stands there.
-use Rattle.std.specs.Prelude.{ℕ, List, Bool, false, Option, Some, None, set, slice_index_or, ◌==◌, if◌then◌else◌}
+use Rattle.std.specs.Prelude.{ℕ, List, Bool, false, Option, Some, None, map, set, slice_index_or, ◌==◌, if◌then◌else◌}
 use Rattle.wire_types.specs.declared.CallAt.{CallAt}
 use Rattle.wire_types.specs.declared.Status.{Status}
 use Rattle.wire_types.specs.declared.Status.TheVariants.{Success, NotFound, DuplicateKey}
@@ -36,3 +36,7 @@ names_after_publish name call names = set names name (after_publish call (publis
 
 abbrev pub names_after_unpublish : ℕ → ℕ → List (Option CallAt) → List (Option CallAt)
 names_after_unpublish name p names = set names name (after_unpublish p (published names name))
+
+-- the table after this process has unpublished all that it published
+abbrev pub names_after_unpublish_all : ℕ → List (Option CallAt) → List (Option CallAt)
+names_after_unpublish_all p names = map (after_unpublish p) names

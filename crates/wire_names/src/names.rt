@@ -32,6 +32,26 @@ fn is_published_by(standing: Option<CallAt>, proc: Proc) -> bool
     }
 }
 
+// What stands under a name after this process has unpublished what it published there.
+fn after_unpublish(standing: Option<CallAt>, proc: Proc) -> Option<CallAt>
+    ensures { result ≡ names.after_unpublish proc.number standing }
+{
+    if is_published_by(standing, proc) {
+        None
+    } else {
+        standing
+    }
+}
+
+// Removes all that this process published.
+fn unpublish_each(table: &mut [Option<CallAt>], proc: Proc)
+    ensures { table.new ≡ names.names_after_unpublish_all proc.number table.old }
+{
+    for standing in table.iter_mut() {
+        *standing = after_unpublish(*standing, proc);
+    }
+}
+
 impl Names {
     /// So many names, with nothing under any of them. The only error is `Fault::Memory`.
     pub fn new(alloc: Global, names: u32) -> Result<Names, Fault>
@@ -85,5 +105,13 @@ impl Names {
         } else {
             Status::NotFound
         }
+    }
+
+    /// Removes all that this process published (`PMIx_Unpublish` of no keys in particular). What others
+    /// published stays. It takes no memory.
+    pub fn unpublish_all(&mut self, proc: Proc)
+        ensures { self.new ≡ names.names_after_unpublish_all proc.number self.old }
+    {
+        unpublish_each(self.table.as_mut_slice(), proc);
     }
 }

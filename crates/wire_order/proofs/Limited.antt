@@ -5,6 +5,8 @@ use Rattle.std.proofs.lemmas.List.{length-take, take-take, take_all}
 use borrow.Author.Tests.{lt-ltb}
 use Rattle.wire_types.specs.declared.Fault.TheVariants.{BadOrder}
 use Rattle.wire_content.specs.Scripts.{Scripts}
+use Rattle.wire_script.specs.declared.Size.{Size}
+use Rattle.wire_script.specs.Limits.{order_bytes}
 use Rattle.wire_order.specs.Order.{order_within, order_read}
 
 -- past the limit only the bytes up to it tell
@@ -23,5 +25,5 @@ limited limit s bytes = elim (cases_lt limit (length bytes)) [
 ]
 
 -- and so for the limit of an order
-pub order_limited : (s : Scripts) (bytes : List ℕ) → order_read s (take 8388609 bytes) ≡ order_read s bytes
-order_limited s bytes = limited 8388608 s bytes
+pub order_limited : (size : Size) (s : Scripts) (bytes : List ℕ) → order_read size s (take (order_bytes size + 1) bytes) ≡ order_read size s bytes
+order_limited size s bytes = limited (order_bytes size) s bytes

@@ -5,6 +5,8 @@ use Rattle.wire_types.specs.declared.Fault.{Fault}
 use Rattle.wire_types.specs.declared.Fault.TheVariants.{BadOrder}
 use Rattle.wire_content.specs.Scripts.{Scripts}
 use Rattle.wire_content.specs.Canonical.{process_text}
+use Rattle.wire_script.specs.declared.Size.{Size}
+use Rattle.wire_script.specs.Limits.{order_bytes}
 use Rattle.wire_script.specs.Statements.{Statement, statements}
 
 -- the number of the first process whose text is the word
@@ -27,16 +29,12 @@ abbrev pub order_of : Scripts → List Statement → Result (List ℕ) Fault
 order_of s [] = Ok []
 order_of s (statement ∷ later) = with_step statement.0 (step_of s statement.1) (order_of s later)
 
--- how many bytes an order may have
-abbrev pub order_bytes : ℕ
-order_bytes = 8388608
-
 -- the order that a text reads as, with this many bytes at most, or its fault
 abbrev pub order_within : ℕ → Scripts → List ℕ → Result (List ℕ) Fault
 order_within limit s bytes =
     if nat_lt limit (length bytes) then Err (BadOrder (count_by (λ b. b == 10) (take limit bytes) + 1))
     else order_of s (statements bytes)
 
--- the order that a text reads as, or its fault
-abbrev pub order_read : Scripts → List ℕ → Result (List ℕ) Fault
-order_read s bytes = order_within order_bytes s bytes
+-- the order that a text reads as within the limit of this size, or its fault
+abbrev pub order_read : Size → Scripts → List ℕ → Result (List ℕ) Fault
+order_read size s bytes = order_within (order_bytes size) s bytes

@@ -6,5 +6,5 @@ mod order;
 mod question;
 mod words;
 
-pub use order::{ORDER_BYTES, read_order};
+pub use order::{read_order, read_order_sized};
 pub use question::{Question, calls_asked, question_reads_once};

@@ -3,6 +3,7 @@
 ghost use Rattle.std.specs.Prelude.{◌≡◌, ◌≤◌, ◌⊎◌, ◌∷◌, ◌++◌, [], length, map, option_map, Ok, Err, OnOk, IfOk, IfErr};
 ghost use Rattle.wire_content.specs.Scripts.{Scripts as Said, numbers_of};
 ghost use Rattle.wire_script.specs.Statements.{statements};
+ghost use Rattle.wire_script.specs.Limits as limit;
 ghost use Rattle.wire_order.specs.Order as spec;
 ghost use Rattle.wire_order.specs.Order.{order_of, order_read};
 ghost use Rattle.wire_order.specs.Words.{IsTableOf};
@@ -11,29 +12,45 @@ use crate::words::ProcWords;
 use std::alloc::{AllocError, Global};
 use wire_content::Scripts;
 use wire_lines::line_past;
-use wire_script::Cursor;
+use wire_script::{Cursor, Size};
 use wire_types::{Fault, Proc};
-
-/// The bytes that an order may have.
-pub const ORDER_BYTES: usize = 8_388_608;
 
 /// The steps that an order says: each line that isn't skipped is one step, and names its process by the
 /// name of its job, a colon and its rank. The first line of another form, or of a process that isn't
 /// there, is `BadOrder` with its number. An order of more than 8,388,608 bytes is `BadOrder` whatever it
 /// holds, with the line after as many as end among its first 8,388,608 bytes.
 pub fn read_order(alloc: Global, scripts: &Scripts, bytes: &[u8]) -> Result<Vec<Proc>, Fault>
-    ensures ok { IfOk result (λ order. order_read scripts.now bytes.now ≡ Ok (numbers_of order.items)) }
-    ensures err { IfErr result (λ e. (e ≡ Fault.Memory) ⊎ (order_read scripts.now bytes.now ≡ Err e)) }
+    ensures ok { IfOk result (λ order. order_read Size.OfVersion scripts.now bytes.now ≡ Ok (numbers_of order.items)) }
+    ensures err { IfErr result (λ e. (e ≡ Fault.Memory) ⊎ (order_read Size.OfVersion scripts.now bytes.now ≡ Err e)) }
 {
-    if bytes.len() > ORDER_BYTES {
-        return Err(Fault::BadOrder(line_past(bytes, ORDER_BYTES)));
-    }
-    read_steps(alloc, scripts, bytes)
+    read_order_sized(alloc, Size::OfVersion, scripts, bytes)
 }
 
-/// The steps of an order within its limit.
-fn read_steps(alloc: Global, scripts: &Scripts, bytes: &[u8]) -> Result<Vec<Proc>, Fault>
-    requires { length bytes.now ≤ spec.order_bytes }
+/// The steps that an order says, as `read_order` does, within the limit of this size.
+pub fn read_order_sized(
+    alloc: Global,
+    size: Size,
+    scripts: &Scripts,
+    bytes: &[u8],
+) -> Result<Vec<Proc>, Fault>
+    ensures ok { IfOk result (λ order. order_read size scripts.now bytes.now ≡ Ok (numbers_of order.items)) }
+    ensures err { IfErr result (λ e. (e ≡ Fault.Memory) ⊎ (order_read size scripts.now bytes.now ≡ Err e)) }
+{
+    let most = size.order_bytes();
+    if bytes.len() > most {
+        return Err(Fault::BadOrder(line_past(bytes, most)));
+    }
+    read_steps(alloc, size, scripts, bytes)
+}
+
+/// The steps of an order within the limit of this size.
+fn read_steps(
+    alloc: Global,
+    size: Size,
+    scripts: &Scripts,
+    bytes: &[u8],
+) -> Result<Vec<Proc>, Fault>
+    requires { length bytes.now ≤ limit.order_bytes size }
     ensures ok { IfOk result (λ order. order_of scripts.now (statements bytes.now) ≡ Ok (numbers_of order.items)) }
     ensures err { IfErr result
         (λ e. (e ≡ Fault.Memory) ⊎ (order_of scripts.now (statements bytes.now) ≡ Err e)) }

@@ -11,7 +11,7 @@ use Rattle.wire_fence.specs.FenceTable.{FenceTable, AreFencesOf, fence_at, fence
 use Rattle.wire_runs.specs.Order.{IsArrival}
 use Rattle.wire_plan.specs.Index.{IsDelivering, IsNextDelivery}
 use Rattle.wire_plan.specs.Keys.{IsSent}
-use Rattle.wire_plan.specs.Bringing.{BringsTo, IsArrivalFrom, IsFirstFrom}
+use Rattle.wire_plan.specs.Bringing.{Brings, BringsTo, IsArrivalFrom, IsFirstFrom}
 use Rattle.wire_plan.specs.Meetings.{IsMet, fence_members}
 use Rattle.wire_runs.proofs.Basics.{arrivals_step, arrivals_rise}
 
@@ -139,9 +139,9 @@ module _ (s : Scripts) (table : FenceTable) (fences : AreFencesOf s table) (p at
     nth = m.nth;
   }
 
-  -- whether it brings data to a node is what the table tells of its fence
-  pub where_brought : (full_in (fence_at table number) && collects_in (fence_at table number)) ≡ true → reaches_in table node (fence_at table number) ≡ true → BringsTo (plan_of s) node (here p at)
-  where_brought told reached =
+  -- whether it brings data is what the table tells of its fence
+  pub where_bringing : (full_in (fence_at table number) && collects_in (fence_at table number)) ≡ true → Brings (plan_of s) (here p at)
+  where_bringing told =
       let both = both_true (full_in (fence_at table number)) _ told in
       record {
         members = m.fence.members;
@@ -149,17 +149,18 @@ module _ (s : Scripts) (table : FenceTable) (fences : AreFencesOf s table) (p at
         arrival = arrives;
         full = sym full_is ∙ both.0;
         collecting = sym collects_is ∙ both.1;
-        reaches = sym reaches_is ∙ reached;
       }
 
   same_members : (others : List ℕ) (c : Bool) → kind_at (plan_of s) p at ≡ Some (Arrive others c) → others ≡ m.fence.members
   same_members others c other = ap fence_members (sym other ∙ is) ∙ sym its_members
 
-  pub brought_where : BringsTo (plan_of s) node (here p at) → ((full_in (fence_at table number) && collects_in (fence_at table number)) ≡ true) × (reaches_in table node (fence_at table number) ≡ true)
-  brought_where d =
+  pub bringing_where : Brings (plan_of s) (here p at) → (full_in (fence_at table number) && collects_in (fence_at table number)) ≡ true
+  bringing_where d =
       let ms = same_members d.members d.arrival.collect d.arrival.is in
-      let j : d.j ≡ m.fence.nth = sym d.arrival.nth ∙ ap (λ x. arrivals (plan_of s) p x (suc at)) ms ∙ m.nth in (
-        are_true _ _ (full_is ∙ ap (is_full (plan_of s) m.fence.members) (sym j) ∙ ap (λ x. is_full (plan_of s) x d.j) (sym ms) ∙ d.full)
-            (collects_is ∙ ap (is_collecting (plan_of s) m.fence.members) (sym j) ∙ ap (λ x. is_collecting (plan_of s) x d.j) (sym ms) ∙ d.collecting),
-        reaches_is ∙ ap (λ x. has_node (plan_of s) x node) (sym ms) ∙ d.reaches,
-      )
+      let j : d.j ≡ m.fence.nth = sym d.arrival.nth ∙ ap (λ x. arrivals (plan_of s) p x (suc at)) ms ∙ m.nth in
+      are_true _ _ (full_is ∙ ap (is_full (plan_of s) m.fence.members) (sym j) ∙ ap (λ x. is_full (plan_of s) x d.j) (sym ms) ∙ d.full)
+      (collects_is ∙ ap (is_collecting (plan_of s) m.fence.members) (sym j) ∙ ap (λ x. is_collecting (plan_of s) x d.j) (sym ms) ∙ d.collecting)
+
+  -- and whether it brings it to a node
+  pub reached_where : (others : List ℕ) (c : Bool) → kind_at (plan_of s) p at ≡ Some (Arrive others c) → reaches_in table node (fence_at table number) ≡ has_node (plan_of s) others node
+  reached_where others c other = reaches_is ∙ ap (λ x. has_node (plan_of s) x node) (sym (same_members others c other))

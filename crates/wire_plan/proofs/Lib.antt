@@ -9,5 +9,6 @@ pub mod Tables
 pub mod Wired
 pub mod Awaited
 pub mod Delivering
-pub mod Bringing
+pub mod FirstBringing
 pub mod Building
+pub mod KeptGets

@@ -6,8 +6,8 @@ use Rattle.std.proofs.lemmas.Option.{slice_get-map, slice_get_cases}
 use Rattle.std.proofs.lemmas.List.{length-map, drop_more}
 use Rattle.std.proofs.lemmas.List.Sums.{sum_by-cons}
 use Rattle.std.proofs.lemmas.Bool.{cases_lt, cond_below, cond_above}
-use Rattle.wire_runs.specs.Plan.{Plan, Call, CallPut, CallCommit, CallFence, CallGet, CallGetNow, CallPublish, CallLookup, CallLookupWait, CallUnpublish, CallFixed, Kind, kinds_of, process_kinds}
-use Rattle.wire_runs.specs.Plan.{process_node, kinds, kind_at, event_count, node_of}
+use Rattle.wire_runs.specs.Plan.{Plan, Call, CallPut, CallCommit, CallFence, CallGet, CallGetNow, CallPublish, CallLookup, CallLookupWait, CallUnpublish, CallUnpublishAll, CallFixed}
+use Rattle.wire_runs.specs.Plan.{Kind, kinds_of, process_kinds, process_node, kinds, kind_at, event_count, node_of}
 use Rattle.wire_runs.specs.Plan as plan
 use Rattle.wire_content.specs.Scripts.{Process, Scripts, call_count}
 use Rattle.wire_content.specs.Planned.{planned_call, planned_process, plan_of}
@@ -26,6 +26,7 @@ events_first (CallPublish name) calls = refl
 events_first (CallLookup name) calls = refl
 events_first (CallLookupWait name) calls = refl
 events_first (CallUnpublish name) calls = refl
+events_first CallUnpublishAll calls = refl
 events_first (CallFixed reply) calls = refl
 
 -- at most two events a call
@@ -40,6 +41,7 @@ events_few (CallPublish name ∷ calls) = omega (arith, events_few calls)
 events_few (CallLookup name ∷ calls) = omega (arith, events_few calls)
 events_few (CallLookupWait name ∷ calls) = omega (arith, events_few calls)
 events_few (CallUnpublish name ∷ calls) = omega (arith, events_few calls)
+events_few (CallUnpublishAll ∷ calls) = omega (arith, events_few calls)
 events_few (CallFixed reply ∷ calls) = omega (arith, events_few calls)
 
 abbrev pub row_in : Option (List Kind) → List Kind

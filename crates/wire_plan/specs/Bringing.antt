@@ -1,15 +1,22 @@
--- The arrivals at fences that bring data to a node: for the contracts of private functions.
-use Rattle.std.specs.Prelude.{◌≡◌, ◌↔◌, ℕ, ◌<◌, ◌≤◌, List, [], ◌∷◌, ◌++◌, Bool, true, false, ◌&&◌, ◌||◌, ◌==◌, nat_lt, Option, Some, MatchOption, slice_get}
-use Rattle.wire_runs.specs.Plan.{Plan, Event, node_of, event_of}
+-- The arrivals at fences that bring data: for the contracts of private functions.
+use Rattle.std.specs.Prelude.{◌≡◌, ◌↔◌, ℕ, ◌<◌, ◌≤◌, List, Bool, true, ◌&&◌, ◌||◌, ◌==◌, nat_lt, Option, Some, MatchOption, map, slice_get}
+use Rattle.wire_runs.specs.Plan.{Plan, Event, event_of}
 use Rattle.wire_runs.specs.Fences.{is_full, is_collecting, has_node}
 use Rattle.wire_runs.specs.Order.{IsArrival}
 use Rattle.wire_runs.specs.EventLists.{IsLower, AreAll}
 use Rattle.wire_types.specs.declared.Event.{Event as CodeEvent}
 use Rattle.wire_plan.specs.Keys.{IsSent}
-use Rattle.wire_plan.specs.Tables.{events_listed}
-use Rattle.wire_plan.specs.declared.node_arrivals.NodeArrivals.{NodeArrivals}
+use Rattle.wire_plan.specs.declared.bringing.BringingArrivals.{BringingArrivals}
 
--- x is an arrival at a fence that each member calls, each with data collection, with a member on the node
+-- x is an arrival at a fence that each member calls, each with data collection
+pub record Brings (plan : Plan) (x : Event) : Type 0 where
+  pub members : List ℕ
+  pub j : ℕ
+  pub arrival : IsArrival plan members j x
+  pub full : is_full plan members j ≡ true
+  pub collecting : is_collecting plan members j ≡ true
+
+-- and with a member on the node
 pub record BringsTo (plan : Plan) (node : ℕ) (x : Event) : Type 0 where
   pub members : List ℕ
   pub j : ℕ
@@ -18,26 +25,23 @@ pub record BringsTo (plan : Plan) (node : ℕ) (x : Event) : Type 0 where
   pub collecting : is_collecting plan members j ≡ true
   pub reaches : has_node plan members node ≡ true
 
--- the table has, for each node, the arrivals at fences that bring data to it
-abbrev pub AreNodeArrivals : Plan → NodeArrivals → Type 0
-AreNodeArrivals plan table = (node : ℕ) → AreAll (BringsTo plan node) (events_listed table.by_node node)
+-- the table has the arrivals at fences that bring data
+abbrev pub AreBringing : Plan → BringingArrivals → Type 0
+AreBringing plan table = AreAll (Brings plan) (map event_of table.arrivals.items)
 
--- the same of those that stand before the i-th event of the p-th process, where no process runs on a node of a higher number
--- than the table's highest
-pub record AreNodeArrivalsTo (plan : Plan) (p i : ℕ) (table : NodeArrivals) : Type 0 where
-  pub nodes : (q : ℕ) → node_of plan q ≤ table.highest
-  pub each : (node : ℕ) → AreAll (λ x. BringsTo plan node x × IsLower x (record { proc = p; at = i })) (events_listed table.by_node node)
-
--- the list with an event more, where it is to be added
-abbrev pub with_added : Bool → List Event → Event → List Event
-with_added true xs x = xs ++ x ∷ []
-with_added false xs x = xs
+-- the same of those that stand before the i-th event of the p-th process
+abbrev pub AreBringingTo : Plan → ℕ → ℕ → BringingArrivals → Type 0
+AreBringingTo plan p i table = AreAll (λ x. Brings plan x × IsLower x (record { proc = p; at = i })) (map event_of table.arrivals.items)
 
 -- x is an arrival of p, from its event number `from` on, that brings data to the node
 pub record IsArrivalFrom (plan : Plan) (p node from : ℕ) (x : Event) : Type 0 where
   pub proc : x.proc ≡ p
   pub from_there : from ≤ x.at
   pub brings : BringsTo plan node x
+
+-- none of them stands in front of this place of a list
+abbrev pub NoneInFront : Plan → ℕ → ℕ → ℕ → List Event → ℕ → Type 0
+NoneInFront plan p node from xs k = (l : ℕ) (x : Event) → l < k → slice_get xs l ≡ Some x → IsArrivalFrom plan p node from x → ⊥
 
 -- what is found, if anything, is the first of them
 abbrev pub IsFirstFrom : Plan → ℕ → ℕ → ℕ → Option CodeEvent → Type 0

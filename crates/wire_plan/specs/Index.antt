@@ -1,4 +1,4 @@
--- What is looked up in a plan: the sources of an event, the puts of a key, the calls on a name, and the fences that bring a key to a node.
+-- What is looked up in a plan: the sources of an event, the puts of a key, the calls on a name, and the fences and gets that bring a key to a node.
 use Rattle.std.specs.Prelude.{◌≡◌, ◌≢◌, ℕ, zero, suc, ◌<◌, ◌≤◌, List, ◌++◌, true, Option, Some, None, map, option_map, option_to_list, slice_get, MatchOption}
 use Rattle.wire_runs.specs.Plan.{Plan, Event, Put, Get, LookupWait, kind, event_of}
 use Rattle.wire_types.specs.declared.Event.{Event as CodeEvent}
@@ -6,7 +6,7 @@ use Rattle.wire_types.specs.declared.Scope.{Scope}
 use Rattle.wire_runs.specs.Puts.{own}
 use Rattle.wire_runs.specs.Names.{calls_name}
 use Rattle.wire_runs.specs.Order.{Edge, Stores, IsArrival, PublishesOnce}
-use Rattle.wire_runs.specs.Races.{ByFence, Brings, IsPutOnce}
+use Rattle.wire_runs.specs.Races.{ByFence, Brings, GetDelivers, IsPutOnce}
 use Rattle.wire_runs.specs.EventLists.{AreAll}
 
 -- these are the sources of the edges into y, and no others
@@ -50,6 +50,10 @@ AreArrivals plan members j places = AreAll (IsArrival plan members j) places
 -- the calls on a name
 abbrev pub AreNameCalls : Plan → ℕ → List Event → Type 0
 AreNameCalls plan name places = AreAll (λ x. calls_name plan name x (kind plan x) ≡ true) places
+
+-- the gets that bring p's key to the node
+abbrev pub AreGetDeliveries : Plan → ℕ → ℕ → ℕ → List Event → Type 0
+AreGetDeliveries plan p key node places = AreAll (GetDelivers plan p key node) places
 
 -- p's event number `at` is its arrival at a fence that brings its key to the node
 pub record IsDelivering (plan : Plan) (p key node at : ℕ) : Type 0 where

@@ -5,7 +5,8 @@ use Rattle.wire_fence.specs.FenceTable.{FenceTable}
 use Rattle.wire_plan.specs.Meetings.{AreArrivalLists}
 use Rattle.wire_plan.specs.Keys.{AreKeysOf}
 use Rattle.wire_plan.specs.Tables.{AreNamesOf}
-use Rattle.wire_plan.specs.Bringing.{AreNodeArrivals}
+use Rattle.wire_plan.specs.Bringing.{AreBringing}
+use Rattle.wire_plan.specs.Gets.{AreGetLists}
 use Rattle.wire_plan.specs.declared.index.Index.{Index}
 
 -- the index is that of these scripts, whose fences these are
@@ -13,4 +14,5 @@ pub record IsIndexed (s : Scripts) (table : FenceTable) (index : Index) : Type 0
   pub meetings : AreArrivalLists s table index.meetings
   pub keys : AreKeysOf (plan_of s) index.keys
   pub names : AreNamesOf (plan_of s) index.names
-  pub node_arrivals : AreNodeArrivals (plan_of s) index.node_arrivals
+  pub bringing : AreBringing (plan_of s) index.bringing
+  pub gets : AreGetLists (plan_of s) index.gets

@@ -23,4 +23,5 @@ pub mod Meetings
 pub mod Keys
 pub mod Tables
 pub mod Bringing
+pub mod Gets
 pub mod Indexed

@@ -1,4 +1,4 @@
-//! Events listed by a number: that of a name or of a node.
+//! Events listed by a number: that of a name.
 
 ghost use Rattle.std.specs.Prelude.{◌≡◌, ◌≢◌, ◌<◌, ◌++◌, ◌∷◌, [], ℕ, suc, List, Some, length, map, OnOk, IfOk};
 ghost use Rattle.wire_runs.specs.Plan.{event_of, kind_at};

@@ -1,17 +1,24 @@
-//! The fences that bring a key to a node.
+//! The fences and the gets that bring a key to a node.
 
-ghost use Rattle.std.specs.Prelude.{◌≡◌, ◌≤◌, ℕ, option_map, IfSome};
+ghost use Rattle.std.specs.Prelude.{◌≡◌, ◌≤◌, ℕ, map, option_map, IfSome};
+ghost use Rattle.wire_runs.specs.Plan.{event_of, event_count};
 ghost use Rattle.wire_runs.specs.Plan as runs;
 ghost use Rattle.wire_runs.specs.Races.{IsPutOnce};
-ghost use Rattle.wire_plan.specs.Index.{IsNextDelivery};
+ghost use Rattle.wire_content.specs.Planned.{plan_of};
+ghost use Rattle.wire_fence.specs.FenceTable.{AreFencesOf};
+ghost use Rattle.wire_plan.specs.Index.{IsNextDelivery, AreGetDeliveries};
 ghost use Rattle.wire_plan.specs.Keys.{AreKeysOf};
-ghost use Rattle.wire_plan.specs.Bringing.{AreNodeArrivals};
+ghost use Rattle.wire_plan.specs.Indexed.{IsIndexed};
+ghost use Rattle.wire_plan.specs.Gets.{AreGetLists};
 
+use crate::events::Events;
+use crate::gets::GetTable;
+use crate::index::Index;
 use crate::keys::KeyTable;
-use crate::node_arrivals::NodeArrivals;
+use wire_fence::Fences;
 use wire_types::{Event, Proc};
 
-/// What a fence may bring: a key of its owner, to a node.
+/// What a fence or a get may bring: a key of its owner, to a node.
 #[derive(Clone, Copy)]
 pub(crate) struct Delivery {
     pub owner: Proc,
@@ -32,21 +39,50 @@ fn higher(a: u32, b: u32) -> u32
 /// key that the owner puts once. No arrival before the commit that stores the key makes it, so it is the
 /// first that brings data to the node from there on.
 pub(crate) fn next_delivery(
-    arrivals: &NodeArrivals,
-    keys: &KeyTable,
+    events: &Events,
+    fences: &Fences,
+    index: &Index,
     delivery: Delivery,
     from: u32,
 ) -> Option<Event>
+    requires fences { AreFencesOf events.now fences.now }
+    requires index { IsIndexed events.now fences.now index.now }
     ensures owner { IfSome result (λ e. e.proc ≡ delivery.owner) }
-    ensures next { (plan : runs.Plan) → AreNodeArrivals plan arrivals.now → AreKeysOf plan keys.now → IsPutOnce plan delivery.owner.number delivery.key
-        → IsNextDelivery plan delivery.owner.number delivery.key delivery.node from (option_map (λ e. e.at) result) }
+    ensures next { IsPutOnce (plan_of events.now) delivery.owner.number delivery.key
+        → IsNextDelivery (plan_of events.now) delivery.owner.number delivery.key delivery.node from (option_map (λ e. e.at) result) }
 {
     let Delivery { owner, key, node } = delivery;
-    match keys.sending_commit(owner, key) {
+    match index.keys.sending_commit(owner, key) {
         Some(commit) => {
             let at = higher(from, commit);
-            arrivals.first_from(node, Event { proc: owner, at })
+            index
+                .bringing
+                .first_from(events, fences, node, Event { proc: owner, at })
         }
         None => None,
+    }
+}
+
+/// The gets that make the delivery, of a key that the owner, which has so many events, puts once: those
+/// of processes of the node, if what the owner stores is for processes of other nodes.
+pub(crate) fn delivering_gets<'a>(
+    gets: &'a GetTable,
+    keys: &KeyTable,
+    delivery: Delivery,
+    events: u32,
+) -> &'a [Event]
+    ensures { (plan : runs.Plan) → AreGetLists plan gets.now → AreKeysOf plan keys.now → events ≡ event_count plan delivery.owner.number
+        → IsPutOnce plan delivery.owner.number delivery.key
+        → AreGetDeliveries plan delivery.owner.number delivery.key delivery.node (map event_of result.now) }
+{
+    match keys.sending_commit(delivery.owner, delivery.key) {
+        Some(commit) => {
+            if commit < events {
+                gets.gets(delivery)
+            } else {
+                &[]
+            }
+        }
+        None => &[],
     }
 }

@@ -4,22 +4,24 @@ ghost use Rattle.std.specs.Prelude.{IfOk};
 ghost use Rattle.wire_fence.specs.FenceTable.{AreFencesOf};
 ghost use Rattle.wire_plan.specs.Indexed.{IsIndexed};
 
+use crate::bringing::BringingArrivals;
 use crate::events::Events;
+use crate::gets::GetTable;
 use crate::keys::KeyTable;
 use crate::meetings::Meetings;
 use crate::names::NameTable;
-use crate::node_arrivals::NodeArrivals;
 use std::alloc::{AllocError, Global};
 use wire_fence::Fences;
 
-/// Who arrives at each fence, the keys that are put, the calls on each name, and the arrivals at fences that
-/// bring data to each node.
+/// Who arrives at each fence, the keys that are put, the calls on each name, the arrivals at fences that
+/// bring data, and the gets that bring a key to a node.
 #[derive(Drop)]
 pub(crate) struct Index {
     pub meetings: Meetings,
     pub keys: KeyTable,
     pub names: NameTable,
-    pub node_arrivals: NodeArrivals,
+    pub bringing: BringingArrivals,
+    pub gets: GetTable,
 }
 
 impl Index {
@@ -32,7 +34,8 @@ impl Index {
             meetings: Meetings::of(alloc, events, fences)?,
             keys: KeyTable::of(alloc, events)?,
             names: NameTable::of(alloc, events)?,
-            node_arrivals: NodeArrivals::of(alloc, events, fences)?,
+            bringing: BringingArrivals::of(alloc, events, fences)?,
+            gets: GetTable::of(alloc, events)?,
         })
     }
 }

@@ -2,15 +2,16 @@
 //! and their laws, stand in `wire_runs`.
 #![tactic(auto)]
 
+mod bringing;
 mod by_number;
 mod deliveries;
 mod events;
+mod gets;
 mod index;
 mod keys;
 mod kind;
 mod meetings;
 mod names;
-mod node_arrivals;
 mod plan;
 mod row;
 mod sources;

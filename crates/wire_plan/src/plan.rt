@@ -14,11 +14,11 @@ ghost use Rattle.wire_runs.specs.Ends.{call_of, calls_of, first_event};
 ghost use Rattle.wire_runs.specs.Plan.{event_total};
 ghost use Rattle.wire_runs.specs.Order.{may_come, Stores, PublishesOnce};
 ghost use Rattle.wire_runs.specs.Races.{IsPutOnce};
-ghost use Rattle.wire_plan.specs.Index.{AreSources, AreArrivals, AreNameCalls, IsAwaited, IsFirstPut, IsNextDelivery, source_list, previous_of};
+ghost use Rattle.wire_plan.specs.Index.{AreSources, AreArrivals, AreNameCalls, AreGetDeliveries, IsAwaited, IsFirstPut, IsNextDelivery, source_list, previous_of};
 ghost use Rattle.wire_plan.specs.Indexed.{IsIndexed};
 ghost use Rattle.wire_plan.specs.Meetings.{is_of_fence, IsMet};
 
-use crate::deliveries::{Delivery, next_delivery};
+use crate::deliveries::{Delivery, delivering_gets, next_delivery};
 use crate::events::Events;
 use crate::index::Index;
 use crate::kind::Kind;
@@ -280,10 +280,25 @@ impl Plan {
             IsNextDelivery (plan_of self.now) owner.number key node from (option_map (λ e. e.at) result) }
     {
         next_delivery(
-            &self.index.node_arrivals,
-            &self.index.keys,
+            &self.events,
+            &self.fences,
+            &self.index,
             Delivery { owner, key, node },
             from,
+        )
+    }
+
+    /// The gets that bring a key of a process to a node, in process order: those of processes of the node,
+    /// where the plan keeps what gets bring, and what the owner stores is for processes of other nodes. For
+    /// a key that the process puts once.
+    pub fn gets_to(&self, owner: Proc, key: u32, node: u32) -> &[Event]
+        ensures { IsPutOnce (plan_of self.now) owner.number key → AreGetDeliveries (plan_of self.now) owner.number key node (map event_of result.now) }
+    {
+        delivering_gets(
+            &self.index.gets,
+            &self.index.keys,
+            Delivery { owner, key, node },
+            self.event_count(owner),
         )
     }
 

@@ -1,4 +1,5 @@
 pub mod Keys
 pub mod Tables
+pub mod Tallies
 pub mod Places
 pub mod Rows

@@ -6,6 +6,7 @@ mod key;
 mod law;
 mod map;
 mod row;
+mod tally;
 
 pub use law::one_process;
 pub use map::ProcMap;

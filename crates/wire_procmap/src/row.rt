@@ -1,10 +1,12 @@
 //! What the map keeps of each process.
 
-ghost use Rattle.std.specs.Prelude.{◌≡◌, ◌==◌, ◌&&◌, ◌<◌, ◌^◌, length, count_by, position, IfOk};
+ghost use Rattle.std.specs.Prelude.{◌≡◌, ◌==◌, ◌&&◌, ◌<◌, ◌+◌, ◌^◌, [], length, take, count_by, position, IfOk, OnOk};
 ghost use Rattle.wire_types.specs.Replies as replies;
 ghost use Rattle.wire_procmap.specs.Rows as rows;
+ghost use Rattle.wire_procmap.specs.Tallies.{job_of, IsTally, AreCounts};
 
 use crate::key::KeyKind;
+use crate::tally::Tally;
 use std::alloc::{AllocError, Global};
 use wire_content::Process;
 use wire_types::{Reply, Status, Value};
@@ -55,46 +57,67 @@ fn not_found() -> Reply
     }
 }
 
-fn count_of_job(processes: &[Process], job: u32) -> u32
-    requires { length processes.now < 2 ^ 31 }
-    ensures { result ≡ count_by (λ q. q.job == job) processes.now }
-{
-    processes.iter().filter(|q| q.job() == job).count() as u32
+/// The processes so far: how many there are of each job, on each node, and of each job on each node.
+#[derive(Drop)]
+pub(crate) struct Counts {
+    jobs: Tally,
+    nodes: Tally,
+    both: Tally,
 }
 
-fn count_on_node(processes: &[Process], node: u32) -> u32
-    requires { length processes.now < 2 ^ 31 }
-    ensures { result ≡ count_by (λ q. q.node == node) processes.now }
-{
-    processes.iter().filter(|q| q.node() == node).count() as u32
-}
-
-fn count_of_job_on_node(processes: &[Process], job: u32, node: u32) -> u32
-    requires { length processes.now < 2 ^ 31 }
-    ensures { result ≡ count_by (λ q. (q.job == job) && (q.node == node)) processes.now }
-{
-    processes
-        .iter()
-        .filter(|q| q.job() == job && q.node() == node)
-        .count() as u32
-}
-
-fn row_of(processes: &[Process], index: usize) -> ProcessNumbers
-    requires few { length processes.now < 2 ^ 31 }
-    requires there { index < length processes.now }
-    ensures { result ≡ rows.row_of processes.now index }
-{
-    let job = processes[index].job();
-    let node = processes[index].node();
-    let before = &processes[..index];
-    ProcessNumbers {
-        job,
-        node,
-        rank: count_of_job(before, job),
-        local_rank: count_of_job_on_node(before, job, node),
-        node_rank: count_on_node(before, node),
-        job_size: count_of_job(processes, job),
+impl Counts {
+    /// No process is counted.
+    fn new(alloc: Global) -> Counts
+        ensures { AreCounts [] result }
+    {
+        Counts {
+            jobs: Tally::new(alloc),
+            nodes: Tally::new(alloc),
+            both: Tally::new(alloc),
+        }
     }
+
+    /// Counts the process of this number, where those before it are counted. Its row, where these are the
+    /// sizes of the jobs.
+    fn row_of(
+        &mut self,
+        sizes: &Tally,
+        processes: &[Process],
+        index: usize,
+    ) -> Result<ProcessNumbers, AllocError>
+        requires few { length processes.now < 2 ^ 31 }
+        requires there { index < length processes.now }
+        requires sizes { IsTally job_of processes.now sizes.now }
+        requires before { AreCounts (take index processes.now) self.old }
+        ensures row { IfOk result (λ row. row ≡ rows.row_of processes.now index) }
+        ensures counted { OnOk result (AreCounts (take (index + 1) processes.now) self.new) }
+    {
+        let job = processes[index].job();
+        let node = processes[index].node();
+        let rank = self.jobs.add((0, job))?;
+        let local_rank = self.both.add((job, node))?;
+        let node_rank = self.nodes.add((0, node))?;
+        Ok(ProcessNumbers {
+            job,
+            node,
+            rank,
+            local_rank,
+            node_rank,
+            job_size: sizes.count((0, job)),
+        })
+    }
+}
+
+/// How many processes each job has.
+fn job_sizes(alloc: Global, processes: &[Process]) -> Result<Tally, AllocError>
+    requires { length processes.now < 2 ^ 31 }
+    ensures { IfOk result (λ sizes. IsTally job_of processes.now sizes) }
+{
+    let mut sizes = Tally::new(alloc);
+    for process in processes {
+        sizes.add((0, process.job()))?;
+    }
+    Ok(sizes)
 }
 
 /// The row of each process, in process order.
@@ -106,9 +129,11 @@ pub(crate) fn rows_of(
     requires { length processes.now < 2 ^ 31 }
     ensures { IfOk result (λ made. made.items ≡ rows.rows_of processes.now) }
 {
+    let sizes = job_sizes(alloc, processes)?;
+    let mut counts = Counts::new(alloc);
     let mut made = Vec::with_capacity(alloc, processes.len())?;
     for index in 0..processes.len() {
-        made.push(row_of(processes, index))?;
+        made.push(counts.row_of(&sizes, processes, index)?)?;
     }
     Ok(made)
 }

@@ -3,13 +3,13 @@ use Rattle.std.proofs.Common.{◌≡◌, ◌∙◌, ap, sym, refl, ℕ, zero, su
 use Rattle.std.specs.Prelude.{slice_get, is_some}
 use Rattle.std.proofs.lemmas.Bool.{cases_lt, cond_below, cond_above, true≢false}
 use Rattle.std.proofs.lemmas.Option.{slice_get_within, same_Some}
-use Rattle.wire_runs.specs.Plan.{Plan, Event, Process, Call, CallFence, Kind, Put, Commit, Arrive, Leave, GetNow, Publish, Lookup, LookupWait, Unpublish, kinds_of, kinds, kind_at, kind, event_count}
-use Rattle.wire_runs.specs.Plan.{process_kinds}
+use Rattle.wire_runs.specs.Plan.{Plan, Event, Process, Call, CallFence, Kind, Put, Commit, Arrive, Leave, Get, GetNow, Publish, Lookup, LookupWait, Unpublish, UnpublishAll}
+use Rattle.wire_runs.specs.Plan.{kinds_of, kinds, kind_at, kind, event_count, node_of, process_kinds}
 use Rattle.wire_runs.specs.Puts.{own, stored, stored_with}
 use Rattle.wire_types.specs.declared.CallAt.{CallAt}
 use Rattle.wire_runs.specs.Names.{writes_name, calls_name}
 use Rattle.wire_runs.specs.Order.{Stores}
-use Rattle.wire_runs.specs.Races.{IsNodeRace, IsDeliveryRace, Delivery, ByFence, IsOf}
+use Rattle.wire_runs.specs.Races.{IsNodeRace, IsDeliveryRace, Delivery, ByFence, ByGet, IsOf, Brings}
 use Rattle.wire_runs.specs.Findings.{Finding, Rewrite, KeyRace, NameRace, IsFound}
 use Rattle.wire_runs.specs.Ends.{call_number, call_size, calls_of, process_calls, call_of, first_event}
 use Rattle.wire_plan.proofs.Planning.{events_first}
@@ -115,21 +115,22 @@ stores_commit plan x key s = stored_anew (own plan x.proc key x.at) (stored plan
 pub node_commit : (plan : Plan) (x y : Event) (key : ℕ) → IsNodeRace plan x y key → kind plan x ≡ Some Commit
 node_commit plan x y key r = stores_commit plan x key r.stores
 
--- the source of a delivery race is an arrival
-pub record IsArriving (plan : Plan) (x : Event) : Type 0 where
-  pub members : List ℕ
-  pub collect : Bool
-  pub is : kind plan x ≡ Some (Arrive members collect)
+-- an arrival at a fence, or a get that waits: the source of a delivery race
+pub data ArrivesOrGets (plan : Plan) (x : Event) : Type 0 where
+  Arriving : (members : List ℕ) (collect : Bool) → kind plan x ≡ Some (Arrive members collect) → ArrivesOrGets plan x
+  Getting : (owner key : ℕ) → kind plan x ≡ Some (Get owner key) → ArrivesOrGets plan x
 
-of_arrives : (plan : Plan) (d : Delivery) (x : Event) → IsOf plan d x → IsArriving plan x
-of_arrives plan (ByFence members j) x a = record { members = members; collect = a.collect; is = a.is }
+source_of : (plan : Plan) (p key node : ℕ) (d : Delivery) (x : Event) → Brings plan p key node d → IsOf plan d x → ArrivesOrGets plan x
+source_of plan p key node (ByFence members j) x b a = Arriving members a.collect a.is
+source_of plan p key node (ByGet get) x b e = Getting p key (ap (kind plan) e ∙ b.is)
 
-pub delivery_arrives : (plan : Plan) (x y : Event) (owner key : ℕ) → IsDeliveryRace plan x y owner key → IsArriving plan x
-delivery_arrives plan x y owner key r = of_arrives plan r.delivery x r.of_it
+pub delivery_source : (plan : Plan) (x y : Event) (owner key : ℕ) → IsDeliveryRace plan x y owner key → ArrivesOrGets plan x
+delivery_source plan x y owner key r = source_of plan owner key (node_of plan y.proc) r.delivery x r.delivers.brings_it r.of_it
 
 pub writes_calls : (plan : Plan) (name : ℕ) (x : Event) (o : Option Kind) → writes_name plan name x o ≡ true → calls_name plan name x o ≡ true
 writes_calls plan name x (Some (Publish n)) h = h
 writes_calls plan name x (Some (Unpublish n)) h = h
+writes_calls plan name x (Some UnpublishAll) h = h
 writes_calls plan name x _ h = absurd (true≢false (sym h))
 
 -- a call on a name, by its event
@@ -143,6 +144,7 @@ named plan name x (Some (Publish n)) h = record { what = Publish n; is = refl; f
 named plan name x (Some (Lookup n)) h = record { what = Lookup n; is = refl; first = refl }
 named plan name x (Some (LookupWait n)) h = record { what = LookupWait n; is = refl; first = refl }
 named plan name x (Some (Unpublish n)) h = record { what = Unpublish n; is = refl; first = refl }
+named plan name x (Some UnpublishAll) h = record { what = UnpublishAll; is = refl; first = refl }
 named plan name x _ h = absurd (true≢false (sym h))
 
 pub starts_named : (plan : Plan) (name : ℕ) (x : Event) → calls_name plan name x (kind plan x) ≡ true → Starts plan x
@@ -164,14 +166,15 @@ starts_commit plan x y key r = record { what = Commit; is = node_commit plan x y
 starts_look : (plan : Plan) (x : Event) (owner key : ℕ) → kind plan x ≡ Some (GetNow owner key) → Starts plan x
 starts_look plan x owner key is = record { what = GetNow owner key; is = is; first = refl }
 
-starts_arrival : (plan : Plan) (x : Event) → IsArriving plan x → Starts plan x
-starts_arrival plan x a = record { what = Arrive a.members a.collect; is = a.is; first = refl }
+starts_source : (plan : Plan) (x : Event) → ArrivesOrGets plan x → Starts plan x
+starts_source plan x (Arriving members collect is) = record { what = Arrive members collect; is = is; first = refl }
+starts_source plan x (Getting owner key is) = record { what = Get owner key; is = is; first = refl }
 
 -- each event of a finding is the first of its call
 pub low_starts : (plan : Plan) (f : Finding) → IsFound plan f → Starts plan (low_of f)
 low_starts plan (Rewrite x y) r = record { what = Put r.key r.first_scope; is = r.first_is; first = refl }
 low_starts plan (KeyRace x y owner key) (low, inl (inl r)) = starts_commit plan x y key r.1
-low_starts plan (KeyRace x y owner key) (low, inl (inr r)) = starts_arrival plan x (delivery_arrives plan x y owner key r)
+low_starts plan (KeyRace x y owner key) (low, inl (inr r)) = starts_source plan x (delivery_source plan x y owner key r)
 low_starts plan (KeyRace x y owner key) (low, inr (inl r)) = starts_look plan x y.proc key r.1.is
 low_starts plan (KeyRace x y owner key) (low, inr (inr r)) = starts_look plan x owner key r.is
 low_starts plan (NameRace x y name) (low, inl r) = starts_named plan name x (writes_calls plan name x (kind plan x) r.x_writes)
@@ -182,6 +185,6 @@ high_starts plan (Rewrite x y) r = record { what = Put r.key r.later_scope; is =
 high_starts plan (KeyRace x y owner key) (low, inl (inl r)) = starts_look plan y x.proc key r.1.is
 high_starts plan (KeyRace x y owner key) (low, inl (inr r)) = starts_look plan y owner key r.is
 high_starts plan (KeyRace x y owner key) (low, inr (inl r)) = starts_commit plan y x key r.1
-high_starts plan (KeyRace x y owner key) (low, inr (inr r)) = starts_arrival plan y (delivery_arrives plan y x owner key r)
+high_starts plan (KeyRace x y owner key) (low, inr (inr r)) = starts_source plan y (delivery_source plan y x owner key r)
 high_starts plan (NameRace x y name) (low, inl r) = starts_named plan name y r.y_calls
 high_starts plan (NameRace x y name) (low, inr r) = starts_named plan name y (writes_calls plan name y (kind plan y) r.x_writes)

@@ -1,12 +1,12 @@
 -- The races of a get with the deliveries of its key from another node.
-use Rattle.std.proofs.Common.{◌≡◌, ◌∙◌, ap, sym, subst, ℕ, suc, ◌<◌, ◌≤◌, List, true, Option, Some, None, arith, inl, inr}
+use Rattle.std.proofs.Common.{◌≡◌, ◌∙◌, ap, sym, refl, subst, ℕ, suc, ◌<◌, ◌≤◌, List, true, false, Option, Some, None, arith, ◌⊎◌, inl, inr}
 use Rattle.std.specs.Prelude.{IfSome, option_map}
 use Rattle.std.proofs.lemmas.Bool.{true≢false, cases_lt, cases_eq}
 use Rattle.wire_runs.specs.Plan.{Plan, Event, event_count, process_count, node_of, same_node}
 use Rattle.wire_types.specs.declared.Proc.{Proc}
 use Rattle.wire_types.specs.declared.place.Event.{Event as CodeEvent}
-use Rattle.wire_runs.specs.Order.{IsArrival, Before}
-use Rattle.wire_runs.specs.Races.{Delivery, ByFence, IsOf, Delivers, ComesSurely}
+use Rattle.wire_runs.specs.Order.{IsArrival, Live, Before}
+use Rattle.wire_runs.specs.Races.{Delivery, ByFence, ByGet, IsOf, Delivers, GetDelivers, ComesSurely}
 use Rattle.wire_runs.specs.Findings.{Finding, IsFound, IsKeyRace}
 use Rattle.wire_plan.specs.Index.{IsDelivering, IsNextDelivery}
 use Rattle.wire_runs.proofs.Basics.{event_within, process_within}
@@ -14,9 +14,10 @@ use Rattle.wire_races.specs.declared.finding.Finding.{Finding as Told}
 use Rattle.wire_races.specs.Collected.{AreFound}
 use Rattle.wire_races.specs.FindingKinds.{IsOfKey}
 use Rattle.wire_races.specs.Adding.{Adds, OfKind}
-use Rattle.wire_races.specs.KeyRaces.{IsRaceOf, IsKeyRaceBy, Arrives, IsSure, MayBeLate, IsLate, IsLateBy, AreLateBelow, IsUnsure, IsNextArrival}
+use Rattle.wire_races.specs.GetRaces.{IsSureByGet, MayRace, AreRacesByGets}
+use Rattle.wire_races.specs.KeyRaces.{IsRaceOf, IsKeyRaceBy, Arrives, IsSure, IsSureByFence, MayBeLate, IsLate, IsLateBy, AreLateBelow, IsUnsure, IsNextArrival}
 use Rattle.wire_races.proofs.Growing.{adds_none, adds_same, adds_both}
-use Rattle.wire_runs.proofs.Histories.{joined}
+use Rattle.wire_runs.proofs.Histories.{before_live, joined}
 use Rattle.wire_races.proofs.Arrivals.{arrival_of, late_once}
 use Rattle.wire_races.proofs.Sooner.{sooner_live, sooner_before}
 use Rattle.wire_races.proofs.KeyRaces.{race_with, race_open, race_found, get_there}
@@ -54,15 +55,28 @@ module _ (plan : Plan) (get : Event) (p key node : ℕ) where
     all_before = λ z a. s.all_before z (arrival_of plan (here p at) z d.members s.fence.members d.j s.fence.j d.arrival s.fence.arrival a);
   }
 
-  pub sure_at : ComesSurely plan p key node get → (at : ℕ) × IsDelivering plan p key node at × IsSure plan get (here p at)
-  sure_at s = go s.delivery s.delivers s.all_before
+  pub fence_sure : IsSureByFence plan p key node get → ComesSurely plan p key node get
+  fence_sure s = surely s.0 s.1 s.2
+
+  -- a sure delivery by a get
+  pub get_sure : IsSureByGet plan p key node get → ComesSurely plan p key node get
+  get_sure s = record {
+    delivery = ByGet s.0;
+    delivers = record { brings_it = s.1; all_live = λ z e. subst (Live plan) (sym e) (before_live s.2) };
+    all_before = λ z e. subst (λ x. Before plan x get) (sym e) s.2;
+  }
+
+  -- there is no other
+  pub sure_either : ComesSurely plan p key node get → IsSureByFence plan p key node get ⊎ IsSureByGet plan p key node get
+  sure_either s = go s.delivery s.delivers s.all_before
     where
-      go : (d : Delivery) → Delivers plan p key node d → ((z : Event) → IsOf plan d z → Before plan z get) → (at : ℕ) × IsDelivering plan p key node at × IsSure plan get (here p at)
-      go (ByFence members j) d before = (
+      go : (d : Delivery) → Delivers plan p key node d → ((z : Event) → IsOf plan d z → Before plan z get) → IsSureByFence plan p key node get ⊎ IsSureByGet plan p key node get
+      go (ByFence members j) d before = inl (
         d.brings_it.at,
         record { members = members; j = j; arrival = d.brings_it.arrival; brings = d.brings_it },
         record { fence = record { members = members; j = j; arrival = d.brings_it.arrival }; all_live = d.all_live; all_before = before },
       )
+      go (ByGet other) d before = inr (other, d.brings_it, before other refl)
 
   -- where a delivery is sure, an earlier one is
   sure_sooner : (a b : ℕ) → a < b → IsDelivering plan p key node a → IsSure plan get (here p b) → IsSure plan get (here p a)
@@ -74,9 +88,8 @@ module _ (plan : Plan) (get : Event) (p key node : ℕ) where
       }
 
   -- so the first one is
-  pub first_sure : (at : ℕ) → IsDelivering plan p key node at → ((k : ℕ) → 0 ≤ k → k < at → IsDelivering plan p key node k → ⊥) → ComesSurely plan p key node get → IsSure plan get (here p at)
-  first_sure at d others s =
-      let w = sure_at s in
+  pub first_sure : (at : ℕ) → IsDelivering plan p key node at → ((k : ℕ) → 0 ≤ k → k < at → IsDelivering plan p key node k → ⊥) → IsSureByFence plan p key node get → IsSure plan get (here p at)
+  first_sure at d others w =
       elim (cases_lt w.0 at) [
         | inl lt ↦ absurd (others w.0 (omega arith) lt w.1)
         | inr ge ↦ elim (cases_eq w.0 at) [
@@ -86,8 +99,8 @@ module _ (plan : Plan) (get : Event) (p key node : ℕ) where
       ]
 
   -- none at all
-  pub never_sure : ((k : ℕ) → 0 ≤ k → IsDelivering plan p key node k → ⊥) → ComesSurely plan p key node get → ⊥
-  never_sure none s = let w = sure_at s in none w.0 (omega arith) w.1
+  pub never_sure : ((k : ℕ) → 0 ≤ k → IsDelivering plan p key node k → ⊥) → IsSureByFence plan p key node get → ⊥
+  never_sure none w = none w.0 (omega arith) w.1
 
 pub past_all : (plan : Plan) (p key node from count : ℕ) → count ≡ event_count plan p → count ≤ from → (k : ℕ) → from ≤ k → IsDelivering plan p key node k → ⊥
 past_all plan p key node from count is end k ge d = let lt = delivering_within plan p key node k d in omega (arith, lt, is, end, ge)
@@ -112,13 +125,32 @@ module _ (plan : Plan) (get : Event) (owner key : ℕ) (n : IsUnsure plan get ow
         first = λ z a late. l.first z (there z a) late;
       })
 
-  -- each race is a late arrival
-  race_late : (f : Finding) → IsKeyRaceBy plan get f → (at : ℕ) × IsLateBy plan get owner key (node_of plan get.proc) at f
+  -- and so is a get that brings the key and may come later
+  pub get_race : (z : Event) → GetDelivers plan owner key (node_of plan get.proc) z → MayRace plan z get → IsKeyRace plan z get owner key
+  get_race z d may = inr (record {
+    is = n.opened.is;
+    other = n.other;
+    once = n.opened.once;
+    get_live = n.opened.get_live;
+    not_sure = n.not_sure;
+    delivery = ByGet z;
+    delivers = record { brings_it = d; all_live = λ v e. subst (Live plan) (sym e) may.0 };
+    before_none = λ v e b. may.1 (subst (Before plan get) e b);
+    of_it = refl;
+    not_before = λ b. n.not_sure (get_sure plan get owner key (node_of plan get.proc) (z, d, b));
+    first = λ v e late. (let same = ap (λ (x : Event). x.proc) e in omega (arith, same));
+  })
+
+  abbrev IsEither : Finding → Type 0
+  IsEither f = ((at : ℕ) × IsLateBy plan get owner key (node_of plan get.proc) at f) ⊎ AreRacesByGets plan get owner key (node_of plan get.proc) f
+
+  -- each race is a late arrival, or such a get
+  race_late : (f : Finding) → IsKeyRaceBy plan get f → IsEither f
   race_late f t = let w = race_with plan get owner key f n.opened.is t in go w.source w.race w.is
     where
       delivered : (x : Event) → IsRaceOf x get owner key f → (d : Delivery) → Delivers plan owner key (node_of plan get.proc) d → ((z : Event) → IsOf plan d z → ¬ (Before plan get z)) →
-          IsOf plan d x → ¬ (Before plan x get) → ((z : Event) → IsOf plan d z → ¬ (Before plan z get) → x.proc ≤ z.proc) → (at : ℕ) × IsLateBy plan get owner key (node_of plan get.proc) at f
-      delivered x is (ByFence members j) d before_none of_it not_before first = (
+          IsOf plan d x → ¬ (Before plan x get) → ((z : Event) → IsOf plan d z → ¬ (Before plan z get) → x.proc ≤ z.proc) → IsEither f
+      delivered x is (ByFence members j) d before_none of_it not_before first = inl (
         d.brings_it.at,
         record {
           source = x;
@@ -134,18 +166,22 @@ module _ (plan : Plan) (get : Event) (owner key : ℕ) (n : IsUnsure plan get ow
           is = is;
         },
       )
+      delivered x is (ByGet other) d before_none of_it not_before first =
+          inr (other, record { delivers = d.brings_it; may = (d.all_live other refl, before_none other refl); is = subst (λ z. IsRaceOf z get owner key f) of_it is })
 
-      go : (x : Event) → IsKeyRace plan x get owner key → IsRaceOf x get owner key f → (at : ℕ) × IsLateBy plan get owner key (node_of plan get.proc) at f
+      go : (x : Event) → IsKeyRace plan x get owner key → IsRaceOf x get owner key f → IsEither f
       go x (inl r) is = absurd (true≢false (sym (subst (λ q. same_node plan q get.proc ≡ true) r.0 r.1.node) ∙ n.other))
       go x (inr r) is = delivered x is r.delivery r.delivers r.before_none r.of_it r.not_before r.first
 
-  -- the late arrivals are all races of the get
-  pub adds_late : (old new : List Told) → Adds plan old new (AreLateBelow plan get owner key (node_of plan get.proc) (event_count plan owner)) → Adds plan old new (IsKeyRaceBy plan get)
-  adds_late old new h =
-      adds_same plan old new (AreLateBelow plan get owner key (node_of plan get.proc) (event_count plan owner)) (IsKeyRaceBy plan get)
+  -- the late arrivals and these gets are all races of the get
+  pub adds_late : (old mid new : List Told) → Adds plan old mid (AreLateBelow plan get owner key (node_of plan get.proc) (event_count plan owner)) →
+      Adds plan mid new (AreRacesByGets plan get owner key (node_of plan get.proc)) → Adds plan old new (IsKeyRaceBy plan get)
+  adds_late old mid new first second =
+      adds_both plan old mid new (AreLateBelow plan get owner key (node_of plan get.proc) (event_count plan owner)) (AreRacesByGets plan get owner key (node_of plan get.proc)) (IsKeyRaceBy plan get)
       (λ f t. record { source = t.2.source; owner = owner; key = key; race = late_race t.0 t.2.source t.2.delivers t.2.late; is = t.2.is })
-      (λ f t. let w = race_late f t in (w.0, delivering_within plan owner key _ w.0 w.1.delivers, w.1))
-      h
+      (λ f t. record { source = t.0; owner = owner; key = key; race = get_race t.0 t.1.delivers t.1.may; is = t.1.is })
+      (λ f t. elim (race_late f t) [ inl w ↦ inl (w.0, delivering_within plan owner key _ w.0 w.1.delivers, w.1) | inr w ↦ inr w ])
+      first second
 
 module _ (plan : Plan) (get : Event) (owner key node : ℕ) where
   -- one arrival is looked at

@@ -3,8 +3,8 @@ use Rattle.std.proofs.Common.{◌≡◌, ◌∙◌, ap, refl, sym, ℕ, zero, su
 use Rattle.std.specs.Prelude.{slice_get}
 use Rattle.std.proofs.lemmas.Bool.{true≢false}
 use Rattle.std.proofs.lemmas.Option.{slice_get_within, same_Some}
-use Rattle.wire_runs.specs.Plan.{Plan, Event, Call, CallPut, CallCommit, CallFence, CallGet, CallGetNow, CallPublish, CallLookup, CallLookupWait, CallUnpublish, CallFixed, Kind, Arrive, Leave}
-use Rattle.wire_runs.specs.Plan.{kinds_of, kinds, kind_at, kind}
+use Rattle.wire_runs.specs.Plan.{Plan, Event, Call, CallPut, CallCommit, CallFence, CallGet, CallGetNow, CallPublish, CallLookup, CallLookupWait, CallUnpublish, CallUnpublishAll, CallFixed}
+use Rattle.wire_runs.specs.Plan.{Kind, Arrive, Leave, kinds_of, kinds, kind_at, kind}
 use Rattle.wire_runs.specs.Ends.{call_of, process_calls, first_event}
 use Rattle.wire_races.proofs.Calls.{is_leave, same_events, starts_back}
 
@@ -47,6 +47,8 @@ ends (CallLookupWait name ∷ calls) zero members collect is = absurd (true≢fa
 ends (CallLookupWait name ∷ calls) (suc at) members collect is = ends calls at members collect is
 ends (CallUnpublish name ∷ calls) zero members collect is = absurd (true≢false (sym (ap is_arrive (same_Some _ _ is))))
 ends (CallUnpublish name ∷ calls) (suc at) members collect is = ends calls at members collect is
+ends (CallUnpublishAll ∷ calls) zero members collect is = absurd (true≢false (sym (ap is_arrive (same_Some _ _ is))))
+ends (CallUnpublishAll ∷ calls) (suc at) members collect is = ends calls at members collect is
 ends (CallFixed reply ∷ calls) zero members collect is = absurd (true≢false (sym (ap is_arrive (same_Some _ _ is))))
 ends (CallFixed reply ∷ calls) (suc at) members collect is = ends calls at members collect is
 

@@ -2,13 +2,13 @@
 use Rattle.std.proofs.Common.{◌≡◌, ◌⊎◌, ◌∙◌, ap, refl, sym, subst, ℕ, ◌<◌, List, length, true, Option, Some, arith, is_some, inl, inr, eq-eqb}
 use Rattle.std.proofs.lemmas.Bool.{true≢false, cases_lt, cases_eq}
 use Rattle.std.proofs.lemmas.Option.{same_Some, slice_get_past}
-use Rattle.wire_runs.specs.Plan.{Plan, Event, Kind, Commit, Arrive, Leave, GetNow, kind, kinds, event_count, process_count, process_kinds, node_of, same_node}
+use Rattle.wire_runs.specs.Plan.{Plan, Event, Kind, Commit, Arrive, Leave, Get, GetNow, kind, kinds, event_count, process_count, process_kinds, node_of, same_node}
 use Rattle.wire_runs.specs.Puts.{stored, stored_with, own, put_count}
 use Rattle.wire_types.specs.declared.CallAt.{CallAt}
 use Rattle.wire_runs.specs.Order.{Stores, IsArrival}
 use Rattle.wire_runs.specs.EventLists.{IsLower}
 use Rattle.wire_runs.specs.Ends.{call_of, first_event}
-use Rattle.wire_runs.specs.Races.{IsUnordered, IsNodeRace, IsPutOnce, Delivery, ByFence, IsOf}
+use Rattle.wire_runs.specs.Races.{IsUnordered, IsNodeRace, IsPutOnce, Delivery, ByFence, ByGet, IsOf, Brings}
 use Rattle.wire_runs.specs.Findings.{Finding, KeyRace, IsFound, IsKeyRace}
 use Rattle.wire_runs.proofs.Basics.{event_within}
 use Rattle.wire_plan.proofs.KeyFacts.{stores_once}
@@ -30,7 +30,7 @@ store_is plan x key s = elim (commit_or_kept (own plan x.proc key x.at) (stored 
   | inr kept ↦ absurd (true≢false (sym s.something_after ∙ ap is_some (kept ∙ s.nothing_before)))
 ]
 
--- an event that is a commit or an arrival
+-- an event that is a commit, an arrival, or a get that waits
 record IsSource (plan : Plan) (x : Event) : Type 0 where
   what : Kind
   is : kind plan x ≡ Some what
@@ -43,12 +43,13 @@ commit_source plan x e = record { what = Commit; is = e; no_leave = λ members h
 arrival_source : (plan : Plan) (x : Event) (members : List ℕ) (j : ℕ) → IsArrival plan members j x → IsSource plan x
 arrival_source plan x members j a = record { what = Arrive members a.collect; is = a.is; no_leave = λ others h. cc; no_get = λ owner key h. cc }
 
-delivery_source : (plan : Plan) (d : Delivery) (x : Event) → IsOf plan d x → IsSource plan x
-delivery_source plan (ByFence members j) x a = arrival_source plan x members j a
+delivery_source : (plan : Plan) (p key node : ℕ) (d : Delivery) (x : Event) → Brings plan p key node d → IsOf plan d x → IsSource plan x
+delivery_source plan p key node (ByFence members j) x b a = arrival_source plan x members j a
+delivery_source plan p key node (ByGet get) x b e = record { what = Get p key; is = ap (kind plan) e ∙ b.is; no_leave = λ members h. cc; no_get = λ owner other h. cc }
 
 source_is : (plan : Plan) (x y : Event) (owner key : ℕ) → IsKeyRace plan x y owner key → IsSource plan x
 source_is plan x y owner key (inl node) = commit_source plan x (store_is plan x key node.1.stores)
-source_is plan x y owner key (inr d) = delivery_source plan d.delivery x d.of_it
+source_is plan x y owner key (inr d) = delivery_source plan owner key (node_of plan y.proc) d.delivery x d.delivers.brings_it d.of_it
 
 -- the get of a race
 pub race_open : (plan : Plan) (x y : Event) (owner key : ℕ) → IsKeyRace plan x y owner key → IsOpen plan y owner key

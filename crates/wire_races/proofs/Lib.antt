@@ -10,6 +10,7 @@ pub mod Later
 pub mod Arrivals
 pub mod Sooner
 pub mod KeyRaces
+pub mod ByGets
 pub mod Deliveries
 pub mod Lists
 pub mod Names

@@ -2,7 +2,7 @@
 use Rattle.std.proofs.Common.{◌≡◌, ap, refl, sym, subst, ℕ, zero, suc, ◌<◌, List, [], ◌∷◌, length, take, Bool, false, inl, inr, arith}
 use Rattle.std.specs.Prelude.{◌↔◌}
 use Rattle.std.proofs.lemmas.Bool.{cases_lt, true≢false}
-use Rattle.wire_runs.specs.Plan.{Plan, Event, Call, CallPut, CallCommit, CallFence, CallGet, CallGetNow, CallPublish, CallLookup, CallLookupWait, CallUnpublish, CallFixed, kinds_of}
+use Rattle.wire_runs.specs.Plan.{Plan, Event, Call, CallPut, CallCommit, CallFence, CallGet, CallGetNow, CallPublish, CallLookup, CallLookupWait, CallUnpublish, CallUnpublishAll, CallFixed, kinds_of}
 use Rattle.wire_types.specs.declared.CallAt.{CallAt}
 use Rattle.wire_runs.specs.Ends.{call_size, calls_of, first_event}
 use Rattle.wire_runs.specs.Races.{IsSettled}
@@ -26,6 +26,7 @@ some_event (CallPublish name) = omega arith
 some_event (CallLookup name) = omega arith
 some_event (CallLookupWait name) = omega arith
 some_event (CallUnpublish name) = omega arith
+some_event CallUnpublishAll = omega arith
 some_event (CallFixed reply) = omega arith
 
 -- a later call starts at a later event

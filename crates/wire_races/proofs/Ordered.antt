@@ -19,7 +19,7 @@ use Rattle.wire_races.specs.declared.finding.Finding.{Finding as Told}
 use Rattle.wire_races.specs.declared.finding.Finding.TheVariants.{Rewrite, KeyRace, NameRace}
 use Rattle.wire_races.specs.declared.found.Standing.{Standing}
 use Rattle.wire_races.specs.Findings.{shown, all_shown}
-use Rattle.wire_races.specs.Collected.{Tells, AreFound}
+use Rattle.wire_races.specs.Collected.{Tells, AreFound, UnpublishesSingly}
 use Rattle.wire_races.specs.Standings.{standing, call_cmp, standing_cmp}
 use Rattle.wire_races.proofs.Told.{low_call, high_call, shown_low, shown_high, one_first, one_standing}
 use Rattle.wire_races.proofs.OneList.{rising}
@@ -139,9 +139,9 @@ equal_is Less e = cc
 equal_is Equal e = refl
 equal_is Greater e = cc
 
-module _ (plan : Plan) where
+module _ (plan : Plan) (one : UnpublishesSingly plan) where
   one_there : (x k : Told) → same_standing x k ≡ true → IsFound plan (shown plan x) → IsFound plan (shown plan k) → shown plan x ≡ shown plan k
-  one_there x k e a b = one_standing plan x k (standing_same (standing x) (standing k) (equal_is (standing_cmp (standing x) (standing k)) e)) a b
+  one_there x k e a b = one_standing plan one x k (standing_same (standing x) (standing k) (equal_is (standing_cmp (standing x) (standing k)) e)) a b
 
   -- what is told once is told as before
   kept : (k : Told) (xs : List Told) (f : Finding) → AreFound plan (k ∷ xs) → Tells plan (k ∷ xs) f → Tells plan (dedup_from same_standing k xs) f

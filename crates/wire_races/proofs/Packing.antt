@@ -20,7 +20,7 @@ use Rattle.wire_races.specs.Packing.{race_on, told_of, told_by, all_told_by, Are
 use Rattle.wire_runs.specs.Plan.{Plan}
 use Rattle.wire_runs.specs.Findings.{Finding, IsSorted}
 use Rattle.wire_races.specs.Findings.{all_shown}
-use Rattle.wire_races.specs.Collected.{Tells, AreFound}
+use Rattle.wire_races.specs.Collected.{Tells, AreFound, UnpublishesSingly}
 use Rattle.wire_races.proofs.Calls.{get_left}
 use Rattle.wire_races.proofs.Ordered.{same_standing, standing_total, list_tells, list_sorted}
 
@@ -106,7 +106,8 @@ sorted_told subjects entries up = λ k d low lt.
 abbrev pub same_entry : Packed → Packed → Bool
 same_entry = eq_by_cmp (on entry_standing standing_cmp)
 
-module _ (plan : Plan) (subjects : List Subject) (met up list : List Packed) (p : IsPermutation met up) (is : list ≡ dedup same_entry up) (found : AreFound plan (all_told_by subjects met)) where
+module _ (plan : Plan) (one : UnpublishesSingly plan) (subjects : List Subject) (met up list : List Packed) (p : IsPermutation met up) (is : list ≡ dedup same_entry up)
+    (found : AreFound plan (all_told_by subjects met)) where
   -- what is kept of the entries stands for what is kept of the findings
   told_once : all_told_by subjects list ≡ dedup same_standing (all_told_by subjects up)
   told_once =
@@ -118,11 +119,11 @@ module _ (plan : Plan) (subjects : List Subject) (met up list : List Packed) (p 
 
   -- the list tells what was met
   pub entries_tell : (f : Finding) → Tells plan (all_told_by subjects list) f ↔ Tells plan (all_told_by subjects met) f
-  entries_tell = list_tells plan (all_told_by subjects met) (all_told_by subjects up) (all_told_by subjects list) moved told_once found
+  entries_tell = list_tells plan one (all_told_by subjects met) (all_told_by subjects up) (all_told_by subjects list) moved told_once found
 
   -- in the order of findings
   pub entries_sorted : IsSortedByKey entry_standing standing_cmp up → (lower_name : ℕ → ℕ → Bool) → IsSorted lower_name (all_shown plan (all_told_by subjects list))
-  entries_sorted rising = list_sorted plan (all_told_by subjects met) (all_told_by subjects up) (all_told_by subjects list) moved told_once found (sorted_told subjects up rising)
+  entries_sorted rising = list_sorted plan one (all_told_by subjects met) (all_told_by subjects up) (all_told_by subjects list) moved told_once found (sorted_told subjects up rising)
 
 is_less : (r : Ordering) → true ≡ is_lt r → r ≡ Less
 is_less Less e = refl

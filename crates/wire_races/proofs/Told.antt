@@ -1,8 +1,8 @@
 -- Findings as they are told, and what a race of two events is on.
 use Rattle.std.proofs.Common.{◌≡◌, ◌∙◌, ap, sym, refl, subst, ℕ, ◌<◌, true, false, Option, Some, length, arith, inl, inr, eqb-true, lt-ltb}
-use Rattle.std.specs.Prelude.{is_some}
+use Rattle.std.specs.Prelude.{is_some, ◌≢◌}
 use Rattle.std.proofs.lemmas.Bool.{cases_lt, true≢false}
-use Rattle.wire_runs.specs.Plan.{Plan, Event, Kind, Put, GetNow, Publish, Lookup, LookupWait, Unpublish, kind}
+use Rattle.wire_runs.specs.Plan.{Plan, Event, Kind, Put, GetNow, Publish, Lookup, LookupWait, Unpublish, UnpublishAll, kind}
 use Rattle.wire_types.specs.declared.CallAt.{CallAt}
 use Rattle.wire_runs.specs.Names.{calls_name}
 use Rattle.wire_runs.specs.Races.{IsRewrite}
@@ -11,12 +11,13 @@ use Rattle.wire_runs.specs.Findings.{Finding, KeyRace, NameRace, IsFound}
 use Rattle.wire_runs.specs.Findings as findings
 use Rattle.wire_runs.specs.Ends.{calls_of, first_event}
 use Rattle.wire_plan.proofs.KeyFacts.{put_exactly}
+use Rattle.wire_races.specs.Collected.{UnpublishesSingly}
 use Rattle.wire_races.specs.Findings.{shown}
 use Rattle.wire_races.specs.Standings.{standing}
 use Rattle.wire_races.specs.declared.found.Standing.{Standing}
 use Rattle.wire_races.specs.declared.finding.Finding.{Finding as Told}
 use Rattle.wire_races.specs.declared.finding.Finding.TheVariants as told_as
-use Rattle.wire_races.proofs.Calls.{call_within, low_starts, high_starts, node_commit, delivery_arrives, writes_calls}
+use Rattle.wire_races.proofs.Calls.{call_within, low_starts, high_starts, ArrivesOrGets, Arriving, Getting, node_commit, delivery_source, writes_calls}
 
 -- the name that an event is a call on
 abbrev pub name_of : Option Kind → ℕ
@@ -39,12 +40,13 @@ named_by : (plan : Plan) (x y z : Event) (n name : ℕ) (p : Option Kind) → ca
 named_by plan x y z n name (Some (GetNow owner key)) h = absurd (true≢false (sym h))
 named_by plan x y z n name _ h = refl
 
-named : (plan : Plan) (x y v w : Event) (name : ℕ) (o p : Option Kind) → calls_name plan name v o ≡ true → calls_name plan name w p ≡ true → told x y o p ≡ NameRace x y name
-named plan x y v w name (Some (Publish n)) p h i = named_by plan x y w n name p i ∙ ap (NameRace x y) (eqb-true n name h)
-named plan x y v w name (Some (Lookup n)) p h i = named_by plan x y w n name p i ∙ ap (NameRace x y) (eqb-true n name h)
-named plan x y v w name (Some (LookupWait n)) p h i = named_by plan x y w n name p i ∙ ap (NameRace x y) (eqb-true n name h)
-named plan x y v w name (Some (Unpublish n)) p h i = named_by plan x y w n name p i ∙ ap (NameRace x y) (eqb-true n name h)
-named plan x y v w name _ p h i = absurd (true≢false (sym h))
+named : (plan : Plan) (x y v w : Event) (name : ℕ) (o p : Option Kind) → o ≢ Some UnpublishAll → calls_name plan name v o ≡ true → calls_name plan name w p ≡ true → told x y o p ≡ NameRace x y name
+named plan x y v w name (Some (Publish n)) p one h i = named_by plan x y w n name p i ∙ ap (NameRace x y) (eqb-true n name h)
+named plan x y v w name (Some (Lookup n)) p one h i = named_by plan x y w n name p i ∙ ap (NameRace x y) (eqb-true n name h)
+named plan x y v w name (Some (LookupWait n)) p one h i = named_by plan x y w n name p i ∙ ap (NameRace x y) (eqb-true n name h)
+named plan x y v w name (Some (Unpublish n)) p one h i = named_by plan x y w n name p i ∙ ap (NameRace x y) (eqb-true n name h)
+named plan x y v w name (Some UnpublishAll) p one h i = absurd (one refl)
+named plan x y v w name _ p one h i = absurd (true≢false (sym h))
 
 -- the events tell which race it is
 by_events : (plan : Plan) (x y : Event) (a b : Option Kind) (f : Finding) → kind plan x ≡ a → kind plan y ≡ b → told x y a b ≡ f → told x y (kind plan x) (kind plan y) ≡ f
@@ -52,13 +54,22 @@ by_events plan x y a b f e h t = ap (λ (o : Option Kind). told x y o (kind plan
 
 key_told : (plan : Plan) (x y : Event) (p k : ℕ) → IsFound plan (KeyRace x y p k) → told x y (kind plan x) (kind plan y) ≡ KeyRace x y p k
 key_told plan x y p k (low, inl (inl r)) = by_events plan x y _ _ _ (node_commit plan x y k r.1) (r.1.is) (ap (λ (q : ℕ). KeyRace x y q k) r.0)
-key_told plan x y p k (low, inl (inr r)) = let a = delivery_arrives plan x y p k r in by_events plan x y _ _ _ a.is r.is refl
+key_told plan x y p k (low, inl (inr r)) = from (delivery_source plan x y p k r)
+  where
+    from : ArrivesOrGets plan x → told x y (kind plan x) (kind plan y) ≡ KeyRace x y p k
+    from (Arriving members collect is) = by_events plan x y _ _ _ is r.is refl
+    from (Getting owner key is) = by_events plan x y _ _ _ is r.is refl
 key_told plan x y p k (low, inr (inl r)) = by_events plan x y _ _ _ r.1.is (node_commit plan y x k r.1) (ap (λ (q : ℕ). KeyRace x y q k) r.0)
-key_told plan x y p k (low, inr (inr r)) = let a = delivery_arrives plan y x p k r in by_events plan x y _ _ _ r.is a.is refl
+key_told plan x y p k (low, inr (inr r)) = from (delivery_source plan y x p k r)
+  where
+    from : ArrivesOrGets plan y → told x y (kind plan x) (kind plan y) ≡ KeyRace x y p k
+    from (Arriving members collect is) = by_events plan x y _ _ _ r.is is refl
+    from (Getting owner key is) = by_events plan x y _ _ _ r.is is refl
 
-name_told : (plan : Plan) (x y : Event) (n : ℕ) → IsFound plan (NameRace x y n) → told x y (kind plan x) (kind plan y) ≡ NameRace x y n
-name_told plan x y n (low, inl r) = named plan x y x y n (kind plan x) (kind plan y) (writes_calls plan n x (kind plan x) r.x_writes) r.y_calls
-name_told plan x y n (low, inr r) = named plan x y x y n (kind plan x) (kind plan y) r.y_calls (writes_calls plan n y (kind plan y) r.x_writes)
+-- where an unpublish is of one name, the events tell on which name the race is
+name_told : (plan : Plan) → UnpublishesSingly plan → (x y : Event) (n : ℕ) → IsFound plan (NameRace x y n) → told x y (kind plan x) (kind plan y) ≡ NameRace x y n
+name_told plan one x y n (low, inl r) = named plan x y x y n (kind plan x) (kind plan y) (one x) (writes_calls plan n x (kind plan x) r.x_writes) r.y_calls
+name_told plan one x y n (low, inr r) = named plan x y x y n (kind plan x) (kind plan y) (one x) r.y_calls (writes_calls plan n y (kind plan y) r.x_writes)
 
 -- the race of the calls of a standing
 abbrev told_there : Plan → Standing → Finding
@@ -68,16 +79,16 @@ apart : {A : Type 0} (a b : Standing) → a ≡ b → a.is_race ≡ true → b.i
 apart a b e t f = absurd (true≢false (sym t ∙ ap (λ (p : Standing). p.is_race) e ∙ f))
 
 -- a standing has one finding
-pub one_standing : (plan : Plan) (f g : Told) → standing f ≡ standing g → IsFound plan (shown plan f) → IsFound plan (shown plan g) → shown plan f ≡ shown plan g
-one_standing plan (told_as.Rewrite v w) (told_as.Rewrite x y) e a b = ap (λ (p : Standing). findings.Rewrite (first_event plan p.then) (first_event plan p.by)) e
-one_standing plan (told_as.KeyRace v w p k) (told_as.KeyRace x y q l) e a b = sym (key_told plan _ _ p.number k a) ∙ (ap (told_there plan) e ∙ key_told plan _ _ q.number l b)
-one_standing plan (told_as.KeyRace v w p k) (told_as.NameRace x y n) e a b = sym (key_told plan _ _ p.number k a) ∙ (ap (told_there plan) e ∙ name_told plan _ _ n b)
-one_standing plan (told_as.NameRace v w m) (told_as.KeyRace x y q l) e a b = sym (name_told plan _ _ m a) ∙ (ap (told_there plan) e ∙ key_told plan _ _ q.number l b)
-one_standing plan (told_as.NameRace v w m) (told_as.NameRace x y n) e a b = sym (name_told plan _ _ m a) ∙ (ap (told_there plan) e ∙ name_told plan _ _ n b)
-one_standing plan (told_as.Rewrite v w) (told_as.KeyRace x y q l) e a b = apart _ _ (sym e) refl refl
-one_standing plan (told_as.Rewrite v w) (told_as.NameRace x y n) e a b = apart _ _ (sym e) refl refl
-one_standing plan (told_as.KeyRace v w p k) (told_as.Rewrite x y) e a b = apart _ _ e refl refl
-one_standing plan (told_as.NameRace v w m) (told_as.Rewrite x y) e a b = apart _ _ e refl refl
+pub one_standing : (plan : Plan) → UnpublishesSingly plan → (f g : Told) → standing f ≡ standing g → IsFound plan (shown plan f) → IsFound plan (shown plan g) → shown plan f ≡ shown plan g
+one_standing plan one (told_as.Rewrite v w) (told_as.Rewrite x y) e a b = ap (λ (p : Standing). findings.Rewrite (first_event plan p.then) (first_event plan p.by)) e
+one_standing plan one (told_as.KeyRace v w p k) (told_as.KeyRace x y q l) e a b = sym (key_told plan _ _ p.number k a) ∙ (ap (told_there plan) e ∙ key_told plan _ _ q.number l b)
+one_standing plan one (told_as.KeyRace v w p k) (told_as.NameRace x y n) e a b = sym (key_told plan _ _ p.number k a) ∙ (ap (told_there plan) e ∙ name_told plan one _ _ n b)
+one_standing plan one (told_as.NameRace v w m) (told_as.KeyRace x y q l) e a b = sym (name_told plan one _ _ m a) ∙ (ap (told_there plan) e ∙ key_told plan _ _ q.number l b)
+one_standing plan one (told_as.NameRace v w m) (told_as.NameRace x y n) e a b = sym (name_told plan one _ _ m a) ∙ (ap (told_there plan) e ∙ name_told plan one _ _ n b)
+one_standing plan one (told_as.Rewrite v w) (told_as.KeyRace x y q l) e a b = apart _ _ (sym e) refl refl
+one_standing plan one (told_as.Rewrite v w) (told_as.NameRace x y n) e a b = apart _ _ (sym e) refl refl
+one_standing plan one (told_as.KeyRace v w p k) (told_as.Rewrite x y) e a b = apart _ _ e refl refl
+one_standing plan one (told_as.NameRace v w m) (told_as.Rewrite x y) e a b = apart _ _ e refl refl
 
 not_sooner : (plan : Plan) (p key i j : ℕ) → IsFirstPut plan (record { proc = p; at = i }) key → IsFirstPut plan (record { proc = p; at = j }) key → i < j → ⊥
 not_sooner plan p key i j a b lt = true≢false (sym (put_exactly plan p key i j a ∙ lt-ltb i j lt) ∙ ap is_some b.first)

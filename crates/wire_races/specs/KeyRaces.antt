@@ -52,6 +52,10 @@ pub record IsSure (plan : Plan) (get arrival : Event) : Type 0 where
   pub all_live : (z : Event) → IsArrival plan fence.members fence.j z → Live plan z
   pub all_before : (z : Event) → IsArrival plan fence.members fence.j z → Before plan z get
 
+-- a fence that brings p's key to the node is complete before the get, told by p's arrival at it
+abbrev pub IsSureByFence : Plan → ℕ → ℕ → ℕ → Event → Type 0
+IsSureByFence plan p key node get = (at : ℕ) × IsDelivering plan p key node at × IsSure plan get (record { proc = p; at = at })
+
 -- all arrivals at the fence of this arrival are live, and the get is before none of them
 pub record MayBeLate (plan : Plan) (get arrival : Event) : Type 0 where
   pub fence : Arrives plan arrival

@@ -6,6 +6,7 @@ pub mod FindingKinds
 pub mod Adding
 pub mod Rewriting
 pub mod KeyRaces
+pub mod GetRaces
 pub mod NameRaces
 pub mod Pieces
 pub mod Fates

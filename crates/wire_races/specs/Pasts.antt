@@ -1,7 +1,7 @@
 -- What an event sees and does where exactly what is before it is done: for the contracts of private functions.
-use Rattle.std.specs.Prelude.{◌≡◌, ◌↔◌, ℕ, List, [], ◌∷◌, true, Option, is_some, map, if◌then◌else◌}
+use Rattle.std.specs.Prelude.{◌≡◌, ◌≢◌, ◌↔◌, ℕ, List, [], ◌∷◌, true, Option, Some, is_some, slice_get, map, if◌then◌else◌}
 use Rattle.wire_types.specs.declared.Reply.{Reply}
-use Rattle.wire_runs.specs.Plan.{Plan, Event, event_of, node_of}
+use Rattle.wire_runs.specs.Plan.{Plan, Event, Get, event_of, event_count, kind, node_of, same_node}
 use Rattle.wire_runs.specs.State.{Success, NotFound, Duplicate, State, IsDone}
 use Rattle.wire_runs.specs.Sight.{Sight, held, served, brought, get_sees, get_now_sees}
 use Rattle.wire_runs.specs.Puts.{stored}
@@ -13,9 +13,15 @@ use Rattle.wire_marks.specs.declared.Update.{Update}
 use Rattle.wire_races.specs.declared.fate.Fate.{Fate as Told}
 use Rattle.wire_races.specs.Fates.{fate_told}
 
+-- each get of another's key that is done got what its owner has stored once all its events are done
+abbrev pub AreGot : Plan → State → Type 0
+AreGot plan s =
+    (z : Event) (t key : ℕ) → IsDone s z → kind plan z ≡ Some (Get t key) → z.proc ≢ t →
+    slice_get (s.replies z.proc) z.at ≡ Some (sight_reply t (served plan t (same_node plan t z.proc) (stored plan t key (event_count plan t))))
+
 -- it tells what y does in the state of its past
 abbrev pub IsFateInPast : Plan → Event → Told → Type 0
-IsFateInPast plan y found = (fate_of : Event → Fate) (past : State) → IsPast plan y fate_of past → found ≡ fate_told plan (fate_in plan past y)
+IsFateInPast plan y found = (fate_of : Event → Fate) (past : State) → IsPast plan y fate_of past → AreGot plan past → found ≡ fate_told plan (fate_in plan past y)
 
 -- the events done in the state are those before y
 abbrev pub HasBefore : Plan → Event → State → Type 0
@@ -33,16 +39,16 @@ GivesGet plan y owner key reply =
 
 -- the reply gives what a get that is answered at once sees in its past
 abbrev pub GivesGetNow : Plan → Event → ℕ → ℕ → Reply → Type 0
-GivesGetNow plan y owner key reply = (s : State) → HasBefore plan y s → GivesSight plan owner (get_now_sees plan s y.proc y.at owner key) reply
+GivesGetNow plan y owner key reply = (s : State) → HasBefore plan y s → AreGot plan s → GivesSight plan owner (get_now_sees plan s y.proc y.at owner key) reply
 
 -- the reply gives what the owner's server shows on its node in y's past
 abbrev pub GivesServed : Plan → Event → ℕ → ℕ → Reply → Type 0
 GivesServed plan y owner key reply = (s : State) → HasBefore plan y s →
     GivesSight plan owner (served plan owner true (stored plan owner key (s.done owner))) reply
 
--- the reply gives what fences have brought to the node of y in its past
+-- the reply gives what fences and gets have brought to the node of y in its past
 abbrev pub GivesBrought : Plan → Event → ℕ → ℕ → Reply → Type 0
-GivesBrought plan y owner key reply = (s : State) → HasBefore plan y s → GivesSight plan owner (held (brought plan s owner key (node_of plan y.proc))) reply
+GivesBrought plan y owner key reply = (s : State) → HasBefore plan y s → AreGot plan s → GivesSight plan owner (held (brought plan s owner key (node_of plan y.proc))) reply
 
 -- what stands under the name after the calls before y
 pub record IsStanding (plan : Plan) (y : Event) (name : ℕ) (found : Option Event) : Type 0 where

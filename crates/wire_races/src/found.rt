@@ -6,7 +6,7 @@ ghost use Rattle.wire_runs.specs.Plan as runs;
 ghost use Rattle.wire_runs.specs.Findings as told;
 ghost use Rattle.wire_runs.specs.Findings.{IsSorted};
 ghost use Rattle.wire_races.specs.Findings.{shown, all_shown};
-ghost use Rattle.wire_races.specs.Collected.{Tells, AreFound, IsAdded};
+ghost use Rattle.wire_races.specs.Collected.{Tells, AreFound, IsAdded, UnpublishesSingly};
 ghost use Rattle.wire_races.specs.Packing.{all_told_by};
 ghost use Rattle.wire_races.specs.Standings.{entry_standing, standing_cmp, AreInOrder};
 
@@ -128,8 +128,9 @@ impl Found {
 
     /// The findings of a plan, each once, in their order. Where they were met so, nothing is moved.
     pub(crate) fn into_list(self) -> FindingList
-        ensures those { (plan : runs.Plan) → AreFound plan self → (f : told.Finding) → Tells plan result f ↔ Tells plan self f }
-        ensures sorted { (plan : runs.Plan) → AreFound plan self → (lower_name : ℕ → ℕ → Bool) → IsSorted lower_name (all_shown plan result) }
+        ensures those { (plan : runs.Plan) → UnpublishesSingly plan → AreFound plan self → (f : told.Finding) → Tells plan result f ↔ Tells plan self f }
+        ensures sorted { (plan : runs.Plan) → UnpublishesSingly plan → AreFound plan self → (lower_name : ℕ → ℕ → Bool)
+            → IsSorted lower_name (all_shown plan result) }
     {
         let mut entries = self.entries;
         if are_in_order(entries.as_slice()) {

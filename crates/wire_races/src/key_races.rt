@@ -15,11 +15,12 @@ ghost use Rattle.wire_races.specs.Collected.{AreFound};
 ghost use Rattle.wire_races.specs.FindingKinds.{IsOfKey, AllAdded};
 ghost use Rattle.wire_races.specs.Adding.{Adds, ToldIn};
 ghost use Rattle.wire_races.specs.Pieces.{IsPiece, ArePieces};
-ghost use Rattle.wire_races.specs.KeyRaces.{IsRaceOf, IsKeyRaceBy, IsKeyRaceOf, IsOpen, Arrives, IsBehindOwn, IsSure, MayBeLate, IsLate, IsLateBy};
+ghost use Rattle.wire_races.specs.KeyRaces.{IsRaceOf, IsKeyRaceBy, IsKeyRaceOf, IsOpen, Arrives, IsBehindOwn, IsSure, IsSureByFence, MayBeLate, IsLate, IsLateBy};
 ghost use Rattle.wire_races.specs.KeyRaces.{AreLateBelow, AllLive, NoneAfter, IsFirstLate, IsUnsure, IsNextArrival};
 
 use crate::finding::Finding;
 use crate::found::Found;
+use crate::get_races::{add_get_races, get_comes_surely};
 use crate::pieces::add_pieces;
 use rayon::prelude::*;
 use std::alloc::{AllocError, Global};
@@ -65,7 +66,12 @@ fn race_of(plan: &Plan, source: Event, asked: KeyRead) -> Finding
 }
 
 /// Adds the race of a get with an event.
-fn add_race(plan: &Plan, found: &mut Found, source: Event, asked: KeyRead) -> Result<(), AllocError>
+pub(crate) fn add_race(
+    plan: &Plan,
+    found: &mut Found,
+    source: Event,
+    asked: KeyRead,
+) -> Result<(), AllocError>
     requires race { IsKeyRace (plan_of plan.now) (event_of source) (event_of asked.get_now) asked.owner.number asked.key }
     requires found { AreFound (plan_of plan.now) found.old }
     ensures { OnOk result (Adds (plan_of plan.now) found.old found.new (IsRaceOf (event_of source) (event_of asked.get_now) asked.owner.number asked.key)) }
@@ -224,18 +230,31 @@ fn next_arrival(plan: &Plan, owner: Proc, key: u32, node: u32, from: u32) -> Opt
     plan.next_delivery(owner, key, node, from)
 }
 
-/// Whether a delivery of a key to a node comes before a get in every run. If any does, the first one
-/// does: all arrivals at its fence are before each later arrival of the owner.
+/// Whether a delivery of a key to a node by a fence comes before a get in every run. If any does, the
+/// first one does: all arrivals at its fence are before each later arrival of the owner.
+fn fence_comes_surely(plan: &Plan, marks: &Marks, asked: KeyRead, node: u32) -> bool
+    requires marks { AreMarks (plan_of plan.now) marks.now }
+    requires live { Live (plan_of plan.now) (event_of asked.get_now) }
+    requires once { IsPutOnce (plan_of plan.now) asked.owner.number asked.key }
+    ensures { IsTrue result ↔ IsSureByFence (plan_of plan.now) asked.owner.number asked.key node (event_of asked.get_now) }
+{
+    match next_arrival(plan, asked.owner, asked.key, node, 0) {
+        Some(first) => is_sure(plan, marks, asked.get_now, first),
+        None => false,
+    }
+}
+
+/// Whether a delivery of a key to a node, by a fence or by a get, comes before a get in every run.
 pub(crate) fn comes_surely(plan: &Plan, marks: &Marks, asked: KeyRead, node: u32) -> bool
     requires marks { AreMarks (plan_of plan.now) marks.now }
     requires live { Live (plan_of plan.now) (event_of asked.get_now) }
     requires once { IsPutOnce (plan_of plan.now) asked.owner.number asked.key }
     ensures { IsTrue result ↔ ComesSurely (plan_of plan.now) asked.owner.number asked.key node (event_of asked.get_now) }
 {
-    match next_arrival(plan, asked.owner, asked.key, node, 0) {
-        Some(first) => is_sure(plan, marks, asked.get_now, first),
-        None => false,
+    if fence_comes_surely(plan, marks, asked, node) {
+        return true;
     }
+    get_comes_surely(plan, marks, asked, node)
 }
 
 /// Adds the race of a get with the delivery of an arrival, if they race.
@@ -261,7 +280,7 @@ fn add_late(
     }
 }
 
-/// Adds the races of a get with the deliveries of its key, none of which comes surely before it. Where
+/// Adds the races of a get with the deliveries of its key by fences, none of which comes surely before it. Where
 /// one can't come late, since the get is before an arrival at its fence or one of these isn't live, no
 /// later one can.
 fn add_all_late(
@@ -311,7 +330,8 @@ fn add_delivery_races(
     if comes_surely(plan, marks, asked, node) {
         return Ok(());
     }
-    add_all_late(plan, marks, found, asked, node)
+    add_all_late(plan, marks, found, asked, node)?;
+    add_get_races(plan, marks, found, asked, node)
 }
 
 /// Whether a get that is answered at once is live, and of a key that another process puts once.
@@ -423,8 +443,8 @@ fn pieces(
 }
 
 /// Adds all races on keys: of each get that is answered at once, with the commit that stores the
-/// key on its node, or with the fences that bring it to its node (PMIx Standard 5.0, PMIx_Get with
-/// PMIX_IMMEDIATE, PMIx_Commit, and PMIx_Fence with PMIX_COLLECT_DATA). The marks are those of the
+/// key on its node, or with the fences, and the gets whose values are kept, that bring it to its node (PMIx
+/// Standard 5.0, PMIx_Get with PMIX_IMMEDIATE, PMIx_Commit, and PMIx_Fence with PMIX_COLLECT_DATA). The marks are those of the
 /// plan. The one error is that memory ran out.
 pub(crate) fn add_key_races(
     rt: &(impl Threads + Sync),

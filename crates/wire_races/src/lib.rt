@@ -5,6 +5,7 @@ mod compact;
 mod fate;
 mod finding;
 mod found;
+mod get_races;
 mod key_fates;
 mod key_races;
 pub mod laws;

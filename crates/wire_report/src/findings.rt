@@ -183,7 +183,11 @@ fn push_name_race(
 }
 
 /// Appends the words of a finding. Fails only where there is no room for them.
-fn push_finding(out: &mut Vec<u8>, scripts: &Scripts, finding: Finding) -> Result<(), AllocError>
+pub fn push_finding(
+    out: &mut Vec<u8>,
+    scripts: &Scripts,
+    finding: Finding,
+) -> Result<(), AllocError>
     ensures ok { OnOk result (out.new.items ≡ out.old.items ++ spec.finding_words scripts.now finding) }
     ensures capacity { vec_capacity out.old ≤ vec_capacity out.new }
     ensures full { OnErr result (vec_capacity out.old < length out.old.items + length (spec.finding_words scripts.now finding)) }

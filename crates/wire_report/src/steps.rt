@@ -138,8 +138,8 @@ fn push_line(
     out.extend_from_slice(b"\n")
 }
 
-/// What the call at a place is called.
-fn verb_at(scripts: &Scripts, place: CallAt) -> &'static str
+/// What the call at a place is called, empty where there is none.
+pub fn verb_at(scripts: &Scripts, place: CallAt) -> &'static str
     ensures { result.now ≡ spec.verb_text_in (call_at scripts.now.processes place.proc.number place.call) }
 {
     match find_call(scripts, place) {

@@ -61,7 +61,7 @@ pub fn write_unsettled<S: Sink>(
 }
 
 /// Appends how many steps were taken, and their lines.
-fn push_order(out: &mut Vec<u8>, scripts: &Scripts, order: &[Proc]) -> Result<(), AllocError>
+pub fn push_order(out: &mut Vec<u8>, scripts: &Scripts, order: &[Proc]) -> Result<(), AllocError>
     ensures { OnOk result (out.new.items ≡ out.old.items ++ spec.order_text scripts.now (numbers_of order.now)) }
 {
     out.extend_from_slice(b"order ")?;
@@ -70,8 +70,8 @@ fn push_order(out: &mut Vec<u8>, scripts: &Scripts, order: &[Proc]) -> Result<()
     push_steps(out, scripts, order)
 }
 
-/// Appends the lines of these steps.
-fn push_steps(out: &mut Vec<u8>, scripts: &Scripts, order: &[Proc]) -> Result<(), AllocError>
+/// Appends the lines of these steps, which are an order file.
+pub fn push_steps(out: &mut Vec<u8>, scripts: &Scripts, order: &[Proc]) -> Result<(), AllocError>
     ensures { OnOk result (out.new.items ≡ out.old.items
         ++ flat_map (spec.step_line scripts.now) (numbers_of order.now)) }
 {

@@ -6,18 +6,20 @@ use Rattle.wire_runs.specs.Plan.{Plan, GetNow, kind, event_count, node_of, same_
 use Rattle.wire_runs.specs.State.{State, IsDone}
 use Rattle.wire_runs.specs.Puts.{own, stored, scope_of}
 use Rattle.wire_runs.specs.Fences.{arrivals, is_member, is_complete, is_collecting, has_node}
-use Rattle.wire_runs.specs.Sight.{held, served, for_others, has_brought, delivered, brought, get_now_sees}
+use Rattle.wire_runs.specs.Sight.{held, served, for_others, has_brought, delivered, kept, brought, get_now_sees}
 use Rattle.wire_runs.specs.Order.{IsArrival, Live, Before}
-use Rattle.wire_runs.specs.Races.{Delivery, ByFence, IsOf, Delivers, ComesSurely, IsSettled}
+use Rattle.wire_runs.specs.Races.{Delivery, ByFence, ByGet, IsOf, Delivers, ComesSurely, IsSettled}
 use Rattle.wire_runs.proofs.Basics.{arrivals_rise, arrivals_step, event_within}
 use Rattle.wire_runs.proofs.Due.{ClosedCut, arrived}
 use Rattle.wire_runs.proofs.Puts.{stored_fixed}
 use Rattle.wire_runs.proofs.Brought.{Bringer, bringer, delivered_from, complete_more, brings_more, differs, nth_arrival, complete_if_arrived, stored_same}
+use Rattle.wire_runs.proofs.Getters.{greater_from, greater_left, greater_right, Answered, Getter, getter, kept_some, answered_value, get_in, get_brought}
 use Rattle.wire_runs.proofs.Late.{no_late}
 
 -- what has come to the node
 data Came (plan : Plan) (s : State) (t key node u : ℕ) : Type 0 where
   by_fence : Bringer plan s.done t node key (event_count plan t) u → admits (scope_of plan t u) false ≡ true → Came plan s t key node u
+  by_get : plan.keep ≡ true → Getter plan s t key node u → Came plan s t key node u
 
 for_others_from : (plan : Plan) (t : ℕ) (o : Option ℕ) (u : ℕ) → for_others plan t o ≡ Some u → (o ≡ Some u) × (admits (scope_of plan t u) false ≡ true)
 for_others_from plan t None u = λ h. cc
@@ -31,19 +33,24 @@ fence_came plan s t key node u e = let f = for_others_from plan t (delivered pla
     by_fence (bringer plan s.done t node key (event_count plan t) u f.0) f.1
 
 came : (plan : Plan) (s : State) (t key node u : ℕ) → brought plan s t key node ≡ Some u → Came plan s t key node u
-came plan s t key node u h = fence_came plan s t key node u h
+came plan s t key node u h = elim (greater_from _ _ u h) [
+  | inl e ↦ fence_came plan s t key node u e
+  | inr e ↦ (let g = getter plan s t key node u e in by_get g.0 g.1)
+]
 
 fence_some : (plan : Plan) → IsSettled plan → (s : State) (t key node u : ℕ) → Bringer plan s.done t node key (event_count plan t) u → admits (scope_of plan t u) false ≡ true →
     is_some (for_others plan t (delivered plan s.done t node key (event_count plan t))) ≡ true
 fence_some plan settled s t key node u b a = ap is_some (ap (for_others plan t) (delivered_from plan settled s.done t node key (event_count plan t) u b) ∙ cond-true _ _ _ a)
 
-module _ (plan : Plan) (settled : IsSettled plan) (s : State) (t key node : ℕ) (away : node_of plan t ≡ node → ⊥) where
+module _ (plan : Plan) (settled : IsSettled plan) (s : State) (answered : Answered plan s) (t key node : ℕ) (away : node_of plan t ≡ node → ⊥) where
   -- whatever came is what its owner stores in the end
   came_value : (u : ℕ) → Came plan s t key node u → stored plan t key (event_count plan t) ≡ Some u
   came_value u (by_fence b a) = stored_fixed plan settled t key b.at (event_count plan t) (let l = b.below in omega (arith, l)) (ap is_some b.stored_is) ∙ b.stored_is
+  came_value u (by_get keeps g) = (answered_value plan s answered t key node u away g).0
 
   came_some : (u : ℕ) → Came plan s t key node u → is_some (brought plan s t key node) ≡ true
-  came_some u (by_fence b a) = (fence_some plan settled s t key node u b a)
+  came_some u (by_fence b a) = greater_left (for_others plan t (delivered plan s.done t node key (event_count plan t))) (kept plan s t key node) (fence_some plan settled s t key node u b a)
+  came_some u (by_get keeps g) = greater_right (for_others plan t (delivered plan s.done t node key (event_count plan t))) (kept plan s t key node) (kept_some plan s t key node u keeps g)
 
   came_is : (u : ℕ) → Came plan s t key node u → brought plan s t key node ≡ Some u
   came_is u c = go (brought plan s t key node) refl (came_some u c)
@@ -77,7 +84,7 @@ late_arrival plan cut later_cut members j positive incomplete complete =
     )
 
 module _ (plan : Plan) (settled : IsSettled plan) (s r : State) (y : Event) (up : (m : ℕ) → s.done m ≤ r.done m) (known : (z : Event) → Before plan z y → IsDone s z) (closed : ClosedCut plan r.done)
-    (not_yet : r.done y.proc ≤ y.at) (live_y : Live plan y) (t key : ℕ) (is : kind plan y ≡ Some (GetNow t key)) where
+    (not_yet : r.done y.proc ≤ y.at) (live_y : Live plan y) (answered_s : Answered plan s) (answered_r : Answered plan r) (t key : ℕ) (is : kind plan y ≡ Some (GetNow t key)) where
   module _ (away : same_node plan t y.proc ≡ false) where
     apart : node_of plan t ≡ node_of plan y.proc → ⊥
     apart e = true≢false (sym (eq-eqb _ _ e) ∙ away)
@@ -92,11 +99,13 @@ module _ (plan : Plan) (settled : IsSettled plan) (s r : State) (y : Event) (up 
       stored_is = b.stored_is;
       below = b.below;
     }) a
+    stays u (by_get keeps g) =
+        by_get keeps (get_in plan t key (node_of plan y.proc) apart s r answered_s answered_r u g (let a = g.is_done in let b = up g.get.proc in omega (arith, a, b)))
 
     -- where nothing has come in the first state
     module _ (none : brought plan s t key (node_of plan y.proc) ≡ None) where
       had : (u : ℕ) → Came plan s t key (node_of plan y.proc) u → ⊥
-      had u c = let d = came_is plan settled s t key (node_of plan y.proc) apart u c in cc
+      had u c = let d = came_is plan settled s answered_s t key (node_of plan y.proc) apart u c in cc
 
       sure_came : (d : Delivery) → Delivers plan t key (node_of plan y.proc) d → ((z : Event) → IsOf plan d z → Before plan z y) → ⊥
       sure_came (ByFence members j) delivers before =
@@ -112,6 +121,8 @@ module _ (plan : Plan) (settled : IsSettled plan) (s r : State) (y : Event) (up 
             stored_is = d.committed;
             below = event_within plan t d.at _ d.arrival.is;
           }) d.admitted)
+      sure_came (ByGet get) delivers before =
+          let d = delivers.brings_it in had d.put (by_get d.keeps (get_brought plan s answered_s t key (node_of plan y.proc) apart get d (known get (before get refl))))
 
       not_sure : ComesSurely plan t key (node_of plan y.proc) y → ⊥
       not_sure sure = sure_came sure.delivery sure.delivers sure.all_before
@@ -133,7 +144,8 @@ module _ (plan : Plan) (settled : IsSettled plan) (s r : State) (y : Event) (up 
             | inr f ↦ f
           ] in
           let z = late_arrival plan s.done r.done b.members j (let e = arrivals_step plan t b.members b.collect b.at b.is in omega (arith, e)) incomplete parts.0 in
-          no_late plan settled r.done y closed not_yet live_y t key is away (ap is_some (came_value plan settled r t key (node_of plan y.proc) apart u (by_fence b a))) not_sure (ByFence b.members j)
+          no_late plan settled r.done y closed not_yet live_y t key is away
+          (ap is_some (came_value plan settled r answered_r t key (node_of plan y.proc) apart u (by_fence b a))) not_sure (ByFence b.members j)
           (record {
             full = complete_more plan r.done (event_count plan) b.members j closed.within parts.0;
             collecting = parts.1;
@@ -147,13 +159,19 @@ module _ (plan : Plan) (settled : IsSettled plan) (s r : State) (y : Event) (up 
           })
           (λ v v_arrives. arrived plan r.done b.members j v parts.0 v_arrives)
           z.0 z.1 (λ before. let d = known z.0 before in let l = z.2 in omega (arith, d, l))
+      came_late u (by_get keeps g) =
+          let v = answered_value plan r answered_r t key (node_of plan y.proc) u apart g in
+          no_late plan settled r.done y closed not_yet live_y t key is away (ap is_some v.0) not_sure (ByGet g.get)
+          (record { keeps = keeps; is = g.is; there = g.there; put = u; committed = v.0; admitted = v.1 })
+          (λ z e. subst (λ x. IsDone r x) (sym e) g.is_done)
+          g.get refl (λ before. had u (by_get keeps (get_in plan t key (node_of plan y.proc) apart r s answered_r answered_s u g (known g.get before))))
 
     brought_same : brought plan r t key (node_of plan y.proc) ≡ brought plan s t key (node_of plan y.proc)
     brought_same = go (brought plan s t key (node_of plan y.proc)) (brought plan r t key (node_of plan y.proc)) refl refl
       where
         go : (o v : Option ℕ) → brought plan s t key (node_of plan y.proc) ≡ o → brought plan r t key (node_of plan y.proc) ≡ v →
             brought plan r t key (node_of plan y.proc) ≡ brought plan s t key (node_of plan y.proc)
-        go (Some u) v e f = came_is plan settled r t key (node_of plan y.proc) apart u (stays u (came plan s t key (node_of plan y.proc) u e)) ∙ sym e
+        go (Some u) v e f = came_is plan settled r answered_r t key (node_of plan y.proc) apart u (stays u (came plan s t key (node_of plan y.proc) u e)) ∙ sym e
         go None None e f = f ∙ sym e
         go None (Some u) e f = absurd (came_late e u (came plan r t key (node_of plan y.proc) u f))
 

@@ -1,27 +1,47 @@
 -- In a settled plan two processes that may both go on don't disturb each other.
-use Rattle.std.proofs.Common.{◌≡◌, ℕ, suc, ◌≤◌, List, [], ◌∷◌, ◌++◌, true, false, nat_eq, cond, Option, Some, None, is_some, inl, inr, refl, sym, ap, ◌∙◌, subst, arith, eq-eqb, leb-true, le-leb}
+use Rattle.std.proofs.Common.{◌≡◌, ℕ, suc, ◌≤◌, List, [], ◌∷◌, ◌++◌, true, false, nat_eq, cond, Option, Some, None, is_some, inl, inr, refl, sym, ap, ◌∙◌, subst, arith, eq-eqb, ne_eqb, zero}
+use Rattle.std.proofs.Common.{◌<◌, leb-true, le-leb}
 use Rattle.std.proofs.Math.Path.{fun_ext}
-use Rattle.std.proofs.lemmas.Bool.{cond-false, cond_both, cases_eq, cases_Bool, true≢false}
-use Rattle.wire_runs.specs.Plan.{Plan, Kind, Leave, Get, GetNow, Publish, Lookup, LookupWait, Unpublish, kind, Event}
+use Rattle.std.proofs.lemmas.Bool.{cond-false, cond_both, cases_eq, cases_Bool, or_left, or_right, true≢false}
+use Rattle.wire_runs.specs.Plan.{Plan, Kind, Leave, Get, GetNow, Publish, Lookup, LookupWait, Unpublish, UnpublishAll, kind, kind_at, event_count, Event}
 use Rattle.wire_runs.specs.State.{State, Duplicate, Success, NotFound, next_event}
 use Rattle.wire_runs.specs.Fences.{is_complete}
 use Rattle.wire_runs.specs.Sight.{get_sees, get_now_sees}
 use Rattle.wire_runs.specs.Step.{is_seen, may_do, is_enabled, sight_reply, lookup_reply, reply, name_after, is_publisher, step}
 use Rattle.wire_runs.specs.Order.{Live}
-use Rattle.wire_runs.specs.Names.{calls_name, writes_name}
+use Rattle.wire_runs.specs.Names.{is_publish, publishes, calls_name, writes_name}
 use Rattle.wire_runs.specs.Races.{IsSettled}
 use Rattle.wire_runs.specs.Laws.{Commute}
-use Rattle.wire_runs.proofs.Basics.{list_all_kept, arrivals_rise}
+use Rattle.wire_runs.proofs.Basics.{event_within, list_all_kept, arrivals_rise}
 use Rattle.wire_runs.proofs.Due.{named_after, sound_step, closed_cut, due, done_same, done_other, done_up, place_path, unordered}
 use Rattle.wire_runs.proofs.Brought.{get_same}
 use Rattle.wire_runs.proofs.Came.{now_same}
-use Rattle.wire_runs.proofs.Known.{replies_same, replies_other, Known}
+use Rattle.wire_runs.proofs.Known.{replies_same, replies_other, Known, known_step}
+
+-- what a script publishes, it publishes somewhere
+pub publishes_from : (plan : Plan) (p name i n : ℕ) → i < n → kind_at plan p i ≡ Some (Publish name) → publishes plan p name n ≡ true
+publishes_from plan p name i zero lt e = absurd (omega (arith, lt))
+publishes_from plan p name i (suc n) lt e = elim (cases_eq i n) [
+  | inl same ↦
+      (let here : kind_at plan p n ≡ Some (Publish name) = subst (λ k. kind_at plan p k ≡ Some (Publish name)) same e in
+      or_left (is_publish name (kind_at plan p n)) (publishes plan p name n) (ap (is_publish name) here ∙ eq-eqb name name refl))
+  | inr ne ↦ or_right _ _ (publishes_from plan p name i n (omega (arith, lt, ne)) e)
+]
 
 -- a call leaves alone a name that it doesn't write
 pub name_kept : (plan : Plan) (o : Option Kind) (x : Event) (before : Option Event) (n : ℕ) → ((z : Event) → before ≡ Some z → kind plan z ≡ Some (Publish n)) → writes_name plan n x o ≡ false →
     name_after before x o n ≡ before
 name_kept plan (Some (Publish m)) x before n named w = cond-false _ _ _ w
 name_kept plan (Some (Unpublish m)) x before n named w = cond-false _ _ _ w
+name_kept plan (Some UnpublishAll) x before n named w = go before named
+  where
+    go : (o : Option Event) → ((z : Event) → o ≡ Some z → kind plan z ≡ Some (Publish n)) → cond (is_publisher x.proc o) None o ≡ o
+    go None all = refl
+    go (Some z) all = elim (cases_eq z.proc x.proc) [
+      | inr ne ↦ cond-false _ _ _ (ne_eqb _ _ ne)
+      | inl e ↦ (let is = all z refl in absurd (true≢false (sym (publishes_from plan x.proc n z.at (event_count plan x.proc)
+          (subst (λ p. z.at < event_count plan p) e (event_within plan z.proc z.at _ is)) (subst (λ p. kind_at plan p z.at ≡ Some (Publish n)) e is)) ∙ w)))
+    ]
 name_kept plan _ x before n named w = refl
 
 pub writes_calls : (plan : Plan) (n : ℕ) (x : Event) (o : Option Kind) → writes_name plan n x o ≡ true → calls_name plan n x o ≡ true
@@ -45,7 +65,8 @@ module _ (plan : Plan) (settled : IsSettled plan) (s : State) (p q : ℕ) (k : K
   seen_after = get_same plan settled s.done (step plan s p).done (next_event s q) (done_up plan s p) (due plan s q k.sound hq).earlier_done (closed_cut (sound_step plan s p k.sound hp)) not_yet live_y
 
   now_after : (t key : ℕ) → kind plan (next_event s q) ≡ Some (GetNow t key) → get_now_sees plan (step plan s p) q (s.done q) t key ≡ get_now_sees plan s q (s.done q) t key
-  now_after = now_same plan settled s (step plan s p) (next_event s q) (done_up plan s p) (due plan s q k.sound hq).earlier_done (closed_cut (sound_step plan s p k.sound hp)) not_yet live_y
+  now_after = now_same plan settled s (step plan s p) (next_event s q) (done_up plan s p) (due plan s q k.sound hq).earlier_done (closed_cut (sound_step plan s p k.sound hp)) not_yet live_y k.answered
+      (known_step plan settled s p k hp).answered
 
   -- p's event changes no name that q's event reads, but one that q waits for and that is there
   name_same : (n : ℕ) (o : Option Kind) → kind plan (next_event s p) ≡ o → calls_name plan n (next_event s q) (kind plan (next_event s q)) ≡ true →
@@ -71,6 +92,16 @@ module _ (plan : Plan) (settled : IsSettled plan) (s : State) (p q : ℕ) (k : K
         unordered = unordered plan s p q k.sound hp hq;
       })))
       (λ f. refl)
+  name_same n (Some UnpublishAll) e c waits = elim (cases_Bool (writes_name plan n (next_event s p) (Some UnpublishAll))) [
+    | inr f ↦ name_kept plan (Some UnpublishAll) (next_event s p) (s.names n) n (λ z i. (k.sound.named n z i).0) f
+    | inl t ↦ absurd (settled.no_name_race (next_event s p) (next_event s q) n (record {
+      x_writes = rw e t;
+      y_calls = c;
+      others = λ eq. ne (sym eq);
+      not_once = λ once wait. (let i = once.is in cc);
+      unordered = unordered plan s p q k.sound hp hq;
+    }))
+  ]
   name_same n _ e c waits = refl
 
   names_same : (n : ℕ) → calls_name plan n (next_event s q) (kind plan (next_event s q)) ≡ true → (kind plan (next_event s q) ≡ Some (LookupWait n) → is_some (s.names n) ≡ true) →

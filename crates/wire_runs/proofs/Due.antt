@@ -3,7 +3,7 @@ use Rattle.std.proofs.Common.{◌≡◌, ℕ, suc, ◌<◌, ◌≤◌, List, [],
 use Rattle.std.proofs.Common.{le-leb}
 use Rattle.std.proofs.lemmas.Bool.{cond-true, cond-false, cond_both, cases_eq, cases_lt, or_left, true≢false}
 use Rattle.std.proofs.lemmas.Option.{same_Some}
-use Rattle.wire_runs.specs.Plan.{Plan, Kind, Leave, Get, Publish, Unpublish, kind, event_count, same_node, Event}
+use Rattle.wire_runs.specs.Plan.{Plan, Kind, Leave, Get, Publish, Unpublish, UnpublishAll, kind, event_count, same_node, Event}
 use Rattle.wire_runs.specs.State.{State, start, next_event, next_kind, IsDone}
 use Rattle.wire_runs.specs.Puts.{own, stored}
 use Rattle.wire_runs.specs.Fences.{is_complete}
@@ -150,6 +150,10 @@ named_after before y (Some (Unpublish m)) n x =
     (λ t. cond_both (is_publisher y.proc before) _ _ (λ o. o ≡ Some x → (before ≡ Some x) ⊎ ((x ≡ y) × (◌≡◌ {A = Option Kind} (Some (Unpublish m)) (Some (Publish n)))))
     (λ _ h. cc)
     (λ _ h. inl h))
+    (λ _ h. inl h)
+named_after before y (Some UnpublishAll) n x =
+    cond_both (is_publisher y.proc before) _ _ (λ o. o ≡ Some x → (before ≡ Some x) ⊎ ((x ≡ y) × (◌≡◌ {A = Option Kind} (Some UnpublishAll) (Some (Publish n)))))
+    (λ _ h. cc)
     (λ _ h. inl h)
 named_after before y _ n x = λ h. inl h
 

@@ -5,8 +5,8 @@ use Rattle.std.proofs.lemmas.Bool.{cond_both, cases_eq}
 use Rattle.std.proofs.lemmas.List.{length-append, length-map, length-replicate}
 use Rattle.std.proofs.lemmas.List.Concat.{flat_map-append, flat_map-cons}
 use Rattle.wire_types.specs.declared.CallEnd.TheVariants.{Replied, Unreached}
-use Rattle.wire_runs.specs.Plan.{Plan, Event, Process, Call, CallPut, CallCommit, CallFence, CallGet, CallGetNow, CallPublish, CallLookup, CallLookupWait, CallUnpublish, CallFixed, Kind, Put, Commit}
-use Rattle.wire_runs.specs.Plan.{Arrive, Leave, Get, GetNow, Publish, Lookup, LookupWait, Unpublish, Fixed, kinds, kind_at, kinds_of, process_kinds}
+use Rattle.wire_runs.specs.Plan.{Plan, Event, Process, Call, CallPut, CallCommit, CallFence, CallGet, CallGetNow, CallPublish, CallLookup, CallLookupWait, CallUnpublish, CallUnpublishAll, CallFixed}
+use Rattle.wire_runs.specs.Plan.{Kind, Put, Commit, Arrive, Leave, Get, GetNow, Publish, Lookup, LookupWait, Unpublish, UnpublishAll, Fixed, kinds, kind_at, kinds_of, process_kinds}
 use Rattle.wire_runs.specs.State.{State, Answer, Success, NotFound, Duplicate, start, next_event, next_kind}
 use Rattle.wire_runs.specs.Sight.{Sight, Nothing, Outside, Shown, get_sees, get_now_sees}
 use Rattle.wire_runs.specs.Step.{sight_reply, lookup_reply, is_publisher, is_enabled, reply, step, run_from}
@@ -50,6 +50,7 @@ few (CallPublish name ∷ calls) (suc n) = omega (arith, few calls n)
 few (CallLookup name ∷ calls) (suc n) = omega (arith, few calls n)
 few (CallLookupWait name ∷ calls) (suc n) = omega (arith, few calls n)
 few (CallUnpublish name ∷ calls) (suc n) = omega (arith, few calls n)
+few (CallUnpublishAll ∷ calls) (suc n) = omega (arith, few calls n)
 few (CallFixed r ∷ calls) (suc n) = omega (arith, few calls n)
 
 few_in : (process : Option Process) (n : ℕ) → given_by (process_kinds process) n ≤ length (process_calls process)
@@ -78,6 +79,7 @@ gives_so plan s x (Some (Publish name)) = cond_both (is_some (s.names name)) Dup
 gives_so plan s x (Some (Lookup name)) = found_gives plan (s.names name)
 gives_so plan s x (Some (LookupWait name)) = found_gives plan (s.names name)
 gives_so plan s x (Some (Unpublish name)) = cond_both (is_publisher x.proc (s.names name)) Success NotFound (λ a. length (given plan a) ≡ 1) (λ _. refl) (λ _. refl)
+gives_so plan s x (Some UnpublishAll) = refl
 gives_so plan s x (Some (Fixed r)) = refl
 
 -- each process has as many replies as its done events give

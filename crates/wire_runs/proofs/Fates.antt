@@ -1,12 +1,14 @@
 -- In a settled plan each answer is told by what is before the call.
-use Rattle.std.proofs.Common.{◌≢◌, ◌≡◌, ℕ, ◌<◌, ◌≤◌, List, [], ◌∷◌, ◌++◌, true, cond, Option, Some, None, is_some, inl, inr, refl, sym, ap, ◌∙◌, subst, arith, eq-eqb}
+use Rattle.std.proofs.Common.{◌≢◌, ◌≡◌, ℕ, ◌<◌, ◌≤◌, List, [], ◌∷◌, ◌++◌, Bool, true, cond, Option, Some, None, is_some, inl, inr, refl, sym, ap, ◌∙◌, subst, arith, eq-eqb, ne_eqb}
 use Rattle.std.specs.Prelude.{slice_get}
 use Rattle.std.proofs.lemmas.Option.{slice_get-get_or}
-use Rattle.std.proofs.lemmas.Bool.{cond-true, cond-false, cases_eq, cases_lt, cases_Bool, true≢false}
-use Rattle.wire_runs.specs.Plan.{Plan, Kind, Leave, Get, GetNow, Publish, Lookup, LookupWait, Unpublish, kind, event_count, Event}
+use Rattle.std.proofs.lemmas.Bool.{cond-true, cond-false, cond_both, cases_eq, cases_lt, cases_Bool, true≢false}
+use Rattle.wire_runs.specs.Plan.{Plan, Kind, Leave, Get, GetNow, Publish, Lookup, LookupWait, Unpublish, kind, event_count, same_node, admits, Event}
 use Rattle.wire_runs.specs.State.{Answer, Duplicate, Success, NotFound, State, start, next_event, IsDone}
 use Rattle.wire_runs.specs.Names.{calls_name}
+use Rattle.wire_runs.specs.Puts.{stored, scope_of}
 use Rattle.wire_runs.specs.Fences.{arrivals, is_complete}
+use Rattle.wire_runs.specs.Sight.{Sight, Outside, Shown, served}
 use Rattle.wire_runs.specs.Step.{is_seen, may_do, is_enabled, sight_reply, lookup_reply, reply, is_publisher, step, IsInterleaving, run_from, IsReachable}
 use Rattle.wire_runs.specs.Order.{Edge, Meets, may_come, Live, Before, edge}
 use Rattle.wire_runs.specs.Races.{IsSettled}
@@ -14,14 +16,16 @@ use Rattle.wire_runs.specs.Fate.{IsPast, Fate, Waits, Says, fate_in, HasFate, de
 use Rattle.wire_runs.specs.Laws.{FatesTell, OneFate, RunsAreSound}
 use Rattle.wire_runs.proofs.Basics.{event_within}
 use Rattle.wire_runs.proofs.Due.{ClosedCut, closed_cut, due, chain_to_next, live_may, live_source}
-use Rattle.wire_runs.proofs.Brought.{complete_if_arrived, get_same}
+use Rattle.wire_runs.proofs.Brought.{complete_if_arrived, get_same, get_ready}
+use Rattle.wire_runs.proofs.Getters.{last_answer, Answered}
 use Rattle.wire_runs.proofs.Came.{now_same}
-use Rattle.wire_runs.proofs.Known.{Known, known_start, known_step, replies_same, replies_other, slice_get_push}
+use Rattle.wire_runs.proofs.Known.{Known, known_start, known_step, replies_same, replies_other, slice_get_push, get_answer}
 use Rattle.wire_runs.proofs.Histories.{Written, written_start, written_step, name_is_past, one_history, no_cycle, before_live, prepend}
 
 -- Two states that both have all that is before y, and not y, with the same under the names that y asks for: y does the same in both
 module _ (plan : Plan) (settled : IsSettled plan) (s r : State) (y : Event) (up : (m : ℕ) → s.done m ≤ r.done m) (known : (z : Event) → Before plan z y → IsDone s z) (closed : ClosedCut plan r.done)
-    (not_yet : r.done y.proc ≤ y.at) (live_y : Live plan y) (names_same : (n : ℕ) → calls_name plan n y (kind plan y) ≡ true → r.names n ≡ s.names n) where
+    (not_yet : r.done y.proc ≤ y.at) (live_y : Live plan y) (answered_s : Answered plan s) (answered_r : Answered plan r)
+    (names_same : (n : ℕ) → calls_name plan n y (kind plan y) ≡ true → r.names n ≡ s.names n) where
   known_later : (z : Event) → Before plan z y → IsDone r z
   known_later z b = let d = known z b in let u = up z.proc in omega (arith, d, u)
 
@@ -40,7 +44,7 @@ module _ (plan : Plan) (settled : IsSettled plan) (s r : State) (y : Event) (up 
 
   said_same : (o : Option Kind) → kind plan y ≡ o → reply plan r y o ≡ reply plan s y o
   said_same (Some (Get t key)) e = ap (sight_reply t) (get_same plan settled s.done r.done y up known closed not_yet live_y t key e)
-  said_same (Some (GetNow t key)) e = ap (sight_reply t) (now_same plan settled s r y up known closed not_yet live_y t key e)
+  said_same (Some (GetNow t key)) e = ap (sight_reply t) (now_same plan settled s r y up known closed not_yet live_y answered_s answered_r t key e)
   said_same (Some (Publish n)) e = ap (λ v. cond (is_some v) Duplicate Success) (names_same n (rw e (eq-eqb n n refl)))
   said_same (Some (Lookup n)) e = ap lookup_reply (names_same n (rw e (eq-eqb n n refl)))
   said_same (Some (LookupWait n)) e = ap lookup_reply (names_same n (rw e (eq-eqb n n refl)))
@@ -60,6 +64,10 @@ coming_event plan y (Some e) h = (e, refl)
 -- a live event is one of the plan
 pub live_event : (plan : Plan) (y : Event) → Live plan y → (e : Kind) × (kind plan y ≡ Some e)
 live_event plan y l = coming_event plan y (kind plan y) (live_may l)
+
+served_is_seen : (plan : Plan) (t : ℕ) (same : Bool) (o : Option ℕ) → is_some o ≡ true → is_seen (served plan t same o) ≡ true
+served_is_seen plan t same None h = h
+served_is_seen plan t same (Some v) h = cond_both (admits (scope_of plan t v) same) (Shown v) Outside (λ (x : Sight). is_seen x ≡ true) (λ _. refl) (λ _. refl)
 
 -- the state of y's past
 module _ (plan : Plan) (settled : IsSettled plan) (y : Event) (live_y : Live plan y) (fate_of : Event → Fate) (past : State) (is_past : IsPast plan y fate_of past) where
@@ -86,12 +94,31 @@ module _ (plan : Plan) (settled : IsSettled plan) (y : Event) (live_y : Live pla
     | inl lt ↦ absurd (no_cycle live_y ((is_past.cut y).0 lt))
   ]
 
+  -- a get of another's key may come once its past is there, and what it says doesn't depend on more
+  get_says : (t key : ℕ) → kind plan y ≡ Some (Get t key) → (y.proc ≡ t → ⊥) → fate_in plan past y ≡ Says (last_answer plan t key y.proc)
+  get_says t key is other =
+      let ready = get_ready plan settled past.done past.done y (λ m. omega arith) past_known past_closed past_not_yet live_y t key is other in
+      let may : may_do plan past y (kind plan y) ≡ true =
+      ap (may_do plan past y) is ∙ ap is_seen (cond-false _ _ _ (ne_eqb y.proc t other)) ∙ served_is_seen plan t (same_node plan t y.proc) (stored plan t key (past.done t)) ready in
+      cond-true _ _ _ may ∙ ap Says (get_answer plan settled past past_closed.within y t key is other may)
+
+get_fate : (plan : Plan) → IsSettled plan → (z : Event) (fate : Fate) → Live plan z → (t key : ℕ) → kind plan z ≡ Some (Get t key) → (z.proc ≡ t → ⊥) → HasFate plan z fate →
+    fate ≡ Says (last_answer plan t key z.proc)
+get_fate plan settled z fate l t key is other (dead no_ e) = absurd (no_ l)
+get_fate plan settled z fate l t key is other (told m fate_of all past is_past e) = e ∙ get_says plan settled z m fate_of past is_past t key is other
+
+past_answered : (plan : Plan) → IsSettled plan → (y : Event) (fate_of : Event → Fate) → ((z : Event) → Before plan z y → HasFate plan z (fate_of z)) → (past : State) → IsPast plan y fate_of past →
+    Answered plan past
+past_answered plan settled y fate_of all past is_past z t key d is other =
+    let b = (is_past.cut z).0 d in
+    is_past.replies z _ b (get_fate plan settled z (fate_of z) (before_live b) t key is other (all z b))
+
 -- the fate of an event whose past is done
 pub told_in : (plan : Plan) → IsSettled plan → (s : State) → Known plan s → ((n : ℕ) → Written plan s n) → (y : Event) → s.done y.proc ≤ y.at → (fate : Fate) → Live plan y →
     ((z : Event) → Before plan z y → IsDone s z) → HasFate plan y fate → fate ≡ fate_in plan s y
 told_in plan settled s k w y not_yet fate l known (dead no_ e) = absurd (no_ l)
 told_in plan settled s k w y not_yet fate l known (told m fate_of all past is_past e) =
-    e ∙ sym (fate_same plan settled past s y up (past_known plan settled y l fate_of past is_past) (closed_cut k.sound) not_yet l
+    e ∙ sym (fate_same plan settled past s y up (past_known plan settled y l fate_of past is_past) (closed_cut k.sound) not_yet l (past_answered plan settled y fate_of all past is_past) k.answered
     (λ n c. let h = is_past.names n in name_is_past plan settled s k.sound y l known not_yet n h.0 c (w n) h.1 ∙ sym h.2))
   where
     up : (p : ℕ) → past.done p ≤ s.done p
@@ -108,6 +135,7 @@ one_fate plan y a b settled (told l _ _ _ _ _) (dead no_ f) = absurd (no_ l)
 one_fate plan y a b settled (told l fate_of all past is_past e) (told m other all' past' is_past' f) =
     e ∙ sym (f ∙ fate_same plan settled past past' y up (past_known plan settled y l fate_of past is_past) (past_closed plan settled y l other past' is_past')
     (past_not_yet plan settled y l other past' is_past') l
+    (past_answered plan settled y fate_of all past is_past) (past_answered plan settled y other all' past' is_past')
     (λ n c. let h = is_past.names n in let i = is_past'.names n in i.2 ∙ sym (h.2 ∙ ap (left_by plan n) (one_history plan y n h.0 i.0 h.1 i.1))))
   where
     up : (p : ℕ) → past.done p ≤ past'.done p

@@ -2,7 +2,7 @@
 use Rattle.std.proofs.Common.{◌≡◌, ℕ, List, [], ◌∷◌, Bool, Some, ◌⊎◌, inl, inr, refl, sym, ap, ◌∙◌, subst, arith}
 use Rattle.std.proofs.lemmas.Bool.{cases_lt}
 use Rattle.wire_runs.specs.Plan.{Plan, GetNow, kind, Event}
-use Rattle.wire_runs.specs.Races.{Delivery, ByFence, IsOf, Brings, IsUnordered, IsSettled}
+use Rattle.wire_runs.specs.Races.{Delivery, ByFence, ByGet, IsOf, Brings, IsUnordered, IsSettled}
 use Rattle.wire_runs.specs.Findings.{Finding, Rewrite, KeyRace, NameRace, IsKeyRace, IsFound, IsPairLower, IsSooner, Has, IsSorted}
 use Rattle.wire_runs.specs.EventLists.{IsLower}
 use Rattle.wire_runs.specs.Laws.{NoFindings, IsOneWay, OneList, RacesAreUnordered}
@@ -83,6 +83,7 @@ one_list plan lower_name xs ys one a b =
 -- no event of a delivery is a get-now
 not_of_it : (plan : Plan) (p key node : ℕ) (d : Delivery) (x : Event) (owner k : ℕ) → Brings plan p key node d → IsOf plan d x → kind plan x ≡ Some (GetNow owner k) → ⊥
 not_of_it plan p key node (ByFence members j) x owner k b of_it e = let i = of_it.is in cc
+not_of_it plan p key node (ByGet get) x owner k b of_it e = let i = b.is in let f : kind plan get ≡ Some (GetNow owner k) = ap (kind plan) (sym of_it) ∙ e in cc
 
 pub no_findings : NoFindings
 no_findings plan lower_name = (

@@ -5,6 +5,7 @@ pub mod Length
 pub mod Puts
 pub mod Brought
 pub mod Late
+pub mod Getters
 pub mod Came
 pub mod Known
 pub mod Diamond
@@ -12,6 +13,7 @@ pub mod OneEnd
 pub mod PlainRun
 pub mod Histories
 pub mod Fates
+pub mod WithoutKeep
 pub mod EventLists
 pub mod Findings
 pub mod Marks
@@ -22,4 +24,7 @@ pub mod SoFar
 pub mod OneMore
 pub mod Ends
 pub mod Rows
+pub mod LiveNext
+pub mod KeepRows
+pub mod AllNamesRows
 pub mod SettledRow

@@ -13,6 +13,8 @@ use Rattle.wire_runs.proofs.Basics.{update_same, update_other}
 use Rattle.wire_runs.proofs.Due.{Sound, reachable_sound, closed_cut, chain_done, due, done_same, done_other, place_path}
 use Rattle.wire_runs.proofs.Diamond.{writes_calls, writes_no_lookup, state_path}
 use Rattle.wire_runs.proofs.Histories.{IsAsRun, no_cycle, same_process}
+use Rattle.wire_runs.proofs.Getters.{Answered}
+use Rattle.wire_runs.proofs.Known.{reachable_known}
 use Rattle.wire_runs.proofs.Fates.{Kept, reachable_kept, fates_tell, may_same}
 use Rattle.wire_runs.proofs.Onward.{reached_on, done_on, comes_to_next, names_on}
 use Rattle.wire_runs.proofs.SoFar.{to_plain_end, replies_are_plain}
@@ -139,10 +141,10 @@ module _ (plan : Plan) (settled : IsSettled plan) (s t : State) (p : ℕ) (sound
       };
     }))
 
-    enabled_here : is_enabled plan r p ≡ true → is_enabled plan s p ≡ true
-    enabled_here on =
+    enabled_here : Answered plan s → Answered plan r → is_enabled plan r p ≡ true → is_enabled plan s p ≡ true
+    enabled_here answered_s answered_r on =
         let same : next_event r p ≡ y = λ i. record { proc = p; at = not_yet i } in
-        sym (may_same plan settled s r y (λ m. done_on plan u s m) (known live_y) (closed_cut sound_r) (omega (arith, not_yet)) live_y names_same (kind plan y) refl)
+        sym (may_same plan settled s r y (λ m. done_on plan u s m) (known live_y) (closed_cut sound_r) (omega (arith, not_yet)) live_y answered_s answered_r names_same (kind plan y) refl)
         ∙ subst (λ v. may_do plan r v (kind plan v) ≡ true) same on
 
 pub one_event_between : OneEventBetween
@@ -155,8 +157,10 @@ one_event_between plan cut p s t settled c d =
     let there = ap (λ (v : State). v.done p) to_end.2 in
     omega (arith, up, there, done_t)) in
     let next = comes_to_next plan p to_end.0 s to_end.1 further in
-    let sound_r = reachable_sound plan (run_from plan s next.0) (reached_on plan s next.0 c.reached next.1) in
+    let reached_r = reached_on plan s next.0 c.reached next.1 in
+    let sound_r = reachable_sound plan (run_from plan s next.0) reached_r in
     let same : next_event (run_from plan s next.0) p ≡ next_event s p = λ i. record { proc = p; at = next.2 i } in
     let live_y : Live plan (next_event s p) = subst (λ v. Live plan v) same (due plan (run_from plan s next.0) p sound_r next.3).is_live in
-    let on = enabled_here plan settled s t p (reachable_sound plan s c.reached) (reachable_sound plan t d.reached) (done_t, others_t) next.0 next.1 sound_r next.2 live_y next.3 in
+    let on = enabled_here plan settled s t p (reachable_sound plan s c.reached) (reachable_sound plan t d.reached) (done_t, others_t) next.0 next.1 sound_r next.2 live_y
+    (reachable_known plan settled s c.reached).answered (reachable_known plan settled (run_from plan s next.0) reached_r).answered next.3 in
     (on, one_state plan (one_more cut p) (step plan s p) t settled (steps_move_cuts plan cut s p c on) d)

@@ -17,6 +17,7 @@ row = record {
   processes =
       record { node = 0; calls = CallPut 7 Global ∷ (CallCommit ∷ (CallFence (1 ∷ (0 ∷ [])) true ∷ [])) }
       ∷ (record { node = 1; calls = CallFence (0 ∷ (1 ∷ (1 ∷ []))) true ∷ (CallGetNow 0 7 ∷ (CallGet 0 7 ∷ [])) } ∷ []);
+  keep = false;
 }
 
 order : List ℕ
@@ -37,7 +38,7 @@ row_waits = refl
 
 -- two publishes of one name: a race, and two ends
 racy : Plan
-racy = record { processes = record { node = 0; calls = CallPublish 5 ∷ [] } ∷ (record { node = 0; calls = CallPublish 5 ∷ [] } ∷ []) }
+racy = record { processes = record { node = 0; calls = CallPublish 5 ∷ [] } ∷ (record { node = 0; calls = CallPublish 5 ∷ [] } ∷ []); keep = false }
 
 racy_first : (run racy (0 ∷ (1 ∷ []))).replies 1 ≡ Duplicate ∷ []
 unfolding racy kinds kind_at
@@ -62,6 +63,7 @@ rewritten = record {
   processes =
       record { node = 0; calls = CallPut 7 Global ∷ (CallPut 7 Global ∷ (CallCommit ∷ (CallGet 0 7 ∷ []))) }
       ∷ (record { node = 1; calls = CallGet 0 7 ∷ [] } ∷ []);
+  keep = false;
 }
 
 last_put_counts : (run rewritten (0 ∷ (0 ∷ (0 ∷ (1 ∷ []))))).replies 1 ≡ Value (record { proc = 0; at = 1 }) ∷ []
@@ -78,6 +80,7 @@ never_committed = record {
   processes =
       record { node = 0; calls = CallPut 7 Global ∷ (CallPut 7 Global ∷ []) }
       ∷ (record { node = 0; calls = CallGet 0 7 ∷ [] } ∷ []);
+  keep = false;
 }
 
 twice_may_come : may_come never_committed (record { proc = 1; at = 0 }) (kind never_committed (record { proc = 1; at = 0 })) ≡ true
@@ -96,6 +99,7 @@ scoped = record {
       record { node = 0; calls = CallPut 7 Local ∷ (CallPut 8 Remote ∷ (CallCommit ∷ [])) }
       ∷ (record { node = 1; calls = CallGet 0 7 ∷ (CallGetNow 0 7 ∷ (CallGetNow 0 8 ∷ [])) }
       ∷ (record { node = 0; calls = CallGet 0 7 ∷ (CallGetNow 0 8 ∷ (CallGetNow 0 9 ∷ [])) } ∷ []));
+  keep = false;
 }
 
 -- another node: outside the scope; nothing has been brought there
@@ -114,6 +118,7 @@ uncollected = record {
   processes =
       record { node = 0; calls = CallPut 7 Global ∷ (CallCommit ∷ (CallFence (0 ∷ (1 ∷ [])) true ∷ [])) }
       ∷ (record { node = 1; calls = CallFence (0 ∷ (1 ∷ [])) false ∷ (CallGetNow 0 7 ∷ []) } ∷ []);
+  keep = false;
 }
 
 nothing_brought : (run uncollected (0 ∷ (0 ∷ (0 ∷ (1 ∷ (1 ∷ (1 ∷ []))))))).replies 1 ≡ Silent ∷ (Success ∷ (NotFound ∷ []))
@@ -126,6 +131,7 @@ named = record {
   processes =
       record { node = 0; calls = CallPublish 5 ∷ (CallUnpublish 5 ∷ (CallLookup 5 ∷ [])) }
       ∷ (record { node = 0; calls = CallLookupWait 5 ∷ (CallUnpublish 5 ∷ (CallLookup 5 ∷ [])) } ∷ []);
+  keep = false;
 }
 
 waits_for_the_name : is_enabled named start 1 ≡ false

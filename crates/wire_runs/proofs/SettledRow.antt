@@ -1,5 +1,5 @@
 -- A plan that is settled: a put, a commit, and a get by the node's other process.
-use Rattle.std.proofs.Common.{◌≡◌, ℕ, zero, suc, [], ◌∷◌, true, Option, Some, None, refl, arith}
+use Rattle.std.proofs.Common.{◌≡◌, ℕ, zero, suc, [], ◌∷◌, true, false, Option, Some, None, refl, arith}
 use Rattle.wire_runs.specs.Plan.{Plan, CallPut, CallCommit, CallGet, Kind, Put, Commit, Get, GetNow, kinds, kind_at, node_of, event_count}
 use Rattle.wire_types.specs.declared.Scope.{Scope}
 use Rattle.wire_types.specs.declared.Scope.TheVariants.{Global}
@@ -12,7 +12,7 @@ use Rattle.wire_runs.proofs.SoFar.{replies_are_plain}
 use Rattle.wire_runs.proofs.OneMore.{one_event_between}
 
 pub row : Plan
-row = record { processes = record { node = 0; calls = CallPut 7 Global ∷ (CallCommit ∷ []) } ∷ (record { node = 0; calls = CallGet 0 7 ∷ [] } ∷ []) }
+row = record { processes = record { node = 0; calls = CallPut 7 Global ∷ (CallCommit ∷ []) } ∷ (record { node = 0; calls = CallGet 0 7 ∷ [] } ∷ []); keep = false }
 
 -- the events of the plan, one by one: what holds of each of them and of nothing holds of all
 each_event : (P : Option Kind → Type 0) → P None → P (Some (Put 7 Global)) → P (Some Commit) → P (Some (Get 0 7)) → (p i : ℕ) → P (kind_at row p i)

@@ -1,13 +1,15 @@
 -- The laws of runs: what the definitions before this file entail, for every plan. Each is the contract of a function of src/laws.rt.
-use Rattle.std.specs.Prelude.{slice_get, ◌↔◌, Some, ◌≡◌, ◌≢◌, ℕ, suc, ◌≤◌, ◌<◌, List, [], Bool, true, false, length, take}
-use Rattle.wire_runs.specs.Plan.{Plan, Event, event_total, update}
+use Rattle.std.specs.Prelude.{slice_get, ◌↔◌, Some, ◌≡◌, ◌≢◌, ℕ, suc, ◌≤◌, ◌<◌, List, [], Bool, true, false, ◌==◌, if◌then◌else◌, length, take}
+use Rattle.wire_runs.specs.Plan.{Plan, Event, event_total, event_count, node_of, same_node, update}
+use Rattle.wire_runs.specs.Puts.{own, stored}
+use Rattle.wire_runs.specs.Sight.{held, served, for_others, delivered, get_now_sees}
 use Rattle.wire_runs.specs.State.{Answer, State, start, next_event, IsDone}
 use Rattle.wire_runs.specs.Step.{is_enabled, step, IsInterleaving, run, IsEnd, IsReachable}
 use Rattle.wire_runs.specs.PlainRun.{plain_run}
 use Rattle.wire_runs.specs.Ends.{row, calls_of}
 use Rattle.wire_runs.specs.Fate.{Fate, Waits, Says, HasFate, IsSoundCut}
 use Rattle.wire_runs.specs.Order.{Edge, Live, Before}
-use Rattle.wire_runs.specs.Races.{IsUnordered, IsSettled}
+use Rattle.wire_runs.specs.Races.{ByGet, Delivers, IsUnordered, IsSettled}
 use Rattle.wire_runs.specs.Findings.{Finding, Rewrite, KeyRace, NameRace, IsFound, IsFindings}
 
 -- no run is longer than the number of events
@@ -93,6 +95,16 @@ IsOneWay lower_name = (a b : ℕ) → lower_name a b ≡ true → lower_name b a
 abbrev pub OneList : Type 0
 OneList = (plan : Plan) (lower_name : ℕ → ℕ → Bool) (xs ys : List Finding) → IsOneWay lower_name → IsFindings plan lower_name xs →
     IsFindings plan lower_name ys → xs ≡ ys
+
+-- where a plan doesn't keep what gets bring, a get-now from another node sees what fences have brought, and no get delivers a key
+pub record FencesBring (plan : Plan) : Type 0 where
+  pub sees : (s : State) (q i p key : ℕ) → get_now_sees plan s q i p key
+      ≡ (if q == p then held (own plan p key i) else if same_node plan p q then served plan p true (stored plan p key (s.done p))
+      else held (for_others plan p (delivered plan s.done p (node_of plan q) key (event_count plan p))))
+  pub deliveries : (p key node : ℕ) (get : Event) → ¬ (Delivers plan p key node (ByGet get))
+
+abbrev pub WithoutKeep : Type 0
+WithoutKeep = (plan : Plan) → plan.keep ≡ false → FencesBring plan
 
 -- marks that tell which events are live, and which are before which
 pub record Marks (plan : Plan) : Type 0 where

@@ -15,7 +15,8 @@ pub record Event : Type 0 where
 abbrev pub event_of : CodeEvent → Event
 event_of e = record { proc = e.proc.number; at = e.at }
 
--- a call. CallFixed is a call of a reserved key or name, whose reply is known from the start
+-- a call. CallUnpublishAll takes away every name that the caller has published, and CallFixed is a call of a reserved key or name, whose
+-- reply is known from the start
 pub data Call : Type 0 where
   CallPut : (key : ℕ) → Scope → Call
   CallCommit : Call
@@ -26,6 +27,7 @@ pub data Call : Type 0 where
   CallLookup : (name : ℕ) → Call
   CallLookupWait : (name : ℕ) → Call
   CallUnpublish : (name : ℕ) → Call
+  CallUnpublishAll : Call
   CallFixed : Reply → Call
 
 -- what an event does: a call, or one of the two halves of a fence over a set of processes
@@ -40,14 +42,17 @@ pub data Kind : Type 0 where
   Lookup : (name : ℕ) → Kind
   LookupWait : (name : ℕ) → Kind
   Unpublish : (name : ℕ) → Kind
+  UnpublishAll : Kind
   Fixed : Reply → Kind
 
 pub record Process : Type 0 where
   pub node : ℕ
   pub calls : List Call
 
+-- keep: whether what a get brings to a node stays there, for the get-nows of the node's processes
 pub record Plan : Type 0 where
   pub processes : List Process
+  pub keep : Bool
 
 abbrev pub process_count : Plan → ℕ
 process_count plan = length plan.processes
@@ -73,6 +78,7 @@ kinds_of (CallPublish name ∷ calls) = Publish name ∷ kinds_of calls
 kinds_of (CallLookup name ∷ calls) = Lookup name ∷ kinds_of calls
 kinds_of (CallLookupWait name ∷ calls) = LookupWait name ∷ kinds_of calls
 kinds_of (CallUnpublish name ∷ calls) = Unpublish name ∷ kinds_of calls
+kinds_of (CallUnpublishAll ∷ calls) = UnpublishAll ∷ kinds_of calls
 kinds_of (CallFixed reply ∷ calls) = Fixed reply ∷ kinds_of calls
 
 abbrev pub process_kinds : Option Process → List Kind

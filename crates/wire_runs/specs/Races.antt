@@ -1,6 +1,6 @@
 -- What the checker looks for: keys that are put twice, and pairs of live calls that no chain orders.
 use Rattle.std.specs.Prelude.{◌≡◌, ◌≢◌, ℕ, ◌<◌, ◌≤◌, List, true, false, Some, None}
-use Rattle.wire_runs.specs.Plan.{Plan, Put, GetNow, LookupWait, kind, event_count, node_of, same_node, admits, Event}
+use Rattle.wire_runs.specs.Plan.{Plan, Put, Get, GetNow, LookupWait, kind, event_count, node_of, same_node, admits, Event}
 use Rattle.wire_types.specs.declared.Scope.{Scope}
 use Rattle.wire_runs.specs.Puts.{own, stored, put_count, scope_of}
 use Rattle.wire_runs.specs.Fences.{is_member, is_full, is_collecting, has_node}
@@ -38,13 +38,15 @@ pub record IsNodeRace (plan : Plan) (commit get : Event) (key : ℕ) : Type 0 wh
   pub stores : Stores plan commit key
   pub unordered : IsUnordered plan commit get
 
--- a way by which a process's key comes to another node: a fence
+-- a way by which a process's key comes to another node: a fence, or a get by a process there
 pub data Delivery : Type 0 where
   ByFence : (members : List ℕ) → (j : ℕ) → Delivery
+  ByGet : (get : Event) → Delivery
 
 -- the events of a delivery
 abbrev pub IsOf : Plan → Delivery → Event → Type 0
 IsOf plan (ByFence members j) z = IsArrival plan members j z
+IsOf plan (ByGet get) z = z ≡ get
 
 -- the j-th fence over these members brings p's key to the node
 pub record FenceDelivers (plan : Plan) (p key node : ℕ) (members : List ℕ) (j : ℕ) : Type 0 where
@@ -58,8 +60,18 @@ pub record FenceDelivers (plan : Plan) (p key node : ℕ) (members : List ℕ) (
   pub committed : stored plan p key at ≡ Some put
   pub admitted : admits (scope_of plan p put) false ≡ true
 
+-- a get by a process of the node brings p's key to it, and the plan keeps what gets bring
+pub record GetDelivers (plan : Plan) (p key node : ℕ) (get : Event) : Type 0 where
+  pub keeps : plan.keep ≡ true
+  pub is : kind plan get ≡ Some (Get p key)
+  pub there : node_of plan get.proc ≡ node
+  pub put : ℕ
+  pub committed : stored plan p key (event_count plan p) ≡ Some put
+  pub admitted : admits (scope_of plan p put) false ≡ true
+
 abbrev pub Brings : Plan → ℕ → ℕ → ℕ → Delivery → Type 0
 Brings plan p key node (ByFence members j) = FenceDelivers plan p key node members j
+Brings plan p key node (ByGet get) = GetDelivers plan p key node get
 
 -- a delivery of p's key to the node, all its events live
 pub record Delivers (plan : Plan) (p key node : ℕ) (delivery : Delivery) : Type 0 where

@@ -1,7 +1,7 @@
 -- What a get sees (PMIx Standard 5.0: PMIx_Get, Scope of Put Data, PMIX_COLLECT_DATA).
-use Rattle.std.specs.Prelude.{ℕ, zero, suc, List, Bool, true, false, ◌&&◌, Option, Some, None, ◌==◌, if◌then◌else◌}
-use Rattle.wire_runs.specs.Plan.{Plan, Kind, Arrive, kind_at, event_count, node_of, same_node, admits}
-use Rattle.wire_runs.specs.State.{State}
+use Rattle.std.specs.Prelude.{ℕ, zero, suc, List, Bool, true, false, ◌&&◌, Option, Some, None, ◌==◌, nat_le, slice_get, if◌then◌else◌}
+use Rattle.wire_runs.specs.Plan.{Plan, Kind, Arrive, Get, kind_at, event_count, process_count, node_of, same_node, admits}
+use Rattle.wire_runs.specs.State.{Answer, Value, State}
 use Rattle.wire_runs.specs.Puts.{own, stored, scope_of}
 use Rattle.wire_runs.specs.Fences.{arrivals, is_member, is_complete, is_collecting, has_node}
 
@@ -52,9 +52,38 @@ abbrev pub get_sees : Plan → (ℕ → ℕ) → ℕ → ℕ → ℕ → ℕ →
 get_sees plan cut q i p key =
     if q == p then held (own plan p key i) else served plan p (same_node plan p q) (stored plan p key (cut p))
 
--- what p had stored under the key at its last arrival that brought its data to the node, where that put is for other nodes
+-- the greater of two numbers
+abbrev pub greater : Option ℕ → Option ℕ → Option ℕ
+greater o None = o
+greater None (Some b) = Some b
+greater (Some a) (Some b) = if nat_le a b then Some b else Some a
+
+-- the greatest of the first n
+abbrev pub greatest : (ℕ → Option ℕ) → ℕ → Option ℕ
+greatest f zero = None
+greatest f (suc n) = greater (greatest f n) (f n)
+
+abbrev pub got_with : ℕ → ℕ → Option Kind → Option Answer → Option ℕ
+got_with p key (Some (Get owner k)) (Some (Value put)) = if owner == p && (k == key) then Some put.at else None
+got_with p key _ _ = None
+
+-- the number of the put whose value m's event number i, a get of p's key, has got
+abbrev pub got : Plan → State → ℕ → ℕ → ℕ → ℕ → Option ℕ
+got plan s p key m i = got_with p key (kind_at plan m i) (slice_get (s.replies m) i)
+
+-- the last of p's puts of the key whose value a get by m has got so far, where m is a process of the node
+abbrev pub got_on : Plan → State → ℕ → ℕ → ℕ → ℕ → Option ℕ
+got_on plan s p key node m = if node_of plan m == node then greatest (got plan s p key m) (s.done m) else None
+
+-- the last of p's puts of the key that gets have brought to the node, where the plan keeps what gets bring
+abbrev pub kept : Plan → State → ℕ → ℕ → ℕ → Option ℕ
+kept plan s p key node = if plan.keep then greatest (got_on plan s p key node) (process_count plan) else None
+
+-- the last of p's puts of the key that have come to the node: what p had stored under the key at its last arrival that brought its data
+-- to the node, where that put is for other nodes, and what is kept there of gets
 abbrev pub brought : Plan → State → ℕ → ℕ → ℕ → Option ℕ
-brought plan s p key node = for_others plan p (delivered plan s.done p node key (event_count plan p))
+brought plan s p key node =
+    greater (for_others plan p (delivered plan s.done p node key (event_count plan p))) (kept plan s p key node)
 
 -- what a get-now sees
 abbrev pub get_now_sees : Plan → State → ℕ → ℕ → ℕ → ℕ → Sight

@@ -1,7 +1,8 @@
 -- What a step does: who is enabled, what an event replies, what an interleaving is (PMIx Standard 5.0: PMIx_Put, PMIx_Commit,
 -- PMIx_Get, PMIx_Fence, PMIx_Publish, PMIx_Lookup, PMIx_Unpublish).
 use Rattle.std.specs.Prelude.{◌≡◌, ℕ, suc, List, [], ◌∷◌, ◌++◌, Bool, true, false, Option, Some, None, is_some, ◌==◌, if◌then◌else◌}
-use Rattle.wire_runs.specs.Plan.{Plan, Kind, Put, Commit, Arrive, Leave, Get, GetNow, Publish, Lookup, LookupWait, Unpublish, Fixed, update, Event}
+use Rattle.wire_runs.specs.Plan.{Plan, Kind, Put, Commit, Arrive, Leave, Get, GetNow, Publish, Lookup, LookupWait, Unpublish, UnpublishAll}
+use Rattle.wire_runs.specs.Plan.{Fixed, update, Event}
 use Rattle.wire_runs.specs.Fences.{arrivals, is_complete}
 use Rattle.wire_runs.specs.State.{Answer, Silent, Success, NotFound, ExistsOutside, Duplicate, Value, Published, Reserved, State, start, next_event, next_kind}
 use Rattle.wire_runs.specs.Sight.{Sight, Nothing, Outside, Shown, get_sees, get_now_sees}
@@ -48,12 +49,14 @@ reply plan s x (Some (Publish name)) = if is_some (s.names name) then Duplicate 
 reply plan s x (Some (Lookup name)) = lookup_reply (s.names name)
 reply plan s x (Some (LookupWait name)) = lookup_reply (s.names name)
 reply plan s x (Some (Unpublish name)) = if is_publisher x.proc (s.names name) then Success else NotFound
+reply plan s x (Some UnpublishAll) = Success
 reply plan s x (Some (Fixed r)) = Reserved r
 
 -- what is published under the name after this event
 abbrev pub name_after : Option Event → Event → Option Kind → ℕ → Option Event
 name_after before x (Some (Publish n)) name = if n == name then (if is_some before then before else Some x) else before
 name_after before x (Some (Unpublish n)) name = if n == name then (if is_publisher x.proc before then None else before) else before
+name_after before x (Some UnpublishAll) name = if is_publisher x.proc before then None else before
 name_after before x _ name = before
 
 -- the state after p's next event

@@ -3,7 +3,7 @@
 ghost use Rattle.wire_runs.specs.Plan.{Plan};
 ghost use Rattle.wire_runs.specs.Laws.{PlainRuns, RacesAreUnordered, RowsAreWhole, RunsEnd, EnabledIsDue, EnabledCommute, OneEnd, FatesTell, OneFate};
 ghost use Rattle.wire_runs.specs.Laws.{RunsAreSound, NoFindings, OneList, HaveFates, SoundIsReached};
-ghost use Rattle.wire_runs.specs.Laws.{StepsMoveCuts, CutsTellSteps, OneState, OneEventBetween, RepliesArePlain};
+ghost use Rattle.wire_runs.specs.Laws.{StepsMoveCuts, CutsTellSteps, OneState, OneEventBetween, RepliesArePlain, WithoutKeep};
 
 /// No run is longer than the number of events.
 pub fn runs_end()
@@ -45,6 +45,13 @@ pub fn fates_tell()
 /// in its state.
 pub fn plain_runs()
     ensures { (plan : Plan) → PlainRuns plan }
+{}
+
+/// Where a plan doesn't keep what gets bring, a get-now from another node sees what fences have brought, and
+/// fences alone deliver keys.
+#[tactic(auto, using(crate::proofs::WithoutKeep::without_keep))]
+pub fn without_keep()
+    ensures { WithoutKeep }
 {}
 
 /// In a settled plan an event has one fate.

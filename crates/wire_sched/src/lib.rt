@@ -9,10 +9,12 @@ mod law;
 mod round;
 mod rule;
 mod serve;
+mod shift;
 
 pub use gate::{Gate, OpenGate};
 pub use law::{deal_rises, takes_are_bounded};
 pub use round::{Pass, Round, Take};
 pub use rule::Piece;
 pub use serve::{Serves, serve_pieces, work, work_locked};
-pub use wire_lanes::{Lane, Lanes};
+pub use shift::{Crew, take_turns};
+pub use wire_lanes::{Lane, Lanes, Served};

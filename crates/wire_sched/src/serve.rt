@@ -8,7 +8,7 @@ use crate::gate::Gate;
 use crate::round::{Pass, Round, Take};
 use crate::rule::Piece;
 use std::sync::Wait;
-use wire_lanes::Lanes;
+use wire_lanes::{Lanes, Served};
 use wire_locked::LockedCore;
 use wire_types::Proc;
 
@@ -17,9 +17,19 @@ const MOST_AGAIN: u32 = 1_000;
 
 /// The deque at which a worker steals next, and how often that one may still answer `Again`.
 #[derive(Drop)]
-struct Victim {
+pub(crate) struct Victim {
     deque: usize,
     tries: u32,
+}
+
+impl Victim {
+    // The first deque.
+    pub(crate) fn first() -> Victim {
+        Victim {
+            deque: 0,
+            tries: MOST_AGAIN,
+        }
+    }
 }
 
 /// Serves the pieces of the worker's own deque, and then those that it steals from the other deques in turn. It leaves a
@@ -55,19 +65,24 @@ pub fn work_locked<R: Wait, G: Gate>(
 
 /// What workers serve processes of: a core under one lock, or the lanes of a board, each under its own.
 pub trait Serves {
-    /// Waits for the lock, and then serves a process as far as it goes. Answers how many events that were.
-    fn serve_far<R: Wait>(&self, rt: &R, proc: Proc) -> usize;
+    /// Waits for the lock, and then serves a process as far as it goes. Tells how many events that were, and, where that is
+    /// known, for which event the process waits.
+    fn serve_far<R: Wait>(&self, rt: &R, proc: Proc) -> Served;
 }
 
 impl<'a> Serves for Lanes<'a> {
-    fn serve_far<R: Wait>(&self, rt: &R, proc: Proc) -> usize {
-        self.serve(rt, proc)
+    fn serve_far<R: Wait>(&self, rt: &R, proc: Proc) -> Served {
+        Lanes::serve_far(self, rt, proc)
     }
 }
 
 impl<'a> Serves for LockedCore<'a> {
-    fn serve_far<R: Wait>(&self, rt: &R, proc: Proc) -> usize {
-        self.serve(rt, proc)
+    fn serve_far<R: Wait>(&self, rt: &R, proc: Proc) -> Served {
+        Served {
+            events: self.serve(rt, proc),
+            done: 0,
+            missing: None,
+        }
     }
 }
 
@@ -82,20 +97,18 @@ pub fn serve_pieces<R: Wait, S: Serves, G: Gate>(
     requires { IsPassOf round.now pass.old }
     ensures kept { IsPassOf round.now pass.new × (worker_of pass.new ≡ worker_of pass.old) }
 {
-    let mut victim = Victim {
-        deque: 0,
-        tries: MOST_AGAIN,
-    };
+    let mut victim = Victim::first();
     let mut steps = 0usize;
     'pieces: while let Some(piece) = next_piece(round, pass, &mut victim) {
         gate.pass(pass.worker(), piece.rank);
-        steps = steps.saturating_add(serves.serve_far(rt, piece.rank));
+        let served = serves.serve_far(rt, piece.rank);
+        steps = steps.saturating_add(served.events);
     }
     steps
 }
 
 // The front piece of the worker's own deque, or else one that it steals.
-fn next_piece(round: &Round, pass: &mut Pass, victim: &mut Victim) -> Option<Piece>
+pub(crate) fn next_piece(round: &Round, pass: &mut Pass, victim: &mut Victim) -> Option<Piece>
     requires { IsPassOf round.now pass.old }
     ensures kept { IsPassOf round.now pass.new × (worker_of pass.new ≡ worker_of pass.old) }
     ensures piece { IfSome result (IsPieceOf round.now) }

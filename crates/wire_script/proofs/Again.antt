@@ -169,7 +169,7 @@ abbrev seen_with : List Name → List Name → List (List ℕ) → List (List �
 seen_with keys names values sets = record { keys = keys; names = names; values = values; sets = sets }
 
 abbrev with_all : Declared → Seen → List Process → Scripts
-with_all d s processes = record { nodes = d.nodes; jobs = d.jobs; keys = s.keys; names = s.names; values = s.values; sets = s.sets; processes = processes }
+with_all d s processes = record { version = d.version; nodes = d.nodes; jobs = d.jobs; keys = s.keys; names = s.names; values = s.values; sets = s.sets; processes = processes; keeps = d.keeps }
 
 seen_changed : (f : Change) (d : Declared) → IsSameChange d f → seen_in (changed_declaration f d) ≡ seen_in d
 seen_changed f d e =

@@ -6,8 +6,9 @@ use Rattle.std.proofs.lemmas.List.{length-map, map-append}
 use borrow.Author.Tests.{ltb-true}
 use Rattle.wire_types.specs.declared.Fault.{Fault}
 use Rattle.wire_types.specs.declared.Fault.TheVariants.{TooLong, BadLine, UnknownName, Twice, TooMany}
-use Rattle.wire_lines.specs.Said.{Call, Said, Header, Node, Job, Rank, Calls, IsLawful, IsLawfulCall}
-use Rattle.wire_script.specs.Limits.{limits}
+use Rattle.wire_lines.specs.Said.{Call, Said, Header, Keep, Node, Job, Rank, Calls, IsLawful, IsLawfulCall}
+use Rattle.wire_lines.specs.declared.Version.{Version}
+use Rattle.wire_script.specs.declared.limits.Size.{Size}
 use Rattle.wire_script.specs.Statements.{Statement}
 use Rattle.wire_script.specs.FirstPass.{Started, Declared, number_or_count, after, judged, is_in_place, is_short, is_short_call, is_known, is_again, has_room, with_call, nothing, Judges, JudgesAll}
 use Rattle.wire_script.specs.FirstPass.{FirstPass}
@@ -27,7 +28,7 @@ abbrev pub changed_process : Change → Started → Started
 changed_process f p = with_calls p (map (changed_call f p.job) p.calls)
 
 abbrev pub with_processes : Declared → List Started → ℕ → ℕ → Declared
-with_processes d processes ranks calls = record { nodes = d.nodes; jobs = d.jobs; processes = processes; ranks = ranks; calls = calls }
+with_processes d processes ranks calls = record d { processes = processes; ranks = ranks; calls = calls }
 
 abbrev pub changed_declaration : Change → Declared → Declared
 changed_declaration f d = with_processes d (map (changed_process f) d.processes) d.ranks d.calls
@@ -39,7 +40,8 @@ last_job (p ∷ []) = p.job
 last_job (p ∷ q ∷ ps) = last_job (q ∷ ps)
 
 abbrev pub changed_line : Change → Declared → Said → Said
-changed_line f d Header = Header
+changed_line f d (Header version) = Header version
+changed_line f d Keep = Keep
 changed_line f d (Node name) = Node name
 changed_line f d (Job name) = Job name
 changed_line f d (Rank node) = Rank node
@@ -51,7 +53,8 @@ changed_with f (p ∷ []) n c = ap (λ t. with_calls p t ∷ []) (map-append (ch
 changed_with f (p ∷ q ∷ ps) n c = ap (λ t. changed_process f p ∷ t) (changed_with f (q ∷ ps) n c)
 
 changed_after : (f : Change) (d : Declared) (n : ℕ) (a : Said) → changed_declaration f (after d n a) ≡ after (changed_declaration f d) 0 (changed_line f d a)
-changed_after f d n Header = refl
+changed_after f d n (Header version) = refl
+changed_after f d n Keep = refl
 changed_after f d n (Node name) = refl
 changed_after f d n (Job name) = refl
 changed_after f d n (Rank node) =
@@ -73,25 +76,28 @@ pub record IsFit (c : Call) : Type 0 where
   pub short : is_short_call c ≡ true
 
 abbrev pub FitsLine : Change → Declared → Said → Type 0
-FitsLine f d Header = ⊤
+FitsLine f d (Header version) = ⊤
+FitsLine f d Keep = ⊤
 FitsLine f d (Node name) = ⊤
 FitsLine f d (Job name) = ⊤
 FitsLine f d (Rank node) = ⊤
 FitsLine f d (Calls c) = IsFit (f (last_job d.processes) c)
 
 changed_lawful : (f : Change) (d : Declared) (a : Said) → FitsLine f d a → IsLawful a → IsLawful (changed_line f d a)
-changed_lawful f d Header h l = l
+changed_lawful f d (Header version) h l = l
+changed_lawful f d Keep h l = l
 changed_lawful f d (Node name) h l = l
 changed_lawful f d (Job name) h l = l
 changed_lawful f d (Rank node) h l = l
 changed_lawful f d (Calls c) h l = h.lawful
 
 changed_taken : (f : Change) (d : Declared) (a : Said) → FitsLine f d a → IsTaken d a → IsTaken (changed_declaration f d) (changed_line f d a)
-changed_taken f d Header h t = record { place = t.place; short = t.short; known = t.known; again = t.again; room = t.room }
+changed_taken f d (Header version) h t = record { place = t.place; short = t.short; known = t.known; again = t.again; room = t.room }
+changed_taken f d Keep h t = record { place = t.place; short = t.short; known = t.known; again = t.again; room = t.room }
 changed_taken f d (Node name) h t = record { place = t.place; short = t.short; known = t.known; again = t.again; room = t.room }
 changed_taken f d (Job name) h t = record { place = t.place; short = t.short; known = t.known; again = t.again; room = t.room }
 changed_taken f d (Rank node) h t =
-    record { place = t.place; short = t.short; known = t.known; again = t.again; room = ap (λ n. nat_lt n limits.processes) (length-map d.processes (changed_process f)) ∙ t.room }
+    record { place = t.place; short = t.short; known = t.known; again = t.again; room = ap (λ n. nat_lt n d.limits.processes) (length-map d.processes (changed_process f)) ∙ t.room }
 changed_taken f d (Calls c) h t = record { place = t.place; short = h.short; known = t.known; again = t.again; room = t.room }
 
 -- lines, with their numbers, lead from one declaration to another
@@ -134,10 +140,26 @@ lines_run [] e d j = ([], cc)
 lines_run (line ∷ lines) e d j = lines_step lines e (lines_run lines e) d line j.0 j.1 j.2
 
 -- and so do all lines of a file
-pub first_run : (lines : List Statement) (n : ℕ) (d : Declared) → FirstPass lines n (Ok d) → (ls : List (ℕ × Said)) × Runs ls nothing d
-first_run [] n d f = absurd (cc)
-first_run (line ∷ lines) n d (inl f) = lines_run lines d nothing f.1
-first_run (line ∷ lines) n d (inr f) = absurd (let h = f.1 in cc)
+pub first_run : (size : Size) (lines : List Statement) (n : ℕ) (d : Declared) → FirstPass size lines n (Ok d) → (v : Version) × (ls : List (ℕ × Said)) × Runs ls (nothing size v) d
+first_run size [] n d f = absurd (cc)
+first_run size (line ∷ lines) n d (inl f) = let run = lines_run lines d (nothing size f.0) f.2 in (f.0, run.0, run.1)
+first_run size (line ∷ lines) n d (inr f) = absurd (let h = f.1 in cc)
+
+pub kept_header : (d : Declared) (n : ℕ) (a : Said) → ((after d n a).version ≡ d.version) × ((after d n a).limits ≡ d.limits)
+kept_header d n (Header version) = (refl, refl)
+kept_header d n Keep = (refl, refl)
+kept_header d n (Node name) = (refl, refl)
+kept_header d n (Job name) = (refl, refl)
+kept_header d n (Rank node) = (refl, refl)
+kept_header d n (Calls c) = (refl, refl)
+
+-- no line changes the version and the limits
+pub run_header : (ls : List (ℕ × Said)) (d e : Declared) → Runs ls d e → (e.version ≡ d.version) × (e.limits ≡ d.limits)
+run_header [] d e r = (ap (λ (x : Declared). x.version) (sym r), ap (λ (x : Declared). x.limits) (sym r))
+run_header (l ∷ ls) d e r =
+    let later = run_header ls (after d l.0 l.1) e r.2 in
+    let here = kept_header d l.0 l.1 in
+    (later.0 ∙ here.0, later.1 ∙ here.1)
 
 -- the calls of processes, by the jobs of these
 abbrev pub CallsAre : (ℕ → Call → Type 0) → ℕ → List (ℕ × Call) → Type 0
@@ -172,7 +194,8 @@ ranks_with (p ∷ []) c = refl
 ranks_with (p ∷ q ∷ ps) c = let e = ranks_with (q ∷ ps) c in omega arith
 
 ranks_kept : (d : Declared) (n : ℕ) (a : Said) → HasRanks d → HasRanks (after d n a)
-ranks_kept d n Header h = h
+ranks_kept d n (Header version) h = h
+ranks_kept d n Keep h = h
 ranks_kept d n (Node name) h = h
 ranks_kept d n (Job name) h = omega arith
 ranks_kept d n (Rank node) h = omega (arith, length-append d.processes (record { job = length d.jobs - 1; rank = d.ranks; node = number_or_count d.nodes node; calls = [] } ∷ []))
@@ -184,7 +207,8 @@ module _ (f : Change) where
 
   -- what all calls of a later declaration are, those of an earlier one are, and the call of the line between
   line_fits : (d : Declared) (n : ℕ) (a : Said) → HasRanks d → IsTaken d a → AllCalls Fits (after d n a).processes → AllCalls Fits d.processes × FitsLine f d a
-  line_fits d n Header r t h = (h, tt)
+  line_fits d n (Header version) r t h = (h, tt)
+  line_fits d n Keep r t h = (h, tt)
   line_fits d n (Node name) r t h = (h, tt)
   line_fits d n (Job name) r t h = (h, tt)
   line_fits d n (Rank node) r t h = (push_kept Fits d.processes _ h, tt)
@@ -214,7 +238,8 @@ abbrev pub bare_declaration : Declared → Declared
 bare_declaration d = changed_declaration no_change d
 
 bare_line : (d : Declared) (a : Said) → changed_line no_change d a ≡ a
-bare_line d Header = refl
+bare_line d (Header version) = refl
+bare_line d Keep = refl
 bare_line d (Node name) = refl
 bare_line d (Job name) = refl
 bare_line d (Rank node) = refl
@@ -224,11 +249,12 @@ bare_after : (d : Declared) (n : ℕ) (a : Said) → bare_declaration (after d n
 bare_after d n a = changed_after no_change d n a ∙ ap (after (bare_declaration d) 0) (bare_line d a)
 
 taken_full : (d : Declared) (a : Said) → IsTaken (bare_declaration d) a → IsTaken d a
-taken_full d Header t = record { place = t.place; short = t.short; known = t.known; again = t.again; room = t.room }
+taken_full d (Header version) t = record { place = t.place; short = t.short; known = t.known; again = t.again; room = t.room }
+taken_full d Keep t = record { place = t.place; short = t.short; known = t.known; again = t.again; room = t.room }
 taken_full d (Node name) t = record { place = t.place; short = t.short; known = t.known; again = t.again; room = t.room }
 taken_full d (Job name) t = record { place = t.place; short = t.short; known = t.known; again = t.again; room = t.room }
 taken_full d (Rank node) t =
-    record { place = t.place; short = t.short; known = t.known; again = t.again; room = sym (ap (λ n. nat_lt n limits.processes) (length-map d.processes (changed_process no_change))) ∙ t.room }
+    record { place = t.place; short = t.short; known = t.known; again = t.again; room = sym (ap (λ n. nat_lt n d.limits.processes) (length-map d.processes (changed_process no_change))) ∙ t.room }
 taken_full d (Calls c) t = record { place = t.place; short = t.short; known = t.known; again = t.again; room = t.room }
 
 judged_taken : (d : Declared) (n : ℕ) (a : Said) → IsTaken d a → judged d n a ≡ Ok (after d n a)

@@ -3,11 +3,11 @@ use Rattle.std.proofs.Common.{◌≡◌, refl, List, ◌∷◌, Result, Err, ◌
 use Rattle.wire_types.specs.declared.Fault.{Fault}
 use Rattle.wire_types.specs.declared.Fault.TheVariants.{Memory}
 use Rattle.wire_script.specs.Statements.{Statement}
-use Rattle.wire_script.specs.FirstPass.{Declared, nothing, Judges, JudgesAll}
+use Rattle.wire_script.specs.FirstPass.{Declared, Judges, JudgesAll}
 
 -- a line that is refused ends all
-pub refused : (d : Declared) (line : Statement) (lines now all : List Statement) (f : Fault) → now ≡ line ∷ lines
-    → ((r : Result Declared Fault) → JudgesAll d now r → JudgesAll nothing all r)
-    → (f ≡ Memory) ⊎ Judges d line (Err f) → (f ≡ Memory) ⊎ JudgesAll nothing all (Err f)
-refused d line lines now all f is so_far (inl m) = inl m
-refused d line lines now all f is so_far (inr j) = inr (so_far (Err f) (rw is (Err f, j, refl)))
+pub refused : (start d : Declared) (line : Statement) (lines now all : List Statement) (f : Fault) → now ≡ line ∷ lines
+    → ((r : Result Declared Fault) → JudgesAll d now r → JudgesAll start all r)
+    → (f ≡ Memory) ⊎ Judges d line (Err f) → (f ≡ Memory) ⊎ JudgesAll start all (Err f)
+refused start d line lines now all f is so_far (inl m) = inl m
+refused start d line lines now all f is so_far (inr j) = inr (so_far (Err f) (rw is (Err f, j, refl)))

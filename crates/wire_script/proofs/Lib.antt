@@ -20,3 +20,4 @@ pub mod SameMembers
 pub mod Again
 pub mod Said
 pub mod ReadBack
+pub mod Migrated

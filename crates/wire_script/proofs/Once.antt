@@ -6,6 +6,9 @@ use Rattle.wire_lines.specs.Text.{lines_of}
 use Rattle.wire_script.specs.Statements.{Statement, statements}
 use Rattle.wire_script.specs.FirstPass.{Declared, nothing, judged, Judges, JudgesAll, FirstPass}
 use Rattle.wire_content.specs.Scripts.{Scripts}
+use Rattle.wire_lines.specs.declared.Version.{Version}
+use Rattle.wire_lines.specs.Said.{Said, Header}
+use Rattle.wire_script.specs.declared.limits.Size.{Size}
 use Rattle.wire_script.specs.Reads.{second_pass, ReadsShort, ReadsOnce}
 
 judges_once : (d : Declared) (line : Statement) (q r : Result Declared Fault) → Judges d line q → Judges d line r → q ≡ r
@@ -28,20 +31,27 @@ all_once [] d r s a b = a ∙ sym b
 all_once (line ∷ lines) d r s a b =
     both_once (λ e x. JudgesAll e lines x) (all_once lines) a.0 b.0 r s (judges_once d line a.0 b.0 a.1 b.1) a.2 b.2
 
-first_once : (lines : List Statement) (n : ℕ) (r s : Result Declared Fault) → FirstPass lines n r → FirstPass lines n s → r ≡ s
-first_once [] n r s a b = a ∙ sym b
-first_once (line ∷ lines) n r s (inl a) (inl b) = all_once lines nothing r s a.1 b.1
-first_once (line ∷ lines) n r s (inl a) (inr b) = absurd (b.0 a.0)
-first_once (line ∷ lines) n r s (inr a) (inl b) = absurd (a.0 b.0)
-first_once (line ∷ lines) n r s (inr a) (inr b) = a.1 ∙ sym b.1
+-- the version that a header says
+abbrev version_in : Version → Said → Version
+version_in v (Header w) = w
+version_in v said = v
 
-pub short_once : (bytes : List ℕ) (r s : Result Scripts Fault) → ReadsShort bytes r → ReadsShort bytes s → r ≡ s
-short_once bytes r s a b =
+first_once : (size : Size) (lines : List Statement) (n : ℕ) (r s : Result Declared Fault) → FirstPass size lines n r → FirstPass size lines n s → r ≡ s
+first_once size [] n r s a b = a ∙ sym b
+first_once size (line ∷ lines) n r s (inl a) (inl b) =
+    let same : a.0 ≡ b.0 = ap (version_in a.0) (says_once line.1 (Header a.0) (Header b.0) a.1 b.1) in
+    all_once lines (nothing size a.0) r s a.2 (subst (λ v. JudgesAll (nothing size v) lines s) (sym same) b.2)
+first_once size (line ∷ lines) n r s (inl a) (inr b) = absurd (b.0 a.0 a.1)
+first_once size (line ∷ lines) n r s (inr a) (inl b) = absurd (a.0 b.0 b.1)
+first_once size (line ∷ lines) n r s (inr a) (inr b) = a.1 ∙ sym b.1
+
+pub short_once : (size : Size) (bytes : List ℕ) (r s : Result Scripts Fault) → ReadsShort size bytes r → ReadsShort size bytes s → r ≡ s
+short_once size bytes r s a b =
     both_once (λ d x. x ≡ second_pass d) (λ d x y p q. p ∙ sym q) a.0 b.0 r s
-    (first_once (statements bytes) (length (lines_of bytes)) a.0 b.0 a.1 b.1) a.2 b.2
+    (first_once size (statements bytes) (length (lines_of bytes)) a.0 b.0 a.1 b.1) a.2 b.2
 
 pub reads_once : ReadsOnce
-reads_once bytes r s (inl a) (inl b) = a.1 ∙ sym b.1
-reads_once bytes r s (inl a) (inr b) = absurd (let h = a.0 in let k = b.0 in omega arith)
-reads_once bytes r s (inr a) (inl b) = absurd (let h = a.0 in let k = b.0 in omega arith)
-reads_once bytes r s (inr a) (inr b) = short_once bytes r s a.1 b.1
+reads_once size bytes r s (inl a) (inl b) = a.1 ∙ sym b.1
+reads_once size bytes r s (inl a) (inr b) = absurd (let h = a.0 in let k = b.0 in omega arith)
+reads_once size bytes r s (inr a) (inl b) = absurd (let h = a.0 in let k = b.0 in omega arith)
+reads_once size bytes r s (inr a) (inr b) = short_once size bytes r s a.1 b.1

@@ -1,12 +1,16 @@
 -- What is declared has its lines in their order.
 use Rattle.std.proofs.Common.{◌≡◌, ◌∙◌, ap, sym, subst, refl, ℕ, suc, ◌+◌, ◌-◌, ◌<◌, ◌≤◌, List, [], ◌∷◌, ◌++◌, Bool, true, false, cond, map, length, filter, flat_map, arith, append_assoc, append-nil}
 use Rattle.std.proofs.Common.{length-append, true≢false, zero-add}
-use Rattle.std.specs.Prelude.{◌==◌, ⊤}
+use Rattle.std.specs.Prelude.{◌==◌, ◌&&◌, not, ⊤}
 use borrow.Author.Tests.{ltb-true, eqb-true, eq-eqb, ne_eqb}
 use Rattle.std.proofs.lemmas.List.{map-append}
-use Rattle.wire_lines.specs.Said.{Call, Said, Header, Node, Job, Rank, Calls}
+use Rattle.wire_lines.specs.declared.Version.{Version}
+use Rattle.wire_lines.specs.Said.{Call, Said, Header, Keep, Node, Job, Rank, Calls}
+use Rattle.wire_script.specs.declared.limits.Size.{Size}
+use Rattle.wire_lines.proofs.Colon.{and_left}
 use Rattle.wire_content.specs.Scripts.{text_at}
-use Rattle.wire_script.specs.FirstPass.{Name, Started, Declared, nothing, number_or_count, after, with_call}
+use Rattle.wire_content.specs.Canonical.{keep_said}
+use Rattle.wire_script.specs.FirstPass.{Name, Started, Declared, nothing, number_or_count, has_keep, after, with_call}
 use Rattle.wire_script.proofs.Changed.{IsTaken, Takes, with_calls}
 use Rattle.wire_script.proofs.Seen.{text_at_number}
 
@@ -24,8 +28,12 @@ abbrev pub jobs_lines : List Name → List Started → ℕ → List Name → Lis
 jobs_lines nodes ps n [] = []
 jobs_lines nodes ps n (job ∷ jobs) = job_lines nodes ps n job ++ jobs_lines nodes ps (n + 1) jobs
 
+-- the lines of the nodes and the jobs
+abbrev pub body_lines : Declared → List Said
+body_lines d = map (λ n. Node n) d.nodes ++ jobs_lines d.nodes d.processes 0 d.jobs
+
 abbrev pub declared_lines : Declared → List Said
-declared_lines d = map (λ n. Node n) d.nodes ++ jobs_lines d.nodes d.processes 0 d.jobs
+declared_lines d = keep_said d.keeps ++ body_lines d
 
 -- processes of jobs below a number
 abbrev pub AllBelow : ℕ → List Started → Type 0
@@ -142,28 +150,48 @@ node_push nodes (j ∷ jobs) ps x h = let none = eqb-true (length (j ∷ jobs)) 
 at_end : (nodes : List Said) (old new : List Said) (a : Said) → new ≡ old ++ a ∷ [] → nodes ++ new ≡ (nodes ++ old) ++ a ∷ []
 at_end nodes old new a e = ap (λ t. nodes ++ t) e ∙ sym (append_assoc nodes old (a ∷ []))
 
--- a line that is taken is the last line
-line_added : (d : Declared) (a : Said) → IsTaken d a → IsShaped d → declared_lines (after d 0 a) ≡ declared_lines d ++ a ∷ []
-line_added d Header t s = absurd (true≢false (sym t.place))
-line_added d (Node x) t s = node_push d.nodes d.jobs d.processes x t.place
-line_added d (Job j) t s =
+-- where `keep` is taken it is the first line
+keep_first : (has keeps : Bool) (nodes jobs : List Name) (ps : List Started) → (has && (not keeps && (length nodes == 0 && length jobs == 0))) ≡ true
+    → Keep ∷ (map (λ n. Node n) nodes ++ jobs_lines nodes ps 0 jobs) ≡ (keep_said keeps ++ (map (λ n. Node n) nodes ++ jobs_lines nodes ps 0 jobs)) ++ Keep ∷ []
+keep_first true false [] [] ps h = refl
+keep_first true false [] (j ∷ jobs) ps h = let none = eqb-true (length (j ∷ jobs)) 0 h in absurd (omega arith)
+keep_first true false (n ∷ nodes) jobs ps h = let none = eqb-true (length (n ∷ nodes)) 0 (and_left _ _ h) in absurd (omega arith)
+keep_first true true nodes jobs ps h = absurd (true≢false (sym h))
+keep_first false keeps nodes jobs ps h = absurd (true≢false (sym h))
+
+-- a line of the nodes and the jobs that is taken is the last of these
+body_added : (d : Declared) (a : Said) → IsTaken d a → IsShaped d → (a ≡ Keep → ⊥) → body_lines (after d 0 a) ≡ body_lines d ++ a ∷ []
+body_added d (Header version) t s other = absurd (true≢false (sym t.place))
+body_added d Keep t s other = absurd (other refl)
+body_added d (Node x) t s other = node_push d.nodes d.jobs d.processes x t.place
+body_added d (Job j) t s other =
     at_end (map (λ n. Node n) d.nodes) (jobs_lines d.nodes d.processes 0 d.jobs) (jobs_lines d.nodes d.processes 0 (d.jobs ++ j ∷ [])) (Job j)
     (jobs_push d.nodes d.processes 0 d.jobs j
     ∙ ap (λ m. jobs_lines d.nodes d.processes 0 d.jobs ++ job_lines d.nodes d.processes m j) (zero-add (length d.jobs))
     ∙ ap (λ t. jobs_lines d.nodes d.processes 0 d.jobs ++ Job j ∷ flat_map (process_lines d.nodes) t) (none_of (length d.jobs) d.processes s.below))
-line_added d (Rank node) t s =
+body_added d (Rank node) t s other =
     let p : Started = record { job = length d.jobs - 1; rank = d.ranks; node = number_or_count d.nodes node; calls = [] } in
     let some = ltb-true _ _ t.place in
     at_end (map (λ n. Node n) d.nodes) (jobs_lines d.nodes d.processes 0 d.jobs) (jobs_lines d.nodes (d.processes ++ p ∷ []) 0 d.jobs) (Rank node)
     (job_push d.nodes d.jobs d.processes p (omega arith)
     ∙ ap (λ x. jobs_lines d.nodes d.processes 0 d.jobs ++ Rank x ∷ []) ((text_at_number d.nodes node t.known).1))
-line_added d (Calls c) t s =
+body_added d (Calls c) t s other =
     let l = s.last (ltb-true _ _ t.place) in
     at_end (map (λ n. Node n) d.nodes) (jobs_lines d.nodes d.processes 0 d.jobs) (jobs_lines d.nodes (with_call d.processes (0, c)) 0 d.jobs) (Calls c)
     (subst (λ ps. jobs_lines d.nodes (with_call ps (0, c)) 0 d.jobs ≡ jobs_lines d.nodes ps 0 d.jobs ++ Calls c ∷ []) (sym l.2) (call_push d.nodes d.jobs l.0 l.1 (0, c) l.3))
 
+-- a line that is taken is the last line
+line_added : (d : Declared) (a : Said) → IsTaken d a → IsShaped d → declared_lines (after d 0 a) ≡ declared_lines d ++ a ∷ []
+line_added d (Header version) t s = absurd (true≢false (sym t.place))
+line_added d Keep t s = keep_first (has_keep d.version) d.keeps d.nodes d.jobs d.processes t.place
+line_added d (Node x) t s = at_end (keep_said d.keeps) (body_lines d) (body_lines (after d 0 (Node x))) (Node x) (body_added d (Node x) t s (λ e. cc))
+line_added d (Job j) t s = at_end (keep_said d.keeps) (body_lines d) (body_lines (after d 0 (Job j))) (Job j) (body_added d (Job j) t s (λ e. cc))
+line_added d (Rank node) t s = at_end (keep_said d.keeps) (body_lines d) (body_lines (after d 0 (Rank node))) (Rank node) (body_added d (Rank node) t s (λ e. cc))
+line_added d (Calls c) t s = at_end (keep_said d.keeps) (body_lines d) (body_lines (after d 0 (Calls c))) (Calls c) (body_added d (Calls c) t s (λ e. cc))
+
 shape_kept : (d : Declared) (a : Said) → IsTaken d a → IsShaped d → IsShaped (after d 0 a)
-shape_kept d Header t s = s
+shape_kept d (Header version) t s = s
+shape_kept d Keep t s = record { below = s.below; last = s.last }
 shape_kept d (Node x) t s = record { below = s.below; last = s.last }
 shape_kept d (Job j) t s = record {
   below = below_more (length d.jobs) (length (d.jobs ++ j ∷ [])) d.processes (omega (arith, length-append d.jobs (j ∷ []))) s.below;
@@ -193,5 +221,5 @@ lines_added (a ∷ xs) d e t s =
     let r = lines_added xs (after d 0 a) e t.2 (shape_kept d a t.1 s) in
     (r.0 ∙ ap (λ x. x ++ xs) (line_added d a t.1 s) ∙ append_assoc (declared_lines d) (a ∷ []) xs, r.1)
 
-pub nothing_shaped : IsShaped nothing
-nothing_shaped = record { below = tt; last = λ h. absurd (omega arith) }
+pub nothing_shaped : (size : Size) (v : Version) → IsShaped (nothing size v)
+nothing_shaped size v = record { below = tt; last = λ h. absurd (omega arith) }

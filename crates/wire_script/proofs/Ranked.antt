@@ -6,9 +6,12 @@ use Rattle.std.specs.Prelude.{◌==◌, ◌||◌, not, ⊤, slice_get}
 use Rattle.std.specs.Str.{bytes_eq}
 use Rattle.std.proofs.lemmas.Slice.Eq.{bytes_eq-Decides}
 use borrow.Author.Tests.{ltb-true, eqb-true, eq-eqb, ne_eqb}
-use Rattle.wire_lines.specs.Said.{Call, Said, Header, Node, Job, Rank, Calls, IsLawful, is_name}
+use Rattle.wire_lines.specs.Said.{Call, Said, Header, Keep, Node, Job, Rank, Calls, IsLawful, is_name}
 use Rattle.wire_content.specs.Scripts.{text_at}
-use Rattle.wire_script.specs.Limits.{limits}
+use Rattle.wire_lines.specs.declared.Version.{Version}
+use Rattle.wire_script.specs.declared.limits.Size.{Size}
+use Rattle.wire_script.specs.Limits.{largest}
+use Rattle.wire_script.proofs.Within.{processes_low}
 use Rattle.wire_script.specs.FirstPass.{Name, Started, Declared, nothing, is_among, number_or_count, is_short_name, after, with_call}
 use Rattle.wire_script.proofs.Changed.{IsTaken, Runs, ranks_with}
 use Rattle.wire_script.proofs.Order.{AllBelow, below_more, below_push}
@@ -147,11 +150,13 @@ pub record IsGood (d : Declared) : Type 0 where
   pub together : JobsFrom 0 d.processes
   pub ranked : RanksFrom (λ j. 0) d.processes
   pub last : d.ranks ≡ counts (λ j. 0) d.processes (length d.jobs - 1)
-  pub few : length d.processes ≤ limits.processes
+  pub few : length d.processes ≤ largest.processes
+  pub low : d.limits.processes ≤ largest.processes
 
 good_kept : (d : Declared) (n : ℕ) (a : Said) → IsLawful a → IsTaken d a → IsGood d → IsGood (after d n a)
-good_kept d n Header l t g = g
-good_kept d n (Node name) l t g = record { names = g.names; apart = g.apart; below = g.below; together = g.together; ranked = g.ranked; last = g.last; few = g.few }
+good_kept d n (Header version) l t g = g
+good_kept d n Keep l t g = record { names = g.names; apart = g.apart; below = g.below; together = g.together; ranked = g.ranked; last = g.last; few = g.few; low = g.low }
+good_kept d n (Node name) l t g = record { names = g.names; apart = g.apart; below = g.below; together = g.together; ranked = g.ranked; last = g.last; few = g.few; low = g.low }
 good_kept d n (Job name) l t g =
     let more : length (d.jobs ++ name ∷ []) ≡ length d.jobs + 1 = length-append d.jobs (name ∷ []) in
     let at : length (d.jobs ++ name ∷ []) - 1 ≡ length d.jobs = omega arith in
@@ -163,6 +168,7 @@ good_kept d n (Job name) l t g =
       ranked = g.ranked;
       last = sym (ap (counts (λ j. 0) d.processes) at ∙ none_counted (λ j. 0) (length d.jobs) d.processes g.below refl);
       few = g.few;
+      low = g.low;
     }
 good_kept d n (Rank node) l t g =
     let p : Started = record { job = length d.jobs - 1; rank = d.ranks; node = number_or_count d.nodes node; calls = [] } in
@@ -176,7 +182,8 @@ good_kept d n (Rank node) l t g =
       together = jobs_push 0 d.processes p g.together (below_more (length d.jobs) (p.job + 1) d.processes (omega arith) g.below) (omega arith);
       ranked = ranked_push (λ j. 0) d.processes p g.ranked g.last;
       last = ap (λ x. x + 1) g.last ∙ sym (counts_push (λ j. 0) d.processes p (length d.jobs - 1) ∙ rw one refl);
-      few = omega (arith, length-append d.processes (p ∷ []));
+      few = let low = g.low in omega (arith, low, room, length-append d.processes (p ∷ []));
+      low = g.low;
     }
 good_kept d n (Calls c) l t g =
     record {
@@ -186,19 +193,20 @@ good_kept d n (Calls c) l t g =
       together = jobs_with 0 d.processes (n, c) g.together;
       ranked = ranked_with (λ j. 0) d.processes (n, c) g.ranked;
       last = g.last ∙ sym (counts_with (λ j. 0) d.processes (n, c) (length d.jobs - 1));
-      few = omega (arith, ranks_with d.processes (n, c), g.few);
+      few = let few = g.few in omega (arith, ranks_with d.processes (n, c), few);
+      low = g.low;
     }
 
-nothing_good : IsGood nothing
-nothing_good = record { names = tt; apart = tt; below = tt; together = tt; ranked = tt; last = refl; few = omega arith }
+nothing_good : (size : Size) (v : Version) → IsGood (nothing size v)
+nothing_good size v = record { names = tt; apart = tt; below = tt; together = tt; ranked = tt; last = refl; few = omega arith; low = processes_low size v }
 
 good_run : (ls : List (ℕ × Said)) (d e : Declared) → Runs ls d e → IsGood d → IsGood e
 good_run [] d e r g = subst IsGood r g
 good_run (l ∷ ls) d e r g = good_run ls (after d l.0 l.1) e r.2 (good_kept d l.0 l.1 r.0 r.1 g)
 
 -- what lines declare is so
-pub run_good : (ls : List (ℕ × Said)) (e : Declared) → Runs ls nothing e → IsGood e
-run_good ls e r = good_run ls nothing e r nothing_good
+pub run_good : (size : Size) (v : Version) (ls : List (ℕ × Said)) (e : Declared) → Runs ls (nothing size v) e → IsGood e
+run_good size v ls e r = good_run ls (nothing size v) e r (nothing_good size v)
 
 -- a process's job is one of the jobs
 pub below_at : (m : ℕ) (ps : List Started) (k : ℕ) (p : Started) → AllBelow m ps → slice_get ps k ≡ Some p → p.job < m

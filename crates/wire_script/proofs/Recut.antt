@@ -8,9 +8,10 @@ use Rattle.std.proofs.lemmas.Fmt.{decimal_by_steps}
 use borrow.Author.Tests.{leb-true, le-leb, not-true, ne_eqb}
 use Rattle.wire_types.specs.declared.Scope.{Scope}
 use Rattle.wire_types.specs.declared.Scope.TheVariants.{Local, Remote, Global}
+use Rattle.wire_lines.specs.declared.Version.TheVariants as version
 use Rattle.wire_lines.specs.Text.{pieces_of, lines_of, is_blank, words_of}
 use Rattle.wire_lines.specs.Said.{Item, One, Every, Set, Own, Listed, Put, Commit, Fence, Get, GetNow, Publish, Lookup, LookupWait, Unpublish}
-use Rattle.wire_lines.specs.Said.{Said, Header, Node, Job, Rank, Calls, IsLawfulItem, AreLawful, IsLawfulSet, IsLawful, first_word, other_words, is_word_byte, is_name_byte, is_word, is_name}
+use Rattle.wire_lines.specs.Said.{Said, Header, Keep, Node, Job, Rank, Calls, IsLawfulItem, AreLawful, IsLawfulSet, IsLawful, first_word, other_words, is_word_byte, is_name_byte, is_word, is_name}
 use Rattle.wire_lines.specs.Said.{spelled_proc, spelled_scope, spelled_item, spelled_set, collect_words}
 use Rattle.wire_lines.proofs.Colon.{and_left, and_right}
 use Rattle.wire_script.specs.Statements.{Statement, is_skipped, statements_from, statements}
@@ -164,7 +165,9 @@ collect_word false = tt
 
 -- what may be said is said in words
 words_said : (a : Said) → IsLawful a → AreWords (first_word a ∷ other_words a)
-words_said Header h = (refl, (refl, h))
+words_said (Header version.One) h = (refl, (refl, h))
+words_said (Header version.Two) h = (refl, (refl, h))
+words_said Keep h = (refl, tt)
 words_said (Node name) h = (refl, (name_word name h, tt))
 words_said (Job name) h = (refl, (name_word name h, tt))
 words_said (Rank name) h = (refl, (name_word name h, tt))
@@ -179,7 +182,8 @@ words_said (Calls (Get job rank key)) h = (refl, (proc_word job rank h.0 h.1, (a
 words_said (Calls (GetNow job rank key)) h = (refl, (proc_word job rank h.0 h.1, (and_left _ _ h.2, tt)))
 
 said_counts : (a : Said) → is_skipped (first_word a ∷ other_words a) ≡ false
-said_counts Header = refl
+said_counts (Header version) = refl
+said_counts Keep = refl
 said_counts (Node name) = refl
 said_counts (Job name) = refl
 said_counts (Rank name) = refl

@@ -11,7 +11,7 @@ use Rattle.wire_types.specs.declared.Call.TheVariants as variant
 use Rattle.wire_lines.specs.Said.{Set, Call, Put, Commit, Fence, Get, GetNow, Publish, Lookup, LookupWait, Unpublish, Header, Node, Job, Rank, Calls}
 use Rattle.wire_lines.proofs.Colon.{and_left, and_right}
 use Rattle.wire_content.specs.Scripts.{Process, text_at}
-use Rattle.wire_content.specs.Canonical.{process_at, job_of, set_said, call_said, process_said, jobs_said, lines_said}
+use Rattle.wire_content.specs.Canonical.{process_at, job_of, set_said, call_said, process_said, jobs_said, keep_said, lines_said}
 use Rattle.wire_script.specs.FirstPass.{Name, Started, Declared, is_among, number_or_count}
 use Rattle.wire_script.specs.Reads.{Seen, is_proc, proc_number, has_proc, is_in, set_members, is_declared_call, is_with_caller, first_fault, keys_in, names_in, values_in, sets_in, in_calls}
 use Rattle.wire_script.specs.Reads.{first_seen, seen_in, numbered, process_of, scripts_with, scripts_of}
@@ -213,5 +213,5 @@ module _ (d : Declared) where
       ap (λ l. (Job j ∷ l) ++ jobs_said (scripts_of d) (n + 1) jobs) (of_job_lines n d.processes)
       ∙ ap (λ l. (Job j ∷ flat_map (process_lines d.nodes) (of_job (map (changed_process (canonical_call d)) d.processes) n)) ++ l) (jobs_again (n + 1) jobs)
 
-  pub scripts_lines : lines_said (scripts_of d) ≡ Header ∷ declared_lines (changed_declaration (canonical_call d) d)
-  scripts_lines = ap (λ l. Header ∷ (map (λ n. Node n) d.nodes ++ l)) (jobs_again 0 d.jobs)
+  pub scripts_lines : lines_said (scripts_of d) ≡ Header d.version ∷ declared_lines (changed_declaration (canonical_call d) d)
+  scripts_lines = ap (λ l. Header d.version ∷ (keep_said d.keeps ++ (map (λ n. Node n) d.nodes ++ l))) (jobs_again 0 d.jobs)

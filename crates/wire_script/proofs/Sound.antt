@@ -189,8 +189,8 @@ sound_names d i j n call e named =
 -- what a file declares, where no call has a fault, is sound
 pub sound : (d : Declared) → IsWithinLimits d → IsDeclared d → first_fault d d.processes ≡ None → IsSound (scripts_with d (seen_in d))
 sound d within declared none =
-    let run = first_run declared.0 declared.1 d declared.2 in
-    let good = run_good run.0 d run.1 in
+    let run = first_run declared.0 declared.1 declared.2 d declared.3 in
+    let good = run_good declared.0 run.0 run.1 d run.2 in
     record {
       counted = counted_processes d (seen_in d) within;
       ranked = ranked d (seen_in d) d.processes good.together good.ranked;
@@ -202,15 +202,15 @@ sound d within declared none =
 
 -- scripts that are put together of their parts
 pub scripts_are : (d : Declared) (s : Seen) (ps : List Process) → s ≡ all_seen d nothing_seen d.processes → ps ≡ map (process_of d s) d.processes
-    → record { nodes = d.nodes; jobs = d.jobs; keys = s.keys; names = s.names; values = s.values; sets = s.sets; processes = ps } ≡ scripts_of d
+    → record { version = d.version; nodes = d.nodes; jobs = d.jobs; keys = s.keys; names = s.names; values = s.values; sets = s.sets; processes = ps; keeps = d.keeps } ≡ scripts_of d
 scripts_are d s ps seen numbers =
-    let parts : record { nodes = d.nodes; jobs = d.jobs; keys = s.keys; names = s.names; values = s.values; sets = s.sets; processes = ps } ≡ scripts_with d s =
-    λ t. record { nodes = d.nodes; jobs = d.jobs; keys = s.keys; names = s.names; values = s.values; sets = s.sets; processes = numbers t } in
+    let parts : record { version = d.version; nodes = d.nodes; jobs = d.jobs; keys = s.keys; names = s.names; values = s.values; sets = s.sets; processes = ps; keeps = d.keeps } ≡ scripts_with d s =
+    λ t. record { version = d.version; nodes = d.nodes; jobs = d.jobs; keys = s.keys; names = s.names; values = s.values; sets = s.sets; processes = numbers t; keeps = d.keeps } in
     parts ∙ ap (scripts_with d) (seen ∙ all_seen_is d)
 
 pub sound_parts : (d : Declared) (s : Seen) (ps : List Process) → s ≡ all_seen d nothing_seen d.processes → ps ≡ map (process_of d s) d.processes
     → IsWithinLimits d → IsDeclared d → first_fault d d.processes ≡ None
-    → IsSound (record { nodes = d.nodes; jobs = d.jobs; keys = s.keys; names = s.names; values = s.values; sets = s.sets; processes = ps })
+    → IsSound (record { version = d.version; nodes = d.nodes; jobs = d.jobs; keys = s.keys; names = s.names; values = s.values; sets = s.sets; processes = ps; keeps = d.keeps })
 sound_parts d s ps seen numbers within declared none = subst IsSound (sym (scripts_are d s ps seen numbers)) (sound d within declared none)
 
 -- the fault of the second pass

@@ -16,8 +16,8 @@ use Rattle.wire_script.proofs.Ranked.{JobsFrom, RanksFrom, IsGood, run_good, wit
 
 pub declared_good : (d : Declared) → IsDeclared d → IsGood d
 declared_good d declared =
-    let run = first_run declared.0 declared.1 d declared.2 in
-    run_good run.0 d run.1
+    let run = first_run declared.0 declared.1 declared.2 d declared.3 in
+    run_good declared.0 run.0 run.1 d run.2
 
 job_least : (m : ℕ) (ps : List Started) (k : ℕ) (p : Started) → JobsFrom m ps → slice_get ps k ≡ Some p → m ≤ p.job
 job_least m [] k p h at = absurd (cc)

@@ -14,4 +14,13 @@ abbrev pub started_of : Building → Started
 started_of p = record { job = p.job; rank = p.rank; node = p.node; calls = map placed_of p.calls.items }
 
 abbrev pub declared_of : Draft → Declared
-declared_of d = record { nodes = d.nodes; jobs = d.jobs; processes = map started_of d.processes.items; ranks = d.ranks; calls = d.calls }
+declared_of d = record {
+  version = d.version;
+  keeps = d.keeps;
+  limits = d.limits;
+  nodes = d.nodes;
+  jobs = d.jobs;
+  processes = map started_of d.processes.items;
+  ranks = d.ranks;
+  calls = d.calls;
+}

@@ -4,8 +4,12 @@ use Rattle.std.specs.Prelude.{◌⊎◌, if◌then◌else◌}
 use Rattle.std.specs.List.{list_any, list_all, position_or_len}
 use Rattle.std.specs.Str.{bytes_eq}
 use Rattle.wire_lines.specs.Said.{Item, One, Every, Set, Own, Listed, Call, Put, Commit, Fence, Get, GetNow, Publish, Lookup, LookupWait, Unpublish}
-use Rattle.wire_lines.specs.Said.{Said, Header, Node, Job, Rank, Calls, Says}
-use Rattle.wire_script.specs.Limits.{limits}
+use Rattle.wire_lines.specs.Said.{Said, Header, Keep, Node, Job, Rank, Calls, Says}
+use Rattle.wire_lines.specs.declared.Version.{Version}
+use Rattle.wire_lines.specs.declared.Version.TheVariants as version
+use Rattle.wire_script.specs.declared.limits.Limits.{Limits}
+use Rattle.wire_script.specs.declared.limits.Size.{Size}
+use Rattle.wire_script.specs.Limits.{name_bytes, value_bytes, limits_of}
 use Rattle.wire_script.specs.Statements.{Statement}
 use Rattle.wire_types.specs.declared.Fault.{Fault}
 use Rattle.wire_types.specs.declared.Fault.TheVariants.{TooLong, BadHeader, BadLine, UnknownName, Twice, TooMany}
@@ -27,30 +31,41 @@ pub record Started : Type 0 where
   pub node : ℕ
   pub calls : List (ℕ × Call)
 
--- what was declared so far, how many processes of the last job, and how many calls
+-- what was declared so far, under which version and within which limits, whether what a get brings to a node stays there,
+-- how many processes of the last job, and how many calls
 pub record Declared : Type 0 where
+  pub version : Version
+  pub keeps : Bool
+  pub limits : Limits
   pub nodes : List Name
   pub jobs : List Name
   pub processes : List Started
   pub ranks : ℕ
   pub calls : ℕ
 
-abbrev pub nothing : Declared
-nothing = record { nodes = []; jobs = []; processes = []; ranks = 0; calls = 0 }
+-- after the header
+abbrev pub nothing : Size → Version → Declared
+nothing size version = record { version = version; keeps = false; limits = limits_of size version; nodes = []; jobs = []; processes = []; ranks = 0; calls = 0 }
 
--- whether the line may stand after what was declared
+-- whether a file of this version may say `keep`
+abbrev pub has_keep : Version → Bool
+has_keep version.One = false
+has_keep version.Two = true
+
+-- whether the line may stand after what was declared: `keep` once, before all other lines
 abbrev pub is_in_place : Declared → Said → Bool
-is_in_place d Header = false
+is_in_place d (Header version) = false
+is_in_place d Keep = has_keep d.version && (not d.keeps && (length d.nodes == 0 && length d.jobs == 0))
 is_in_place d (Node name) = length d.jobs == 0
 is_in_place d (Job name) = true
 is_in_place d (Rank node) = nat_lt 0 (length d.jobs)
 is_in_place d (Calls call) = nat_lt 0 d.ranks
 
 abbrev pub is_short_name : Name → Bool
-is_short_name name = nat_le (length name) limits.name_bytes
+is_short_name name = nat_le (length name) name_bytes
 
 abbrev pub is_short_value : List ℕ → Bool
-is_short_value value = nat_le (length value) limits.value_bytes
+is_short_value value = nat_le (length value) value_bytes
 
 abbrev pub is_short_item : Item → Bool
 is_short_item (One job rank) = is_short_name job
@@ -73,7 +88,8 @@ is_short_call (Unpublish name) = is_short_name name
 
 -- whether the names, keys and values are within their limits
 abbrev pub is_short : Said → Bool
-is_short Header = true
+is_short (Header version) = true
+is_short Keep = true
 is_short (Node name) = is_short_name name
 is_short (Job name) = is_short_name name
 is_short (Rank node) = is_short_name node
@@ -81,7 +97,8 @@ is_short (Calls call) = is_short_call call
 
 -- whether the node of a process is declared
 abbrev pub is_known : Declared → Said → Bool
-is_known d Header = true
+is_known d (Header version) = true
+is_known d Keep = true
 is_known d (Node name) = true
 is_known d (Job name) = true
 is_known d (Rank node) = is_among d.nodes node
@@ -89,7 +106,8 @@ is_known d (Calls call) = true
 
 -- whether a line of its kind declared the name before
 abbrev pub is_again : Declared → Said → Bool
-is_again d Header = false
+is_again d (Header version) = false
+is_again d Keep = false
 is_again d (Node name) = is_among d.nodes name
 is_again d (Job name) = is_among d.jobs name
 is_again d (Rank node) = false
@@ -97,11 +115,12 @@ is_again d (Calls call) = false
 
 -- whether there may be one more
 abbrev pub has_room : Declared → Said → Bool
-has_room d Header = true
-has_room d (Node name) = nat_lt (length d.nodes) limits.nodes
-has_room d (Job name) = nat_lt (length d.jobs) limits.jobs
-has_room d (Rank node) = nat_lt (length d.processes) limits.processes
-has_room d (Calls call) = nat_lt d.calls limits.calls
+has_room d (Header version) = true
+has_room d Keep = true
+has_room d (Node name) = nat_lt (length d.nodes) d.limits.nodes
+has_room d (Job name) = nat_lt (length d.jobs) d.limits.jobs
+has_room d (Rank node) = nat_lt (length d.processes) d.limits.processes
+has_room d (Calls call) = nat_lt d.calls d.limits.calls
 
 -- one more call of the last process
 abbrev pub with_call : List Started → ℕ × Call → List Started
@@ -111,7 +130,8 @@ with_call (p ∷ q ∷ ps) call = p ∷ with_call (q ∷ ps) call
 
 -- what is declared after a line
 abbrev pub after : Declared → ℕ → Said → Declared
-after d line Header = d
+after d line (Header version) = d
+after d line Keep = record d { keeps = true }
 after d line (Node name) = record d { nodes = d.nodes ++ name ∷ [] }
 after d line (Job name) = record d { jobs = d.jobs ++ name ∷ []; ranks = 0 }
 after d line (Rank node) = record d {
@@ -143,8 +163,8 @@ JudgesAll d (line ∷ lines) r =
     (q : Result Declared Fault) × Judges d line q × MatchResult q (λ e. JudgesAll e lines r) (λ f. r ≡ Err f)
 
 -- the first pass over the lines that aren't skipped, in a file of n lines
-abbrev pub FirstPass : List Statement → ℕ → Result Declared Fault → Type 0
-FirstPass [] n r = r ≡ Err (BadHeader (n + 1))
-FirstPass (line ∷ lines) n r =
-    (Says line.1 Header × JudgesAll nothing lines r)
-    ⊎ ((Says line.1 Header → ⊥) × (r ≡ Err (BadHeader line.0)))
+abbrev pub FirstPass : Size → List Statement → ℕ → Result Declared Fault → Type 0
+FirstPass size [] n r = r ≡ Err (BadHeader (n + 1))
+FirstPass size (line ∷ lines) n r =
+    ((version : Version) × Says line.1 (Header version) × JudgesAll (nothing size version) lines r)
+    ⊎ (((version : Version) → Says line.1 (Header version) → ⊥) × (r ≡ Err (BadHeader line.0)))

@@ -10,7 +10,8 @@ use Rattle.wire_types.specs.declared.Call.TheVariants.{Put, Commit, Fence, Get, 
 use Rattle.wire_lines.specs.Text.{lines_of}
 use Rattle.wire_lines.specs.Said as said
 use Rattle.wire_content.specs.Scripts.{Process, Scripts}
-use Rattle.wire_script.specs.Limits.{limits}
+use Rattle.wire_script.specs.declared.limits.Size.{Size}
+use Rattle.wire_script.specs.Limits.{file_bytes}
 use Rattle.wire_script.specs.Statements.{statements}
 use Rattle.wire_script.specs.FirstPass.{Name, is_among, number_or_count, Started, Declared, FirstPass}
 
@@ -188,6 +189,7 @@ process_of d s p = record { job = p.job; rank = p.rank; node = p.node; calls = m
 
 abbrev pub scripts_with : Declared → Seen → Scripts
 scripts_with d s = record {
+  version = d.version;
   nodes = d.nodes;
   jobs = d.jobs;
   keys = s.keys;
@@ -195,6 +197,7 @@ scripts_with d s = record {
   values = s.values;
   sets = s.sets;
   processes = map (process_of d s) d.processes;
+  keeps = d.keeps;
 }
 
 abbrev pub scripts_of : Declared → Scripts
@@ -209,16 +212,16 @@ abbrev pub second_pass : Declared → Result Scripts Fault
 second_pass d = unless_fault d (first_fault d d.processes)
 
 -- a text within the limit
-abbrev pub ReadsShort : List ℕ → Result Scripts Fault → Type 0
-ReadsShort bytes r = (q : Result Declared Fault) × FirstPass (statements bytes) (length (lines_of bytes)) q
+abbrev pub ReadsShort : Size → List ℕ → Result Scripts Fault → Type 0
+ReadsShort size bytes r = (q : Result Declared Fault) × FirstPass size (statements bytes) (length (lines_of bytes)) q
     × MatchResult q (λ d. r ≡ second_pass d) (λ f. r ≡ Err f)
 
 -- the text reads as these scripts, or its first fault is this one
-abbrev pub Reads : List ℕ → Result Scripts Fault → Type 0
-Reads bytes r =
-    ((limits.file_bytes < length bytes) × (r ≡ Err (TooLong (count_by (λ b. b == 10) (take limits.file_bytes bytes) + 1))))
-    ⊎ ((length bytes ≤ limits.file_bytes) × ReadsShort bytes r)
+abbrev pub Reads : Size → List ℕ → Result Scripts Fault → Type 0
+Reads size bytes r =
+    ((file_bytes size < length bytes) × (r ≡ Err (TooLong (count_by (λ b. b == 10) (take (file_bytes size) bytes) + 1))))
+    ⊎ ((length bytes ≤ file_bytes size) × ReadsShort size bytes r)
 
 -- a text reads as one value
 abbrev pub ReadsOnce : Type 0
-ReadsOnce = (bytes : List ℕ) (r s : Result Scripts Fault) → Reads bytes r → Reads bytes s → r ≡ s
+ReadsOnce = (size : Size) (bytes : List ℕ) (r s : Result Scripts Fault) → Reads size bytes r → Reads size bytes s → r ≡ s

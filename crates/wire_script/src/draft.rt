@@ -1,8 +1,9 @@
 //! What the lines so far declare.
 
-ghost use Rattle.std.specs.Prelude.{◌≤◌, vec_len};
+ghost use Rattle.std.specs.Prelude.{◌≤◌, ◌<◌, ◌^◌, vec_len};
 
-use wire_content::Texts;
+use crate::limits::Limits;
+use wire_content::{Texts, Version};
 use wire_lines::CallLine;
 
 /// A call line, with its number.
@@ -21,13 +22,21 @@ pub struct Started<'a> {
     pub calls: Vec<Placed<'a>>,
 }
 
-/// What was declared so far, with the number of processes of the last job and that of all calls.
+/// What was declared so far, under which version and within which limits, whether what a get brings to a
+/// node stays there, and the number of processes of the last job and that of all calls.
 #[derive(Drop)]
 pub struct Draft<'a> {
+    pub version: Version,
+    pub keeps: bool,
+    pub limits: Limits,
     pub nodes: Texts,
     pub jobs: Texts,
     pub processes: Vec<Started<'a>>,
     pub ranks: u32,
     pub calls: usize,
     ghost within: { ranks ≤ vec_len processes },
+    ghost few_nodes: { limits.nodes < 2 ^ 32 },
+    ghost few_jobs: { limits.jobs < 2 ^ 32 },
+    ghost few_processes: { limits.processes < 2 ^ 32 },
+    ghost few_calls: { limits.calls < 2 ^ 32 },
 }

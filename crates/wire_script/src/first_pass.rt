@@ -3,6 +3,7 @@
 ghost use Rattle.std.specs.Prelude.{◌≡◌, ◌+◌, ◌<◌, ◌≤◌, ◌⊎◌, true, false, Ok, Err, map, length, ◌^◌, OnOk, IfOk, IfErr, MatchResult};
 ghost use Rattle.std.specs.List.{list_all};
 ghost use Rattle.wire_lines.specs.Text.{lines_of};
+ghost use Rattle.wire_lines.specs.Said.{Keep};
 ghost use Rattle.wire_lines.specs.Shown.{said_by, call_by, item_by, set_by};
 ghost use Rattle.wire_script.specs.Limits as limit;
 ghost use Rattle.wire_script.specs.Statements.{statements};
@@ -12,11 +13,11 @@ ghost use Rattle.wire_script.specs.FirstPass.{judged, after, nothing, Judges, Ju
 ghost use Rattle.wire_script.specs.Drafted.{declared_of};
 
 use crate::draft::{Draft, Placed, Started};
-use crate::limits::{CALLS, JOBS, NAME_BYTES, NODES, PROCESSES, VALUE_BYTES};
+use crate::limits::{Limits, NAME_BYTES, Size, VALUE_BYTES};
 use crate::lines::Cursor;
 use std::alloc::{AllocError, Global};
-use wire_content::Texts;
-use wire_lines::{CallLine, Item, Line, Set, is_header, read_line};
+use wire_content::{Texts, Version};
+use wire_lines::{CallLine, Item, Line, Set, header_version, read_line};
 use wire_types::Fault;
 
 fn is_short_name(name: &[u8]) -> bool
@@ -75,17 +76,20 @@ fn is_short(said: &Line) -> bool
     ensures { result ≡ spec.is_short (said_by said.now) }
 {
     match said {
-        Line::Header => true,
+        Line::Header(_) | Line::Keep => true,
         Line::Node(name) | Line::Job(name) | Line::Rank(name) => is_short_name(name),
         Line::Calls(call) => is_short_call(call),
     }
 }
 
 /// A draft in which nothing is declared.
-fn new_draft<'a>(alloc: Global) -> Draft<'a>
-    ensures { declared_of result ≡ nothing }
+fn new_draft<'a>(alloc: Global, size: Size, version: Version) -> Draft<'a>
+    ensures { declared_of result ≡ nothing size version }
 {
     Draft {
+        version,
+        keeps: false,
+        limits: Limits::of(size, version),
         nodes: Texts::new(alloc),
         jobs: Texts::new(alloc),
         processes: Vec::new(alloc),
@@ -94,11 +98,22 @@ fn new_draft<'a>(alloc: Global) -> Draft<'a>
     }
 }
 
+/// Whether the line `keep` may stand here: once, first after the header, where the version has it.
+fn may_say_keep(draft: &Draft) -> bool
+    ensures { result ≡ spec.is_in_place (declared_of draft.now) Keep }
+{
+    match draft.version {
+        Version::One => false,
+        Version::Two => !draft.keeps && draft.nodes.is_empty() && draft.jobs.is_empty(),
+    }
+}
+
 fn is_in_place(draft: &Draft, said: &Line) -> bool
     ensures { result ≡ spec.is_in_place (declared_of draft.now) (said_by said.now) }
 {
     match said {
-        Line::Header => false,
+        Line::Header(_) => false,
+        Line::Keep => may_say_keep(draft),
         Line::Node(_) => draft.jobs.is_empty(),
         Line::Job(_) => true,
         Line::Rank(_) => 0 < draft.jobs.len(),
@@ -129,11 +144,11 @@ fn has_room(draft: &Draft, said: &Line) -> bool
     ensures { result ≡ spec.has_room (declared_of draft.now) (said_by said.now) }
 {
     match said {
-        Line::Header => true,
-        Line::Node(_) => draft.nodes.len() < NODES,
-        Line::Job(_) => draft.jobs.len() < JOBS,
-        Line::Rank(_) => draft.processes.len() < PROCESSES,
-        Line::Calls(_) => draft.calls < CALLS,
+        Line::Header(_) | Line::Keep => true,
+        Line::Node(_) => draft.nodes.len() < draft.limits.nodes,
+        Line::Job(_) => draft.jobs.len() < draft.limits.jobs,
+        Line::Rank(_) => draft.processes.len() < draft.limits.processes as usize,
+        Line::Calls(_) => draft.calls < draft.limits.calls as usize,
     }
 }
 
@@ -175,7 +190,11 @@ fn add<'a>(
     ensures { OnOk result (declared_of draft.new ≡ after (declared_of draft.old) line (said_by said.entry)) }
 {
     match said {
-        Line::Header => Ok(()),
+        Line::Header(_) => Ok(()),
+        Line::Keep => {
+            draft.keeps = true;
+            Ok(())
+        }
         Line::Node(name) => draft.nodes.add(alloc, name),
         Line::Job(name) => {
             draft.jobs.add(alloc, name)?;
@@ -228,13 +247,18 @@ fn take<'a>(
     Ok(())
 }
 
-/// The lines after the header.
-fn declare_all<'a>(alloc: Global, cursor: &mut Cursor<'a>) -> Result<Draft<'a>, Fault>
+/// The lines after the header of this version.
+fn declare_all<'a>(
+    alloc: Global,
+    size: Size,
+    version: Version,
+    cursor: &mut Cursor<'a>,
+) -> Result<Draft<'a>, Fault>
     requires { cursor.old.line + length cursor.old.rest.now < 2 ^ 64 }
-    ensures ok { IfOk result (λ d. JudgesAll nothing (statements_left cursor.old) (Ok (declared_of d))) }
-    ensures err { IfErr result (λ e. (e ≡ Fault.Memory) ⊎ JudgesAll nothing (statements_left cursor.old) (Err e)) }
+    ensures ok { IfOk result (λ d. JudgesAll (nothing size version) (statements_left cursor.old) (Ok (declared_of d))) }
+    ensures err { IfErr result (λ e. (e ≡ Fault.Memory) ⊎ JudgesAll (nothing size version) (statements_left cursor.old) (Err e)) }
 {
-    let mut draft = new_draft(alloc);
+    let mut draft = new_draft(alloc, size, version);
     let mut words = Vec::new(alloc);
     'statements: while let Some(line) = cursor.next_words(&mut words)? {
         if let Err(fault) = take(&mut draft, alloc, line, &words) {
@@ -245,19 +269,19 @@ fn declare_all<'a>(alloc: Global, cursor: &mut Cursor<'a>) -> Result<Draft<'a>, 
 }
 
 /// What a file declares.
-pub fn first_pass<'a>(alloc: Global, bytes: &'a [u8]) -> Result<Draft<'a>, Fault>
-    requires { length bytes.now ≤ limit.limits.file_bytes }
+pub fn first_pass<'a>(alloc: Global, size: Size, bytes: &'a [u8]) -> Result<Draft<'a>, Fault>
+    requires { length bytes.now ≤ limit.file_bytes size }
     ensures ok { IfOk result
-        (λ d. FirstPass (statements bytes.now) (length (lines_of bytes.now)) (Ok (declared_of d))) }
+        (λ d. FirstPass size (statements bytes.now) (length (lines_of bytes.now)) (Ok (declared_of d))) }
     ensures err { IfErr result
-        (λ e. (e ≡ Fault.Memory) ⊎ FirstPass (statements bytes.now) (length (lines_of bytes.now)) (Err e)) }
+        (λ e. (e ≡ Fault.Memory) ⊎ FirstPass size (statements bytes.now) (length (lines_of bytes.now)) (Err e)) }
 {
     let mut cursor = Cursor::new(bytes);
     let Some(first) = cursor.next_line(alloc)? else {
         return Err(Fault::BadHeader(cursor.line));
     };
-    if !is_header(&first.words) {
+    let Some(version) = header_version(&first.words) else {
         return Err(Fault::BadHeader(first.number));
-    }
-    declare_all(alloc, &mut cursor)
+    };
+    declare_all(alloc, size, version, &mut cursor)
 }

@@ -11,7 +11,7 @@ mod numbers;
 mod reader;
 mod second_pass;
 
-pub use limits::FILE_BYTES;
+pub use limits::{Limits, Size};
 pub use lines::{Cursor, Statement};
-pub use reader::{one_canonical, read, reads_back, reads_once};
-pub use wire_content::{Process, Scripts, Sets, Texts};
+pub use reader::{migrated_reads_back, one_canonical, read, read_sized, reads_back, reads_once};
+pub use wire_content::{Process, Scripts, Sets, Texts, Version};

@@ -164,15 +164,30 @@ fn distinct(alloc: Global, targets: &[Target]) -> Result<IndexSet<Target>, Alloc
     Ok(kept)
 }
 
-/// The processes that are named, each once, in process order.
-fn members_of(alloc: Global, draft: &Draft, targets: &[Target]) -> Result<Vec<Proc>, AllocError>
+/// Whether a process is one of those that are kept, by itself or with its job.
+fn is_kept(kept: &IndexSet<Target>, process: &Started) -> bool
+    ensures { result ≡ is_any_target kept.now.keys (started_of process.now) }
+{
+    let job = process.job;
+    let rank = process.rank;
+    let alone = kept.contains(&Target::One { job, rank });
+    let with_job = kept.contains(&Target::Every { job });
+    alone || with_job
+}
+
+/// The processes that are kept, each once, in process order.
+fn members_of(
+    alloc: Global,
+    draft: &Draft,
+    kept: &IndexSet<Target>,
+) -> Result<Vec<Proc>, AllocError>
     requires { IsWithinLimits (declared_of draft.now) }
-    ensures { IfOk result (λ v. numbers_of v.items ≡ named_in (declared_of draft.now) targets.now) }
+    ensures { IfOk result (λ v. numbers_of v.items ≡ named_in (declared_of draft.now) kept.now.keys) }
 {
     let mut members = Vec::new(alloc);
     let mut number = 0;
     for process in &draft.processes {
-        if is_named(targets, process) {
+        if is_kept(kept, process) {
             members.push(Proc::new(number))?;
         }
         number += 1;
@@ -190,5 +205,5 @@ pub fn named_members(
     ensures { IfOk result (λ v. numbers_of v.items ≡ named_in (declared_of draft.now) targets.now) }
 {
     let kept = distinct(alloc, targets)?;
-    members_of(alloc, draft, kept.as_slice())
+    members_of(alloc, draft, &kept)
 }

@@ -2,11 +2,11 @@
 
 ghost use Rattle.std.specs.Prelude.{◌≡◌, ◌≤◌, ◌⊎◌, length, Ok, Err, IfOk, IfErr};
 ghost use Rattle.wire_script.specs.Limits as limit;
-ghost use Rattle.wire_script.specs.Back.{ReadsBack, OneCanonical};
+ghost use Rattle.wire_script.specs.Back.{ReadsBack, MigratedReadsBack, OneCanonical};
 ghost use Rattle.wire_script.specs.Reads.{Reads, ReadsShort, ReadsOnce};
 
 use crate::first_pass::first_pass;
-use crate::limits::FILE_BYTES;
+use crate::limits::Size;
 use crate::second_pass::scripts_of;
 use std::alloc::Global;
 use wire_content::Scripts;
@@ -17,21 +17,30 @@ use wire_types::Fault;
 /// first is given, with its line: `TooLong`, `BadHeader`, `BadLine`, `UnknownName`, `Twice` or `TooMany`
 /// of the first pass over all lines, else `UnknownName` or `NotMember` of the second over the calls.
 pub fn read(alloc: Global, bytes: &[u8]) -> Result<Scripts, Fault>
-    ensures ok { IfOk result (λ s. Reads bytes.now (Ok s)) }
-    ensures err { IfErr result (λ e. (e ≡ Fault.Memory) ⊎ Reads bytes.now (Err e)) }
+    ensures ok { IfOk result (λ s. Reads Size.OfVersion bytes.now (Ok s)) }
+    ensures err { IfErr result (λ e. (e ≡ Fault.Memory) ⊎ Reads Size.OfVersion bytes.now (Err e)) }
 {
-    if bytes.len() > FILE_BYTES {
-        return Err(Fault::TooLong(line_past(bytes, FILE_BYTES)));
-    }
-    read_short(alloc, bytes)
+    read_sized(alloc, Size::OfVersion, bytes)
 }
 
-fn read_short(alloc: Global, bytes: &[u8]) -> Result<Scripts, Fault>
-    requires { length bytes.now ≤ limit.limits.file_bytes }
-    ensures ok { IfOk result (λ s. ReadsShort bytes.now (Ok s)) }
-    ensures err { IfErr result (λ e. (e ≡ Fault.Memory) ⊎ ReadsShort bytes.now (Err e)) }
+/// What a file says, as `read` does, within the limits of this size.
+pub fn read_sized(alloc: Global, size: Size, bytes: &[u8]) -> Result<Scripts, Fault>
+    ensures ok { IfOk result (λ s. Reads size bytes.now (Ok s)) }
+    ensures err { IfErr result (λ e. (e ≡ Fault.Memory) ⊎ Reads size bytes.now (Err e)) }
 {
-    let draft = first_pass(alloc, bytes)?;
+    let most = size.file_bytes();
+    if bytes.len() > most {
+        return Err(Fault::TooLong(line_past(bytes, most)));
+    }
+    read_short(alloc, size, bytes)
+}
+
+fn read_short(alloc: Global, size: Size, bytes: &[u8]) -> Result<Scripts, Fault>
+    requires { length bytes.now ≤ limit.file_bytes size }
+    ensures ok { IfOk result (λ s. ReadsShort size bytes.now (Ok s)) }
+    ensures err { IfErr result (λ e. (e ≡ Fault.Memory) ⊎ ReadsShort size bytes.now (Err e)) }
+{
+    let draft = first_pass(alloc, size, bytes)?;
     scripts_of(alloc, draft)
 }
 
@@ -50,4 +59,10 @@ pub fn one_canonical()
 /// limit of a file.
 pub fn reads_back()
     ensures { ReadsBack }
+{}
+
+/// A law: the canonical text of scripts that were read, under version 2, reads as the same scripts under
+/// version 2, where it is within the limit of a file.
+pub fn migrated_reads_back()
+    ensures { MigratedReadsBack }
 {}

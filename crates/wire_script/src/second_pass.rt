@@ -16,7 +16,7 @@ use crate::members::{Target, are_declared, is_named, listed, named_members, proc
 use crate::noted::Noted;
 use crate::numbers::{number_set, number_text};
 use std::alloc::{AllocError, Global};
-use wire_content::{Process, Scripts, Sets, Tables, Texts};
+use wire_content::{Format, Process, Scripts, Sets, Tables, Texts};
 use wire_lines::{CallLine, ProcName, Set};
 use wire_types::{Call, Fault, Proc, Scope};
 
@@ -318,13 +318,16 @@ pub fn scripts_of(alloc: Global, draft: Draft) -> Result<Scripts, Fault>
             let Numbering { tables, noted } = numbering;
             drop(noted);
             let Draft {
+                version,
+                keeps,
                 nodes,
                 jobs,
                 processes: said,
                 ..
             } = draft;
             drop(said);
-            Ok(Scripts::new(nodes, jobs, tables, processes))
+            let format = Format { version, keeps };
+            Ok(Scripts::new(format, nodes, jobs, tables, processes))
         }
         Err(fault) => {
             drop(numbering);

@@ -9,6 +9,7 @@ use Rattle.wire_runs.specs.State.{State, start}
 use Rattle.wire_runs.specs.Step.{is_enabled, step, IsInterleaving, run_from, run}
 use Rattle.wire_content.specs.Scripts.{Scripts}
 use Rattle.wire_content.specs.Planned.{plan_of}
+use Rattle.wire_script.specs.declared.Size.{Size}
 use Rattle.wire_script.specs.Reads.{Reads}
 use Rattle.wire_script.proofs.Once.{reads_once}
 use Rattle.wire_order.specs.Order.{order_read}
@@ -27,28 +28,29 @@ enabled_at plan s (q ∷ w) (suc n) p h at = enabled_at plan (step plan s q) w n
 same_ok : (s t : Scripts) (r : Result Scripts Fault) → r ≡ Ok s → r ≡ Ok t → s ≡ t
 same_ok s t r a b = cc
 
-module _ (bytes : List ℕ) (s : Scripts) (steps : List ℕ) (read : Reads bytes (Ok s)) (run_of : IsInterleaving (plan_of s) start steps) (back : ReadsAsOrder s (steps_text s steps) steps) where
-  same_scripts : (t : Scripts) → ReadAs (Some bytes) t → s ≡ t
-  same_scripts t r = same_ok s t (Ok s) refl (reads_once bytes (Ok s) (Ok t) read (subst (λ b. Reads b (Ok t)) (sym r.came) r.reads))
+module _ (size : Size) (bytes : List ℕ) (s : Scripts) (steps : List ℕ) (read : Reads size bytes (Ok s)) (run_of : IsInterleaving (plan_of s) start steps)
+    (back : ReadsAsOrder size s (steps_text s steps) steps) where
+  same_scripts : (t : Scripts) → ReadAs size (Some bytes) t → s ≡ t
+  same_scripts t r = same_ok s t (Ok s) refl (reads_once size bytes (Ok s) (Ok t) read (subst (λ b. Reads size b (Ok t)) (sym r.came) r.reads))
 
-  same_order : (t : Scripts) (others : List ℕ) → s ≡ t → OrdersAs (Some (steps_text s steps)) t others → others ≡ steps
-  same_order t others e o = back.only others (ap (λ x. order_read x (steps_text s steps)) e ∙ ap (order_read t) o.came ∙ o.reads)
+  same_order : (t : Scripts) (others : List ℕ) → s ≡ t → OrdersAs size (Some (steps_text s steps)) t others → others ≡ steps
+  same_order t others e o = back.only others (ap (λ x. order_read size x (steps_text s steps)) e ∙ ap (order_read size t) o.came ∙ o.reads)
 
-  writes : (old new : Option (List ℕ)) → WritesFollowed (Some bytes) (Some (steps_text s steps)) old new → Appends old new (report_after s steps)
+  writes : (old new : Option (List ℕ)) → WritesFollowed size (Some bytes) (Some (steps_text s steps)) old new → Appends old new (report_after s steps)
   writes old new w =
       let e = same_scripts w.scripts w.ordered.read in
       let f = same_order w.scripts w.steps e w.ordered.order in
       subst (λ x. Appends old new x) (ap₂ report_after (sym e) f) w.wrote
 
-  no_refusal : (fault : Fault) → Refuses (Some bytes) fault → ⊥
-  no_refusal fault r = let is : Ok s ≡ Err fault = reads_once bytes (Ok s) (Err fault) read (subst (λ b. Reads b (Err fault)) (sym r.came) r.reads) in cc
+  no_refusal : (fault : Fault) → Refuses size (Some bytes) fault → ⊥
+  no_refusal fault r = let is : Ok s ≡ Err fault = reads_once size bytes (Ok s) (Err fault) read (subst (λ b. Reads size b (Err fault)) (sym r.came) r.reads) in cc
 
-  no_bad_order : (fault : Fault) → RefusesOrder (Some bytes) (Some (steps_text s steps)) fault → ⊥
+  no_bad_order : (fault : Fault) → RefusesOrder size (Some bytes) (Some (steps_text s steps)) fault → ⊥
   no_bad_order fault r =
       let e = same_scripts r.scripts r.read in
-      let is : Ok steps ≡ Err fault = sym back.reads ∙ ap (λ x. order_read x (steps_text s steps)) e ∙ ap (order_read r.scripts) r.refuses.came ∙ r.refuses.reads in cc
+      let is : Ok steps ≡ Err fault = sym back.reads ∙ ap (λ x. order_read size x (steps_text s steps)) e ∙ ap (order_read size r.scripts) r.refuses.came ∙ r.refuses.reads in cc
 
-  no_stop : (fault : Fault) → StopsInOrder (Some bytes) (Some (steps_text s steps)) fault → ⊥
+  no_stop : (fault : Fault) → StopsInOrder size (Some bytes) (Some (steps_text s steps)) fault → ⊥
   no_stop fault r =
       let e = same_scripts r.scripts r.ordered.read in
       let f = same_order r.scripts r.steps e r.ordered.order in
@@ -59,7 +61,7 @@ module _ (bytes : List ℕ) (s : Scripts) (steps : List ℕ) (read : Reads bytes
       ap₂ (λ x y. is_enabled (plan_of x) (run (plan_of x) (take n y)) p) e (sym f) in
       true≢false (sym (enabled_at (plan_of s) start steps n p run_of at) ∙ same ∙ r.stops.not_enabled)
 
-  stops : (fault : Fault) → StopsBefore (Some bytes) (Some (steps_text s steps)) fault → (fault ≡ Memory) ⊎ (fault ≡ Read)
+  stops : (fault : Fault) → StopsBefore size (Some bytes) (Some (steps_text s steps)) fault → (fault ≡ Memory) ⊎ (fault ≡ Read)
   stops fault (inl memory) = inl memory
   stops fault (inr (inl failed)) = inr failed
   stops fault (inr (inr (inl refuses))) = absurd (no_refusal fault refuses)
@@ -67,6 +69,6 @@ module _ (bytes : List ℕ) (s : Scripts) (steps : List ℕ) (read : Reads bytes
   stops fault (inr (inr (inr (inr late)))) = absurd (no_stop fault late)
 
 pub order_is_followed : OrderIsFollowed
-order_is_followed bytes s steps read run_of =
-    let back = order_reads_back bytes s steps read run_of in
-    record { writes = writes bytes s steps read run_of back; stops = stops bytes s steps read run_of back }
+order_is_followed size bytes s steps read run_of fits =
+    let back = order_reads_back size bytes s steps read run_of fits in
+    record { writes = writes size bytes s steps read run_of back; stops = stops size bytes s steps read run_of back }

@@ -7,9 +7,10 @@ use Rattle.wire_runs.specs.Plan.{Process, kinds_of, event_total}
 use Rattle.wire_plan.proofs.Planning.{events_few}
 use Rattle.wire_content.specs.Scripts.{Scripts}
 use Rattle.wire_content.specs.Planned.{planned_call, planned_process, plan_of}
+use Rattle.wire_script.specs.declared.Limits.{Limits}
 use Rattle.wire_script.specs.FirstPass.{Started, Declared}
 use Rattle.wire_script.specs.Reads.{Seen, seen_in, numbered, process_of, scripts_of}
-use Rattle.wire_script.specs.Within.{started_calls, IsWithinLimits}
+use Rattle.wire_script.specs.Within.{started_calls, IsWithin}
 
 abbrev events_in : Process → ℕ
 events_in process = length (kinds_of process.calls)
@@ -28,8 +29,8 @@ all_events d s seen (p ∷ ps) =
     )
 
 -- two for each call at most
-pub few_events : (d : Declared) → IsWithinLimits d → event_total (plan_of (scripts_of d)) ≤ 32768
-few_events d w =
+pub few_events : (l : Limits) (d : Declared) → IsWithin l d → event_total (plan_of (scripts_of d)) ≤ 2 * l.calls
+few_events l d w =
     let counted = w.counted in
     let few = w.few_calls in
     omega (arith, all_events d (scripts_of d) (seen_in d) d.processes, counted, few)

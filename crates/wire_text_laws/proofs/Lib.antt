@@ -6,3 +6,4 @@ pub mod Steps
 pub mod Printable
 pub mod Strings
 pub mod Followed
+pub mod Shown

@@ -5,10 +5,12 @@ use Rattle.std.specs.Fmt.{digits, digits_onto, digit_glyph}
 use Rattle.std.specs.List.{list_all, flat_map}
 use Rattle.std.proofs.lemmas.List.{map-append}
 use borrow.Author.Tests.{leb-true, lt-ltb}
-use Rattle.wire_lines.specs.Said.{Call, Put, Commit, Fence, Get, GetNow, Publish, Lookup, LookupWait, Unpublish, Said, Header, Node, Job, Rank, Calls, IsLawful, IsLawfulCall, is_word_byte}
+use Rattle.wire_lines.specs.Said.{Call, Put, Commit, Fence, Get, GetNow, Publish, Lookup, LookupWait, Unpublish, Said, Header, Keep, Node, Job, Rank, Calls, IsLawful, IsLawfulCall, is_word_byte}
 use Rattle.wire_lines.specs.Said.{is_name_byte, is_word, is_name, is_key}
 use Rattle.wire_lines.proofs.Colon.{and_left, and_right}
 use Rattle.wire_content.specs.Scripts.{Scripts, text_at}
+use Rattle.wire_lines.specs.declared.Version.{Version}
+use Rattle.wire_script.specs.declared.Size.{Size}
 use Rattle.wire_script.specs.FirstPass.{Name, Started, Declared, nothing, number_or_count, after, with_call}
 use Rattle.wire_script.specs.Reads.{keys_in, names_in, values_in, in_calls, first_seen, seen_in, scripts_of}
 use Rattle.wire_script.proofs.Seen.{Each, each_seen, each_both}
@@ -84,7 +86,8 @@ record AreLawful (d : Declared) : Type 0 where
   calls : AllLawful d.processes
 
 after_lawful : (d : Declared) (n : ℕ) (a : Said) → IsLawful a → AreLawful d → AreLawful (after d n a)
-after_lawful d n Header l h = h
+after_lawful d n (Header version) l h = h
+after_lawful d n Keep l h = record { nodes = h.nodes; calls = h.calls }
 after_lawful d n (Node name) l h = record { nodes = each_both IsKept d.nodes (name ∷ []) h.nodes (name_kept name l, tt); calls = h.calls }
 after_lawful d n (Job name) l h = record { nodes = h.nodes; calls = h.calls }
 after_lawful d n (Rank node) l h = record {
@@ -160,9 +163,9 @@ pub record TextsAreKept (s : Scripts) : Type 0 where
   pub names : (n : ℕ) → IsKept (text_at s.names n)
   pub values : (n : ℕ) → IsKept (text_at s.values n)
 
-pub texts_kept : (d : Declared) (lines : List (ℕ × Said)) → Runs lines nothing d → IsGood d → TextsAreKept (scripts_of d)
-texts_kept d lines runs good =
-    let lawful = run_lawful lines nothing d runs (record { nodes = tt; calls = tt }) in
+pub texts_kept : (size : Size) (v : Version) (d : Declared) (lines : List (ℕ × Said)) → Runs lines (nothing size v) d → IsGood d → TextsAreKept (scripts_of d)
+texts_kept size v d lines runs good =
+    let lawful = run_lawful lines (nothing size v) d runs (record { nodes = tt; calls = tt }) in
     record {
       nodes = λ n. text_kept d.nodes n lawful.nodes;
       jobs = λ n. text_kept d.jobs n (jobs_kept d.jobs good.names);

@@ -12,14 +12,20 @@ use Rattle.wire_runs.proofs.Length.{runs_end}
 use Rattle.wire_lines.specs.Text.{lines_of, words_of}
 use Rattle.wire_content.specs.Scripts.{Scripts}
 use Rattle.wire_content.specs.Planned.{planned_process, plan_of}
+use Rattle.wire_lines.specs.declared.Version.{Version}
+use Rattle.wire_lines.specs.declared.Version.TheVariants as version
+use Rattle.wire_script.specs.declared.Size.{Size}
+use Rattle.wire_script.specs.declared.Size.TheVariants.{OfVersion, Large}
+use Rattle.wire_script.specs.Limits.{limits_of, order_bytes}
+use Rattle.wire_script.specs.Within.{IsWithin}
 use Rattle.wire_script.specs.Statements.{is_skipped, statements_from, statements}
 use Rattle.wire_script.specs.FirstPass.{Declared}
 use Rattle.wire_script.specs.Reads.{seen_in, process_of, scripts_of}
 use Rattle.wire_script.proofs.Ranked.{IsGood}
-use Rattle.wire_order.specs.Order.{proc_named, order_of, order_bytes, order_within, order_read}
+use Rattle.wire_order.specs.Order.{proc_named, order_of, order_within, order_read}
 use Rattle.wire_words.specs.Words.{name_of}
 use Rattle.wire_report.specs.Unsettled.{step_line}
-use Rattle.wire_text_laws.specs.Again.{steps_text, OrderReadsBack}
+use Rattle.wire_text_laws.specs.Again.{steps_text, FitsOrder, OrderReadsBack}
 use Rattle.wire_text_laws.proofs.Lines.{line_again, words_again}
 use Rattle.wire_text_laws.proofs.Source.{declared_by}
 use Rattle.wire_text_laws.proofs.Named.{IsStepWord, step_word}
@@ -65,22 +71,33 @@ text_short s (p ∷ steps) h =
 read_within : (limit : ℕ) (s : Scripts) (text steps : List ℕ) → length text ≤ limit → order_of s (statements text) ≡ Ok steps → order_within limit s text ≡ Ok steps
 read_within limit s text steps low is = rw (le-ltb limit (length text) low) is
 
-declared_back : (d : Declared) (steps : List ℕ) → IsGood d → event_total (plan_of (scripts_of d)) ≤ 32768 → IsInterleaving (plan_of (scripts_of d)) start steps →
-    order_read (scripts_of d) (steps_text (scripts_of d) steps) ≡ Ok steps
-declared_back d steps g few run =
+calls_of_version : (v : Version) → (limits_of OfVersion v).calls ≤ 32768
+calls_of_version version.One = omega arith
+calls_of_version version.Two = omega arith
+
+text_fits : (size : Size) (d : Declared) (steps : List ℕ) → IsWithin (limits_of size d.version) d → IsInterleaving (plan_of (scripts_of d)) start steps → Each (IsStepWord (scripts_of d)) steps →
+    FitsOrder size (scripts_of d) steps → length (steps_text (scripts_of d) steps) ≤ order_bytes size
+text_fits OfVersion d steps within run words fits =
+    let few = few_events (limits_of OfVersion d.version) d within in
+    let many = runs_end (plan_of (scripts_of d)) steps run in
+    omega (arith, few, many, calls_of_version d.version, text_short (scripts_of d) steps words)
+text_fits Large d steps within run words fits = fits
+
+declared_back : (size : Size) (d : Declared) (steps : List ℕ) → IsGood d → IsWithin (limits_of size d.version) d → IsInterleaving (plan_of (scripts_of d)) start steps →
+    FitsOrder size (scripts_of d) steps → order_read size (scripts_of d) (steps_text (scripts_of d) steps) ≡ Ok steps
+declared_back size d steps g within run fits =
     let s = scripts_of d in
     let count : length (plan_of s).processes ≡ length d.processes = length-map s.processes (planned_process s) ∙ length-map d.processes (process_of d (seen_in d)) in
     let words = each_more (λ p. p < length (plan_of s).processes) (IsStepWord s) (λ p low. step_word d g p (subst (λ n. p < n) count low)) steps (steps_within (plan_of s) start steps run) in
-    let many = runs_end (plan_of s) steps run in
-    read_within order_bytes s (steps_text s steps) steps (omega (arith, few, many, text_short s steps words)) (lines_read s 1 steps words)
+    read_within (order_bytes size) s (steps_text s steps) steps (text_fits size d steps within run words fits) (lines_read s 1 steps words)
 
-same_steps : (s : Scripts) (text steps others : List ℕ) → order_read s text ≡ Ok steps → order_read s text ≡ Ok others → others ≡ steps
-same_steps s text steps others a b = let is : Ok others ≡ Ok steps = sym b ∙ a in cc
+same_steps : (size : Size) (s : Scripts) (text steps others : List ℕ) → order_read size s text ≡ Ok steps → order_read size s text ≡ Ok others → others ≡ steps
+same_steps size s text steps others a b = let is : Ok others ≡ Ok steps = sym b ∙ a in cc
 
 pub order_reads_back : OrderReadsBack
-order_reads_back bytes s steps read run =
-    let r = declared_by bytes s read in
-    let is : order_read s (steps_text s steps) ≡ Ok steps =
-    subst (λ t. order_read t (steps_text t steps) ≡ Ok steps) (sym r.is)
-    (declared_back r.d steps r.good (few_events r.d r.within) (subst (λ t. IsInterleaving (plan_of t) start steps) r.is run)) in
-    record { reads = is; only = λ others e. same_steps s (steps_text s steps) steps others is e }
+order_reads_back size bytes s steps read run fits =
+    let r = declared_by size bytes s read in
+    let is : order_read size s (steps_text s steps) ≡ Ok steps =
+    subst (λ t. order_read size t (steps_text t steps) ≡ Ok steps) (sym r.is)
+    (declared_back size r.d steps r.good r.within (subst (λ t. IsInterleaving (plan_of t) start steps) r.is run) (subst (λ t. FitsOrder size t steps) r.is fits)) in
+    record { reads = is; only = λ others e. same_steps size s (steps_text s steps) steps others is e }

@@ -74,6 +74,6 @@ module _ (s : Scripts) (h : TextsAreKept s) where
   all_kept = record { processes = process_kept; steps = name_kept; values = value_kept; findings = finding_kept }
 
 pub nothing_replaced : NothingReplaced
-nothing_replaced bytes s read =
-    let r = declared_by bytes s read in
-    all_kept s (subst TextsAreKept (sym r.is) (texts_kept r.d r.lines r.runs r.good))
+nothing_replaced size bytes s read =
+    let r = declared_by size bytes s read in
+    all_kept s (subst TextsAreKept (sym r.is) (texts_kept size r.version r.d r.lines r.runs r.good))

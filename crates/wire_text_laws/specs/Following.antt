@@ -7,16 +7,18 @@ use Rattle.wire_content.specs.Scripts.{Scripts}
 use Rattle.wire_content.specs.Planned.{plan_of}
 use Rattle.wire_runs.specs.State.{start}
 use Rattle.wire_runs.specs.Step.{IsInterleaving}
+use Rattle.wire_script.specs.declared.Size.{Size}
 use Rattle.wire_script.specs.Reads.{Reads}
 use Rattle.wire_commands.specs.Follow.{WritesFollowed, StopsBefore, report_after}
-use Rattle.wire_text_laws.specs.Again.{steps_text}
+use Rattle.wire_text_laws.specs.Again.{steps_text, FitsOrder}
 
 -- the file and the lines of these steps, followed: what is written is the report of the run of these steps, and nothing that
 -- the file or the lines say stops it
-pub record IsFollowed (bytes : List ℕ) (s : Scripts) (steps : List ℕ) : Type 0 where
-  pub writes : (old new : Option (List ℕ)) → WritesFollowed (Some bytes) (Some (steps_text s steps)) old new → Appends old new (report_after s steps)
-  pub stops : (fault : Fault) → StopsBefore (Some bytes) (Some (steps_text s steps)) fault → (fault ≡ Memory) ⊎ (fault ≡ Read)
+pub record IsFollowed (size : Size) (bytes : List ℕ) (s : Scripts) (steps : List ℕ) : Type 0 where
+  pub writes : (old new : Option (List ℕ)) → WritesFollowed size (Some bytes) (Some (steps_text s steps)) old new → Appends old new (report_after s steps)
+  pub stops : (fault : Fault) → StopsBefore size (Some bytes) (Some (steps_text s steps)) fault → (fault ≡ Memory) ⊎ (fault ≡ Read)
 
 -- of scripts that were read: the lines of the steps of an interleaving are followed to the report of this interleaving
 abbrev pub OrderIsFollowed : Type 0
-OrderIsFollowed = (bytes : List ℕ) (s : Scripts) (steps : List ℕ) → Reads bytes (Ok s) → IsInterleaving (plan_of s) start steps → IsFollowed bytes s steps
+OrderIsFollowed = (size : Size) (bytes : List ℕ) (s : Scripts) (steps : List ℕ) → Reads size bytes (Ok s) → IsInterleaving (plan_of s) start steps → FitsOrder size s steps →
+    IsFollowed size bytes s steps

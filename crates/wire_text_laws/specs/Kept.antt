@@ -3,6 +3,7 @@ use Rattle.std.specs.Prelude.{◌≡◌, ℕ, List, Ok, map}
 use Rattle.wire_types.specs.declared.Value.{Value}
 use Rattle.wire_content.specs.Scripts.{Scripts, Process}
 use Rattle.wire_content.specs.Canonical.{process_text}
+use Rattle.wire_script.specs.declared.Size.{Size}
 use Rattle.wire_script.specs.Reads.{Reads}
 use Rattle.wire_races.specs.declared.finding.Finding.{Finding}
 use Rattle.wire_words.specs.Words.{name_of, value_text}
@@ -22,4 +23,4 @@ pub record AreKept (s : Scripts) : Type 0 where
 
 -- of scripts that were read no byte is replaced
 abbrev pub NothingReplaced : Type 0
-NothingReplaced = (bytes : List ℕ) (s : Scripts) → Reads bytes (Ok s) → AreKept s
+NothingReplaced = (size : Size) (bytes : List ℕ) (s : Scripts) → Reads size bytes (Ok s) → AreKept s

@@ -12,14 +12,17 @@ use Rattle.wire_races.specs.Findings.{AreFindings}
 use Rattle.wire_races.specs.declared.settled.Unsettled.{Unsettled}
 use Rattle.wire_marks.specs.Clocks.{Clocks}
 use Rattle.wire_core.specs.EndsAfter.{plain_ends}
+use Rattle.wire_script.specs.declared.Size.{Size}
 use Rattle.wire_commands.specs.declared.checking.Ended.{Ended}
 use Rattle.wire_commands.specs.declared.checking.Ended.TheVariants.{Clean, Found}
 use Rattle.wire_up.specs.declared.replaying.Mode.{Mode}
+use Rattle.wire_up.specs.declared.replaying.Rehearsed.{Rehearsed}
+use Rattle.wire_up.specs.Complete.{TellsCalls, line_in}
 use Rattle.wire_commands.specs.Plain.{ReadAs}
 use Rattle.wire_commands.specs.Check.{ended_with}
 use Rattle.wire_report.specs.Report.{report_form}
 use Rattle.wire_up.specs.Replay.{Tells, TellsFound, IsReplay, WritesOneEnd, BreaksOffReplay}
-use Rattle.wire_commands.proofs.Checked.{judged_so, done, ended_of}
+use Rattle.wire_commands.proofs.Checked.{judged_so}
 
 -- of a settled plan
 pub settled_told : (mode : Mode) (s shown : Scripts) (none : List Finding) (ends : Ends) (text : List ℕ) → none ≡ [] → ((none ≡ []) ↔ IsSettled (plan_of s)) → AreFindings (plan_of s) none →
@@ -41,13 +44,19 @@ found_told mode s found counted ended text law those some count ends tells =
     record { found = found; judged = judged_so s found counted ended law those count ends; tells = found_tells mode s found text some tells }
 
 -- the rehearsal of the plan of scripts is that of the scripts
-pub rehearsal_too : (mode : Mode) (s plan : Scripts) (r : Result (Ended × Vec ℕ Global) Fault) → plan ≡ s → IfOk r (λ v. IsReplay mode plan v.0 v.1.items) → IfOk r (λ v. IsReplay mode s v.0 v.1.items)
-rehearsal_too mode s plan r is told = subst (λ t. IfOk r (λ v. IsReplay mode t v.0 v.1.items)) is told
+pub rehearsal_too : (mode : Mode) (s plan : Scripts) (r : Result (Rehearsed × Vec ℕ Global) Fault) → plan ≡ s → IfOk r (λ v. IsReplay mode plan v.0.ended v.1.items) →
+    IfOk r (λ v. IsReplay mode s v.0.ended v.1.items)
+rehearsal_too mode s plan r is told = subst (λ t. IfOk r (λ v. IsReplay mode t v.0.ended v.1.items)) is told
+
+-- and so is what it tells of their calls
+pub calls_too : (s plan : Scripts) (r : Result (Rehearsed × Vec ℕ Global) Fault) → plan ≡ s → IfOk r (λ v. TellsCalls plan v.0.ended (line_in v.0.failure)) →
+    IfOk r (λ v. TellsCalls s v.0.ended (line_in v.0.failure))
+calls_too s plan r is told = subst (λ t. IfOk r (λ v. TellsCalls t v.0.ended (line_in v.0.failure))) is told
 
 -- the front of it went out
-pub rehearsal_broken : (mode : Mode) (coming : Option (List ℕ)) (old new : Option (List ℕ)) (s : Scripts) (ended : Ended) (text shown : List ℕ) (e : Fault) → ReadAs coming s →
+pub rehearsal_broken : {size : Size} (mode : Mode) (coming : Option (List ℕ)) (old new : Option (List ℕ)) (s : Scripts) (ended : Ended) (text shown : List ℕ) (e : Fault) → ReadAs size coming s →
     IsReplay mode s ended text → shown ≡ text
-    → WritesFront old new shown e → BreaksOffReplay mode coming old new e
+    → WritesFront old new shown e → BreaksOffReplay size mode coming old new e
 rehearsal_broken mode coming old new s ended text shown e read rehearsal is front =
     record { scripts = s; read = read; ended = ended; text = text; rehearsal = rehearsal; wrote = subst (λ t. WritesFront old new t e) is front }
 
@@ -57,11 +66,10 @@ clean_tells : (mode : Mode) (s : Scripts) (found : List Finding) (ended : Ended)
 clean_tells mode s [] ended text ends tells clean = tells
 clean_tells mode s (f ∷ fs) ended text ends tells clean = let bad : Found (length (f ∷ fs)) ≡ Clean = sym ends ∙ clean in absurd (cc)
 
-pub clean_writes : (mode : Mode) (coming old new : Option (List ℕ)) (s : Scripts) (ended : Ended) (text shown : List ℕ) → ReadAs coming s → IsReplay mode s ended text → shown ≡ text →
-    Appends old new shown → done ended ≡ done Clean
-    → WritesOneEnd mode.json coming old new
-clean_writes mode coming old new s ended text shown read rehearsal is wrote at =
-    let clean : ended ≡ Clean = ap ended_of at in
+pub clean_writes : {size : Size} (mode : Mode) (coming old new : Option (List ℕ)) (s : Scripts) (ended : Ended) (text shown : List ℕ) → ReadAs size coming s → IsReplay mode s ended text → shown ≡ text →
+    Appends old new shown → ended ≡ Clean
+    → WritesOneEnd size mode.json coming old new
+clean_writes mode coming old new s ended text shown read rehearsal is wrote clean =
     let tells = clean_tells mode s rehearsal.found ended text rehearsal.judged.ends rehearsal.tells clean in
     record { scripts = s; read = read; one_end = rehearsal.judged.one_end clean; wrote = subst (λ t. Appends old new t) (is ∙ tells) wrote }
 

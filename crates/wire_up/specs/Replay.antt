@@ -15,6 +15,7 @@ use Rattle.wire_collect.specs.Collect.{MayWork, IsCompleteRun}
 use Rattle.wire_report.specs.Report.{report_form}
 use Rattle.wire_report.specs.Findings.{findings_form}
 use Rattle.wire_report.specs.Unsettled.{unsettled_form}
+use Rattle.wire_script.specs.declared.Size.{Size}
 use Rattle.wire_up.specs.declared.replaying.Mode.{Mode}
 use Rattle.wire_commands.specs.declared.checking.Ended.{Ended}
 use Rattle.wire_commands.specs.Check.{IsJudged, StopsBeforeFindings}
@@ -45,29 +46,29 @@ pub record IsReplay (mode : Mode) (scripts : Scripts) (ended : Ended) (text : Li
 
 -- what was to come read as scripts of which every interleaving that can't go on ends in one state, the plain run's, and the report of
 -- that state went out
-pub record WritesOneEnd (json : Bool) (coming old new : Option (List ℕ)) : Type 0 where
+pub record WritesOneEnd (size : Size) (json : Bool) (coming old new : Option (List ℕ)) : Type 0 where
   pub scripts : Scripts
-  pub read : ReadAs coming scripts
+  pub read : ReadAs size coming scripts
   pub one_end : HasOneEnd (plan_of scripts)
   pub wrote : Appends old new (report_form json scripts (plain_ends scripts))
 
 -- all of a rehearsal of what was to come went out
-pub record WritesReplay (mode : Mode) (coming : Option (List ℕ)) (ended : Ended) (old new : Option (List ℕ)) : Type 0 where
+pub record WritesReplay (size : Size) (mode : Mode) (coming : Option (List ℕ)) (ended : Ended) (old new : Option (List ℕ)) : Type 0 where
   pub scripts : Scripts
-  pub read : ReadAs coming scripts
+  pub read : ReadAs size coming scripts
   pub text : List ℕ
   pub rehearsal : IsReplay mode scripts ended text
   pub wrote : Appends old new text
 
 -- exactly as many bytes of it went out as the fault says, which aren't all of it
-pub record BreaksOffReplay (mode : Mode) (coming old new : Option (List ℕ)) (fault : Fault) : Type 0 where
+pub record BreaksOffReplay (size : Size) (mode : Mode) (coming old new : Option (List ℕ)) (fault : Fault) : Type 0 where
   pub scripts : Scripts
-  pub read : ReadAs coming scripts
+  pub read : ReadAs size coming scripts
   pub ended : Ended
   pub text : List ℕ
   pub rehearsal : IsReplay mode scripts ended text
   pub wrote : WritesFront old new text fault
 
 -- why nothing is written: there can't be so many workers, or it is a reason for which a check writes nothing
-abbrev pub StopsBeforeReplay : ℕ → Option (List ℕ) → Fault → Type 0
-StopsBeforeReplay workers coming fault = ((fault ≡ Workers) × (MayWork workers → ⊥)) ⊎ (MayWork workers × StopsBeforeFindings coming fault)
+abbrev pub StopsBeforeReplay : Size → ℕ → Option (List ℕ) → Fault → Type 0
+StopsBeforeReplay size workers coming fault = ((fault ≡ Workers) × (MayWork workers → ⊥)) ⊎ (MayWork workers × StopsBeforeFindings size coming fault)

@@ -8,8 +8,10 @@ ghost use Rattle.wire_marks.specs.Clocks.{AreMarks};
 ghost use Rattle.wire_races.specs.Findings.{AreFindings};
 ghost use Rattle.wire_collect.specs.Collect.{MayWork};
 ghost use Rattle.wire_commands.specs.declared.checking.Ended.TheVariants.{Clean};
+ghost use Rattle.wire_up.specs.Complete.{TellsCalls, JudgesCalls, line_in, complete_status};
 ghost use Rattle.wire_up.specs.Replay.{TellsRun, TellsFound, IsReplay, WritesOneEnd, WritesReplay, BreaksOffReplay, StopsBeforeReplay};
 
+use crate::failing::failure_line;
 use std::alloc::Global;
 use std::sync::Wait;
 use std::thread::Threads;
@@ -22,6 +24,7 @@ use wire_races::laws::settled_exactly;
 use wire_races::{Finding, Settled, Unsettled, findings};
 use wire_report::{findings_text, report_text, unsettled_text, write_text};
 use wire_sched::Gate;
+use wire_script::Size;
 use wire_types::{Fault, Sink, Source};
 
 /// What a rehearsal writes.
@@ -31,6 +34,36 @@ pub struct Mode {
     pub json: bool,
     /// Scripts in which something is found are run too.
     pub anyway: bool,
+}
+
+/// How a plan is rehearsed: within which limits, by how many workers at most, and what is written. The
+/// workers call the gate.
+#[derive_where(Clone, Copy)]
+pub struct Manner<'a, G> {
+    pub size: Size,
+    pub workers: usize,
+    pub mode: Mode,
+    pub gate: &'a G,
+}
+
+/// How a rehearsal ended, and the line of the first call that doesn't succeed, where nothing was found and there is
+/// such a call.
+#[derive(Debug, Drop)]
+pub struct Rehearsed {
+    pub ended: Ended,
+    pub failure: Option<Vec<u8>>,
+}
+
+impl Rehearsed {
+    /// The exit status: 0 where nothing was found and every call succeeds, else 1.
+    pub fn status(&self) -> u8
+        ensures { result ≡ complete_status self.now.ended self.now.failure }
+    {
+        match &self.failure {
+            Some(_) => 1,
+            None => self.ended.status(),
+        }
+    }
 }
 
 /// The workers of a run, and the gate that they call.
@@ -82,16 +115,19 @@ fn run_settled<R: Threads + Wait + Sync, G: Gate + Sync>(
     settled: &Settled,
     staff: Staff<'_, G>,
     mode: Mode,
-) -> Result<(Ended, Vec<u8>), Fault>
+) -> Result<(Rehearsed, Vec<u8>), Fault>
     requires workers { MayWork staff.workers }
     requires none { AreFindings (plan_of settled.now) [] }
-    ensures ok { IfOk result (λ r. IsReplay mode settled.now r.0 r.1.items) }
+    ensures ok { IfOk result (λ r. IsReplay mode settled.now r.0.ended r.1.items) }
+    ensures calls { IfOk result (λ r. TellsCalls settled.now r.0.ended (line_in r.0.failure)) }
     ensures err { IfErr result (λ e. e ≡ Memory) }
 {
     let outcome = run_workers(rt, alloc, settled, staff.workers, staff.gate)?;
     let text = report_text(alloc, settled.plan().scripts(), &outcome, mode.json)?;
+    let failure = failure_line(alloc, settled.plan().scripts(), &outcome)?;
     settled_exactly();
-    Ok((Ended::Clean, text))
+    let ended = Ended::Clean;
+    Ok((Rehearsed { ended, failure }, text))
 }
 
 /// The text of a run of any plan, with its order.
@@ -136,16 +172,21 @@ fn tell_unsettled<R: Threads + Wait + Sync, G: Gate + Sync>(
     unsettled: &Unsettled,
     staff: Staff<'_, G>,
     mode: Mode,
-) -> Result<(Ended, Vec<u8>), Fault>
+) -> Result<(Rehearsed, Vec<u8>), Fault>
     requires workers { MayWork staff.workers }
     requires those { AreFindings (plan_of unsettled.now.plan) unsettled.now.findings.items }
     requires some { unsettled.now.findings.items ≢ [] }
-    ensures ok { IfOk result (λ r. IsReplay mode unsettled.now.plan r.0 r.1.items) }
+    ensures ok { IfOk result (λ r. IsReplay mode unsettled.now.plan r.0.ended r.1.items) }
+    ensures calls { IfOk result (λ r. TellsCalls unsettled.now.plan r.0.ended (line_in r.0.failure)) }
     ensures err { IfErr result (λ e. e ≡ Memory) }
 {
     let text = text_of_unsettled(rt, alloc, unsettled, staff, mode)?;
     settled_exactly();
-    Ok((Ended::of_findings(unsettled.findings.as_slice()), text))
+    let rehearsed = Rehearsed {
+        ended: Ended::of_findings(unsettled.findings.as_slice()),
+        failure: None,
+    };
+    Ok((rehearsed, text))
 }
 
 /// How a rehearsal of scripts ends, and its text.
@@ -155,9 +196,10 @@ fn rehearse_scripts<R: Threads + Wait + Sync, G: Gate + Sync>(
     scripts: Scripts,
     staff: Staff<'_, G>,
     mode: Mode,
-) -> Result<(Ended, Vec<u8>), Fault>
+) -> Result<(Rehearsed, Vec<u8>), Fault>
     requires { MayWork staff.workers }
-    ensures ok { IfOk result (λ r. IsReplay mode scripts r.0 r.1.items) }
+    ensures ok { IfOk result (λ r. IsReplay mode scripts r.0.ended r.1.items) }
+    ensures calls { IfOk result (λ r. TellsCalls scripts r.0.ended (line_in r.0.failure)) }
     ensures err { IfErr result (λ e. e ≡ Memory) }
 {
     match settle(rt, alloc, scripts)? {
@@ -195,16 +237,16 @@ pub fn rehearse<R: Source, W: Sink, T: Threads + Wait + Sync, G: Gate + Sync>(
     mode: Mode,
     gate: &G,
 ) -> Result<Ended, Fault>
-    ensures ok { IfOk result (λ ended. WritesReplay mode (R.coming reader.old) ended (W.written writer.old) (W.written writer.new)) }
+    ensures ok { IfOk result (λ ended. WritesReplay Size.OfVersion mode (R.coming reader.old) ended (W.written writer.old) (W.written writer.new)) }
     ensures quiet { OnOk result ((R.failures reader.new ≡ R.failures reader.old) × (W.failures writer.new ≡ W.failures writer.old)) }
 
     // The headline: where it finds nothing, every interleaving that can't go on ends in one state, and the report of that state
     // is what it writes, whatever the workers.
-    ensures one_end { result ≡ Ok Clean → WritesOneEnd mode.json (R.coming reader.old) (W.written writer.old) (W.written writer.new) }
+    ensures one_end { result ≡ Ok Clean → WritesOneEnd Size.OfVersion mode.json (R.coming reader.old) (W.written writer.old) (W.written writer.new) }
 
     // Either nothing was written, or the front of the text that the fault counts.
-    ensures err { IfErr result (λ e. (StopsBeforeReplay workers (R.coming reader.old) e × (writer.new ≡ writer.old))
-        ⊎ (BreaksOffReplay mode (R.coming reader.old) (W.written writer.old) (W.written writer.new) e
+    ensures err { IfErr result (λ e. (StopsBeforeReplay Size.OfVersion workers (R.coming reader.old) e × (writer.new ≡ writer.old))
+        ⊎ (BreaksOffReplay Size.OfVersion mode (R.coming reader.old) (W.written writer.old) (W.written writer.new) e
         × (W.failures writer.new ≡ one_more (W.failures writer.old)))) }
 
     // Nothing is read where there can't be so many workers.
@@ -214,11 +256,91 @@ pub fn rehearse<R: Source, W: Sink, T: Threads + Wait + Sync, G: Gate + Sync>(
     ensures read_failed { result ≡ Err Read → R.failures reader.new ≡ one_more (R.failures reader.old) }
     ensures unfailed { IfErr result (λ e. e ≢ Memory → e ≢ Read → R.failures reader.new ≡ R.failures reader.old) }
 {
+    let manner = Manner {
+        size: Size::OfVersion,
+        workers,
+        mode,
+        gate,
+    };
+    rehearse_sized(rt, alloc, reader, writer, manner)
+}
+
+/// Rehearses a file of scripts as `rehearse` does, in this manner.
+pub fn rehearse_sized<R: Source, W: Sink, T: Threads + Wait + Sync, G: Gate + Sync>(
+    rt: &T,
+    alloc: Global,
+    reader: &mut R,
+    writer: &mut W,
+    manner: Manner<'_, G>,
+) -> Result<Ended, Fault>
+    ensures ok { IfOk result (λ ended. WritesReplay manner.entry.size manner.entry.mode (R.coming reader.old) ended (W.written writer.old) (W.written writer.new)) }
+    ensures quiet { OnOk result ((R.failures reader.new ≡ R.failures reader.old) × (W.failures writer.new ≡ W.failures writer.old)) }
+
+    // The headline: where it finds nothing, every interleaving that can't go on ends in one state, and the report of that state
+    // is what it writes, whatever the workers.
+    ensures one_end { result ≡ Ok Clean → WritesOneEnd manner.entry.size manner.entry.mode.json (R.coming reader.old) (W.written writer.old) (W.written writer.new) }
+
+    // Either nothing was written, or the front of the text that the fault counts.
+    ensures err { IfErr result (λ e. (StopsBeforeReplay manner.entry.size manner.entry.workers (R.coming reader.old) e × (writer.new ≡ writer.old))
+        ⊎ (BreaksOffReplay manner.entry.size manner.entry.mode (R.coming reader.old) (W.written writer.old) (W.written writer.new) e
+        × (W.failures writer.new ≡ one_more (W.failures writer.old)))) }
+
+    // Nothing is read where there can't be so many workers.
+    ensures workers { (MayWork manner.entry.workers → ⊥) → (result ≡ Err Workers) × (reader.new ≡ reader.old) }
+
+    // A failed read is answered only where the reader failed.
+    ensures read_failed { result ≡ Err Read → R.failures reader.new ≡ one_more (R.failures reader.old) }
+    ensures unfailed { IfErr result (λ e. e ≢ Memory → e ≢ Read → R.failures reader.new ≡ R.failures reader.old) }
+{
+    match rehearse_complete(rt, alloc, reader, writer, manner) {
+        Ok(rehearsed) => Ok(rehearsed.ended),
+        Err(fault) => Err(fault),
+    }
+}
+
+/// Rehearses a file of scripts as `rehearse_sized` does, and answers besides the line of the report of the first call that isn't
+/// answered `PMIX_SUCCESS`, in process order and then by its number. Where it finds nothing, that line is the same for every
+/// interleaving that can't go on; there is none exactly where in each of them every call is answered `PMIX_SUCCESS`. Where it
+/// finds something, there is none.
+pub fn rehearse_complete<R: Source, W: Sink, T: Threads + Wait + Sync, G: Gate + Sync>(
+    rt: &T,
+    alloc: Global,
+    reader: &mut R,
+    writer: &mut W,
+    manner: Manner<'_, G>,
+) -> Result<Rehearsed, Fault>
+    ensures ok { IfOk result (λ r. WritesReplay manner.entry.size manner.entry.mode (R.coming reader.old) r.ended (W.written writer.old) (W.written writer.new)) }
+    ensures calls { IfOk result (λ r. JudgesCalls manner.entry.size (R.coming reader.old) r.ended (line_in r.failure)) }
+    ensures quiet { OnOk result ((R.failures reader.new ≡ R.failures reader.old) × (W.failures writer.new ≡ W.failures writer.old)) }
+
+    // The headline: where it finds nothing, every interleaving that can't go on ends in one state, and the report of that state
+    // is what it writes, whatever the workers.
+    ensures one_end { IfOk result (λ r. r.ended ≡ Clean
+        → WritesOneEnd manner.entry.size manner.entry.mode.json (R.coming reader.old) (W.written writer.old) (W.written writer.new)) }
+
+    // Either nothing was written, or the front of the text that the fault counts.
+    ensures err { IfErr result (λ e. (StopsBeforeReplay manner.entry.size manner.entry.workers (R.coming reader.old) e × (writer.new ≡ writer.old))
+        ⊎ (BreaksOffReplay manner.entry.size manner.entry.mode (R.coming reader.old) (W.written writer.old) (W.written writer.new) e
+        × (W.failures writer.new ≡ one_more (W.failures writer.old)))) }
+
+    // Nothing is read where there can't be so many workers.
+    ensures workers { (MayWork manner.entry.workers → ⊥) → (result ≡ Err Workers) × (reader.new ≡ reader.old) }
+
+    // A failed read is answered only where the reader failed.
+    ensures read_failed { result ≡ Err Read → R.failures reader.new ≡ one_more (R.failures reader.old) }
+    ensures unfailed { IfErr result (λ e. e ≢ Memory → e ≢ Read → R.failures reader.new ≡ R.failures reader.old) }
+{
+    let Manner {
+        size,
+        workers,
+        mode,
+        gate,
+    } = manner;
     if workers < 1 || MOST_WORKERS < workers {
         return Err(Fault::Workers);
     }
-    let scripts = read_scripts(alloc, reader)?;
-    let (ended, text) = rehearse_scripts(rt, alloc, scripts, Staff { workers, gate }, mode)?;
+    let scripts = read_scripts(alloc, size, reader)?;
+    let (rehearsed, text) = rehearse_scripts(rt, alloc, scripts, Staff { workers, gate }, mode)?;
     write_text(writer, text.as_slice())?;
-    Ok(ended)
+    Ok(rehearsed)
 }

@@ -11,7 +11,9 @@ returns-clause-app c =
     let one = with_argument _ _ _ _ _ c.in_ok-arg.ensures alone c.workers_argument.ensures.rule c.workers_argument.ensures.local in
     let two = with_argument _ _ _ _ _ c.in_ok-arg-2.ensures one c.flag.ensures.rule c.flag.ensures.local in
     let three = with_argument _ _ _ _ _ c.in_ok-arg-3.ensures two c.flag-2.ensures.rule c.flag-2.ensures.local in
-    IfOk-weaker c.arg-4.result _ _ (λ new adds. (with_argument _ new _ _ _ adds three c.file_argument.ensures.rule c.file_argument.ensures.local).is) c.arg-4.ensures
+    let four = with_argument _ _ _ _ _ c.in_ok-arg-4.ensures three c.flag-3.ensures.rule c.flag-3.ensures.local in
+    let five = with_argument _ _ _ _ _ c.in_ok-arg-5.ensures four c.large_flag.ensures.rule c.large_flag.ensures.local in
+    IfOk-weaker c.arg-6.result _ _ (λ new adds. (with_argument _ new _ _ _ adds five c.file_argument.ensures.rule c.file_argument.ensures.local).is) c.arg-6.ensures
 
 pub returns-clause-local : goal.returns-clause-local
 returns-clause-local c =
@@ -19,4 +21,6 @@ returns-clause-local c =
     let one = with_argument _ _ _ _ _ c.in_ok-arg.ensures alone c.workers_argument.ensures.rule c.workers_argument.ensures.local in
     let two = with_argument _ _ _ _ _ c.in_ok-arg-2.ensures one c.flag.ensures.rule c.flag.ensures.local in
     let three = with_argument _ _ _ _ _ c.in_ok-arg-3.ensures two c.flag-2.ensures.rule c.flag-2.ensures.local in
-    IfOk-weaker c.arg-4.result _ _ (λ new adds. (with_argument _ new _ _ _ adds three c.file_argument.ensures.rule c.file_argument.ensures.local).local) c.arg-4.ensures
+    let four = with_argument _ _ _ _ _ c.in_ok-arg-4.ensures three c.flag-3.ensures.rule c.flag-3.ensures.local in
+    let five = with_argument _ _ _ _ _ c.in_ok-arg-5.ensures four c.large_flag.ensures.rule c.large_flag.ensures.local in
+    IfOk-weaker c.arg-6.result _ _ (λ new adds. (with_argument _ new _ _ _ adds five c.file_argument.ensures.rule c.file_argument.ensures.local).local) c.arg-6.ensures

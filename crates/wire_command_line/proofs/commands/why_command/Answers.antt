@@ -12,7 +12,8 @@ returns-clause-app c =
     let two = with_argument _ _ _ _ _ c.in_ok-arg-2.ensures one c.needed_argument-2.ensures.rule c.needed_argument-2.ensures.local in
     let three = with_argument _ _ _ _ _ c.in_ok-arg-3.ensures two c.needed_argument-3.ensures.rule c.needed_argument-3.ensures.local in
     let four = with_argument _ _ _ _ _ c.in_ok-arg-4.ensures three c.needed_argument-4.ensures.rule c.needed_argument-4.ensures.local in
-    IfOk-weaker c.arg-5.result _ _ (λ new adds. (with_argument _ new _ _ _ adds four c.file_argument.ensures.rule c.file_argument.ensures.local).is) c.arg-5.ensures
+    let five = with_argument _ _ _ _ _ c.in_ok-arg-5.ensures four c.large_flag.ensures.rule c.large_flag.ensures.local in
+    IfOk-weaker c.arg-6.result _ _ (λ new adds. (with_argument _ new _ _ _ adds five c.file_argument.ensures.rule c.file_argument.ensures.local).is) c.arg-6.ensures
 
 pub returns-clause-local : goal.returns-clause-local
 returns-clause-local c =
@@ -21,4 +22,5 @@ returns-clause-local c =
     let two = with_argument _ _ _ _ _ c.in_ok-arg-2.ensures one c.needed_argument-2.ensures.rule c.needed_argument-2.ensures.local in
     let three = with_argument _ _ _ _ _ c.in_ok-arg-3.ensures two c.needed_argument-3.ensures.rule c.needed_argument-3.ensures.local in
     let four = with_argument _ _ _ _ _ c.in_ok-arg-4.ensures three c.needed_argument-4.ensures.rule c.needed_argument-4.ensures.local in
-    IfOk-weaker c.arg-5.result _ _ (λ new adds. (with_argument _ new _ _ _ adds four c.file_argument.ensures.rule c.file_argument.ensures.local).local) c.arg-5.ensures
+    let five = with_argument _ _ _ _ _ c.in_ok-arg-5.ensures four c.large_flag.ensures.rule c.large_flag.ensures.local in
+    IfOk-weaker c.arg-6.result _ _ (λ new adds. (with_argument _ new _ _ _ adds five c.file_argument.ensures.rule c.file_argument.ensures.local).local) c.arg-6.ensures

@@ -4,6 +4,6 @@ use Rattle.wire_command_line.proofs.number.number_of.Given as goal
 
 abbrev pub invariant-loop-digit : goal.invariant-loop-digit
 invariant-loop-digit l = record {
-  said : min (fold (λ n digit. n * 10 + (digit - 48)) l.number (drop l.digit-index l.digits)) 65 ≡ min (number_said l.digits) 65;
-  capped : l.number ≤ 65;
+  said : min (fold (λ n digit. n * 10 + (digit - 48)) l.number (drop l.digit-index l.digits)) l.limit ≡ min (number_said l.digits) l.limit;
+  capped : l.number ≤ l.limit;
 }

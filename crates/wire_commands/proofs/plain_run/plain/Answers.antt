@@ -78,7 +78,7 @@ returns-clause-quiet g c = both_quiet _ _ c.write_text.result c.in_ok-scripts.en
 
 pub returns-clause-refused : goal.returns-clause-refused
 returns-clause-refused g c =
-    not_refused _ (g.W.Sink.written c.args.writer.now) (g.W.Sink.written c.write_text.new.sink) c.as_slice.result.now c.write_text.result c.write_text.ensures.front
+    not_refused _ _ (g.W.Sink.written c.args.writer.now) (g.W.Sink.written c.write_text.new.sink) c.as_slice.result.now c.write_text.result c.write_text.ensures.front
 
 pub returns-clause-read_failed : goal.returns-clause-read_failed
 returns-clause-read_failed g c is =

@@ -9,7 +9,7 @@ invariant-events l = record {
   growing : AreGrowing (plan_of l.plan) l.fences l.growth.clocks l.growth.meetings.items;
   not_more : unmarked (plan_of l.plan) l.growth.clocks ≤ unmarked (plan_of l.plan) l.initial.growth.clocks;
   falls : l.moved ≡ true → unmarked (plan_of l.plan) l.growth.clocks < unmarked (plan_of l.plan) l.initial.growth.clocks;
-  same : l.moved ≡ false → l.growth.clocks.numbers.items ≡ l.initial.growth.clocks.numbers.items;
+  same : l.moved ≡ false → l.growth.clocks.roots.items ≡ l.initial.growth.clocks.roots.items;
 }
 
 abbrev pub decreases-events : goal.decreases-events

@@ -81,9 +81,9 @@ returns-in_default-clause-growing c =
     let plan = plan_of c.args.plan.now in
     let old = c.args.growth.now.clocks in
     let new = c.base_after.new.self in
-    let grown = c.in_ok-number.ensures.grown in
+    let grown = c.in_ok-root.ensures.grown in
     record {
-      marked = sound_grown old new c.requires.growing.marked.based grown plan c.requires.growing.marked c.in_ok-number.ensures.based;
+      marked = sound_grown old new c.requires.growing.marked.based grown plan c.requires.growing.marked c.in_ok-root.ensures.based;
       kept = meetings_kept plan c.args.fences.now old new c.args.growth.now.meetings.items (grown_keeps old new c.requires.growing.marked.based grown) c.requires.growing.kept;
     }
 
@@ -93,7 +93,7 @@ returns-in_default-clause-next c =
     let none = rw c.in_default.is at c.fence_ended.ensures in
     let is = c.marked-at.ensures in
     let are = rw (c.marked-at.ensures, sources.ensures.others none) at sources.ensures.sources in
-    next_unmet (plan_of c.args.plan.now) c.args.growth.now.clocks c.base_after.new.self c.args.proc.number c.in_ok-number.number (option_map event_of sources.result.previous)
+    next_unmet (plan_of c.args.plan.now) c.args.growth.now.clocks c.base_after.new.self c.args.proc.number c.in_ok-root.root (option_map event_of sources.result.previous)
     (option_map event_of sources.result.awaited)
     c.requires.growing.marked
     (sym (rw is at c.may_come.ensures) ∙ c.if-not-may_come.false)
@@ -101,4 +101,4 @@ returns-in_default-clause-next c =
     (rw is at sources.ensures.previous)
     (c.is_source_marked.ensures.0 c.if-not-is_source_marked.false)
     (omega arith)
-    c.in_ok-number.ensures.grown c.in_ok-number.ensures.there c.in_ok-number.ensures.raised
+    c.in_ok-root.ensures.grown c.in_ok-root.ensures.there c.in_ok-root.ensures.raised

@@ -10,7 +10,7 @@ pub kind-requires : goal.kind-requires
 kind-requires c = rw c.plan-plan.ensures (live_within (plan_of c.args.marked.now) (event_of c.args.event) c.requires.live)
 
 pub returns-in-Put : goal.returns-in-Put
-returns-in-Put c = λ fate_of past is_past.
+returns-in-Put c = λ fate_of past is_past got.
     let plan = plan_of c.args.marked.now in
     let y = event_of c.args.event in
     let k = kind_of c.args.marked.now.sets in
@@ -25,7 +25,7 @@ returns-in-Put c = λ fate_of past is_past.
     ]
 
 pub returns-in-Publish : goal.returns-in-Publish
-returns-in-Publish c = λ fate_of past is_past.
+returns-in-Publish c = λ fate_of past is_past got.
     let plan = plan_of c.args.marked.now in
     let y = event_of c.args.event in
     let found = option_map event_of c.standing_publish.result in
@@ -33,7 +33,7 @@ returns-in-Publish c = λ fate_of past is_past.
     (rw c.plan-plan.ensures at c.in-Publish.ensures) c.publish_reply.ensures
 
 pub returns-in-Lookup : goal.returns-in-Lookup
-returns-in-Lookup c = λ fate_of past is_past.
+returns-in-Lookup c = λ fate_of past is_past got.
     let plan = plan_of c.args.marked.now in
     let y = event_of c.args.event in
     let found = option_map event_of c.standing_publish-in-Lookup.result in
@@ -41,7 +41,7 @@ returns-in-Lookup c = λ fate_of past is_past.
     (rw c.plan-plan.ensures at c.in-Lookup.ensures) (rw c.plan-plan.ensures at c.lookup_reply.ensures)
 
 pub returns-in-LookupWait : goal.returns-in-LookupWait
-returns-in-LookupWait c = λ fate_of past is_past.
+returns-in-LookupWait c = λ fate_of past is_past got.
     let plan = plan_of c.args.marked.now in
     let y = event_of c.args.event in
     let found = option_map event_of c.standing_publish-in-LookupWait.result in
@@ -49,7 +49,7 @@ returns-in-LookupWait c = λ fate_of past is_past.
     (rw c.plan-plan.ensures at c.in-LookupWait.ensures) (rw c.plan-plan.ensures at c.waiting_fate.ensures)
 
 pub returns-in-Unpublish : goal.returns-in-Unpublish
-returns-in-Unpublish c = λ fate_of past is_past.
+returns-in-Unpublish c = λ fate_of past is_past got.
     let plan = plan_of c.args.marked.now in
     let y = event_of c.args.event in
     let found = option_map event_of c.standing_publish-in-Unpublish.result in

@@ -1,4 +1,4 @@
-use Rattle.std.proofs.Common.{◌∙◌, sym, subst}
+use Rattle.std.proofs.Common.{refl, ◌∙◌, sym, subst}
 use Rattle.std.proofs.lemmas.Bool.{true≢false}
 use Rattle.std.proofs.lemmas.Result.{on_ok_weaker}
 use Rattle.wire_runs.specs.Plan.{event_of}
@@ -14,9 +14,9 @@ node_of-node-requires c = process_within (plan_of c.args.plan.now) c.args.asked.
 pub returns : goal.returns
 returns c =
     let plan = plan_of c.args.plan.now in
-    on_ok_weaker c.add_all_late.result (λ h. adds_late plan (event_of c.args.asked.get_now) c.args.asked.owner.number c.args.asked.key (record {
+    on_ok_weaker c.add_get_races.result (λ h. adds_late plan (event_of c.args.asked.get_now) c.args.asked.owner.number c.args.asked.key (record {
       opened = c.requires.get;
       other = c.requires.node;
       not_sure = λ s. true≢false (sym (c.comes_surely.ensures.1 (subst (λ n. ComesSurely plan c.args.asked.owner.number c.args.asked.key n (event_of c.args.asked.get_now)) (sym c.node_of-node.ensures)
           s)) ∙ c.if-comes_surely.false);
-    }) c.args.found.now c.add_all_late.new.found h) c.add_all_late.ensures
+    }) c.args.found.now c.add_all_late.new.found c.add_get_races.new.found c.in_ok-add_all_late.ensures h) c.add_get_races.ensures

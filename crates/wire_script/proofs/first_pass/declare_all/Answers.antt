@@ -5,7 +5,7 @@ use Rattle.wire_script.proofs.first_pass.declare_all.Goals as goal
 
 pub returns-in-Err-clause-err : goal.returns-in-Err-clause-err
 returns-in-Err-clause-err c =
-    refused _ (c.in-Some.line, map (λ w. w.now) c.next_words.new.words.items) (statements_left c.next_words.new.self) _ _ c.in-Err.fault
+    refused _ _ (c.in-Some.line, map (λ w. w.now) c.next_words.new.words.items) (statements_left c.next_words.new.self) _ _ c.in-Err.fault
     (rw c.in-Some.is at c.in_ok-line.ensures.left)
     c.statements.invariant.so_far
     (rw c.deref.ensures.value at c.in-Err.ensures.err)

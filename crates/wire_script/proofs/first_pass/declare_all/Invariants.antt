@@ -7,7 +7,7 @@ use Rattle.wire_script.proofs.first_pass.declare_all.Given as goal
 
 abbrev pub invariant-statements : goal.invariant-statements
 invariant-statements l = record {
-  so_far : (r : Result Declared Fault) → JudgesAll (declared_of l.draft) (statements_left l.cursor) r → JudgesAll nothing (statements_left l.initial.cursor) r;
+  so_far : (r : Result Declared Fault) → JudgesAll (declared_of l.draft) (statements_left l.cursor) r → JudgesAll (nothing l.fn.size l.fn.version) (statements_left l.initial.cursor) r;
   room : l.cursor.line + length l.cursor.rest.now < 2 ^ 64;
 }
 

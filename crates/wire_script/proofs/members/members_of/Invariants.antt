@@ -7,7 +7,7 @@ use Rattle.wire_script.proofs.members.members_of.Given as goal
 
 abbrev pub invariant-loop-process : goal.invariant-loop-process
 invariant-loop-process l = record {
-  so_far : numbers_of l.members.items ++ places_from (is_any_target l.targets) l.number (map started_of (drop l.process-index l.draft.processes.items)) ≡ places_from (is_any_target l.targets) 0
+  so_far : numbers_of l.members.items ++ places_from (is_any_target l.kept.keys) l.number (map started_of (drop l.process-index l.draft.processes.items)) ≡ places_from (is_any_target l.kept.keys) 0
       (map started_of l.draft.processes.items);
   number : l.number ≡ l.process-index;
 }

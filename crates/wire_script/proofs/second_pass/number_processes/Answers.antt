@@ -1,6 +1,6 @@
 use Rattle.std.proofs.Common.{◌≡◌, ◌<◌, ◌≤◌, ◌++◌, ◌∷◌, [], ◌*◌, ◌+◌, length, map, rules, arith, get_or, subst, sym}
 use Rattle.std.proofs.lemmas.List.{length-map}
-use Rattle.wire_script.specs.Limits.{limits}
+use Rattle.wire_script.specs.Limits.{largest}
 use Rattle.wire_script.specs.Reads.{process_of}
 use Rattle.wire_script.specs.Drafted.{declared_of, started_of, placed_of}
 use Rattle.wire_script.specs.Tabled.{seen_of, entry_count, GoOn}
@@ -25,7 +25,7 @@ loop-process-preserved c =
     (let m = calls_grow d old x.job (map placed_of x.calls.items) in let n = length-map x.calls.items placed_of in omega (arith, m, n)) in
     record {
       so_far = processes_on d _ old new ps i x lt is c.loop-process.invariant.so_far c.in_ok-numbered.ensures.tables;
-      room = room_on old new (2 * limits.calls) ps i x lt is c.loop-process.invariant.room grown;
+      room = room_on old new (2 * largest.calls) ps i x lt is c.loop-process.invariant.room grown;
       noted = c.in_ok-numbered.ensures.noted;
       numbers = λ later goes.
           made_on (process_of d later) started_of c.loop-process.processes.items c.push.new.self.items ps i x c.in_ok-numbered.numbered lt is pushed

@@ -1,5 +1,5 @@
 use Rattle.std.proofs.Common.{◌≡◌, ◌≤◌, ◌+◌, ◌*◌, map, take, drop}
-use Rattle.wire_script.specs.Limits.{limits}
+use Rattle.wire_script.specs.Limits.{largest}
 use Rattle.wire_script.specs.Reads.{Seen, process_of, first_fault}
 use Rattle.wire_script.specs.Within.{started_calls}
 use Rattle.wire_script.specs.Drafted.{declared_of, started_of}
@@ -11,7 +11,7 @@ abbrev pub invariant-loop-process : goal.invariant-loop-process
 invariant-loop-process l = record {
   so_far : all_seen (declared_of l.draft) nothing_seen (map started_of l.draft.processes.items) ≡ all_seen (declared_of l.draft) (seen_of l.numbering.tables)
       (map started_of (drop l.process-index l.draft.processes.items));
-  room : entry_count (seen_of l.numbering.tables) + 2 * started_calls (map started_of (drop l.process-index l.draft.processes.items)) ≤ 2 * limits.calls;
+  room : entry_count (seen_of l.numbering.tables) + 2 * started_calls (map started_of (drop l.process-index l.draft.processes.items)) ≤ 2 * largest.calls;
   noted : AreNoted (declared_of l.draft) l.numbering.tables.sets l.numbering.noted;
   numbers : (later : Seen) → GoOn (seen_of l.numbering.tables) later → l.processes.items ≡ map (process_of (declared_of l.draft) later) (map started_of (take l.process-index l.draft.processes.items));
   faults : first_fault (declared_of l.draft) (map started_of l.draft.processes.items) ≡ first_fault (declared_of l.draft) (map started_of (drop l.process-index l.draft.processes.items));

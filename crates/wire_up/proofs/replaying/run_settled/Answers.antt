@@ -2,6 +2,8 @@ use Rattle.std.proofs.Common.{refl, []}
 use Rattle.wire_types.specs.Outcome.{ends_of}
 use Rattle.wire_content.specs.Planned.{plan_of}
 use Rattle.std.proofs.Common.{◌∙◌}
+use Rattle.wire_up.specs.Complete.{line_in}
+use Rattle.wire_up.proofs.Judged.{fails_so}
 use Rattle.wire_up.proofs.Worked.{settled_told}
 use Rattle.wire_up.proofs.replaying.run_settled.Goals as goal
 
@@ -10,3 +12,9 @@ returns-clause-ok g c =
     settled_told c.args.mode c.args.settled.now c.scripts.result.now [] (ends_of c.in_ok-outcome.outcome) c.in_ok-text.text.items refl
     (c.settled_exactly.ensures (plan_of c.args.settled.now) [] c.requires.none) c.requires.none
     (c.scripts.ensures.scripts ∙ c.plan.ensures.same) c.in_ok-outcome.ensures.ok c.in_ok-text.ensures.ok
+
+pub returns-clause-calls : goal.returns-clause-calls
+returns-clause-calls g c =
+    fails_so c.args.settled.now c.scripts-2.result.now (ends_of c.in_ok-outcome.outcome) (line_in c.in_ok-failure.failure)
+    ((c.settled_exactly.ensures (plan_of c.args.settled.now) [] c.requires.none).0 refl)
+    (c.scripts-2.ensures.scripts ∙ c.plan-2.ensures.same) c.in_ok-outcome.ensures.ok c.in_ok-failure.ensures

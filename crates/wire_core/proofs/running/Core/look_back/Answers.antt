@@ -9,4 +9,5 @@ invariant_of-self c =
       shared = c.self.invariant.shared;
       noted = c.self.invariant.noted;
       looked = c.put.ensures (plan_of c.self.inside.plan.now) c.self.invariant.looked look;
+      keeping_is = c.self.invariant.keeping_is;
     }

@@ -4,6 +4,8 @@ use Rattle.wire_runs.specs.State.{start}
 use Rattle.wire_core.specs.Waiting.{AreNoted}
 use Rattle.wire_core.proofs.Shared.{new_names}
 use Rattle.wire_core.proofs.Waiting.{noted_first}
+use Rattle.wire_content.specs.Planned.{plan_of}
+use Rattle.wire_core.proofs.Gains.{keeping_first}
 use Rattle.wire_core.proofs.running.Core.new.Goals as goal
 
 pub invariant_of-result : goal.invariant_of-result
@@ -23,4 +25,5 @@ invariant_of-result c =
           };
       noted = rw none (subst (AreNoted scripts table start) (sym c.in_ok-waits.ensures.ok) (noted_first scripts table start c.process_count.result c.process_count.ensures));
       looked = c.in_ok-looks.ensures.ok _;
+      keeping_is = rw none (keeping_first (plan_of scripts) c.in_ok-keeping.keeping c.in_ok-keeping.ensures.none c.in_ok-keeping.ensures.room);
     }

@@ -30,4 +30,5 @@ invariant_of-self c =
       shared = c.self.invariant.shared;
       noted = rw c.note.ensures (noted_more scripts table s c.self.inside.waits p c.match-next_kind.awaited c.self.invariant.noted within off awaits);
       looked = c.self.invariant.looked;
+      keeping_is = c.self.invariant.keeping_is;
     }

@@ -1,7 +1,9 @@
-use Rattle.std.proofs.Common.{◌≤◌, map, sym, arith}
-use Rattle.wire_runs.specs.Plan.{process_count}
+use Rattle.std.proofs.Common.{◌≤◌, ◌∙◌, map, refl, sym, ap, arith, eq-eqb}
+use Rattle.std.proofs.lemmas.Bool.{true≢false}
+use Rattle.wire_runs.specs.Plan.{process_count, node_of}
 use Rattle.wire_content.specs.Planned.{plan_of}
 use Rattle.wire_runs.specs.Step.{run}
+use Rattle.wire_core.specs.Keeping.{count_in}
 use Rattle.wire_core.proofs.Ranks.{now_past}
 use Rattle.wire_core.proofs.running.Core.seen_now.Goals as goal
 
@@ -15,4 +17,7 @@ returns-then-index-len c =
     let items = c.self.inside.ranks.ok.0 in
     let over = c.if-index-len.true in
     let past : process_count plan ≤ c.args.owner.number = omega (arith, count, index, len, items, over) in
-    rw (← c.self.view_is) (now_past plan w c.args.reader.number ((run plan w).done c.args.reader.number) c.args.owner.number c.args.key c.self.invariant.course.legal past (sym c.if-eq.ensures))
+    let p = c.args.owner.number in
+    let key = c.args.key in
+    rw (← c.self.view_is) (now_past plan w c.args.reader.number ((run plan w).done c.args.reader.number) p key (λ node. count_in c.self.inside.keeping p key node)
+    (λ node away. c.self.invariant.keeping_is.told p key node away) c.self.invariant.course.legal past (sym c.if-eq.ensures))

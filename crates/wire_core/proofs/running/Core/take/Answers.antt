@@ -1,4 +1,4 @@
-use Rattle.std.proofs.Common.{◌≡◌, ◌∙◌, ◌<◌, ap, sym, refl, subst, arith, ◌∷◌, [], ◌++◌, map, length, Some}
+use Rattle.std.proofs.Common.{◌≡◌, ◌∙◌, ◌<◌, ap, sym, refl, subst, arith, suc, ◌∷◌, [], ◌++◌, map, length, Some}
 use Rattle.std.specs.Prelude.{option_map, slice_set}
 use Rattle.std.proofs.lemmas.List.{length-map, map-append}
 use Rattle.std.proofs.lemmas.Option.{slice_get_read}
@@ -19,7 +19,9 @@ use Rattle.wire_core.specs.Seeing.{replies_in}
 use Rattle.wire_core.specs.Waiting.{after as known_after, coming, AreNoted}
 use Rattle.wire_core.specs.declared.waits.Awaited.TheVariants.{Unknown}
 use Rattle.wire_core.proofs.Waiting.{noted_step}
-use Rattle.wire_core.proofs.Steps.{IsAdvanced, put_anyway, name_anyway, step_room, step_space, step_history, rank_step, course_step, run_push}
+use Rattle.wire_core.proofs.Steps.{IsAdvanced, put_anyway, name_anyway, step_room, step_space, step_history, rank_step, course_step, run_push, length_push}
+use Rattle.wire_core.specs.Keeping.{IsKeeping}
+use Rattle.wire_core.proofs.Gains.{keeping_step, gains_room}
 use Rattle.wire_core.proofs.running.Core.take.Goals as goal
 
 pub call_of-call-requires : goal.call_of-call-requires
@@ -138,7 +140,10 @@ invariant_of-self c =
     c.note_name.ensures sets ∙ ap (λ a. names_after a (Some (kind_of sets c.in-Some.kind)) c.self.inside.names) call in
     let comes = c.what_comes.ensures sets ∙ ap (λ missing. coming c.args.proc c.arrived_at-fence.result missing (kind_of sets c.in-Some.kind)) c.note_arrival.ensures in
     let waits = noted_step c.self.inside.plan.now c.self.inside.fences.now s c.self.inside.arrivals c.args.proc c.arrived_at-fence.result (kind_of sets c.in-Some.kind) c.self.inside.waits is arriving
-    c.self.invariant.shared.arrived shared.arrived within c.self.invariant.noted in record {
+    c.self.invariant.shared.arrived shared.arrived within c.self.invariant.noted in
+    let gain = rw (← c.self.view_is) at c.gain_of-gain.ensures in
+    let keeping = keeping_step plan s c.args.proc.number (length w) c.self.inside.keeping c.note-2.new.self c.gain_of-gain.result within c.self.invariant.keeping_is gain
+    c.note-2.ensures.counts c.note-2.ensures.room in record {
       course = rw (pushed, c.index.ensures) course;
       room = rw c.push_reserved.ensures.capacity c.self.invariant.room;
       shared = rw (
@@ -157,6 +162,8 @@ invariant_of-self c =
           (slice_set (map (known_after (coming c.args.proc c.arrived_at-fence.result (after_arrival (option_map (λ f. f.number) c.arrived_at-fence.result) c.self.inside.arrivals)
           (kind_of sets c.in-Some.kind))) c.self.inside.waits) c.args.proc.number Unknown)) (sym (run_push plan start w c.args.proc.number)) waits);
       looked = c.self.invariant.looked;
+      keeping_is = rw pushed (subst (λ n. IsKeeping plan (run plan (w ++ c.args.proc.number ∷ [])) n c.note-2.new.self) (sym (length_push w c.args.proc.number))
+          (subst (λ st. IsKeeping plan st (suc (length w)) c.note-2.new.self) (sym (run_push plan start w c.args.proc.number)) keeping));
     }
 
 pub note-requires : goal.note-requires
@@ -185,3 +192,12 @@ note_name-requires c sets =
     let shared = c.self.invariant.shared in
     name_anyway c.self.inside.plan.now.sets sets c.in-Some.kind c.self.inside.names
     (has_name c.self.inside.plan.now c.args.proc.number (s.done c.args.proc.number) (kind_of c.self.inside.plan.now.sets c.in-Some.kind) c.self.inside.names shared.sound shared.named.count is)
+
+pub note-requires-2 : goal.note-requires-2
+note-requires-2 c =
+    let plan = plan_of c.self.inside.plan.now in
+    let w = map (λ p. p.number) c.self.inside.history.items in
+    let s = run plan w in
+    let on = rw (← c.self.view_is) at c.requires in
+    let lt = step_history plan w c.args.proc.number c.self.invariant.course.legal on in
+    gains_room plan s c.args.proc.number (length w) c.self.inside.keeping c.gain_of-gain.result c.self.invariant.keeping_is (rw (← c.self.view_is) at c.gain_of-gain.ensures) lt

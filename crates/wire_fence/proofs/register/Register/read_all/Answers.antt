@@ -15,6 +15,7 @@ pub loop-process-preserved : goal.loop-process-preserved
 loop-process-preserved c =
     let low : c.loop-process.process-index < length c.args.processes.now = omega arith in
     record {
+      zeros = c.in_ok-numbers_there.ensures.zeros;
       keyed = c.in_ok-numbers_there.ensures.keyed;
       all = subst
           (λ (xs : List (List (Option ℕ))). AllRead c.read_calls.new.self.rows.items (map (λ v. numbers_of v.items) c.args.sets.now) c.args.processes.now xs (c.loop-process.process-index + 1))

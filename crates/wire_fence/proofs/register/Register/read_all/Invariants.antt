@@ -1,4 +1,4 @@
-use Rattle.std.proofs.Common.{map}
+use Rattle.std.proofs.Common.{◌≡◌, length, map, replicate}
 use Rattle.wire_content.specs.Scripts.{numbers_of}
 use Rattle.wire_fence.specs.Register.{IsKeyed}
 use Rattle.wire_fence.proofs.States.{AllRead}
@@ -6,6 +6,7 @@ use Rattle.wire_fence.proofs.register.Register.read_all.Given as goal
 
 abbrev pub invariant-loop-process : goal.invariant-loop-process
 invariant-loop-process l = record {
+  zeros : l.counts.items ≡ replicate (length l.sets) 0;
   keyed : IsKeyed l.self;
   all : AllRead l.self.rows.items (map (λ v. numbers_of v.items) l.sets) l.processes (map (λ v. v.items) l.numbers.items) l.process-index;
 }

@@ -7,6 +7,7 @@ use Rattle.wire_types.specs.declared.Call.TheVariants.{Put}
 use Rattle.wire_types.specs.declared.Scope.TheVariants.{Local}
 use Rattle.wire_content.specs.Scripts.{numbers_of}
 use Rattle.wire_fence.specs.Register.{AreRead}
+use Rattle.wire_fence.proofs.Forgotten.{all_forgotten}
 use Rattle.wire_fence.proofs.States.{StateOf, state_first, state_more, count_fits}
 use Rattle.wire_fence.proofs.register.Register.read_calls.Goals as goal
 
@@ -18,9 +19,23 @@ pub loop-call-init : goal.loop-call-init
 loop-call-init c = record {
   keyed = c.requires.keyed;
   state =
-      state_first c.args.self.now.rows.items (map (λ v. numbers_of v.items) c.args.sets.now) c.args.calls.now c.in_ok-counts.counts.items c.in_ok-numbers.numbers.items (length c.args.sets.now)
-      (sym (length-map c.args.sets.now (λ v. numbers_of v.items))) (c.in_ok-counts.ensures.items_if_clones_equal (λ y same. same)) c.in_ok-numbers.ensures.items;
+      state_first c.args.self.now.rows.items (map (λ v. numbers_of v.items) c.args.sets.now) c.args.calls.now c.args.counts.now.items c.in_ok-numbers.numbers.items (length c.args.sets.now)
+      (sym (length-map c.args.sets.now (λ v. numbers_of v.items))) c.requires.zeros c.in_ok-numbers.ensures.items;
 }
+
+pub forget-requires : goal.forget-requires
+forget-requires c = λ k which collect is.
+    let within = c.requires.within k which collect is in
+    let len = c.loop-call.invariant.state.len in
+    let sets = length-map c.args.sets.now (λ v. numbers_of v.items) in
+    omega (arith, within, len, sets)
+
+pub returns-clause-zeros : goal.returns-clause-zeros
+returns-clause-zeros c =
+    let over : c.loop-call.call-index ≡ length c.args.calls.now = omega arith in
+    let sets = length-map c.args.sets.now (λ v. numbers_of v.items) in
+    all_forgotten c.args.self.now.rows.items c.loop-call.self.rows.items (map (λ v. numbers_of v.items) c.args.sets.now) c.args.calls.now c.loop-call.counts.items c.loop-call.numbers.items
+    c.loop-call.call-index (length c.args.sets.now) c.forget.new.counts.items c.loop-call.invariant.state over sets c.forget.ensures
 
 pub read-requires-clause-counts : goal.read-requires-clause-counts
 read-requires-clause-counts c = λ n.

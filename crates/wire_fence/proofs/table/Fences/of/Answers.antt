@@ -13,7 +13,7 @@ use Rattle.wire_fence.proofs.table.Fences.of.Goals as goal
 pub nodes_of_sets-requires : goal.nodes_of_sets-requires
 nodes_of_sets-requires c = λ k i low.
     let s = c.args.scripts.now in
-    let sets : map (λ v. numbers_of v.items) c.deref.result.now ≡ s.sets = ap (map (λ v. numbers_of v.items)) c.deref.ensures.value ∙ c.in_ok-sets.ensures ∙ c.sets.ensures in
+    let sets : c.sets-2.result.now ≡ s.sets = c.sets-2.ensures in
     let low_there : i < length (set_at s.sets k) = subst (λ (xs : List (List ℕ)). i < length (set_at xs k)) sets low in
     let within = member_within s k i c.processes-processes.ensures.sound low_there in
     let same = ap (λ (xs : List (List ℕ)). get_or (set_at xs k) i 0) sets in
@@ -24,17 +24,16 @@ pub returns-clause-ok : goal.returns-clause-ok
 returns-clause-ok c =
     let s = c.args.scripts.now in
     let copied : map (λ v. numbers_of v.items) c.in_ok-sets.sets.items ≡ s.sets = c.in_ok-sets.ensures ∙ c.sets.ensures in
-    let looked_at : map (λ v. numbers_of v.items) c.deref.result.now ≡ s.sets = ap (map (λ v. numbers_of v.items)) c.deref.ensures.value ∙ copied in
-    let read : map (λ v. numbers_of v.items) c.deref-2.result.now ≡ s.sets = ap (map (λ v. numbers_of v.items)) c.deref-2.ensures.value ∙ copied in
+    let read : map (λ v. numbers_of v.items) c.deref.result.now ≡ s.sets = ap (map (λ v. numbers_of v.items)) c.deref.ensures.value ∙ copied in
     let processes : c.processes-processes.result.now ≡ s.processes = c.processes-processes.ensures.processes in
     let sound = c.processes-processes.ensures.sound in
     subst (λ (xs : List (List ℕ)). AreFencesOf s (record {
       fences = map (info_of xs) c.read_all.new.self.rows.items;
       numbers = map (λ v. v.items) c.in_ok-numbers.numbers.items;
-      nodes = map (λ v. v.items) c.in_ok-nodes.nodes.items;
+      reached = c.in_ok-reached.reached.keys;
     })) (sym copied) (
-    fences_are s sound c.read_all.new.self.rows.items (map (λ v. v.items) c.in_ok-numbers.numbers.items) (map (λ v. v.items) c.in_ok-nodes.nodes.items)
+    fences_are s sound c.read_all.new.self.rows.items (map (λ v. v.items) c.in_ok-numbers.numbers.items) c.in_ok-reached.reached.keys
     (subst (λ (ps : List Process). AreRead s (read_to s (length ps)) c.read_all.new.self.rows.items) processes (c.in_ok-numbers.ensures.read s sound read processes))
     (subst (λ (ps : List Process). AreAllNumbers c.read_all.new.self.rows.items ps (map (λ v. v.items) c.in_ok-numbers.numbers.items) (length ps)) processes c.in_ok-numbers.ensures.numbers)
-    (λ k node. c.in_ok-nodes.ensures s k node c.requires ∙ ap (λ (xs : List (List ℕ)). has_node (plan_of s) (set_at xs k) node) looked_at)
+    (λ k node. c.in_ok-reached.ensures s k node c.requires ∙ ap (λ (xs : List (List ℕ)). has_node (plan_of s) (set_at xs k) node) c.sets-2.ensures)
     )

@@ -4,6 +4,7 @@ use Rattle.wire_content.specs.Planned.{plan_of}
 use Rattle.wire_plan.specs.Index.{AreSources, source_list}
 use Rattle.wire_lanes.specs.Lanes.{LaneIs, AreLeft}
 use Rattle.wire_lanes.proofs.Looking.{plan_told, lane_plan, left_first}
+use Rattle.wire_lanes.proofs.Fronting.{left_same}
 use Rattle.wire_lanes.proofs.lane.Lane.sources_left.Goals as goal
 
 pub returns-in-Some : goal.returns-in-Some
@@ -24,8 +25,9 @@ returns-in-None c =
     let of = plan_told lane.board.now lane.settled.now (record { seat = lane.seat; trail = lane.trail.items }) now _ c.self.invariant.0 c.self.view_is in
     let all = c.sources.result in
     let xs = source_list all.previous all.awaited all.arrivals.now in
-    left_first (plan_of now.seat.board.plan) now.seat (event_of c.args.event) xs c.requires.event.0
-    (subst (λ p. AreSources (plan_of p) (event_of c.args.event) xs) (c.plan.ensures.same ∙ sym of) c.sources.ensures.sources)
+    left_same (plan_of now.seat.board.plan) now.seat xs _ c.next_member_first.ensures
+    (left_first (plan_of now.seat.board.plan) now.seat (event_of c.args.event) xs c.requires.event.0
+    (subst (λ p. AreSources (plan_of p) (event_of c.args.event) xs) (c.plan.ensures.same ∙ sym of) c.sources.ensures.sources))
 
 pub sources-requires : goal.sources-requires
 sources-requires c =

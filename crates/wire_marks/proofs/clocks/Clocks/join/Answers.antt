@@ -1,29 +1,52 @@
-use Rattle.std.proofs.Common.{◌≡◌, ◌∙◌, Some, map, length, ap, subst, arith}
-use Rattle.std.specs.Prelude.{option_map, slice_get, slice_index}
+use Rattle.std.proofs.Common.{◌≡◌, ◌∙◌, Some, map, length, max, ap, subst, arith}
+use Rattle.std.specs.Prelude.{option_map, slice_get}
 use Rattle.std.proofs.lemmas.Option.{slice_get-map, slice_get-get_or}
 use Rattle.wire_runs.specs.Plan.{event_of}
+use Rattle.wire_clocks.specs.ClockTrees.{says}
+use Rattle.wire_clocks.specs.Rising.{rising_says}
+use Rattle.wire_clocks.proofs.Staying.{zero_says}
 use Rattle.wire_marks.specs.Meeting.{IsJoin}
-use Rattle.wire_marks.proofs.Joining.{join_step}
+use Rattle.wire_marks.proofs.Growing.{clock_grown, grown_keeps, grown_through}
+use Rattle.wire_marks.proofs.Joining.{join_step, join_as}
 use Rattle.wire_marks.proofs.clocks.Clocks.join.Goals as goal
 
-pub raise_to-last-requires-clause-marked : goal.raise_to-last-requires-clause-marked
-raise_to-last-requires-clause-marked c =
+pub loop-event-init : goal.loop-event-init
+loop-event-init c = record {
+  based = c.requires.based;
+  grown = search;
+  rising = c.new-rising.ensures.rising;
+  join = record {
+    from = λ q m lt. absurd (let none = c.new-rising.ensures.zeros q in omega (arith, lt, none));
+    covers = λ q k z lt h. absurd (omega (arith, lt));
+  };
+  last = λ q. let none = zero_says c.args.self.now.trees q in omega (arith, none);
+}
+
+pub raise_to-requires-clause-marked : goal.raise_to-requires-clause-marked
+raise_to-requires-clause-marked c =
     let at : slice_get (map event_of c.args.events.now) c.loop-event.event-index ≡ Some (event_of _) = slice_get-map event_of c.args.events.now c.loop-event.event-index
     ∙ ap (option_map event_of) (slice_get-get_or c.args.events.now c.loop-event.event-index _ c.loop-event-test.true) in
-    c.requires.marked c.loop-event.event-index (event_of _) (omega arith) at
+    (grown_keeps c.args.self.now c.loop-event.self c.requires.based c.loop-event.invariant.grown).marked (event_of _) (c.requires.marked c.loop-event.event-index (event_of _) (omega arith) at)
 
 pub loop-event-preserved : goal.loop-event-preserved
 loop-event-preserved c =
     let at : slice_get (map event_of c.args.events.now) c.loop-event.event-index ≡ Some (event_of _) = slice_get-map event_of c.args.events.now c.loop-event.event-index
     ∙ ap (option_map event_of) (slice_get-get_or c.args.events.now c.loop-event.event-index _ c.loop-event-test.true) in
     record {
-      width = c.raise_to-last.ensures.width ∙ c.loop-event.invariant.width;
-      join = join_step c.args.self.now (map event_of c.args.events.now) c.loop-event.event-index (event_of _) (λ q. slice_index c.loop-event.clock.items q)
-          (λ q. slice_index c.raise_to-last.new.clock.items q) at c.loop-event.invariant.join c.raise_to-last.ensures.each;
-      last = c.raise_to-last.ensures.last;
+      based = c.in_ok-last.ensures.based;
+      grown = grown_through c.args.self.now c.loop-event.self c.raise_to.new.self c.loop-event.invariant.grown c.in_ok-last.ensures.grown;
+      rising = c.in_ok-last.ensures.rising;
+      join = join_step c.args.self.now (map event_of c.args.events.now) c.loop-event.event-index (event_of _) (rising_says c.loop-event.self.trees c.loop-event.rising)
+          (rising_says c.raise_to.new.self.trees c.raise_to.new.rising) at c.loop-event.invariant.join
+          (λ q. c.in_ok-last.ensures.each q ∙ ap (max (rising_says c.loop-event.self.trees c.loop-event.rising q))
+          (clock_grown c.args.self.now c.loop-event.self c.requires.based c.loop-event.invariant.grown (event_of _) q));
+      last = c.in_ok-last.ensures.last;
     }
 
 pub returns-clause-join : goal.returns-clause-join
 returns-clause-join c =
     let all : c.loop-event.event-index ≡ length c.args.events.now = omega arith in
-    subst (λ n. IsJoin c.args.self.now (map event_of c.args.events.now) n (λ q. slice_index c.loop-event.clock.items q)) all c.loop-event.invariant.join
+    let root = c.in_ok-root.root in
+    subst (λ n. IsJoin c.args.self.now (map event_of c.args.events.now) n (λ q. says c.finish.new.trees root q)) all
+    (join_as c.args.self.now (map event_of c.args.events.now) c.loop-event.event-index (rising_says c.loop-event.self.trees c.loop-event.rising) (λ q. says c.finish.new.trees root q)
+    c.in_ok-root.ensures.says c.loop-event.invariant.join)

@@ -1,11 +1,12 @@
-use Rattle.std.proofs.Common.{subst}
+use Rattle.std.proofs.Common.{subst, option_map}
+use Rattle.wire_runs.specs.Races.{IsPutOnce}
+use Rattle.wire_types.specs.declared.Event.{Event}
 use Rattle.wire_content.specs.Planned.{plan_of}
-use Rattle.wire_plan.specs.Keys.{AreKeysOf}
-use Rattle.wire_plan.specs.Bringing.{AreNodeArrivals}
+use Rattle.wire_plan.specs.Index.{IsNextDelivery}
 use Rattle.wire_plan.proofs.plan.Plan.next_delivery.Goals as goal
 
 pub returns-clause-next : goal.returns-clause-next
 returns-clause-next c =
-    c.next_delivery.ensures.next (plan_of c.args.self.now)
-    (subst (λ s. AreNodeArrivals (plan_of s) c.self.inside.index.node_arrivals) c.self.view_is c.self.invariant.1.node_arrivals)
-    (subst (λ s. AreKeysOf (plan_of s) c.self.inside.index.keys) c.self.view_is c.self.invariant.1.keys)
+    subst (λ s. IsPutOnce (plan_of s) c.args.owner.number c.args.key →
+    IsNextDelivery (plan_of s) c.args.owner.number c.args.key c.args.node c.args.from (option_map (λ (e : Event). e.at) c.next_delivery.result))
+    c.self.view_is c.next_delivery.ensures.next

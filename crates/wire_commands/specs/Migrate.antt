@@ -1,0 +1,40 @@
+-- What `migrate` writes: the canonical text of what was to come from the reader, under version 2 of the format.
+use Rattle.std.specs.Prelude.{◌≡◌, ◌⊎◌, ℕ, ◌≤◌, List, Option, Ok, length}
+use Rattle.std.specs.Io.KnownBytes.{Appends}
+use Rattle.wire_types.specs.Front.{WritesFront}
+use Rattle.wire_types.specs.declared.Fault.{Fault}
+use Rattle.wire_types.specs.declared.Fault.TheVariants.{Memory, Read}
+use Rattle.wire_content.specs.Scripts.{Scripts, under_version_2}
+use Rattle.wire_content.specs.Canonical.{canonical}
+use Rattle.wire_content.specs.Planned.{plan_of}
+use Rattle.wire_script.specs.declared.Size.{Size}
+use Rattle.wire_script.specs.Limits.{file_bytes}
+use Rattle.wire_script.specs.Reads.{Reads}
+use Rattle.wire_commands.specs.Plain.{ReadAs, Refuses}
+
+-- the text of scripts under version 2
+abbrev pub migrated_text : Scripts → List ℕ
+migrated_text scripts = canonical (under_version_2 scripts)
+
+-- the scripts under version 2 are the same plan, with the same findings and outcomes, and their text reads as them, where it is
+-- within the limit of a file
+pub record IsMigrated (size : Size) (scripts : Scripts) : Type 0 where
+  pub plan : plan_of (under_version_2 scripts) ≡ plan_of scripts
+  pub back : length (migrated_text scripts) ≤ file_bytes size → Reads size (migrated_text scripts) (Ok (under_version_2 scripts))
+
+-- all of the text of what was to come went out
+pub record WritesMigrated (size : Size) (coming old new : Option (List ℕ)) : Type 0 where
+  pub scripts : Scripts
+  pub read : ReadAs size coming scripts
+  pub migrated : IsMigrated size scripts
+  pub wrote : Appends old new (migrated_text scripts)
+
+-- exactly as many bytes of it went out as the fault says, which aren't all of it
+pub record BreaksOffMigrated (size : Size) (coming old new : Option (List ℕ)) (fault : Fault) : Type 0 where
+  pub scripts : Scripts
+  pub read : ReadAs size coming scripts
+  pub wrote : WritesFront old new (migrated_text scripts) fault
+
+-- why nothing is written: memory ran out, a read failed, or the file is refused
+abbrev pub StopsBeforeMigrated : Size → Option (List ℕ) → Fault → Type 0
+StopsBeforeMigrated size coming fault = (fault ≡ Memory) ⊎ ((fault ≡ Read) ⊎ Refuses size coming fault)

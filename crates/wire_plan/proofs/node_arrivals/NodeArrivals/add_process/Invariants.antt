@@ -1,6 +1,0 @@
-use Rattle.wire_content.specs.Planned.{plan_of}
-use Rattle.wire_plan.specs.Bringing.{AreNodeArrivalsTo}
-use Rattle.wire_plan.proofs.node_arrivals.NodeArrivals.add_process.Given as goal
-
-abbrev pub invariant-loop-at : goal.invariant-loop-at
-invariant-loop-at l = AreNodeArrivalsTo (plan_of l.events) l.proc.number 0 l.fn.self → AreNodeArrivalsTo (plan_of l.events) l.proc.number l.at l.self

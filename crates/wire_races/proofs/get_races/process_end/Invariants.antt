@@ -1,0 +1,15 @@
+use Rattle.std.proofs.Common.{◌-◌, ◌<◌, ◌≤◌, length, map}
+use Rattle.wire_runs.specs.Plan.{event_of}
+use Rattle.wire_races.specs.GetRaces.{AreOfOne}
+use Rattle.wire_races.proofs.get_races.process_end.Given as goal
+
+abbrev pub invariant-bisection : goal.invariant-bisection
+invariant-bisection l = record {
+  order : l.low ≤ l.high;
+  within : l.high ≤ length l.gets;
+  after : l.place < l.low;
+  last : AreOfOne (map event_of l.gets) l.place (l.low - 1);
+}
+
+abbrev pub decreases-bisection : goal.decreases-bisection
+decreases-bisection l = l.high - l.low

@@ -1,0 +1,8 @@
+use Rattle.std.proofs.Common.{subst, IfOk}
+use Rattle.wire_commands.proofs.Replayed.{not_ok}
+use Rattle.wire_showing.specs.All.{IsTriedText}
+use Rattle.wire_showing.proofs.all.scripts_answer.Goals as goal
+
+pub returns-clause-ok : goal.returns-clause-ok
+returns-clause-ok g c =
+    subst (λ s. IfOk c.plan_answer-answer.result (λ a. IsTriedText s c.args.most a.text.items a.ended)) c.in_ok-plan.ensures.ok c.plan_answer-answer.ensures.ok

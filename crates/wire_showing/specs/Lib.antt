@@ -1,0 +1,5 @@
+pub mod Races
+pub mod Texts
+pub mod Tried
+pub mod Pair
+pub mod All

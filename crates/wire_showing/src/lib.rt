@@ -1,0 +1,14 @@
+//! What shows that the races of a plan are real, from bytes to bytes: for two calls, and for all races.
+#![tactic(auto)]
+
+mod all;
+mod answer;
+mod pair;
+mod part;
+mod races;
+mod texts;
+mod tried;
+
+pub use all::witnesses;
+pub use pair::witness;
+pub use part::Part;

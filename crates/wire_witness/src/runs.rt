@@ -1,0 +1,142 @@
+//! Runs in which one of two calls comes first.
+
+ghost use Rattle.std.specs.Prelude.{◌≡◌, ◌<◌, length, IfOk, IfSome, IfErr, IsTrue};
+ghost use Rattle.wire_types.specs.declared.Fault.TheVariants.{Memory};
+ghost use Rattle.wire_runs.specs.Plan.{event_of, Event as Spot};
+ghost use Rattle.wire_runs.specs.Ends.{calls_of, first_event};
+ghost use Rattle.wire_content.specs.Planned.{plan_of};
+ghost use Rattle.wire_core.specs.Course.{plan_in};
+ghost use Rattle.wire_witness.specs.Witness.{ComesFirst};
+ghost use Rattle.wire_witness.specs.Runs.{IsRunOf};
+
+use std::alloc::{AllocError, Global};
+use wire_core::Core;
+use wire_marks::MarkedPlan;
+use wire_plan::Plan;
+use wire_types::{CallAt, CallEnd, Event, Fault, Proc};
+
+/// A run that can't go on, in which one of two calls comes first.
+#[derive(Drop)]
+pub(crate) struct Run<'a> {
+    pub core: Core<'a>,
+    /// How the call ends that comes first.
+    pub first_end: CallEnd,
+    /// How the other call ends.
+    pub other_end: CallEnd,
+}
+
+/// For each process no limit but one that it doesn't reach. The process of an event may take those before it.
+fn limits_before(alloc: Global, plan: &Plan, held: Event) -> Result<Vec<u32>, AllocError> {
+    let mut limits = Vec::with_capacity(alloc, plan.process_count() as usize)?;
+    for number in 0..plan.process_count() {
+        let limit = if number == held.proc.number {
+            held.at
+        } else {
+            u32::MAX
+        };
+        limits.push(limit)?;
+    }
+    Ok(limits)
+}
+
+/// For each process how many of its events are this one or before it.
+fn limits_upto(
+    alloc: Global,
+    marked: &MarkedPlan<'_>,
+    event: Event,
+) -> Result<Vec<u32>, AllocError> {
+    let count = marked.plan().process_count();
+    let mut limits = Vec::with_capacity(alloc, count as usize)?;
+    for number in 0..count {
+        limits.push(marked.marks().clock(event, Proc::new(number)))?;
+    }
+    Ok(limits)
+}
+
+/// Runs a core within these limits, and answers whether then x has happened and y hasn't.
+#[tactic(auto, using(crate::proofs::Comes::comes_now, crate::proofs::Comes::kept_scripts))]
+fn runs_ahead(core: &mut Core<'_>, limits: &[u32], x: Event, y: Event) -> bool
+    ensures scripts { core.new.scripts ≡ core.old.scripts }
+    ensures ahead { IsTrue result → ComesFirst (plan_in core.new) core.new.history (event_of x) (event_of y) }
+{
+    core.run_within(limits);
+    core.is_done(x) && !core.is_done(y)
+}
+
+/// Runs a core within these limits, and answers whether then y has happened.
+#[tactic(auto, using(crate::proofs::Comes::comes_within, crate::proofs::Comes::kept_scripts))]
+fn runs_to(core: &mut Core<'_>, limits: &[u32], y: Event) -> bool
+    ensures scripts { core.new.scripts ≡ core.old.scripts }
+    ensures kept { (a b : Spot) → ComesFirst (plan_in core.old) core.old.history a b → ComesFirst (plan_in core.new) core.new.history a b }
+{
+    core.run_within(limits);
+    core.is_done(y)
+}
+
+/// The run to its end, of a core in whose run the first call has come before the other.
+fn finish<'a>(core: Core<'a>, first: CallAt, other: CallAt) -> Run<'a>
+    requires comes { ComesFirst (plan_in core) core.history (first_event (plan_in core) first) (first_event (plan_in core) other) }
+    requires first_there { first.call < length (calls_of (plan_in core) first.proc.number) }
+    requires other_there { other.call < length (calls_of (plan_in core) other.proc.number) }
+    ensures { IsRunOf core.entry.scripts first other result }
+{
+    let mut core = core;
+    core.run_lowest();
+    // The steps are an interleaving.
+    let _ = core.history();
+    Run {
+        first_end: core.end_of(first),
+        other_end: core.end_of(other),
+        core,
+    }
+}
+
+/// The run in which the other call is held back as long as any other process can take a step.
+pub(crate) fn held_run<'a>(
+    alloc: Global,
+    plan: &'a Plan,
+    first: CallAt,
+    other: CallAt,
+) -> Result<Option<Run<'a>>, Fault>
+    requires first_there { first.call < length (calls_of (plan_of plan.now) first.proc.number) }
+    requires other_there { other.call < length (calls_of (plan_of plan.now) other.proc.number) }
+    ensures ok { IfOk result (λ o. IfSome o (IsRunOf plan.now first other)) }
+    ensures err { IfErr result (λ e. e ≡ Memory) }
+{
+    let x = plan.first_event(first);
+    let held = plan.first_event(other);
+    let limits = limits_before(alloc, plan, held)?;
+    let mut core = Core::new(alloc, plan)?;
+    if !runs_ahead(&mut core, limits.as_slice(), x, held) {
+        return Ok(None);
+    }
+    Ok(Some(finish(core, first, other)))
+}
+
+/// The run in which only what is before the first call comes before it, and after it only what is before the
+/// other call, up to that.
+pub(crate) fn needed_run<'a>(
+    alloc: Global,
+    marked: &MarkedPlan<'a>,
+    first: CallAt,
+    other: CallAt,
+) -> Result<Option<Run<'a>>, Fault>
+    requires first_there { first.call < length (calls_of (plan_of marked.now) first.proc.number) }
+    requires other_there { other.call < length (calls_of (plan_of marked.now) other.proc.number) }
+    ensures ok { IfOk result (λ o. IfSome o (IsRunOf marked.now first other)) }
+    ensures err { IfErr result (λ e. e ≡ Memory) }
+{
+    let plan = marked.plan();
+    let x = plan.first_event(first);
+    let y = plan.first_event(other);
+    let limits = limits_upto(alloc, marked, x)?;
+    let later = limits_upto(alloc, marked, y)?;
+    let mut core = Core::new(alloc, plan)?;
+    if !runs_ahead(&mut core, limits.as_slice(), x, y) {
+        return Ok(None);
+    }
+    if !runs_to(&mut core, later.as_slice(), y) {
+        return Ok(None);
+    }
+    Ok(Some(finish(core, first, other)))
+}

@@ -1,0 +1,242 @@
+//! The search for a witness.
+
+ghost use Rattle.std.specs.Prelude.{◌≡◌, ◌<◌, ◌↔◌, length, IfOk, IfSome, IfErr, IsTrue};
+ghost use Rattle.wire_types.specs.declared.Fault.TheVariants.{Memory};
+ghost use Rattle.wire_runs.specs.Ends.{calls_of};
+ghost use Rattle.wire_content.specs.Planned.{plan_of};
+ghost use Rattle.wire_content.specs.Scripts.{numbers_of};
+ghost use Rattle.wire_witness.specs.Witness.{IsWitness};
+ghost use Rattle.wire_witness.specs.Runs.{AreApart, AreRunsOf, IsRunOf};
+
+use crate::runs::{Run, held_run, needed_run};
+use crate::witness::Witness;
+use std::alloc::{AllocError, Global};
+use wire_marks::MarkedPlan;
+use wire_plan::Plan;
+use wire_types::{CallAt, CallEnd, Fault};
+
+/// A pair of calls.
+#[derive(Clone, Copy)]
+struct Pair {
+    x: CallAt,
+    y: CallAt,
+}
+
+/// Two ends of one call that differ.
+#[derive(Clone, Copy)]
+struct Difference {
+    call: CallAt,
+    first_end: CallEnd,
+    second_end: CallEnd,
+}
+
+/// A run in which the first call of a pair comes first, and one in which the second does, where they were found.
+#[derive(Drop)]
+struct Runs<'a> {
+    first: Option<Run<'a>>,
+    second: Option<Run<'a>>,
+}
+
+/// The call that ends differently in two runs of a plan: the first in which x comes first, the second in which y does.
+fn find_difference(plan: &Plan, pair: Pair, first: &Run<'_>, second: &Run<'_>) -> Option<Difference>
+    requires first { IsRunOf plan.now pair.x pair.y first.now }
+    requires second { IsRunOf plan.now pair.y pair.x second.now }
+    ensures { IfSome result (AreApart plan.now pair.x pair.y first.now second.now) }
+{
+    if first.first_end != second.other_end {
+        return Some(Difference {
+            call: pair.x,
+            first_end: first.first_end,
+            second_end: second.other_end,
+        });
+    }
+    if first.other_end != second.first_end {
+        return Some(Difference {
+            call: pair.y,
+            first_end: first.other_end,
+            second_end: second.first_end,
+        });
+    }
+    None
+}
+
+/// The witness that two runs are in which a call ends differently.
+fn witness_of(
+    alloc: Global,
+    apart: Difference,
+    first: &Run<'_>,
+    second: &Run<'_>,
+) -> Result<Witness, AllocError>
+    ensures first { IfOk result (λ w. numbers_of w.first.items ≡ first.now.core.history) }
+    ensures second { IfOk result (λ w. numbers_of w.second.items ≡ second.now.core.history) }
+    ensures apart { IfOk result (λ w. (w.call ≡ apart.call) × (w.first_end ≡ apart.first_end) × (w.second_end ≡ apart.second_end)) }
+{
+    let steps = first.core.history().to_vec(alloc)?;
+    let others = second.core.history().to_vec(alloc)?;
+    Ok(Witness {
+        first: steps,
+        second: others,
+        call: apart.call,
+        first_end: apart.first_end,
+        second_end: apart.second_end,
+    })
+}
+
+/// The witness that two runs of a plan are, if they are one.
+#[tactic(auto, using(crate::proofs::Laid::laid_ok))]
+fn lay(
+    alloc: Global,
+    plan: &Plan,
+    pair: Pair,
+    first: &Run<'_>,
+    second: &Run<'_>,
+) -> Result<Option<Witness>, AllocError>
+    requires first { IsRunOf plan.now pair.x pair.y first.now }
+    requires second { IsRunOf plan.now pair.y pair.x second.now }
+    ensures { IfOk result (λ o. IfSome o (IsWitness (plan_of plan.now) pair.x pair.y)) }
+{
+    let Some(apart) = find_difference(plan, pair, first, second) else {
+        return Ok(None);
+    };
+    let witness = witness_of(alloc, apart, first, second)?;
+    Ok(Some(witness))
+}
+
+/// The witness that two runs of a plan are, where both were made, if they are one.
+fn lay_both(
+    alloc: Global,
+    plan: &Plan,
+    pair: Pair,
+    first: &Option<Run<'_>>,
+    second: &Option<Run<'_>>,
+) -> Result<Option<Witness>, AllocError>
+    requires first { IfSome first.now (IsRunOf plan.now pair.x pair.y) }
+    requires second { IfSome second.now (IsRunOf plan.now pair.y pair.x) }
+    ensures { IfOk result (λ o. IfSome o (IsWitness (plan_of plan.now) pair.x pair.y)) }
+{
+    match (first, second) {
+        (Some(first), Some(second)) => lay(alloc, plan, pair, first, second),
+        _ => Ok(None),
+    }
+}
+
+/// The runs in which one of the calls is held back.
+fn held_runs<'a>(alloc: Global, marked: &MarkedPlan<'a>, pair: Pair) -> Result<Runs<'a>, Fault>
+    requires x_there { pair.x.call < length (calls_of (plan_of marked.now) pair.x.proc.number) }
+    requires y_there { pair.y.call < length (calls_of (plan_of marked.now) pair.y.proc.number) }
+    ensures ok { IfOk result (AreRunsOf marked.now pair.x pair.y) }
+    ensures err { IfErr result (λ e. e ≡ Memory) }
+{
+    let first = held_run(alloc, marked.plan(), pair.x, pair.y)?;
+    match held_run(alloc, marked.plan(), pair.y, pair.x) {
+        Ok(second) => Ok(Runs { first, second }),
+        Err(fault) => {
+            drop(first);
+            Err(fault)
+        }
+    }
+}
+
+/// The runs in which only what is needed comes before the calls.
+fn needed_runs<'a>(alloc: Global, marked: &MarkedPlan<'a>, pair: Pair) -> Result<Runs<'a>, Fault>
+    requires x_there { pair.x.call < length (calls_of (plan_of marked.now) pair.x.proc.number) }
+    requires y_there { pair.y.call < length (calls_of (plan_of marked.now) pair.y.proc.number) }
+    ensures ok { IfOk result (AreRunsOf marked.now pair.x pair.y) }
+    ensures err { IfErr result (λ e. e ≡ Memory) }
+{
+    let first = needed_run(alloc, marked, pair.x, pair.y)?;
+    match needed_run(alloc, marked, pair.y, pair.x) {
+        Ok(second) => Ok(Runs { first, second }),
+        Err(fault) => {
+            drop(first);
+            Err(fault)
+        }
+    }
+}
+
+/// The witness among these runs of a plan, each laid beside each that the other call comes first in.
+fn lay_all(
+    alloc: Global,
+    plan: &Plan,
+    pair: Pair,
+    held: &Runs<'_>,
+    needed: &Runs<'_>,
+) -> Result<Option<Witness>, AllocError>
+    requires held { AreRunsOf plan.now pair.x pair.y held.now }
+    requires needed { AreRunsOf plan.now pair.x pair.y needed.now }
+    ensures { IfOk result (λ o. IfSome o (IsWitness (plan_of plan.now) pair.x pair.y)) }
+{
+    if let Some(witness) = lay_both(alloc, plan, pair, &needed.first, &needed.second)? {
+        return Ok(Some(witness));
+    }
+    if let Some(witness) = lay_both(alloc, plan, pair, &held.first, &needed.second)? {
+        return Ok(Some(witness));
+    }
+    lay_both(alloc, plan, pair, &needed.first, &held.second)
+}
+
+/// The witness among the runs in which one of the calls is held back, or among those and the others.
+fn find_beside(
+    alloc: Global,
+    marked: &MarkedPlan<'_>,
+    pair: Pair,
+    held: &Runs<'_>,
+) -> Result<Option<Witness>, Fault>
+    requires x_there { pair.x.call < length (calls_of (plan_of marked.now) pair.x.proc.number) }
+    requires y_there { pair.y.call < length (calls_of (plan_of marked.now) pair.y.proc.number) }
+    requires held { AreRunsOf marked.now pair.x pair.y held.now }
+    ensures shown { IfOk result (λ o. IfSome o (IsWitness (plan_of marked.now) pair.x pair.y)) }
+    ensures err { IfErr result (λ e. e ≡ Memory) }
+{
+    let plan = marked.plan();
+    if let Some(witness) = lay_both(alloc, plan, pair, &held.first, &held.second)? {
+        return Ok(Some(witness));
+    }
+    let needed = needed_runs(alloc, marked, pair)?;
+    let found = lay_all(alloc, plan, pair, held, &needed);
+    drop(needed);
+    Ok(found?)
+}
+
+/// A witness of two calls that are the plan's.
+fn find_among(alloc: Global, marked: &MarkedPlan<'_>, pair: Pair) -> Result<Option<Witness>, Fault>
+    requires x_there { pair.x.call < length (calls_of (plan_of marked.now) pair.x.proc.number) }
+    requires y_there { pair.y.call < length (calls_of (plan_of marked.now) pair.y.proc.number) }
+    ensures shown { IfOk result (λ o. IfSome o (IsWitness (plan_of marked.now) pair.x pair.y)) }
+    ensures err { IfErr result (λ e. e ≡ Memory) }
+{
+    let held = held_runs(alloc, marked, pair)?;
+    let found = find_beside(alloc, marked, pair, &held);
+    drop(held);
+    found
+}
+
+/// Whether a call is one of the plan.
+#[tactic(auto, using(crate::proofs::Laid::made))]
+fn is_there(plan: &Plan, call: CallAt) -> bool
+    ensures { IsTrue result ↔ (call.call < length (calls_of (plan_of plan.now) call.proc.number)) }
+{
+    match plan.scripts().processes().get(call.proc.index()) {
+        Some(process) => (call.call as usize) < process.calls().len(),
+        None => false,
+    }
+}
+
+/// A witness of two calls of a plan, where one is found among four runs, each of which takes at each step the
+/// lowest process that can go on, but for one change: in two of them one of the calls is held back as long as
+/// anything else can happen; in the others only what a chain demands comes before the one call, and then
+/// before the other. `None` doesn't mean that there is none; of a call that isn't the plan's it is the answer. The one fault is `Fault::Memory`.
+pub fn find_witness(
+    alloc: Global,
+    marked: &MarkedPlan<'_>,
+    x: CallAt,
+    y: CallAt,
+) -> Result<Option<Witness>, Fault>
+    ensures shown { IfOk result (λ o. IfSome o (IsWitness (plan_of marked.now) x y)) }
+    ensures err { IfErr result (λ e. e ≡ Memory) }
+{
+    if !is_there(marked.plan(), x) || !is_there(marked.plan(), y) {
+        return Ok(None);
+    }
+    find_among(alloc, marked, Pair { x, y })
+}
