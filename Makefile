@@ -3,7 +3,7 @@
 
 PREFIX ?= /usr/local
 
-.PHONY: run try test edits soak bench record record-mpi install
+.PHONY: run try test edits soak bench record record-mpi install deb picture
 
 MPICC ?= mpicc
 CFLAGS ?= -O2 -Wall -Wextra
@@ -59,10 +59,15 @@ record/record-mpi.so: record/record-mpi.c record/record.h record/record-mpi-othe
 	$(MPICC) $(SHARED) -Wl,--as-needed -o $@.new $< -ldl
 	@mv $@.new $@
 
-# Puts the program that `make run` built in place, and the recorders that are built.
+# Puts what `make run` built in place, with manual pages, completions, documents, and the recorders that are built.
+PROGRAM ?= wire_up
 install:
-	@test -x wire_up || { echo "there is no ./wire_up: make run builds it"; exit 1; }
-	install -D -m 755 wire_up "$(DESTDIR)$(PREFIX)/bin/wire_up"
-	@if test -e record/record.so; then set -x; install -D -m 755 wire_up-record "$(DESTDIR)$(PREFIX)/bin/wire_up-record"; \
-	for it in record/record.so record/record-mpi.so; do \
-	if test -e $$it; then install -D -m 644 $$it "$(DESTDIR)$(PREFIX)/lib/wire_up/$${it#record/}"; fi; done; fi
+	@python3 packaging/stage.py "$(PROGRAM)" "$(DESTDIR)$(PREFIX)"
+
+# The Debian package of the same.
+deb:
+	@python3 packaging/deb.py "$(PROGRAM)"
+
+# The picture of a report that README.md shows, by Chromium.
+picture:
+	@python3 packaging/picture.py "$(PROGRAM)"

@@ -8,7 +8,8 @@ An edit is a wrong body: `crates/NAME/edits/MISTAKE.edit` has lines 'file: src/F
 The proof of a function depends only on the contracts of the functions that it calls, so wrong bodies of several functions don't disturb each
 other. A batch has at most one edit of each function, and one check of these functions (`rattle check --only`), from nothing, gives a verdict
 for each. An edit is refused if its own function has no proof for a reason of its own, and not only because it calls another that isn't proved.
-A batch shows nothing if it isn't checked to its end, or if a function without an edit has no proof for a reason of its own.
+A batch shows nothing if it isn't checked to its end, or if a function without an edit has no proof for a reason of its own. Then its
+halves are tried, and so on.
 
 What a batch doesn't show refused is tried alone: first its function by itself, and where that doesn't show it either, the whole crate, as
 `rt must-fail` tries an edit. So is an edit of more than one body, or of none.
@@ -232,11 +233,25 @@ def check(batch):
     return {path: outcome for path, outcome in found.items() if outcome}
 
 
+def check_in_parts(batch):
+    """What became of each edit of a batch. Where one check doesn't show it, such as because of an edit that can't be read, each half is
+    checked by itself."""
+    found, half = check(batch), len(batch) // 2
+    if found or not half:
+        return found
+    return {**check_in_parts(batch[:half]), **check_in_parts(batch[half:])}
+
+
 def try_alone(edit):
     """Tries one edit: its function by itself, and the whole crate where that doesn't show that it is refused."""
     found = check([edit]) if edit.function else {}
-    outcome = found.get(edit.path) or Outcome(*rt.must_fail(edit.crate, edit.path, ["--jobs", "1"]))
-    return outcome._replace(is_alone=True)
+    return (found.get(edit.path) or try_whole(edit))._replace(is_alone=True)
+
+
+def try_whole(edit):
+    """Tries one edit by a check of its whole crate. A limit that the prover meets wherever it checks the same is a refusal, as for `rt`."""
+    kind, text = rt.must_fail(edit.crate, edit.path, ["--jobs", "1"])
+    return Outcome(kind in (rt.REFUSED, rt.AT_LIMIT), text)
 
 
 def side_by_side(work, ended):
@@ -276,7 +291,7 @@ def try_all(files, tell=lambda state: None):
             by_crate[edit.crate].append(edit)
     batches = [batch for it in by_crate.values() for batch in batches_of(it)]
     count, alone = itertools.count(1), itertools.count(1)
-    work = {n: (it[0].crate, lambda it=it: check(it)) for n, it in enumerate(batches)}
+    work = {n: (it[0].crate, lambda it=it: check_in_parts(it)) for n, it in enumerate(batches)}
     for shown in side_by_side(work, lambda: tell(f"batch {next(count)} of {len(batches)}")).values():
         found.update(shown)
     left = [it for it in edits if it.path not in found]

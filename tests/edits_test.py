@@ -103,10 +103,10 @@ EDITS = {
     "text_that_is_not_there": (["exact(b)", "exact(0)"], BAD, False),
     "text_that_is_there_twice": (["result ≡ a", "result ≡ 0"], BAD, False),
 }
-# Edits in a batch of their own, which the prover can't read because of one of them.
+# Edits in a batch of their own, which the prover can't read because of one of them: its halves show the other.
 UNREAD = {
     "another_type": (["    MOST", "    true"], BAD, True),
-    "beside_another_type": (["    a // the number", "    0"], REFUSED, True),
+    "beside_another_type": (["    a // the number", "    0"], REFUSED, False),
 }
 # Verdicts on a function `most`, and what they show of an edit of it: that it is refused, that it isn't, or nothing.
 VERDICTS = {

@@ -5,8 +5,10 @@ It works on a copy of the repository, so nothing that earlier checks kept counts
 'N passed, M failed' for all of it, and the status is 1 where anything failed. A line tells how far it is; what `rt ci` prints goes to
 out/gate.log, and where something failed, what the log says of it is printed too. What it cost, crate by crate, is printed and goes to
 out/gate-costs.md. `rt ci` wants each file as `rt fmt` lays it out, and says so only after the proofs of a crate: so that is looked at
-first, which takes half a minute. So is whether each edit can be applied.
+first, which takes half a minute. So is whether each edit can be applied. Just before the last line stands again what each part said of
+what failed, so that the end of a log tells it.
 """
+import contextlib
 import filecmp
 import os
 import re
@@ -14,6 +16,7 @@ import shutil
 import subprocess
 import sys
 import tempfile
+import traceback
 
 sys.dont_write_bytecode = True
 import bench
@@ -22,17 +25,22 @@ import edits
 import edits_test
 import hostile
 import kit
+import package
 import program
 import progress
 import readme
 import recording
 import refuse
+import report
 import soak
+import witnesses
 
 BUILT = os.path.join(progress.TOP, "crates", "program", "out", "program")
 # What users and tests run, of what `rt ci` builds in the copy.
 KEPT = (BUILT, bench.PARTS)
 BUDGET = 110
+# How much of what a part said is told again at the end, where it failed: so many of its last lines, and so much of each.
+LINES, WIDTH = 8, 160
 # The lines of `rt ci` that tell how far it is.
 JUDGED = re.compile(r"rt: (\w+)(: its tests are)? (proved|NOT PROVED)\b")
 COUNTS = re.compile(r"(\d+) passed, (\d+) failed")
@@ -54,6 +62,34 @@ class Course:
         elif judged and not judged[2]:
             self.proved += 1
             self.line.now(f"{self.proved} of {self.crates} crates proved, last {judged[1]}")
+
+
+class Copied:
+    """A stream that also keeps what is written to it."""
+
+    def __init__(self, stream):
+        self.stream, self.text = stream, ""
+
+    def write(self, text):
+        self.text += text
+        return self.stream.write(text)
+
+    def __getattr__(self, name):
+        return getattr(self.stream, name)
+
+
+def heard(name, failures, part, *words):
+    """Runs a part of the gate and answers its counts. Where something failed, its last lines join the failures. A part that breaks off, such
+    as by a time limit, is one failure, and the others go on."""
+    with contextlib.redirect_stdout(Copied(sys.stdout)) as it:
+        try:
+            passed, failed = part(*words)
+        except Exception:
+            print(f"{name}: {traceback.format_exc()}", end="")
+            passed, failed = 0, 1
+    if failed:
+        failures += [f"{name}: {failed} failed", *(f"  {line[:WIDTH]}" for line in it.text.splitlines()[-LINES:])]
+    return passed, failed
 
 
 def reasons(log):
@@ -118,21 +154,24 @@ def refuse_edits(files):
     return refused, len(found) - refused
 
 
-def run_program():
+def run_program(failures):
     """Runs what was built as its users would. Gives the counts of each part, and its seconds of processor time, by name."""
     parts = {
         "program": program.all_runs,
         "hostile": hostile.all_hostile,
         "refuse": refuse.all_refusals,
         "recording": recording.all_runs,
+        "report": report.all_reports,
         "readme": readme.all_commands,
+        "package": package.all_packages,
+        "witnesses": witnesses.all_plans,
         "soak": soak.works,
         "bench": bench.works,
     }
     counts, seconds = [], {}
     for name, part in parts.items():
         before = costs.used()
-        counts.append(part(BUILT))
+        counts.append(heard(name, failures, part, BUILT))
         seconds[f"tests/{name}.py"] = costs.used() - before
     return counts, seconds
 
@@ -149,9 +188,10 @@ def keep_built(room):
     return os.path.exists(BUILT)
 
 
-def judge(room, files, watch):
-    """The counts of each part of the gate, and the seconds of processor time of what follows the proofs, by name."""
-    counts, seconds = [prove(room)], {}
+def judge(room, files, watch, failures):
+    """The counts of each part of the gate, and the seconds of processor time of what follows the proofs, by name. What failed joins the
+    failures."""
+    counts, seconds = [heard("rt ci", failures, prove, room)], {}
     if not keep_built(room):
         print("the program was not built, and so it was not run")
         return [*counts, (0, 1)], seconds
@@ -159,11 +199,11 @@ def judge(room, files, watch):
         print("the edits were not tried, as rt ci failed")
     else:
         watch.phase = "edits"
-        counts.append(refuse_edits(files))
+        counts.append(heard("edits", failures, refuse_edits, files))
         watch.phase, before = None, costs.used()
-        counts.append(edits_test.all_cases())
+        counts.append(heard("edits_test", failures, edits_test.all_cases))
         seconds["tests/edits_test.py"] = costs.used() - before
-    ran, of_each = run_program()
+    ran, of_each = run_program(failures)
     return counts + ran, {**seconds, **of_each}
 
 
@@ -184,9 +224,11 @@ def main():
             print("\n".join(wrong))
             print(f"0 passed, {len(wrong)} failed")
             return 1
-        counts, seconds = judge(room, files, watch)
+        failures = []
+        counts, seconds = judge(room, files, watch, failures)
         tell_costs(watch, seconds)
     passed, failed = (sum(it) for it in zip(*counts))
+    print(*failures, sep="\n", end="\n" * bool(failures))
     print(f"{passed} passed, {failed} failed")
     return 1 if failed else 0
 

@@ -9,7 +9,9 @@ import re
 import sys
 
 FILE_BYTES, NAME_BYTES, VALUE_BYTES = 4_194_304, 63, 255
-NODES, JOBS, RANKS, CALLS = 64, 16, 256, 16_384
+# How many nodes, jobs, ranks and calls a file of each version may have.
+Limits = collections.namedtuple("Limits", "nodes jobs ranks calls")
+LIMITS = {b"1": Limits(64, 16, 256, 16_384), b"2": Limits(64, 16, 512, 32_768)}
 NUMBERS = {"TooLong": 2, "BadHeader": 3, "BadLine": 4, "UnknownName": 5, "Twice": 6, "NotMember": 7, "TooMany": 8, "BadOrder": 13}
 SCOPES = (b"local", b"remote", b"global")
 RANK = re.compile(rb"0|[1-9][0-9]{0,8}")
@@ -27,8 +29,8 @@ SHAPES = {
     b"unpublish": ("key",),
 }
 
-# The nodes, the jobs (a name, and how many processes), and the processes: the job and rank, the node, and the words of each call.
-Scripts = collections.namedtuple("Scripts", "nodes jobs procs")
+# The version, whether it keeps what gets bring, the nodes, the jobs (a name, and how many processes), and the processes: the job and rank, the node, and the words of each call.
+Scripts = collections.namedtuple("Scripts", "version keeps nodes jobs procs")
 Process = collections.namedtuple("Process", "job rank node calls")
 
 
@@ -109,7 +111,8 @@ def is_long(kind, word):
 class FirstPass:
     """The lines from the top, each judged by itself and by those above it."""
 
-    def __init__(self):
+    def __init__(self, version):
+        self.version, self.limits, self.keeps = version, LIMITS[version], False
         self.nodes, self.jobs, self.procs, self.calls = [], [], [], []
 
     def take(self, number, words):
@@ -117,12 +120,20 @@ class FirstPass:
         verb, rest = words[0], words[1:]
         if any(byte < 33 or byte > 126 for word in words for byte in word):
             raise Refused("BadLine", number)
-        if verb in (b"node", b"job", b"rank"):
+        if verb == b"keep":
+            self.take_keep(number, rest)
+        elif verb in (b"node", b"job", b"rank"):
             self.take_place(number, verb, rest)
         elif verb in SHAPES:
             self.take_call(number, verb, rest)
         else:
             raise Refused("BadLine", number)
+
+    def take_keep(self, number, rest):
+        """Takes the line `keep`, which stands alone, once, right after the header of version 2."""
+        if rest or self.version == b"1" or self.keeps or self.nodes or self.jobs:
+            raise Refused("BadLine", number)
+        self.keeps = True
 
     def take_place(self, number, verb, rest):
         """Takes a line of a node, a job or a rank."""
@@ -134,9 +145,9 @@ class FirstPass:
         if verb == b"rank":
             if rest[0] not in self.nodes:
                 raise Refused("UnknownName", number)
-            here, most = self.procs, RANKS
+            here, most = self.procs, self.limits.ranks
         else:
-            here, most = (self.nodes, NODES) if verb == b"node" else (self.jobs, JOBS)
+            here, most = (self.nodes, self.limits.nodes) if verb == b"node" else (self.jobs, self.limits.jobs)
             if rest[0] in (here if verb == b"node" else [it[0] for it in here]):
                 raise Refused("Twice", number)
         if len(here) == most:
@@ -157,7 +168,7 @@ class FirstPass:
             raise Refused("BadLine", number)
         if any(is_long(*it) for it in zip(shape, rest)):
             raise Refused("TooLong", number)
-        if len(self.calls) == CALLS:
+        if len(self.calls) == self.limits.calls:
             raise Refused("TooMany", number)
         self.calls.append((number, self.procs[-1], [verb, *rest]))
         self.procs[-1].calls.append([verb, *rest])
@@ -188,12 +199,13 @@ def read(text):
     if len(text) > FILE_BYTES:
         raise Refused("TooLong", 1 + text[:FILE_BYTES].count(b"\n"))
     lines, count = lines_of(text)
-    if not lines or lines[0][1] != [b"rehearsal", b"1"]:
+    if not lines or lines[0][1][0] != b"rehearsal" or len(lines[0][1]) != 2 or lines[0][1][1] not in LIMITS:
         raise Refused("BadHeader", lines[0][0] if lines else count + 1)
-    first = FirstPass()
+    version = lines[0][1][1]
+    first = FirstPass(version)
     for number, words in lines[1:]:
         first.take(number, words)
-    scripts = Scripts(first.nodes, first.jobs, first.procs)
+    scripts = Scripts(version, first.keeps, first.nodes, first.jobs, first.procs)
     for number, caller, words in first.calls:
         judge_names(scripts, number, caller, words)
     return scripts
@@ -242,7 +254,7 @@ def canonical_set(scripts, caller, word):
 
 def canonical(scripts):
     """The canonical text."""
-    lines = [b"rehearsal 1", *(b"node " + it for it in scripts.nodes)]
+    lines = [b"rehearsal " + scripts.version, *([b"keep"] if scripts.keeps else []), *(b"node " + it for it in scripts.nodes)]
     for name, _ in scripts.jobs:
         lines.append(b"job " + name)
         for proc in scripts.procs:

@@ -48,6 +48,7 @@ def forms(room):
         Form("replay by two workers", ["replay", "--workers", "2"], REPORT),
         Form("follow", ["follow", order], REPORT),
         Form("why", question, b"before\napp:0 1 put\napp:0 2 commit\napp:1 1 get\n"),
+        Form("migrate", ["migrate"], program.text_of(program.EXAMPLE).replace(b"rehearsal 1", b"rehearsal 2", 1)),
     ]
 
 
@@ -71,6 +72,10 @@ def table():
     yield "257 ranks", HEAD + b"rank n0\n" * 257, refused("TooMany", 260)
     yield "16,384 calls", HEAD + b"rank n0\n" + b"commit\n" * COMMITS, commits + b"waiting 0\n"
     yield "16,385 calls", HEAD + b"rank n0\n" + b"commit\n" * (COMMITS + 1), refused("TooMany", 16_389)
+    yield "version 3", HEAD.replace(b"1", b"3", 1), refused("BadHeader", 1)
+    yield "512 ranks of version 2", HEAD.replace(b"1", b"2", 1) + b"rank n0\n" * 512, b"waiting 0\n"
+    yield "513 ranks of version 2", HEAD.replace(b"1", b"2", 1) + b"rank n0\n" * 513, refused("TooMany", 516)
+    yield "32,769 calls of version 2", HEAD.replace(b"1", b"2", 1) + b"rank n0\n" + b"commit\n" * 32_769, refused("TooMany", 32_773)
     yield "a cut in the header", cut[: at[b"rehearsal"]], refused("BadHeader", 1)
     yield "a cut in a commit", cut[: at[b"commi"]], refused("BadLine", 7)
     yield "a cut in a node", cut[:second_rank], refused("UnknownName", 8)
@@ -89,7 +94,8 @@ def files(room):
         path = program.written(room, "hostile.plan", text)
         is_read = not answer.startswith(b"wire_up: ")
         said, status = (b"", 0) if is_read else (answer, 2)
-        form = b'{"ranks":[],"waiting":0}\n' if answer == b"waiting 0\n" else program.as_json(answer) if is_read else b""
+        idle = b",".join(b'{"calls":[],"proc":"app:%d"}' % n for n in range(text.split(b"\n").count(b"rank n0")))
+        form = b'{"ranks":[%s],"waiting":0}\n' % idle if answer == b"waiting 0\n" else program.as_json(answer) if is_read else b""
         report = answer if is_read else b""
         yield Run(f"check {name}", ["check", path], status=status, wrote=program.NOTHING if is_read else b"", said=said)
         yield Run(f"replay {name}", ["replay", path], status=status, wrote=report, said=said)

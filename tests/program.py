@@ -4,13 +4,16 @@ Usage: python3 tests/program.py PROGRAM
 Prints a line for each run that went otherwise than it should, and last 'N passed, M failed'.
 """
 import collections
+import concurrent.futures
 import json
 import os
+import pty
 import resource
 import signal
 import subprocess
 import sys
 import tempfile
+import time
 
 TOP = os.path.dirname(os.path.dirname(os.path.abspath(__file__)))
 EXAMPLE, ITS_REPORT = "examples/business-card.plan", "examples/business-card.report"
@@ -105,6 +108,11 @@ def written(room, name, text):
     with open(path, "wb") as it:
         it.write(text)
     return path
+
+
+def as_lines(lines):
+    """The bytes of lines of text."""
+    return "".join(f"{it}\n" for it in lines).encode()
 
 
 def runs(room):
@@ -251,6 +259,31 @@ def checks(room):
     yield Run("check with an unknown option", ["check", "--loud", example], status=5, said=usage)
 
 
+def migrations(room):
+    """The runs of `migrate`, and those with `--large`."""
+    plan, usage = text_of(EXAMPLE), (b"Usage: wire_up",)
+    odd, many = written(room, "odd.plan", plan + b"getaway app:0 k\n"), written(room, "many.plan", b"rehearsal 1\nnode n0\njob app\n" + b"rank n0\n" * 257)
+    moved = b"rehearsal 2\nnode n0\nnode n1\njob app\nrank n0\nput global k v\ncommit\nrank n1\nget app:0 k\n"
+    fences = b"rehearsal 1\nnode n0\nnode n1\njob app\nrank n0\nfence app:0,app:1\nfence all\nrank n1\nfence app:1,app:0,app:1\n"
+    sets = b"rehearsal 2\nnode n0\nnode n1\njob app\nrank n0\nfence all\nfence all\nrank n1\nfence all\n"
+    past, full = b"wire_up: fault 8 TooMany 260\n", b"wire_up: fault 11 Write 0\n"
+    yield Run("a migration", ["migrate"], given=plan, wrote=moved)
+    yield Run("a migration of version 2", ["migrate"], given=b"# moved\n\n" + moved, wrote=moved)
+    yield Run("a migration of sets", ["migrate"], given=fences, wrote=sets)
+    yield Run("help on migrate", ["migrate", "--help"], wrote=(b"Usage: wire_up migrate",))
+    yield Run("a migration of a file that is refused", ["migrate", odd], status=2, said=b"wire_up: fault 4 BadLine 10\n")
+    yield Run("a migration, and a full device", ["migrate", EXAMPLE], status=4, said=full, set_up=onto("/dev/full", 1))
+    yield Run("a migration with a word too many", ["migrate", odd, odd], status=5, said=usage)
+    for words in (["check"], ["replay"], ["why", "app:0", "1", "app:0", "1"], ["migrate"]):
+        yield Run(f"257 ranks, {words[0]}", [*words, many], status=2, said=past)
+    yield Run("257 ranks, check --large", ["check", "--large", many], wrote=NOTHING)
+    yield Run("257 ranks, replay --large", ["replay", "--large", many], wrote=b"waiting 0\n")
+    order = written(room, "no.order", b"")
+    yield Run("257 ranks, follow --large", ["follow", "--large", order, many], wrote=b"waiting 0\n")
+    yield Run("257 ranks, migrate --large", ["migrate", "--large", many], wrote=text_of(many).replace(b"1", b"2", 1))
+    yield Run("why with --large", ["why", "--large", "app:0", "1", "app:0", "1", many], status=2, said=b"wire_up: fault 13 BadOrder 2\n")
+
+
 def as_json(report):
     """A report as JSON."""
     ranks = {}
@@ -294,7 +327,113 @@ def rehearsals(room):
     yield Run("workers told twice", ["replay", "--workers", "1", "--workers", "1", cards], status=5, said=usage)
     yield Run("anyway told twice", ["replay", "--anyway", "--anyway", cards], status=5, said=usage)
     yield Run("a check by workers", ["check", "--workers", "1", cards], status=5, said=usage)
-    yield Run("help on replay", ["replay", "--help"], wrote=(b"--workers <N>", b"--json", b"--anyway"))
+    yield Run("help on replay", ["replay", "--help"], wrote=(b"--workers <N>", b"--json", b"--anyway", b"--complete"))
+
+
+def completions(room):
+    """The runs of `replay --complete`."""
+    racy, race, usage = written(room, "racy.plan", RACY), b"race app:0 2 app:1 1 key app:0 k", (b"Usage: wire_up",)
+    late, lost = CARDS.replace(b"lookup-wait x", b"lookup-wait y"), CARDS.replace(b"get-now app:0 k\nlookup", b"get-now app:0 z\nlookup")
+    of_late = CARDS_REPORT.replace(b"PMIX_SUCCESS 7\nwaiting 0", b"waiting\nwaiting 1")
+    of_lost = CARDS_REPORT.replace(b"app:2 2 get-now PMIX_SUCCESS v", b"app:2 2 get-now PMIX_ERR_NOT_FOUND")
+    both, of_both = late.replace(b"get-now app:0 k\nlookup", b"get-now app:0 z\nlookup"), of_late.replace(b"app:2 2 get-now PMIX_SUCCESS v", b"app:2 2 get-now PMIX_ERR_NOT_FOUND")
+    rows = (
+        ("every call succeeds", CARDS, CARDS_REPORT, b""),
+        ("a rank waits", late, of_late, b"wire_up: app:2 3 lookup-wait waiting\n"),
+        ("a get finds nothing", lost, of_lost, b"wire_up: app:2 2 get-now PMIX_ERR_NOT_FOUND\n"),
+        ("the first of two", both, of_both, b"wire_up: app:2 2 get-now PMIX_ERR_NOT_FOUND\n"),
+        ("two ranks wait", text_of("examples/standstill.plan"), text_of("examples/standstill.report"), b"wire_up: app:0 1 get waiting\n"),
+        ("no call", b"rehearsal 1\n", b"waiting 0\n", b""),
+    )
+    for name, plan, report, said in rows:
+        yield Run(f"{name}, plainly", ["replay"], given=plan, wrote=report)
+        for options in ([], ["--workers", "3"], ["--large"], ["--anyway"]):
+            yield Run(f"{name}, complete {options}", ["replay", "--complete", *options], given=plan, status=int(bool(said)), wrote=report, said=said)
+        if report != b"waiting 0\n":
+            yield Run(f"{name}, complete, as JSON", ["replay", "--json", "--complete"], given=plan, status=int(bool(said)), wrote=as_json(report), said=said)
+    for options in ([], ["--workers", "2"]):
+        yield Run(f"a race, complete {options}", ["replay", "--complete", *options, racy], status=1, wrote=race + b"\nfindings 1\n")
+    yield Run("a race, complete, as JSON", ["replay", "--complete", "--json", racy], status=1, wrote=b'{"findings":["%s"]}\n' % race)
+    yield Run("a race anyway, complete", ["replay", "--complete", "--anyway", racy], status=1, wrote=(b"unsettled\n", b"order 3\n"))
+    yield Run("complete, and a file that is refused", ["replay", "--complete"], given=b"# only\n", status=2, said=b"wire_up: fault 3 BadHeader 2\n")
+    yield Run("complete, and a full device", ["replay", "--complete"], given=late, status=4, said=b"wire_up: fault 11 Write 0\n", set_up=onto("/dev/full", 1))
+    yield Run("complete, and standard error closed", ["replay", "--complete"], given=late, status=1, wrote=of_late, set_up=closed(2))
+    yield Run("complete told twice", ["replay", "--complete", "--complete", racy], status=5, said=usage)
+    yield Run("a check that is complete", ["check", "--complete", racy], status=5, said=usage)
+
+
+KEEPING = b"rehearsal 2\nkeep\nnode n0\nnode n1\njob app\nrank n0\nput global k v\ncommit\nrank n1\nget app:0 k\nfence app:1,app:2\nrank n1\n"
+KEEPING += b"fence app:1,app:2\nget-now app:0 k\n"
+
+
+def keepings(room):
+    """The runs of plans that keep what gets bring, and of lines `keep` that are refused."""
+    alone, fence = b"rehearsal 2\nkeep\n", b"fence app:1,app:2\n"
+    calls = b"app:0 1 put PMIX_SUCCESS\napp:0 2 commit PMIX_SUCCESS\napp:1 1 get %s\napp:1 2 fence PMIX_SUCCESS\napp:2 1 fence PMIX_SUCCESS\n"
+    calls += b"app:2 2 get-now %s\nwaiting 0\n"
+    found, none, outside = b"PMIX_SUCCESS v", b"PMIX_ERR_NOT_FOUND", b"PMIX_ERR_EXISTS_OUTSIDE_SCOPE"
+    rows = {
+        "a get brings the value": (KEEPING, calls % (found, found)),
+        "without keep a get brings nothing": (KEEPING.replace(b"keep\n", b""), calls % (found, none)),
+        "a local key stays outside": (KEEPING.replace(b"global", b"local"), calls % (outside, none)),
+        "keep alone": (alone, b"waiting 0\n"),
+    }
+    for name, (plan, report) in rows.items():
+        yield Run(f"{name}: check", ["check"], given=plan, wrote=NOTHING)
+        for workers in ("1", "2", "7", "64"):
+            yield Run(f"{name}: {workers} workers", ["replay", "--workers", workers], given=plan, wrote=report)
+    racy, race = KEEPING.replace(fence, b""), b"race app:1 1 app:2 1 key app:0 k\nfindings 1\n"
+    yield Run("a get that brings races: check", ["check"], given=racy, status=1, wrote=race)
+    for workers in ("1", "2", "7", "64"):
+        yield Run(f"a get that brings races: {workers} workers", ["replay", "--workers", workers], given=racy, status=1, wrote=race)
+    yield Run("a migration of a plan that keeps", ["migrate"], given=b"# a note\n" + KEEPING, wrote=KEEPING)
+    refused = {"in version 1": (b"rehearsal 1\nkeep\n", 2), "twice": (alone + b"keep\n", 3), "late": (b"rehearsal 2\nnode a\nkeep\n", 3)}
+    for name, (plan, line) in refused.items():
+        for command in ("check", "replay"):
+            yield Run(f"keep {name}: {command}", [command], given=plan, status=2, said=b"wire_up: fault 4 BadLine %d\n" % line)
+
+
+MACHINE_RANKS, MACHINE_NODES = 4096, 2048
+
+
+def machine(has_fence):
+    """A plan of 4,096 ranks on 2,048 nodes. Each rank gets the card of the other rank of its node and those of two ranks of other nodes."""
+    yield "rehearsal 1"
+    yield from (f"node n{it}" for it in range(MACHINE_NODES))
+    yield "job app"
+    for rank in range(MACHINE_RANKS):
+        yield from (f"rank n{rank // 2}", f"put global card c{rank}", "commit")
+        yield from ["fence all collect"] * has_fence
+        yield from (f"get-now app:{it % MACHINE_RANKS} card" for it in (rank ^ 1, rank + 2, rank - 2))
+
+
+def machine_report():
+    """What `replay` writes of that plan, where it has the fence."""
+    for rank in range(MACHINE_RANKS):
+        yield from (f"app:{rank} {n} {verb} PMIX_SUCCESS" for n, verb in enumerate(("put", "commit", "fence"), 1))
+        others = rank ^ 1, rank + 2, rank - 2
+        yield from (f"app:{rank} {n} get-now PMIX_SUCCESS c{it % MACHINE_RANKS}" for n, it in enumerate(others, 4))
+    yield "waiting 0"
+
+
+def machine_races():
+    """What `check` writes of that plan, where it doesn't have the fence: each get of a card of the same node races with its commit."""
+    for rank in range(0, MACHINE_RANKS, 2):
+        yield f"race app:{rank} 2 app:{rank + 1} 3 key app:{rank} card"
+        yield f"race app:{rank} 3 app:{rank + 1} 2 key app:{rank + 1} card"
+    yield f"findings {MACHINE_RANKS}"
+
+
+def machines(room):
+    """The runs of a plan of a large machine."""
+    fenced, early = (written(room, name, as_lines(machine(it))) for name, it in (("fenced.plan", True), ("early.plan", False)))
+    races = as_lines(machine_races())
+    yield Run("a large machine", ["check", "--large", fenced], wrote=NOTHING)
+    for workers in ("1", "4"):
+        yield Run(f"a large machine, {workers} workers", ["replay", "--large", "--workers", workers, fenced], wrote=as_lines(machine_report()))
+    for command in ("check", "replay"):
+        yield Run(f"a large machine without its fence: {command}", [command, "--large", early], status=1, wrote=races)
+        yield Run(f"a large machine, plainly: {command}", [command, fenced], status=2, said=b"wire_up: fault 8 TooMany 66\n")
 
 
 def start(program, run, **streams):
@@ -357,6 +496,91 @@ def runs_anyway(program, room, workers, as_form):
     return well or tell(name, f"ended with {ran.returncode}, and wrote {ran.stdout[:300]}")
 
 
+def left_on(told):
+    """What is left on a terminal, in its rows, of what was written to it."""
+    rows = []
+    for line in told.decode().split("\n"):
+        row = []
+        for part in line.split("\r"):
+            row[: len(part)] = part
+        rows.append("".join(row).rstrip())
+    return "\n".join(rows).encode()
+
+
+def from_terminal(end):
+    """What was written to a terminal that no program has open any more."""
+    told = b""
+    try:
+        while part := os.read(end, 1 << 16):
+            told += part
+    except OSError:
+        pass
+    os.close(end)
+    return told
+
+
+def slowly(program, words, given, **streams):
+    """Runs a command that gets its bytes over two seconds. Answers its status."""
+    with subprocess.Popen([program, *words], stdin=subprocess.PIPE, cwd=TOP, **streams) as run:
+        run.stdin.write(given[:10])
+        run.stdin.flush()
+        time.sleep(2)
+        run.communicate(given[10:], timeout=SECONDS)
+        return run.returncode
+
+
+def says_nothing(program, name, words, given):
+    """Whether a command that takes long writes the same without a terminal as one that doesn't, and nothing else."""
+    plain = start(program, Run(name, words, given=given), stdout=subprocess.PIPE)
+    with tempfile.TemporaryFile() as wrote, tempfile.TemporaryFile() as said:
+        status = slowly(program, words, given, stdout=wrote, stderr=said)
+        wrote.seek(0)
+        said.seek(0)
+        ran = status, wrote.read(), said.read()
+    return ran == (plain.returncode, plain.stdout, plain.stderr) or tell(name, f"ended with {status}, and said {ran[2][:300]}")
+
+
+def shows_line(program, name, words, given, is_output_shown):
+    """Whether a command that takes long shows on a terminal what it is at, and takes that away before anything else comes there."""
+    plain = start(program, Run(name, words, given=given), stdout=subprocess.PIPE)
+    ours, its = pty.openpty()
+    with tempfile.TemporaryFile() as file:
+        status = slowly(program, words, given, stdout=its if is_output_shown else file, stderr=its)
+        os.close(its)
+        file.seek(0)
+        told, wrote = from_terminal(ours), file.read()
+    shown, _, after = told.rpartition(b" \r")
+    left = (plain.stdout if is_output_shown else b"") + plain.stderr
+    well = (status, wrote) == (plain.returncode, b"" if is_output_shown else plain.stdout)
+    well = well and b"\rwire_up: reading 0 MB" in shown and (left_on(told), after.replace(b"\r", b"")) == (left, left)
+    return well or tell(name, f"ended with {status}, wrote {wrote[:300]} and said {told[:600]}")
+
+
+def shows_none(program, name):
+    """Whether a short command writes nothing to a terminal on standard error."""
+    ours, its = pty.openpty()
+    ran = subprocess.run([program, "check", EXAMPLE], cwd=TOP, stdin=subprocess.DEVNULL, stdout=subprocess.PIPE, stderr=its, timeout=SECONDS, check=False)
+    os.close(its)
+    told = from_terminal(ours)
+    return (ran.returncode, ran.stdout, told) == (0, NOTHING, b"") or tell(name, f"ended with {ran.returncode}, and said {told[:300]}")
+
+
+def lines_shown(program):
+    """Whether each run with a line of progress, or without one, went well. Most of their time they wait, so they go on at once."""
+    rows = {
+        "a slow check": (["check", "--large"], RACY),
+        "a slow plan that is refused": (["replay"], b"rehearsal 1\n\nx\n"),
+        "a slow plan with a call that waits": (["replay", "--complete"], CARDS.replace(b"lookup-wait x", b"lookup-wait y")),
+    }
+    with concurrent.futures.ThreadPoolExecutor(3 * len(rows) + 1) as pool:
+        well = [pool.submit(shows_none, program, "a short command on a terminal")]
+        for name, row in rows.items():
+            well.append(pool.submit(says_nothing, program, name, *row))
+            well.append(pool.submit(shows_line, program, f"{name}, on a terminal", *row, False))
+            well.append(pool.submit(shows_line, program, f"{name}, all on a terminal", *row, True))
+        return [it.result() for it in well]
+
+
 def tell(name, what):
     print(f"{name}: the program {what}")
     return False
@@ -365,8 +589,10 @@ def tell(name, what):
 def all_runs(program):
     """Runs all, and answers how many went well and how many didn't."""
     with tempfile.TemporaryDirectory(prefix="wire-up-") as room:
-        well = [went_well(program, run) for run in (*runs(room), *rehearsals(room), *checks(room), *follows(room), *questions(room))]
+        parts = runs, rehearsals, completions, keepings, checks, follows, questions, migrations, machines
+        well = [went_well(program, run) for part in parts for run in part(room)]
         well += [runs_anyway(program, room, n, form) for n in (1, 2, 7) for form in ([], ["--json"])]
+        well += lines_shown(program)
         well += [breaks_off(program, room, size) for size in (1, 20, len(text_of(ITS_REPORT)) - 1)]
     for kept, shown in ((EXAMPLE, "crates/program/data/business-card.plan"), (ITS_REPORT, "crates/program/stdout")):
         well.append(text_of(kept) == text_of(shown) or tell(shown, f"is run on another text than {kept}"))

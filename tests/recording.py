@@ -269,7 +269,7 @@ def is_refused(name, files, what):
             with open(os.path.join(room, f"{it}.recording"), "wb") as to:
                 to.write(data)
         plan = os.path.join(room, "plan")
-        ran = command("-o", plan, "--from", room)
+        ran = command("-o", plan, "--checker", "/bin/false", "--from", room)
         is_one_line = ran.stderr.count("\n") == 1 and ran.stderr.startswith("wire_up-record: ")
         if ran.returncode != 125 or ran.stdout or not is_one_line or what not in ran.stderr:
             return tell(name, f"ended with {ran.returncode} and said {ran.stderr[:300]}")
@@ -327,6 +327,7 @@ FINDINGS = {"collectives": (0, 0), "early": (1, 1), "names": (0, 2), "ring": (0,
 CASES = {
     "wild1": (3, 1, 2), "wild2": (3, 1, 2), "poll": (2, 0, 1), "probe": (2, 0, 1), "matched": (2, 0, 1), "later": (2, 0, 1), "split": (2, 0, 1),
     "window": (2, 0, 2), "inter": (4, 0, 1), "merged": (4, 0, 1), "jump": (2, 0, 1), "limit": (2, 0, 0),
+    "many": (2, 0, 0),
 }
 FINDINGS |= {name: counts for name, (_, *counts) in CASES.items()} | {"mpi4py": (0, 3), "sleep": (0, 0)}
 # What the checker says is in two plans of one recording, where a poll succeeded.
@@ -858,6 +859,23 @@ def leaves_out_gets(room):
     return is_well or tell("many gets", f"becomes {plan[:600]}")
 
 
+def uses_large(room):
+    """Whether a plan past the plain limits is written where the checker has --large, and says so at its head."""
+    checker = os.path.join(room, "checker")
+    with open(checker, "w", encoding="ascii") as it:
+        it.write("#!/bin/sh\necho '      --large  lifts the limits'\n")
+    os.chmod(checker, 0o755)
+    tape = Tape()
+    for _ in range(16385):
+        tape.call("commit")
+    with open(os.path.join(room, "large.0"), "wb") as to:
+        to.write(tape.text())
+    made_by = [command("-o", "-", "--checker", it, "--from", os.path.join(room, "large.0")) for it in (checker, "/bin/false")]
+    said = "# Larger than the plain limits: `wire_up check --large` reads it.\n"
+    is_well = said in made_by[0].stdout and made_by[0].stdout.count("\ncommit") == 16385 and [it.returncode for it in made_by] == [0, 125]
+    return is_well or tell("--large", f"made {made_by[0].stdout[:300]} and said {made_by[0].stderr} {made_by[1].stderr}")
+
+
 def says_in_part(room):
     """Whether a plan that is more ordered than the program is said to be so, beside its head."""
     tapes = Tape(0), Tape(1)
@@ -939,6 +957,8 @@ LIVE = {"names": (4, 0), "ring": (4, 0), "collectives": (4, 0), "told": (2, 0), 
 def live_lacks():
     """What is missing for live tests, if anything is."""
     lacking = [it for it in ("mpicc", "mpirun", "make", "cc") if not shutil.which(it)]
+    if re.search(r"[\s:;]", TOP):
+        lacking.append("recorder that could be preloaded from a path with spaces, colons or semicolons")
     if shutil.which("mpirun") and not runs_plainly():
         lacking.append("mpirun of Open MPI that can run")
     if shutil.which("pkg-config") and subprocess.run(["pkg-config", "--exists", "pmix"], check=False).returncode:
@@ -1017,6 +1037,16 @@ def cases_live(program, room):
     return not wrong or tell("poll, live, strict", wrong)
 
 
+def is_too_long(room, path):
+    """Whether a program with more calls than a plan may have is told so, and its recordings stay."""
+    kept = os.path.join(room, "too-many")
+    words = ["-o", os.path.join(room, "too-many.plan"), "--checker", "/bin/false", "--keep", kept]
+    ran = command(*words, *MPIRUN, "2", path, "toomany", env=environment())
+    said = re.search(r"a plan has at most 16,384 calls, and this one would have 20,0\d\d\n", ran.stderr)
+    is_well = ran.returncode == 125 and ran.stdout == "toomany done\n" and said and len(glob.glob(os.path.join(kept, "*.recording"))) == 2
+    return bool(is_well) or tell("too many calls, live", f"ended with {ran.returncode}, wrote {ran.stdout[:300]} and said {ran.stderr[:300]}")
+
+
 def python_live(program, room):
     """Whether a program of mpi4py is recorded without false findings; where there is no mpi4py, says so."""
     pythons = [it for it in (sys.executable, shutil.which("python3", path=os.defpath)) if it]
@@ -1035,7 +1065,7 @@ def python_live(program, room):
 def holds_many(program, room):
     """Whether a program of 128 processes is recorded and judged; where the machine is too small, says so."""
     pages = os.sysconf("SC_PHYS_PAGES") * os.sysconf("SC_PAGE_SIZE")
-    if os.cpu_count() < 4 or pages < 8 << 30:
+    if len(os.sched_getaffinity(0)) < 4 or pages < 8 << 30:
         print("recording: no program of 128 processes was recorded: that takes 4 cores and 8 GiB of memory")
         return True
     plan = os.path.join(room, "many.plan")
@@ -1050,9 +1080,9 @@ def hands_on(room):
     for number in (signal.SIGTERM, signal.SIGINT, signal.SIGHUP):
         with tempfile.TemporaryDirectory(prefix="wire-up-") as here:
             words = [sys.executable, COMMAND, "-o", os.path.join(here, "plan"), *MPIRUN, "2", path, "sleep"]
-            began = time.monotonic()
             with subprocess.Popen(words, stdout=subprocess.DEVNULL, stderr=subprocess.PIPE, text=True, env=environment()) as ran:
                 wait_for_recordings(here, 2)
+                began = time.monotonic()
                 ran.send_signal(number)
                 said = ran.communicate(timeout=SECONDS)[1]
             is_well = ran.returncode not in (0, 125) and time.monotonic() - began < 5.5 and os.listdir(here) == ["plan"] and "the command ended" in said
@@ -1061,8 +1091,8 @@ def hands_on(room):
 
 
 def wait_for_recordings(folder, count):
-    """Waits until so many recordings have the world of MPI in them."""
-    for _ in range(200):
+    """Waits until so many recordings have the world of MPI in them: not for long, but on a slow machine."""
+    for _ in range(2000):
         time.sleep(0.02)
         files = glob.glob(os.path.join(folder, "wire_up-record-*", "*.recording"))
         if len(files) == count and all(b" world " in open(it, "rb").read() for it in files):
@@ -1085,6 +1115,8 @@ def sees_the_same(room, option):
         compiled(room, "calls")
     run = ["mpirun", "--oversubscribe", "-n", "2", path, *option]
     ran, same = runs_alike(run, "-o", plan)
+    if not os.path.exists(plan):
+        return tell("calls, live", f"ended with {ran.returncode}, made no plan and said {ran.stderr[:300]}")
     with open(plan, encoding="ascii") as it:
         count = it.read().count("\nput ")
     wanted = 14 + 400 * bool(option)
@@ -1176,7 +1208,7 @@ def live(program):
         well = [lives(program, room, name, *how) for name, how in LIVE.items()]
         well += [sees_the_same(room, []), sees_the_same(room, ["threads"]), is_followed(program, room), outlives(program, room)]
         well += [is_used(*it) for it in commands(room)]
-        well += [cases_live(program, room), python_live(program, room), hands_on(room), runs_scripts(program, room), holds_many(program, room)]
+        well += [cases_live(program, room), is_too_long(room, os.path.join(room, "cases")), python_live(program, room), hands_on(room), runs_scripts(program, room), holds_many(program, room)]
         if shutil.which("valgrind"):
             well.append(is_without_fault(room))
         else:
@@ -1195,7 +1227,7 @@ def all_runs(program):
         well += [is_ordered(room, seed, is_short) for seed in range(RANDOM_PROGRAMS) for is_short in (False, True)]
         free = [it for it in (is_free(room, seed) for seed in range(FREE_PROGRAMS)) if it is not None]
         well += [*free, len(free) > FREE_PROGRAMS // 3 or tell("free runs", f"only {len(free)} have a run that ends")]
-        well += [is_shortened(room), takes_no_luck(room), leaves_out_gets(room), says_in_part(room), counts_others()]
+        well += [is_shortened(room), takes_no_luck(room), leaves_out_gets(room), says_in_part(room), uses_large(room), counts_others()]
     well += [is_refused(*it) for it in damages()]
     well += [ships(program, name, counts) for name, counts in FINDINGS.items()]
     well.append(says_where(program))

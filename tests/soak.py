@@ -9,8 +9,11 @@ holds for each file:
 - Nothing comes on standard output after a fault. No run ends by a signal, by a status that isn't documented, or takes over 10 seconds.
 - A command writes the same about the file, the same bytes on standard input, standard input that gives one byte a call, the canonical
   text, and the file with comments, blank lines, tabs and carriage returns added.
+- `migrate` writes the canonical text under version 2 that the second reader has, and `check` and `replay`, with 1 and 7 workers, write the
+  same about it. `--large` changes no byte of what `check` writes.
 - Without findings `replay` writes the same with 1, 2, 7 and 64 workers, its JSON form says the same, and so does the report of a random
-  complete order. With findings it writes those that `check` writes, and the order of `--anyway`, followed, gives its report.
+  complete order. With findings it writes those that `check` writes, and the order of `--anyway`, followed, gives its report. `--complete`
+  changes no byte of either, and tells the first line of the report that isn't `PMIX_SUCCESS`.
 - `why` says the same of two calls in both directions. A question or an order that the second reader refuses is refused with the fault that
   it names. Where a step can't be taken, the order before it can be followed, and leaves that rank unready.
 
@@ -40,6 +43,7 @@ SECONDS, MOST_DIFFERENCES, REDUCE_SECONDS = 10, 20, 60
 MOST_BYTES, MOST_STEPS = 4_000, 24
 WORKERS = (1, 2, 7, 64)
 FAULT = re.compile(rb"wire_up: fault (\d+) (\w+)( \d+)?\n")
+FAILED_CALL = re.compile(rb"wire_up: \S+:\d+ \d+ [a-z-]+ (?:[A-Z_]+|waiting|unreached)\n")
 
 Ran = collections.namedtuple("Ran", "status wrote said")
 
@@ -74,7 +78,7 @@ class Maker:
         self.jobs = dice.sample(NAMES[:10], dice.choice((1, 1, 1, 2, 2, 3)))
         self.sizes = [dice.choice((0, 1, 2, 2, 2, 3, 3, 3, 4, 6)) for _ in self.jobs]
         if dice.random() < 0.01:
-            self.sizes[0] = dice.choice((40, 255, 256, 257))
+            self.sizes[0] = dice.choice((40, 255, 256, 257, 512, 513))
         self.procs = [b"%s:%d" % (job, rank) for job, size in zip(self.jobs, self.sizes) for rank in range(size)]
         self.puts, self.published = collections.defaultdict(list), []
 
@@ -136,7 +140,9 @@ class Maker:
     def lines(self):
         """The lines, each a list of words."""
         dice, most = self.dice, self.dice.choice((2, 4, 8, 14))
-        lines = [[b"rehearsal", b"1"], *([b"node", it] for it in self.nodes)]
+        version = dice.choice((b"1", b"2", b"2"))
+        keep = [[b"keep"]] if dice.random() < (0.01 if version == b"1" else 0.5) else []
+        lines = [[b"rehearsal", version], *keep, *([b"node", it] for it in self.nodes)]
         for job, size in zip(self.jobs, self.sizes):
             lines.append([b"job", job])
             for rank in range(size):
@@ -254,7 +260,8 @@ class Runner:
             raise Difference(f"no end of {words[0]}", f"{named}: had not ended after {SECONDS} seconds") from slow
         self.slowest = max(self.slowest, (time.monotonic() - began, named))
         fault = FAULT.fullmatch(ran.said)
-        is_known = (ran.status in (0, 1) and not ran.said) or (ran.status in (2, 3, 4) and fault)
+        is_told = "--complete" in words and ran.status == 1 and FAILED_CALL.fullmatch(ran.said)
+        is_known = (ran.status in (0, 1) and not ran.said) or is_told or (ran.status in (2, 3, 4) and fault)
         if not is_known:
             raise Difference(f"a crash of {words[0]}", f"{named}: ended with {ran.status}, and said {ran.said[:300]}")
         if fault:
@@ -325,6 +332,8 @@ class Look:
         self.scripts, self.canonical = scripts, grammar.canonical(scripts)
         same("canonical text that reads as another", self.canonical, grammar.canonical(grammar.read(self.canonical)))
         checked = self.at_inputs("check")
+        self.at_version_2()
+        same("another answer with large limits", checked, self.runner.run("check", "--large", self.path))
         self.at_questions()
         self.at_odd_question()
         self.at_order(b"", "an empty order")
@@ -336,11 +345,21 @@ class Look:
         self.at_report()
         return "without findings"
 
+    def at_version_2(self):
+        """The same plan under version 2: it is written as the second reader writes it, and answered as it was."""
+        text = grammar.canonical(self.scripts._replace(version=b"2"))
+        same("another migrated text", Ran(0, text, b""), self.runner.run("migrate", self.path))
+        if len(text) <= grammar.FILE_BYTES:
+            same("a migrated text that is migrated otherwise", Ran(0, text, b""), self.runner.run("migrate", given=text))
+            for words in (["check"], ["replay"], ["replay", "--workers", "7"]):
+                was, now = self.runner.run(*words, self.path), self.runner.run(*words, given=text)
+                same(f"another answer of {words[0]} under version 2", was, now)
+
     def at_refusal(self, said):
         """Each command refuses the file alike."""
         order, refused = self.runner.written("it.order", b"app:9\n"), Ran(2, b"", said)
         replays = [["replay"], ["replay", "--json", "--workers", "2"], ["replay", "--anyway"]]
-        for words in (["check"], *replays, ["follow", order], ["why", "a:0", "1", "x", "0"]):
+        for words in (["check"], *replays, ["follow", order], ["why", "a:0", "1", "x", "0"], ["migrate"]):
             same(f"a refusal by {words[0]}", refused, self.runner.run(*words, self.path), "the second reader's and the program's")
         same("a refusal of standard input", refused, self.runner.run("check", given=self.text))
         if self.is_small:
@@ -372,6 +391,9 @@ class Look:
         for workers in (1, self.dice.choice(WORKERS)):
             same("another form", as_form, self.runner.run("replay", "--json", f"--workers={workers}", self.path), "text and JSON")
         same("another report anyway", report, self.runner.run("replay", "--anyway", self.path))
+        failed = [line for line in report.wrote.splitlines(True)[:-1] if line.split()[3] != b"PMIX_SUCCESS"]
+        complete = report._replace(status=int(bool(failed)), said=b"".join([b"wire_up: ", *failed[:1]]) if failed else b"")
+        same("the answer of --complete", complete, self.runner.run("replay", "--complete", self.path))
         events = sum(1 + (words[0] == b"fence") for it in self.scripts.procs for words in it.calls)
         if self.is_small and events <= MOST_STEPS:
             self.at_complete_order(report)
@@ -400,6 +422,7 @@ class Look:
         same("the count of findings", f"findings {len(lines)}", last)
         same("the status of findings", (1, b""), (checked.status, checked.said))
         same("other findings", checked, self.runner.run("replay", self.path), "check and replay")
+        same("other findings, with --complete", checked, self.runner.run("replay", "--complete", self.path), "check and replay")
         form = json.dumps({"findings": lines}, separators=(",", ":")).encode() + b"\n"
         same("another form of findings", checked._replace(wrote=form), self.runner.run("replay", "--json", "--workers", "2", self.path))
         for workers in (1, self.dice.choice(WORKERS)):
