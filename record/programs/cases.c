@@ -6,7 +6,7 @@
  *                     ordered by a probe, a matched probe, a collective that doesn't block, by calls that make a communicator or a window,
  *                     by communicators of two groups, and by a message after a jump out of MPI: no race
  *   limit             the recording gets no more room than 16 KiB
- *   sleep             takes six seconds
+ *   sleep             takes six seconds; many and toomany: each process publishes 100 names, or 5000, and takes each away at once
  */
 #include <mpi.h>
 #include <setjmp.h>
@@ -172,6 +172,16 @@ static void limit(void)
     }
 }
 
+static void many(int count)
+{
+    char name[MPI_MAX_PORT_NAME];
+    for (int n = 0; n < count; n++) {
+        snprintf(name, sizeof name, "many.%d.%d", rank, n);
+        publish(name);
+        MPI_Unpublish_name(name, MPI_INFO_NULL, "port");
+    }
+}
+
 int main(int count, char **words)
 {
     const char *which = count > 1 ? words[1] : "";
@@ -196,6 +206,8 @@ int main(int count, char **words)
         jump();
     else if (!strcmp(which, "limit"))
         limit();
+    else if (!strcmp(which, "many") || !strcmp(which, "toomany"))
+        many(*which == 'm' ? 100 : 5000);
     else if (!strcmp(which, "sleep"))
         sleep(6);
     if (rank == 0)

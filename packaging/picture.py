@@ -1,0 +1,62 @@
+"""Makes docs/report.png, the picture in README.md: the report of an example, as a browser shows it. It needs Chromium.
+
+Usage: python3 packaging/picture.py PROGRAM [FILE]     FILE is where the picture goes, else docs/report.png
+"""
+import os
+import re
+import shutil
+import subprocess
+import sys
+import tempfile
+
+TOP = os.path.dirname(os.path.dirname(os.path.abspath(__file__)))
+PLAN = os.path.join(TOP, "examples", "early-get.plan")
+PLACE = os.path.join(TOP, "docs", "report.png")
+WIDTH, SECONDS = 960, 120
+# How the browser runs without a screen, and where little memory is shared.
+HEADLESS = ["--headless", "--no-sandbox", "--disable-gpu", "--disable-dev-shm-usage", "--hide-scrollbars"]
+# Writes how high the report is. What stands below its diagram is left out: the plan, which README.md shows itself.
+MEASURE = """<!DOCTYPE html><pre id="said"></pre><iframe src="report.html" width="{width}" height="600" frameborder="0" onload="
+const last = this.contentDocument.querySelector('section.long');
+document.getElementById('said').textContent = Math.ceil(last.getBoundingClientRect().top)"></iframe>"""
+
+
+def browser():
+    """The path of Chromium, or of a browser made from it; None where there is none."""
+    return next(filter(None, map(shutil.which, ("chromium", "chromium-browser", "google-chrome"))), None)
+
+
+def shown(room, *words):
+    """What the browser writes of a page."""
+    how = [*HEADLESS, "--allow-file-access-from-files", f"--user-data-dir={room}/profile"]
+    ran = subprocess.run([browser(), *how, *words], stdin=subprocess.DEVNULL, capture_output=True, text=True, errors="replace", timeout=SECONDS, check=False)
+    return ran.stdout
+
+
+def picture(program, path):
+    """Makes the picture. Answers what was wrong, if anything."""
+    with tempfile.TemporaryDirectory(prefix="wire-up-picture-", ignore_cleanup_errors=True) as room:
+        page, made = os.path.join(room, "report.html"), os.path.join(room, "made.png")
+        words = [sys.executable, os.path.join(TOP, "wire_up-report"), "--checker", program, "-o", page, PLAN]
+        ran = subprocess.run(words, stdin=subprocess.DEVNULL, capture_output=True, text=True, errors="replace", timeout=SECONDS, check=False)
+        if ran.returncode != 1:
+            return ran.stderr or f"wire_up-report ended with status {ran.returncode}"
+        with open(os.path.join(room, "measure.html"), "w", encoding="ascii") as it:
+            it.write(MEASURE.format(width=WIDTH))
+        height = re.search(r'<pre id="said">(\d+)</pre>', shown(room, "--virtual-time-budget=10000", "--dump-dom", f"file://{room}/measure.html"))
+        if height:
+            shown(room, f"--window-size={WIDTH},{height[1]}", f"--screenshot={made}", f"file://{page}")
+        if not height or not os.path.exists(made):
+            return "the browser made no picture"
+        shutil.copyfile(made, path)
+    return None
+
+
+if __name__ == "__main__":
+    if len(sys.argv) not in (2, 3):
+        sys.exit(__doc__)
+    if not os.access(sys.argv[1], os.X_OK):
+        sys.exit(f"there is no {sys.argv[1]}: make run builds it")
+    if not browser():
+        sys.exit("there is no chromium: on Debian the package has that name")
+    sys.exit(picture(os.path.abspath(sys.argv[1]), sys.argv[2] if len(sys.argv) == 3 else PLACE))
