@@ -204,7 +204,7 @@ fn judge(
     plan: &Plan,
 ) -> Result<(Marks, Vec<Finding>), Fault>
     ensures marks { IfOk result (λ r. AreMarks (plan_of plan.now) r.0) }
-    ensures findings { IfOk result (λ r. AreFindings (plan_of plan.now) r.1.items) }
+    ensures findings { IfOk result (λ r. AreFindings plan.now r.1.items) }
 {
     let marks = Marks::of(rt.alloc(), plan)?;
     let found = findings(rt, rt.alloc(), plan, &marks)?;

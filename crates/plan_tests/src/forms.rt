@@ -46,13 +46,15 @@ commit
 rank n1
 get app:0 k
 ",
-        report: "{\"ranks\":[{\"calls\":[{\"reply\":\"PMIX_SUCCESS\",\"verb\":\"put\"},{\"reply\":\"PMIX_SUCCESS\",\"verb\":\"commit\"}],\"proc\":\"app:0\"},{\"calls\":[{\"reply\":\"PMIX_SUCCESS\",\"value\":\"v\",\"verb\":\"get\"}],\"proc\":\"app:1\"}],\"waiting\":0}\n",
+        report: "{\"ranks\":[{\"calls\":[{\"reply\":\"PMIX_SUCCESS\",\"verb\":\"put\"},{\"reply\":\"PMIX_SUCCESS\",\"verb\":\"commit\"}],\
+            \"proc\":\"app:0\"},{\"calls\":[{\"reply\":\"PMIX_SUCCESS\",\"value\":\"v\",\"verb\":\"get\"}],\"proc\":\"app:1\"}],\"waiting\":0}\n",
         findings: "{\"findings\":[]}\n",
     },
     Reported {
         name: "a race",
         plan: RACE,
-        report: "{\"ranks\":[{\"calls\":[{\"reply\":\"PMIX_SUCCESS\",\"verb\":\"put\"},{\"reply\":\"PMIX_SUCCESS\",\"verb\":\"commit\"}],\"proc\":\"app:0\"},{\"calls\":[{\"reply\":\"PMIX_SUCCESS\",\"value\":\"v\",\"verb\":\"get-now\"}],\"proc\":\"app:1\"}],\"waiting\":0}\n",
+        report: "{\"ranks\":[{\"calls\":[{\"reply\":\"PMIX_SUCCESS\",\"verb\":\"put\"},{\"reply\":\"PMIX_SUCCESS\",\"verb\":\"commit\"}],\
+            \"proc\":\"app:0\"},{\"calls\":[{\"reply\":\"PMIX_SUCCESS\",\"value\":\"v\",\"verb\":\"get-now\"}],\"proc\":\"app:1\"}],\"waiting\":0}\n",
         findings: "{\"findings\":[\"race app:0 2 app:1 1 key app:0 k\"]}\n",
     },
     Reported {
@@ -69,7 +71,9 @@ get \"a\\:0 PMIX_RANK
 get \"a\\:0 none
 commit
 ",
-        report: "{\"ranks\":[{\"calls\":[{\"reply\":\"PMIX_SUCCESS\",\"verb\":\"put\"},{\"reply\":\"PMIX_SUCCESS\",\"verb\":\"put\"},{\"reply\":\"PMIX_SUCCESS\",\"value\":\"\\\\v/\\\"\",\"verb\":\"get\"},{\"reply\":\"PMIX_SUCCESS\",\"value\":\"0\",\"verb\":\"get\"},{\"reply\":\"waiting\",\"verb\":\"get\"},{\"reply\":\"unreached\",\"verb\":\"commit\"}],\"proc\":\"\\\"a\\\\:0\"}],\"waiting\":1}\n",
+        report: "{\"ranks\":[{\"calls\":[{\"reply\":\"PMIX_SUCCESS\",\"verb\":\"put\"},{\"reply\":\"PMIX_SUCCESS\",\"verb\":\"put\"},\
+            {\"reply\":\"PMIX_SUCCESS\",\"value\":\"\\\\v/\\\"\",\"verb\":\"get\"},{\"reply\":\"PMIX_SUCCESS\",\"value\":\"0\",\"verb\":\"get\"},\
+            {\"reply\":\"waiting\",\"verb\":\"get\"},{\"reply\":\"unreached\",\"verb\":\"commit\"}],\"proc\":\"\\\"a\\\\:0\"}],\"waiting\":1}\n",
         findings: "{\"findings\":[\"rewrite \\\"a\\\\:0 1 2 \\\"k\\\\\"]}\n",
     },
 ];
@@ -183,7 +187,9 @@ fn unsettled(rt: HostRuntime) -> Result<(), Fail> {
         &rt,
         "as JSON",
         json,
-        "{\"order\":[\"app:0\",\"app:1\",\"app:0\"],\"ranks\":[{\"calls\":[{\"reply\":\"PMIX_SUCCESS\",\"verb\":\"put\"},{\"reply\":\"PMIX_SUCCESS\",\"verb\":\"commit\"}],\"proc\":\"app:0\"},{\"calls\":[{\"reply\":\"PMIX_ERR_NOT_FOUND\",\"verb\":\"get-now\"}],\"proc\":\"app:1\"}],\"unsettled\":true,\"waiting\":0}\n",
+        "{\"order\":[\"app:0\",\"app:1\",\"app:0\"],\"ranks\":[{\"calls\":[{\"reply\":\"PMIX_SUCCESS\",\"verb\":\"put\"},{\"reply\":\"PMIX_SUCCESS\",\
+            \"verb\":\"commit\"}],\"proc\":\"app:0\"},{\"calls\":[{\"reply\":\"PMIX_ERR_NOT_FOUND\",\"verb\":\"get-now\"}],\"proc\":\"app:1\"}],\
+            \"unsettled\":true,\"waiting\":0}\n",
     );
     Ok(())
 }

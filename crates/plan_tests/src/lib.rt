@@ -24,6 +24,8 @@ mod reports;
 #[cfg(test)]
 mod rounds;
 #[cfg(test)]
+mod sweeps;
+#[cfg(test)]
 mod tests;
 #[cfg(test)]
 mod texts;

@@ -167,7 +167,7 @@ unpublish *
         fault: Fault::BadLine(5),
     },
     Refusal {
-        name: "a line of another version",
+        name: "a line of version 2 under version 1",
         plan: b"\
 rehearsal 1
 keep
@@ -266,7 +266,7 @@ rehearsal 1
     },
 ];
 
-static LATER: [Refusal; 23] = [
+static LATER: [Refusal; 22] = [
     Refusal {
         name: "a call before the first rank of its job",
         plan: b"\
@@ -287,14 +287,6 @@ job a
 job a
 ",
         fault: Fault::Twice(3),
-    },
-    Refusal {
-        name: "a line of version 2 under version 1",
-        plan: b"\
-rehearsal 1
-keep
-",
-        fault: Fault::BadLine(2),
     },
     Refusal {
         name: "an unknown scope",

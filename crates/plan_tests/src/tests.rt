@@ -145,7 +145,8 @@ fn reports(rt: HostRuntime) -> Result<(), Fail> {
     check_reports(&rt, alloc, crate::reports::all())?;
     check_reports(&rt, alloc, crate::fences::all())?;
     check_reports(&rt, alloc, crate::names::all())?;
-    check_reports(&rt, alloc, crate::keeps::all())
+    check_reports(&rt, alloc, crate::keeps::all())?;
+    check_reports(&rt, alloc, crate::sweeps::all())
 }
 
 /// The text of a plan under version 2.
@@ -234,6 +235,7 @@ fn refusals(rt: HostRuntime) -> Result<(), Fail> {
     check_refusals(&rt, rt.alloc(), crate::refusals::all());
     check_refusals(&rt, rt.alloc(), crate::refusals::later());
     check_refusals(&rt, rt.alloc(), crate::keeps::refused());
+    check_refusals(&rt, rt.alloc(), crate::sweeps::refused());
     Ok(())
 }
 
@@ -535,7 +537,12 @@ fn findings(rt: HostRuntime) -> Result<(), Fail> {
     check_reported(&rt, alloc, crate::fences::all());
     check_reported(&rt, alloc, crate::names::all());
     check_reported(&rt, alloc, crate::keeps::all());
+    check_reported(&rt, alloc, crate::sweeps::all());
     for row in crate::findings::all() {
+        check_found(&rt, alloc, row, 1);
+        check_found(&rt, alloc, row, usize::MAX);
+    }
+    for row in crate::sweeps::racing() {
         check_found(&rt, alloc, row, 1);
         check_found(&rt, alloc, row, usize::MAX);
     }
@@ -546,6 +553,9 @@ fn findings(rt: HostRuntime) -> Result<(), Fail> {
         check_unfound(&rt, alloc, row);
     }
     for row in crate::keeps::refused() {
+        check_unfound(&rt, alloc, row);
+    }
+    for row in crate::sweeps::refused() {
         check_unfound(&rt, alloc, row);
     }
     Ok(())

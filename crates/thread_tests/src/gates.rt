@@ -81,17 +81,19 @@ impl Gate for Later {
     }
 }
 
-/// Counts the passes of process 0 by workers, and those of a collector beside one worker.
+/// Counts the passes of a process by a worker, and those of a collector beside it.
 #[derive(Drop)]
 pub(crate) struct Counter {
-    pub(crate) first: AtomicU64,
+    proc: Proc,
+    pub(crate) passes: AtomicU64,
     pub(crate) collector: AtomicU64,
 }
 
 impl Counter {
-    pub(crate) fn new() -> Counter {
+    pub(crate) fn of(proc: Proc) -> Counter {
         Counter {
-            first: AtomicU64::new(0),
+            proc,
+            passes: AtomicU64::new(0),
             collector: AtomicU64::new(0),
         }
     }
@@ -101,8 +103,8 @@ impl Gate for Counter {
     fn pass(&self, worker: usize, proc: Proc) {
         if worker > 0 {
             self.collector.fetch_add(1, Ordering::SeqCst);
-        } else if proc.number == 0 {
-            self.first.fetch_add(1, Ordering::SeqCst);
+        } else if proc.number == self.proc.number {
+            self.passes.fetch_add(1, Ordering::SeqCst);
         }
     }
 }

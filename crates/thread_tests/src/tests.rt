@@ -67,6 +67,26 @@ fence app:1,app:2
 get-now app:0 k
 ";
 
+/// The first process takes away all that it published, before the second looks for it and publishes one of the
+/// names itself.
+const SWEPT: &[u8] = b"\
+rehearsal 2
+node n0
+node n1
+job app
+rank n0
+publish x 7
+publish y 8
+unpublish *
+fence all
+rank n1
+fence all
+lookup x
+lookup y
+publish y 9
+unpublish *
+";
+
 /// Two processes that wait for nothing.
 pub(crate) const APART: &[u8] = b"\
 rehearsal 1
@@ -159,7 +179,7 @@ fn judged<R: Threads + Sync>(
     plan: &Plan,
 ) -> Result<(Marks, Vec<Finding>), Fault>
     ensures marks { IfOk result (λ r. AreMarks (plan_of plan.now) r.0) }
-    ensures findings { IfOk result (λ r. AreFindings (plan_of plan.now) r.1.items) }
+    ensures findings { IfOk result (λ r. AreFindings plan.now r.1.items) }
 {
     let marks = Marks::of(alloc, plan)?;
     let found = findings(rt, alloc, plan, &marks)?;
@@ -335,17 +355,34 @@ fn the_collector_serves_nothing(rt: HostRuntime) -> Result<(), Fail> {
         (IN_A_ROW, 3),
         (CARDS, 2),
     ] {
-        let gate = Counter::new();
+        let gate = Counter::of(Proc::new(0));
         let (outcome, _) = ran(&rt, alloc, file, 1, &gate)?;
         assert_eq!(rt; outcome.waiting, 0);
-        assert_eq!(rt; gate.first.load(Ordering::SeqCst), rounds);
+        assert_eq!(rt; gate.passes.load(Ordering::SeqCst), rounds);
         assert_eq!(rt; gate.collector.load(Ordering::SeqCst), 0);
-        let gate = Counter::new();
+        let gate = Counter::of(Proc::new(0));
         let settled = ran_settled(&rt, alloc, file, 1, &gate)?;
         assert_eq!(rt; settled.waiting, 0);
-        assert_eq!(rt; gate.first.load(Ordering::SeqCst), rounds);
+        assert_eq!(rt; gate.passes.load(Ordering::SeqCst), rounds);
         assert_eq!(rt; gate.collector.load(Ordering::SeqCst), 0);
     }
+    Ok(())
+}
+
+/// Over a board, a worker serves what its own steps set free in the same turn, so the last rank of a row is passed once. Under one lock
+/// it is passed in each round.
+#[test]
+fn turns_save_rounds(rt: HostRuntime) -> Result<(), Fail> {
+    let alloc = rt.alloc();
+    let last = Proc::new(4);
+    let locked = Counter::of(last);
+    let (outcome, _) = ran(&rt, alloc, IN_A_ROW, 1, &locked)?;
+    assert_eq!(rt; outcome.waiting, 0);
+    assert_eq!(rt; locked.passes.load(Ordering::SeqCst), 3);
+    let board = Counter::of(last);
+    let settled = ran_settled(&rt, alloc, IN_A_ROW, 1, &board)?;
+    assert_eq!(rt; settled.waiting, 0);
+    assert_eq!(rt; board.passes.load(Ordering::SeqCst), 1);
     Ok(())
 }
 
@@ -363,6 +400,19 @@ fn numbers_of_workers(rt: HostRuntime) -> Result<(), Fail> {
         let (outcome, _) = ran(&rt, alloc, IN_A_ROW, workers, &OpenGate)?;
         let settled = ran_settled(&rt, alloc, IN_A_ROW, workers, &OpenGate)?;
         assert!(rt; settled.rows == outcome.rows && settled.waiting == outcome.waiting);
+    }
+    Ok(())
+}
+
+/// However many workers there are, a call takes away all names that its process has published.
+#[test]
+fn workers_take_names_away(rt: HostRuntime) -> Result<(), Fail> {
+    let alloc = rt.alloc();
+    for workers in [1usize, 2, 7, 64] {
+        let (outcome, _) = ran(&rt, alloc, SWEPT, workers, &OpenGate)?;
+        let settled = ran_settled(&rt, alloc, SWEPT, workers, &OpenGate)?;
+        assert!(rt; settled.rows == outcome.rows && settled.waiting == outcome.waiting);
+        assert_eq!(rt; last_status(&settled, 0), Some(Status::Success));
     }
     Ok(())
 }

@@ -33,7 +33,7 @@ settled_too s found ended ends law = (
 )
 
 -- what the findings that there are tell
-pub judged_so : (s : Scripts) (found counted : List Finding) (ended : Ended) → ((found ≡ []) ↔ IsSettled (plan_of s)) → AreFindings (plan_of s) found → counted ≡ found → ended ≡ ended_with counted →
+pub judged_so : (s : Scripts) (found counted : List Finding) (ended : Ended) → ((found ≡ []) ↔ IsSettled (plan_of s)) → AreFindings s found → counted ≡ found → ended ≡ ended_with counted →
     IsJudged s found ended
 judged_so s found counted ended law those count ends =
     let ended_so : ended ≡ ended_with found = ends ∙ ap ended_with count in
@@ -43,11 +43,11 @@ judged_so s found counted ended law those count ends =
       ends = ended_so;
       settled = settled;
       one_end = λ clean. (plain_runs (plan_of s)).is_the_end (settled.0 clean);
-      unordered = λ f there. races_are_unordered (plan_of s) f (((those (λ a b. false)).those f).0 there);
+      unordered = λ f there. races_are_unordered (plan_of s) f ((those.those f).0 there);
     }
 
 -- and what is told of them
-pub judged_told : (s shown : Scripts) (found seen counted : List Finding) (ended : Ended) (text : List ℕ) → ((found ≡ []) ↔ IsSettled (plan_of s)) → AreFindings (plan_of s) found → shown ≡ s →
+pub judged_told : (s shown : Scripts) (found seen counted : List Finding) (ended : Ended) (text : List ℕ) → ((found ≡ []) ↔ IsSettled (plan_of s)) → AreFindings s found → shown ≡ s →
     seen ≡ found → counted ≡ found
     → text ≡ findings_report shown seen → ended ≡ ended_with counted → IsVerdict s ended text
 judged_told s shown found seen counted ended text law those same is count told ends =
@@ -55,7 +55,7 @@ judged_told s shown found seen counted ended text law those same is count told e
     record { found = found; judged = judged_so s found counted ended law those count ends; tells = told ∙ all }
 
 -- all of it went out
-pub told : (s shown : Scripts) (found seen counted : List Finding) (ended : Ended) (old new : Option (List ℕ)) → ((found ≡ []) ↔ IsSettled (plan_of s)) → AreFindings (plan_of s) found → shown ≡ s →
+pub told : (s shown : Scripts) (found seen counted : List Finding) (ended : Ended) (old new : Option (List ℕ)) → ((found ≡ []) ↔ IsSettled (plan_of s)) → AreFindings s found → shown ≡ s →
     seen ≡ found → counted ≡ found
     → ended ≡ ended_with counted → Appends old new (findings_report shown seen) → WritesVerdict s ended old new
 told s shown found seen counted ended old new law those same is count ends wrote =
@@ -63,7 +63,7 @@ told s shown found seen counted ended old new law those same is count ends wrote
 
 -- the front of it went out
 pub told_front : (s shown : Scripts) (found seen counted : List Finding) (ended : Ended) (old new : Option (List ℕ)) (e : Fault) → ((found ≡ []) ↔ IsSettled (plan_of s)) →
-    AreFindings (plan_of s) found → shown ≡ s → seen ≡ found → counted ≡ found
+    AreFindings s found → shown ≡ s → seen ≡ found → counted ≡ found
     → ended ≡ ended_with counted → WritesFront old new (findings_report shown seen) e → BreaksOffVerdict s old new e
 told_front s shown found seen counted ended old new e law those same is count ends wrote =
     record { ended = ended; text = findings_report shown seen; verdict = judged_told s shown found seen counted ended (findings_report shown seen) law those same is count refl ends; wrote = wrote }

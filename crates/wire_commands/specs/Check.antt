@@ -35,7 +35,7 @@ NoneIsOrdered plan found = (f : runs.Finding) → runs.Has (all_shown plan found
 -- these are the findings of the scripts, and it ends so: clean exactly where there is nothing to find, and then every interleaving that
 -- can't go on ends in one state. The calls of each race are live, and no chain orders them
 pub record IsJudged (scripts : Scripts) (found : List Finding) (ended : Ended) : Type 0 where
-  pub those : AreFindings (plan_of scripts) found
+  pub those : AreFindings scripts found
   pub ends : ended ≡ ended_with found
   pub settled : (ended ≡ Clean) ↔ IsSettled (plan_of scripts)
   pub one_end : ended ≡ Clean → HasOneEnd (plan_of scripts)

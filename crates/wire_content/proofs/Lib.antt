@@ -4,5 +4,5 @@ pub mod Written
 pub mod Listed
 pub mod SameCalls
 pub mod Same
-pub mod Unpublishes
 pub mod Migrated
+mod Apart

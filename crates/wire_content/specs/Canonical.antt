@@ -6,7 +6,7 @@ use Rattle.std.specs.Str.{bytes_eq as same_members}
 use Rattle.wire_runs.specs.Fences.{is_member}
 use Rattle.wire_types.specs.declared.Call.{Call}
 use Rattle.wire_types.specs.declared.Call.TheVariants.{Put, Commit, Fence, Get, GetNow}
-use Rattle.wire_types.specs.declared.Call.TheVariants.{Publish, Lookup, LookupWait, Unpublish}
+use Rattle.wire_types.specs.declared.Call.TheVariants.{Publish, Lookup, LookupWait, Unpublish, UnpublishAll}
 use Rattle.wire_lines.specs.Said as said
 use Rattle.wire_content.specs.Scripts.{Process, Scripts, text_at, set_at}
 
@@ -72,6 +72,7 @@ call_said s job (Publish name value) = said.Publish (text_at s.names name) (text
 call_said s job (Lookup name) = said.Lookup (text_at s.names name)
 call_said s job (LookupWait name) = said.LookupWait (text_at s.names name)
 call_said s job (Unpublish name) = said.Unpublish (text_at s.names name)
+call_said s job UnpublishAll = said.UnpublishAll
 
 abbrev pub process_said : Scripts → Process → List said.Said
 process_said s p = said.Rank (text_at s.nodes p.node) ∷ map (λ c. said.Calls (call_said s p.job c)) p.calls

@@ -9,3 +9,4 @@ pub mod Reserved
 pub mod Planned
 pub mod Canonical
 pub mod Same
+pub mod Apart

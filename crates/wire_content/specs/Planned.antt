@@ -1,10 +1,10 @@
 -- The plan that scripts are: a process on a node, with its calls. A call of a reserved key has a fixed reply.
 use Rattle.std.specs.Prelude.{List, ℕ, map, length, nat_lt, if◌then◌else◌}
-use Rattle.wire_runs.specs.Plan.{Plan, CallPut, CallCommit, CallFence, CallGet, CallGetNow, CallPublish, CallLookup, CallLookupWait, CallUnpublish, CallFixed}
+use Rattle.wire_runs.specs.Plan.{Plan, CallPut, CallCommit, CallFence, CallGet, CallGetNow, CallPublish, CallLookup, CallLookupWait, CallUnpublish, CallUnpublishAll, CallFixed}
 use Rattle.wire_runs.specs.Plan as plan
 use Rattle.wire_types.specs.Replies.{bare}
 use Rattle.wire_types.specs.declared.Call.{Call}
-use Rattle.wire_types.specs.declared.Call.TheVariants.{Put, Commit, Fence, Get, GetNow, Publish, Lookup, LookupWait, Unpublish}
+use Rattle.wire_types.specs.declared.Call.TheVariants.{Put, Commit, Fence, Get, GetNow, Publish, Lookup, LookupWait, Unpublish, UnpublishAll}
 use Rattle.wire_types.specs.declared.Reply.{Reply}
 use Rattle.wire_types.specs.declared.Status.TheVariants.{NotFound, BadParam}
 use Rattle.wire_lines.specs.Said.{is_reserved}
@@ -29,10 +29,10 @@ planned_call s (Publish name value) = unless_reserved (text_at s.names name) (ba
 planned_call s (Lookup name) = unless_reserved (text_at s.names name) (bare BadParam) (CallLookup name)
 planned_call s (LookupWait name) = unless_reserved (text_at s.names name) (bare BadParam) (CallLookupWait name)
 planned_call s (Unpublish name) = unless_reserved (text_at s.names name) (bare BadParam) (CallUnpublish name)
+planned_call s UnpublishAll = CallUnpublishAll
 
 abbrev pub planned_process : Scripts → Process → plan.Process
 planned_process s p = record { node = p.node; calls = map (planned_call s) p.calls }
 
--- none of their calls takes away all names
 abbrev pub plan_of : Scripts → Plan
 plan_of s = record { processes = map (planned_process s) s.processes; keep = s.keeps }

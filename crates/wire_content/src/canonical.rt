@@ -161,6 +161,7 @@ fn write_call(
         Call::Lookup { name } => write_named(out, scripts, b"lookup".as_slice(), name),
         Call::LookupWait { name } => write_named(out, scripts, b"lookup-wait".as_slice(), name),
         Call::Unpublish { name } => write_named(out, scripts, b"unpublish".as_slice(), name),
+        Call::UnpublishAll => write_line(out, b"unpublish".as_slice(), &[b"*".as_slice()]),
     }
 }
 

@@ -3,6 +3,7 @@
 ghost use Rattle.std.specs.Prelude.{◌≡◌, ◌==◌, ◌+◌, ◌<◌, ◌^◌, ◌∷◌, ◌++◌, [], false, length, position, slice_index_or, OnOk, OnErr};
 ghost use Rattle.std.specs.List.{list_any, position_or_len};
 ghost use Rattle.std.specs.Str.{bytes_eq};
+ghost use Rattle.wire_content.specs.Apart.{AreApart};
 
 use indexmap::IndexSet;
 use std::alloc::{AllocError, Global};
@@ -81,6 +82,13 @@ impl Texts {
             Some(text) => text.as_slice(),
             None => b"".as_slice(),
         }
+    }
+
+    /// No text is there twice.
+    pub fn are_apart(&self)
+        ensures { AreApart self.now }
+    {
+        let _ = self.set.as_slice();
     }
 
     /// Adds a text that isn't there.

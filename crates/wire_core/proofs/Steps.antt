@@ -186,6 +186,7 @@ put_anyway a b (code.Publish name) = refl
 put_anyway a b (code.Lookup name) = refl
 put_anyway a b (code.LookupWait name) = refl
 put_anyway a b (code.Unpublish name) = refl
+put_anyway a b code.UnpublishAll = refl
 put_anyway a b (code.Fixed reply) = refl
 
 -- nor is the name that it changes
@@ -200,6 +201,7 @@ name_anyway a b (code.Publish name) names h = h
 name_anyway a b (code.Lookup name) names h = tt
 name_anyway a b (code.LookupWait name) names h = tt
 name_anyway a b (code.Unpublish name) names h = h
+name_anyway a b code.UnpublishAll names h = h
 name_anyway a b (code.Fixed reply) names h = tt
 
 -- a put that comes has room in its store

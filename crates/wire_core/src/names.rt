@@ -20,6 +20,7 @@ pub(crate) fn note_name(names: &mut Names, kind: Kind, call: CallAt)
         Kind::Unpublish { name } => {
             names.unpublish(name, call.proc);
         }
+        Kind::UnpublishAll => names.unpublish_all(call.proc),
         _ => {}
     }
 }

@@ -157,6 +157,7 @@ impl<'a> Core<'a> {
                 | Kind::Publish { .. }
                 | Kind::Lookup { .. }
                 | Kind::Unpublish { .. }
+                | Kind::UnpublishAll
                 | Kind::Fixed(_),
             ) => true,
             Some(Kind::Leave { .. }) => is_complete(
@@ -180,6 +181,7 @@ impl<'a> Core<'a> {
             Kind::Put { .. } | Kind::Commit | Kind::Leave { .. } => Some(Reply::bare(
                 Status::Success,
             )),
+            Kind::UnpublishAll => Some(Reply::bare(Status::Success)),
             Kind::Arrive { .. } => None,
             Kind::Get { owner, key } => Some(reply_to_get(self.seen_by(proc, owner, key))),
             Kind::GetNow { owner, key } => Some(reply_to_get(self.seen_now(proc, owner, key))),

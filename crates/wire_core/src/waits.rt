@@ -75,6 +75,7 @@ pub(crate) fn awaited_at(plan: &Plan, fences: &Fences, event: Event, kind: Kind)
         | Kind::Publish { .. }
         | Kind::Lookup { .. }
         | Kind::Unpublish { .. }
+        | Kind::UnpublishAll
         | Kind::Fixed(_) => Awaited::Nothing,
     }
 }

@@ -263,6 +263,7 @@ module _ (s : Scripts) (p set j : ℕ) (sound : IsSound s) (low : set < length s
       (λ _ _. refl) agrees
   agrees_more c (Some (call.Unpublish name)) is agrees = plain_agrees c (call.Unpublish name) is (unless_plain (is_reserved (text_at s.names name)) (bare BadParam) (CallUnpublish name) tt) refl
       (λ _ _. refl) agrees
+  agrees_more c (Some call.UnpublishAll) is agrees = plain_agrees c call.UnpublishAll is tt refl (λ _ _. refl) agrees
 
   pub agree : (c : ℕ) → Agrees c
   agree zero = record { arrive = refl; say = refl }

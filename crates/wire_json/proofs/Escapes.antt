@@ -4,7 +4,7 @@ use Rattle.std.specs.Prelude.{◌==◌, ◌||◌}
 use Rattle.std.proofs.lemmas.Bool.Decides.{nat_tests}
 use Rattle.json.specs.Print.{escape, escape_byte, escape_letter}
 use Rattle.wire_types.specs.declared.Call.{Call}
-use Rattle.wire_types.specs.declared.Call.TheVariants.{Put, Commit, Fence, Get, GetNow, Publish, Lookup, LookupWait, Unpublish}
+use Rattle.wire_types.specs.declared.Call.TheVariants.{Put, Commit, Fence, Get, GetNow, Publish, Lookup, LookupWait, Unpublish, UnpublishAll}
 use Rattle.wire_types.specs.declared.Status.{Status}
 use Rattle.wire_types.specs.declared.Status.TheVariants.{Success, NotFound, ExistsOutsideScope, DuplicateKey, BadParam}
 use Rattle.wire_types.specs.declared.CallEnd.{CallEnd}
@@ -61,3 +61,4 @@ plain_verb (Publish name value) = refl
 plain_verb (Lookup name) = refl
 plain_verb (LookupWait name) = refl
 plain_verb (Unpublish name) = refl
+plain_verb UnpublishAll = refl

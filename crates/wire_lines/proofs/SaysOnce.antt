@@ -1,9 +1,9 @@
 -- The words of a line say one thing.
-use Rattle.std.proofs.Common.{◌≡◌, ◌∙◌, ap, sym, refl, ℕ, List, [], ◌∷◌, ◌<◌, ◌^◌, Bool, true, false, length, map, decimal, codes, IsTrue, arith, if◌then◌else◌}
+use Rattle.std.proofs.Common.{◌≡◌, ◌∙◌, ap, sym, refl, subst, true≢false, ℕ, List, [], ◌∷◌, ◌<◌, ◌^◌, Bool, true, false, length, map, decimal, codes, IsTrue, arith, if◌then◌else◌}
 use Rattle.std.specs.Str.{bytes_eq}
 use Rattle.std.proofs.lemmas.Fmt.{decimal_injective}
 use Rattle.std.specs.List.{slice_split}
-use Rattle.wire_lines.specs.Said.{Item, One, Every, Set, Own, Listed, Call, Put, Commit, Fence, Get, GetNow, Publish, Lookup, LookupWait, Unpublish, Said, Header, Keep, Node, Job, Rank, Calls}
+use Rattle.wire_lines.specs.Said.{Item, One, Every, Set, Own, Listed, Call, Put, Commit, Fence, Get, GetNow, Publish, Lookup, LookupWait, Unpublish, UnpublishAll, Said, Header, Keep, Node, Job, Rank, Calls}
 use Rattle.wire_lines.specs.Said.{IsLawful, IsLawfulCall, IsLawfulSet, IsLawfulItem, AreLawful, first_word, other_words, first_of_call, others_of_call, collect_words, spelled_proc, spelled_scope, spelled_version}
 use Rattle.wire_lines.specs.Said.{spelled_item, spelled_set, is_name, is_key}
 use Rattle.wire_types.specs.declared.Scope.{Scope}
@@ -33,6 +33,7 @@ kind_of_call (Publish name value) = 5
 kind_of_call (Lookup name) = 6
 kind_of_call (LookupWait name) = 7
 kind_of_call (Unpublish name) = 8
+kind_of_call UnpublishAll = 8
 
 abbrev shown : List ℕ → ℕ
 shown w = if bytes_eq w (codes "rehearsal") then 0 else if bytes_eq w (codes "node") then 1 else if bytes_eq w (codes "job") then 2 else if bytes_eq w (codes "rank") then 3 else if bytes_eq w (codes "keep") then 5 else 4
@@ -58,6 +59,7 @@ shows (Calls (Publish name value)) = refl
 shows (Calls (Lookup name)) = refl
 shows (Calls (LookupWait name)) = refl
 shows (Calls (Unpublish name)) = refl
+shows (Calls UnpublishAll) = refl
 
 shows_call : (a : Call) → shown_of_call (first_of_call a) ≡ kind_of_call a
 shows_call (Put scope key value) = refl
@@ -69,6 +71,7 @@ shows_call (Publish name value) = refl
 shows_call (Lookup name) = refl
 shows_call (LookupWait name) = refl
 shows_call (Unpublish name) = refl
+shows_call UnpublishAll = refl
 
 abbrev number_of_scope : Scope → ℕ
 number_of_scope Local = 0
@@ -151,6 +154,10 @@ collect_once true false e = absurd (cc)
 collect_once false true e = absurd (cc)
 collect_once false false e = refl
 
+-- a star is no name
+no_key : (word : List ℕ) → IsTrue (is_key word) → word ≡ codes "*" → ⊥
+no_key word key star = let bad : IsTrue (is_key (codes "*")) = subst (λ w. IsTrue (is_key w)) star key in true≢false (sym bad)
+
 call_once : (a b : Call) → kind_of_call a ≡ kind_of_call b → others_of_call a ≡ others_of_call b → IsLawfulCall a → IsLawfulCall b → a ≡ b
 call_once (Put s k v) (Put t l w) h e la lb =
     let spelled : spelled_scope s ≡ spelled_scope t = cc in
@@ -167,6 +174,9 @@ call_once (Publish x v) (Publish y w) h e la lb = cc
 call_once (Lookup x) (Lookup y) h e la lb = cc
 call_once (LookupWait x) (LookupWait y) h e la lb = cc
 call_once (Unpublish x) (Unpublish y) h e la lb = cc
+call_once (Unpublish x) UnpublishAll h e la lb = let word : x ≡ codes "*" = cc in absurd (no_key x la word)
+call_once UnpublishAll (Unpublish y) h e la lb = let word : y ≡ codes "*" = cc in absurd (no_key y lb word)
+call_once UnpublishAll UnpublishAll h e la lb = refl
 call_once _ _ h e la lb = absurd (omega arith)
 
 version_once : (v w : Version) → spelled_version v ≡ spelled_version w → v ≡ w

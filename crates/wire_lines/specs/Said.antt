@@ -69,7 +69,7 @@ abbrev pub spelled_set : Set → List ℕ
 spelled_set Own = codes "all"
 spelled_set (Listed items) = join_with_byte 44 (map spelled_item items)
 
--- a call, as its line says it
+-- a call, as its line says it. UnpublishAll is spelled with a star, which is no name
 pub data Call : Type 0 where
   Put : Scope → (key value : List ℕ) → Call
   Commit : Call
@@ -80,6 +80,7 @@ pub data Call : Type 0 where
   Lookup : (name : List ℕ) → Call
   LookupWait : (name : List ℕ) → Call
   Unpublish : (name : List ℕ) → Call
+  UnpublishAll : Call
 
 -- keep: what a get brings to a node stays there
 pub data Said : Type 0 where
@@ -101,6 +102,7 @@ verb_in (Publish name value) = verb.Publish
 verb_in (Lookup name) = verb.Lookup
 verb_in (LookupWait name) = verb.LookupWait
 verb_in (Unpublish name) = verb.Unpublish
+verb_in UnpublishAll = verb.Unpublish
 
 -- the first word of a line
 abbrev pub first_of_call : Call → List ℕ
@@ -130,6 +132,7 @@ others_of_call (Publish name value) = name ∷ value ∷ []
 others_of_call (Lookup name) = name ∷ []
 others_of_call (LookupWait name) = name ∷ []
 others_of_call (Unpublish name) = name ∷ []
+others_of_call UnpublishAll = codes "*" ∷ []
 
 abbrev pub other_words : Said → List (List ℕ)
 other_words (Header version) = spelled_version version ∷ []
@@ -162,6 +165,7 @@ IsLawfulCall (Publish name value) = IsTrue (is_key name) × IsTrue (is_word valu
 IsLawfulCall (Lookup name) = IsTrue (is_key name)
 IsLawfulCall (LookupWait name) = IsTrue (is_key name)
 IsLawfulCall (Unpublish name) = IsTrue (is_key name)
+IsLawfulCall UnpublishAll = ⊤
 
 abbrev pub IsLawful : Said → Type 0
 IsLawful (Header version) = ⊤

@@ -7,7 +7,7 @@ use Rattle.wire_lines.specs.declared.sets.Item.TheVariants.{One, Every}
 use Rattle.wire_lines.specs.declared.sets.Set.{Set}
 use Rattle.wire_lines.specs.declared.sets.Set.TheVariants.{Own, Listed}
 use Rattle.wire_lines.specs.declared.call.CallLine.{CallLine}
-use Rattle.wire_lines.specs.declared.call.CallLine.TheVariants.{Put, Commit, Fence, Get, GetNow, Publish, Lookup, LookupWait, Unpublish}
+use Rattle.wire_lines.specs.declared.call.CallLine.TheVariants.{Put, Commit, Fence, Get, GetNow, Publish, Lookup, LookupWait, Unpublish, UnpublishAll}
 use Rattle.wire_lines.specs.declared.line.Line.{Line}
 use Rattle.wire_lines.specs.declared.line.Line.TheVariants.{Header, Keep, Node, Job, Rank, Calls}
 
@@ -29,6 +29,7 @@ call_by (Publish name value) = said.Publish name.now value.now
 call_by (Lookup name) = said.Lookup name.now
 call_by (LookupWait name) = said.LookupWait name.now
 call_by (Unpublish name) = said.Unpublish name.now
+call_by UnpublishAll = said.UnpublishAll
 
 abbrev pub said_by : Line → Said
 said_by (Header version) = said.Header version

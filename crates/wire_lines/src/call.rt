@@ -48,6 +48,8 @@ pub enum CallLine<'a> {
     Unpublish {
         name: &'a [u8],
     },
+    /// `unpublish *`: of all names that the caller has published.
+    UnpublishAll,
 }
 
 /// The first word of a call line.
@@ -185,6 +187,22 @@ fn collect_of(words: &[&[u8]]) -> Option<bool>
     }
 }
 
+fn is_star(word: &[u8]) -> bool
+    ensures { IsTrue result ↔ (word.now ≡ codes "*") }
+{
+    word == b"*".as_slice()
+}
+
+/// Whether the only word is a star.
+fn is_star_alone(words: &[&[u8]]) -> bool
+    ensures { IsTrue result ↔ (map (λ w. w.now) words.now ≡ codes "*" ∷ []) }
+{
+    match words {
+        [word] => is_star(word),
+        _ => false,
+    }
+}
+
 /// The set of a fence, and whether it collects.
 fn fence_of<'a>(alloc: Global, words: &[&'a [u8]]) -> Result<Option<(Set<'a>, bool)>, AllocError>
     ensures found { IfOk result (λ o. IfSome o (λ f. (map (λ w. w.now) words.now
@@ -239,6 +257,12 @@ pub fn call_of<'a>(
         Verb::Publish => Ok(pair_of(words).map(|(name, value)| CallLine::Publish { name, value })),
         Verb::Lookup => Ok(key_of(words).map(|name| CallLine::Lookup { name })),
         Verb::LookupWait => Ok(key_of(words).map(|name| CallLine::LookupWait { name })),
-        Verb::Unpublish => Ok(key_of(words).map(|name| CallLine::Unpublish { name })),
+        Verb::Unpublish => {
+            if is_star_alone(words) {
+                Ok(Some(CallLine::UnpublishAll))
+            } else {
+                Ok(key_of(words).map(|name| CallLine::Unpublish { name }))
+            }
+        }
     }
 }

@@ -1,6 +1,7 @@
 pub mod Marking
 pub mod Tables
 pub mod Noting
+pub mod Holding
 pub mod Growing
 pub mod OneChain
 pub mod Same

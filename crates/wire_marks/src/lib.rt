@@ -3,6 +3,7 @@
 
 mod clocks;
 mod grow;
+mod held;
 mod joins;
 mod law;
 mod marked;

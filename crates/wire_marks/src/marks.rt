@@ -18,8 +18,8 @@ use std::marker::Model;
 use wire_plan::Plan;
 use wire_types::{Event, Fault, Proc};
 
-/// Which events of a plan are live, and which are before which, by clocks; and the live publishes and
-/// unpublishes of each name.
+/// Which events of a plan are live, and which are before which, by clocks; and the live calls that change
+/// what stands under each name.
 #[derive(Drop)]
 pub struct Marks {
     clocks: Clocks,
@@ -68,9 +68,10 @@ impl Marks {
         self.clocks.count(event, proc)
     }
 
-    /// The live publishes and unpublishes of a name, each once. None is before one that stands in front of
-    /// it; so where each two of them are ordered by chains, they stand in this order. Each has the publish
-    /// that stands under the name after those up to it (PMIx Standard 5.0, PMIx_Publish, PMIx_Unpublish).
+    /// Of the live calls that can change a name those that change what stands there, or more of them, each
+    /// once. None is before one that stands in front of it; so where each two of them are ordered by chains,
+    /// they stand in this order. Each has the publish that stands under the name after it, where the calls
+    /// happened in this order (PMIx Standard 5.0, PMIx_Publish, PMIx_Unpublish).
     pub fn updates(&self, name: u32) -> &[Update]
         ensures { (plan : runs.Plan) → AreMarks plan self.now → AreUpdates plan (Live plan) name result.now }
     {

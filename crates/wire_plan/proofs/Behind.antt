@@ -124,7 +124,7 @@ stands s (x ∷ calls) (suc c) i call e is here =
     ∙ get_right (events_in s x) (kinds_of (map (planned_call s) calls)) (start_of s calls c + i)
     ∙ stands s calls c i call e is here
 
--- the name that an event changes
+-- the name that an event changes, where that is one name
 abbrev pub changed_name : Kind → Option ℕ
 changed_name (Publish name) = Some name
 changed_name (Unpublish name) = Some name
@@ -182,6 +182,7 @@ part s (written.Unpublish name) i e is = elim (reserved (is_reserved (text_at s.
   | inl fixed ↦ other s _ i _ e refl (inl refl) fixed
   | inr plain ↦ other s _ i _ e refl (inr refl) (only _ _ i plain)
 ]
+part s written.UnpublishAll i e is = other s _ i _ e refl (inl refl) (only _ _ i is)
 
 -- the same of a process of the plan
 abbrev pub calls_by : Scripts → ℕ → List Written

@@ -233,4 +233,5 @@ other_kind sets (code.Publish name) never members says is = true≢false (sym (a
 other_kind sets (code.Lookup name) never members says is = true≢false (sym (ap is_arrive is))
 other_kind sets (code.LookupWait name) never members says is = true≢false (sym (ap is_arrive is))
 other_kind sets (code.Unpublish name) never members says is = true≢false (sym (ap is_arrive is))
+other_kind sets code.UnpublishAll never members says is = true≢false (sym (ap is_arrive is))
 other_kind sets (code.Fixed reply) never members says is = true≢false (sym (ap is_arrive is))

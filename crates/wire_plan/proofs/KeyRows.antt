@@ -165,6 +165,7 @@ module _ (kinds : ℕ → Option Kind) (at end : ℕ) where
   no_commit sets (code.Lookup n) other h = cc
   no_commit sets (code.LookupWait n) other h = cc
   no_commit sets (code.Unpublish n) other h = cc
+  no_commit sets code.UnpublishAll other h = cc
   no_commit sets (code.Fixed r) other h = cc
 
   pub take_other : (sets : List (List ℕ)) (k : CodeKind) (rows : ℕ → Option KeyRow) (commit : Option ℕ) → kinds at ≡ Some (kind_of sets k) → ((scope : Scope) (q : ℕ) → k ≡ code.Put scope q → ⊥) →

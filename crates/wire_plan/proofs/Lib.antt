@@ -6,6 +6,7 @@ pub mod KeyRows
 pub mod KeyFacts
 pub mod Grown
 pub mod Tables
+pub mod Published
 pub mod Wired
 pub mod Awaited
 pub mod Delivering

@@ -2,17 +2,20 @@
 use Rattle.std.proofs.Common.{◌≡◌, ◌≢◌, ◌∙◌, ℕ, zero, suc, ◌<◌, ◌≤◌, List, [], ◌∷◌, ◌++◌, Vec, length, map, get_or, slice_set, slice_get, Option, Some, None, MatchOption, true, false, inl, inr, refl}
 use Rattle.std.proofs.Common.{sym, ap, subst, arith, eq-eqb, eqb-true}
 use Rattle.std.specs.declared.alloc.Global.{Global}
-use Rattle.std.proofs.lemmas.Bool.{cases_eq, cases_Bool, true≢false}
+use Rattle.std.proofs.lemmas.Bool.{cases_eq, true≢false}
 use Rattle.std.proofs.lemmas.List.{map_push}
 use Rattle.std.proofs.lemmas.Option.{none-some, same_Some}
-use Rattle.wire_runs.specs.Plan.{Plan, Event, Kind as TheEvent, Publish, kind, kind_at, event_count, process_count, event_of}
+use Rattle.wire_runs.specs.Plan.{Plan, Event, Kind as TheEvent, Publish, Unpublish, UnpublishAll, kind, kind_at, event_count, process_count, event_of}
 use Rattle.wire_types.specs.declared.place.Event.{Event as CodeEvent}
 use Rattle.wire_plan.specs.declared.by_number.Listing.{Listing}
-use Rattle.wire_plan.specs.declared.by_number.Listing.TheVariants.{NameCalls, Publishes, Takes}
+use Rattle.wire_plan.specs.declared.by_number.Listing.TheVariants.{NameCalls, Publishes, Takes, Sweeps}
 use Rattle.wire_runs.specs.Order.{PublishesOnce}
 use Rattle.wire_runs.specs.Names.{takes_name}
+use Rattle.wire_runs.specs.Names.{publishes as publishes_of}
+use Rattle.wire_plan.specs.Index.{AreSweeps}
+use Rattle.wire_plan.proofs.Published.{publisher, nothing_takes}
 use Rattle.wire_runs.specs.EventLists.{IsLower, AreAll}
-use Rattle.wire_plan.specs.Tables.{is_listed, is_number, events_listed, only_of, AreListed, AreListedTo}
+use Rattle.wire_plan.specs.Tables.{is_listed, is_number, events_listed, only_of, IsUnswept, AreListed, AreListedTo}
 use Rattle.wire_runs.proofs.Basics.{event_within, process_within}
 use Rattle.wire_plan.proofs.Grown.{place, Earlier, all_same, one_more, one_other, whole_process, whole_plan}
 
@@ -70,6 +73,7 @@ module _ (plan : Plan) (listing : Listing) where
       nothing NameCalls = refl
       nothing Publishes = refl
       nothing Takes = refl
+      nothing Sweeps = refl
 
   -- all events of a process, and of all processes
   pub listed_process : (p n : ℕ) (lists : List (List Event)) → event_count plan p ≤ n → AreListedTo plan listing p n lists → AreListedTo plan listing (suc p) 0 lists
@@ -97,25 +101,95 @@ not_below_itself : (x : Event) → IsLower x x → ⊥
 not_below_itself x (inl lt) = omega (arith, lt)
 not_below_itself x (inr (e, lt)) = omega (arith, lt)
 
--- the publish of a name that is published once and that nobody unpublishes
-pub once_of : (plan : Plan) (name : ℕ) (publishes takes : List CodeEvent) → AreAll (λ x. kind plan x ≡ Some (Publish name)) (map event_of publishes) →
-    AreAll (λ x. takes_name plan name x (kind plan x) ≡ true) (map event_of takes)
-    → MatchOption (only_of publishes takes) ((x : Event) → PublishesOnce plan x name → ⊥) (λ x. PublishesOnce plan (event_of x) name)
-once_of plan name [] takes ps ts = λ x once. let found = ps.all x once.is in none-some x found.1
-once_of plan name (a ∷ []) [] ps ts = record {
+take_is : (plan : Plan) (name : ℕ) (x : Event) (o : Option TheEvent) → kind plan x ≡ o → is_listed plan Takes name x o ≡ true → kind plan x ≡ Some (Unpublish name)
+take_is plan name x (Some (Unpublish n)) is h = is ∙ ap (λ m. Some (Unpublish m)) (eqb-true n name h)
+take_is plan name x _ is h = absurd (true≢false (sym h))
+
+pub takes_listed : (plan : Plan) (name : ℕ) (places : List Event) → AreAll (λ x. is_listed plan Takes name x (kind plan x) ≡ true) places →
+    AreAll (λ x. kind plan x ≡ Some (Unpublish name)) places
+takes_listed plan name places are = all_same _ _ places
+    (λ x h. take_is plan name x (kind plan x) refl h)
+    (λ x h. ap (is_listed plan Takes name x) h ∙ eq-eqb name name refl)
+    are
+
+sweep_is : (plan : Plan) (p : ℕ) (x : Event) (o : Option TheEvent) → kind plan x ≡ o → is_listed plan Sweeps p x o ≡ true → (x.proc ≡ p) × (kind plan x ≡ Some UnpublishAll)
+sweep_is plan p x (Some UnpublishAll) is h = (eqb-true x.proc p h, is)
+sweep_is plan p x _ is h = absurd (true≢false (sym h))
+
+pub sweeps_listed : (plan : Plan) (p : ℕ) (places : List Event) → AreAll (λ x. is_listed plan Sweeps p x (kind plan x) ≡ true) places → AreSweeps plan p places
+sweeps_listed plan p places are = all_same _ _ places
+    (λ x h. sweep_is plan p x (kind plan x) refl h)
+    (λ x h. ap (is_listed plan Sweeps p x) h.1 ∙ eq-eqb x.proc p h.0)
+    are
+
+-- where none of a process is listed there is none, and where one is listed it is there
+pub none_swept : (sweeps : List CodeEvent) → length sweeps ≡ 0 → (k : ℕ) (z : Event) → slice_get (map event_of sweeps) k ≡ Some z → ⊥
+none_swept [] none k z is = none-some z is
+none_swept (x ∷ xs) none k z is = omega (arith, none)
+
+pub one_swept : (plan : Plan) (p : ℕ) (sweeps : List CodeEvent) → AreSweeps plan p (map event_of sweeps) → (length sweeps ≡ 0 → ⊥) → (z : Event) × (z.proc ≡ p) × (kind plan z ≡ Some UnpublishAll)
+one_swept plan p [] are some = absurd (some refl)
+one_swept plan p (x ∷ xs) are some = let o = are.only 0 (event_of x) refl in (event_of x, o.0, o.1)
+
+-- x is the only publish of the name, and nobody unpublishes the name alone
+pub record IsOnlyPublish (plan : Plan) (x : Event) (name : ℕ) : Type 0 where
+  pub is : kind plan x ≡ Some (Publish name)
+  pub only : (y : Event) → kind plan y ≡ Some (Publish name) → y ≡ x
+  pub stays : (y : Event) → kind plan y ≢ Some (Unpublish name)
+
+once_is_only : (plan : Plan) (x : Event) (name : ℕ) → PublishesOnce plan x name → IsOnlyPublish plan x name
+once_is_only plan x name once = record {
+  is = once.is;
+  only = once.only;
+  stays = λ y is. true≢false (sym (ap (takes_name plan name y) is ∙ eq-eqb name name refl) ∙ once.stays y);
+}
+
+only_at : (plan : Plan) (name : ℕ) (publishes takes : List CodeEvent) → AreAll (λ x. kind plan x ≡ Some (Publish name)) (map event_of publishes) →
+    AreAll (λ x. kind plan x ≡ Some (Unpublish name)) (map event_of takes)
+    → MatchOption (only_of publishes takes) ((x : Event) → IsOnlyPublish plan x name → ⊥) (λ x. IsOnlyPublish plan (event_of x) name)
+only_at plan name [] takes ps ts = λ x once. let found = ps.all x once.is in none-some x found.1
+only_at plan name (a ∷ []) [] ps ts = record {
   is = ps.only 0 (event_of a) refl;
   only = λ y h. alone y (ps.all y h).0 (ps.all y h).1;
-  stays = λ y. elim (cases_Bool (takes_name plan name y (kind plan y))) [
-    | inl t ↦ absurd (none-some y (ts.all y t).1)
-    | inr f ↦ f
-  ];
+  stays = λ y h. none-some y (ts.all y h).1;
 }
   where
     alone : (y : Event) (k : ℕ) → slice_get (map event_of (a ∷ [])) k ≡ Some y → y ≡ event_of a
     alone y zero h = sym (same_Some (event_of a) y h)
     alone y (suc k) h = absurd (none-some y h)
-once_of plan name (a ∷ []) (b ∷ takes) ps ts = λ x once. true≢false (sym (ts.only 0 (event_of b) refl) ∙ once.stays (event_of b))
-once_of plan name (a ∷ (b ∷ publishes)) takes ps ts = λ x once.
+only_at plan name (a ∷ []) (b ∷ takes) ps ts = λ x once. once.stays (event_of b) (ts.only 0 (event_of b) refl)
+only_at plan name (a ∷ (b ∷ publishes)) takes ps ts = λ x once.
     let first : event_of a ≡ x = once.only (event_of a) (ps.only 0 (event_of a) refl) in
     let second : event_of b ≡ x = once.only (event_of b) (ps.only 1 (event_of b) refl) in
     not_below_itself (event_of a) (subst (λ y. IsLower (event_of a) y) (second ∙ sym first) (ps.rising 0 1 (event_of a) (event_of b) (omega arith) refl refl))
+
+-- no name has such a publish
+pub none_once : (plan : Plan) (name : ℕ) (publishes takes : List CodeEvent) → AreAll (λ x. kind plan x ≡ Some (Publish name)) (map event_of publishes) →
+    AreAll (λ x. kind plan x ≡ Some (Unpublish name)) (map event_of takes) → only_of publishes takes ≡ None → (x : Event) → PublishesOnce plan x name → ⊥
+none_once plan name publishes takes ps ts none =
+    let never = subst (λ o. MatchOption o ((x : Event) → IsOnlyPublish plan x name → ⊥) (λ x. IsOnlyPublish plan (event_of x) name)) none (only_at plan name publishes takes ps ts) in
+    λ x once. never x (once_is_only plan x name once)
+
+-- the publish of a name that is published once and that nobody unpublishes
+pub once_of : (plan : Plan) (name : ℕ) (publishes takes : List CodeEvent) (a : CodeEvent) (found : Option CodeEvent) → AreAll (λ x. kind plan x ≡ Some (Publish name)) (map event_of publishes) →
+    AreAll (λ x. kind plan x ≡ Some (Unpublish name)) (map event_of takes) → only_of publishes takes ≡ Some a → IsUnswept plan a found
+    → MatchOption found ((x : Event) → PublishesOnce plan x name → ⊥) (λ x. PublishesOnce plan (event_of x) name)
+once_of plan name publishes takes a found ps ts some = unswept found
+  where
+    alone : IsOnlyPublish plan (event_of a) name
+    alone = subst (λ o. MatchOption o ((x : Event) → IsOnlyPublish plan x name → ⊥) (λ x. IsOnlyPublish plan (event_of x) name)) some (only_at plan name publishes takes ps ts)
+
+    unswept : (o : Option CodeEvent) → IsUnswept plan a o → MatchOption o ((x : Event) → PublishesOnce plan x name → ⊥) (λ x. PublishesOnce plan (event_of x) name)
+    unswept None swept = λ x once.
+        let same : event_of a ≡ x = once.only (event_of a) alone.is in
+        let z = swept.0 in
+        let takes : takes_name plan name z (kind plan z) ≡ true =
+        ap (takes_name plan name z) swept.2 ∙ ap (λ p. publishes_of plan p name (event_count plan p)) swept.1 ∙ publisher plan (event_of a) name alone.is in
+        true≢false (sym takes ∙ once.stays z)
+    unswept (Some x) h = subst (λ (y : CodeEvent). PublishesOnce plan (event_of y) name) (sym h.0) (record {
+      is = alone.is;
+      only = alone.only;
+      stays = λ y. nothing_takes plan name y (alone.stays y) (λ all i is.
+          let same : record { proc = y.proc; at = i } ≡ event_of a = alone.only (record { proc = y.proc; at = i }) is in
+          h.1 y (ap (λ (e : Event). e.proc) same) all);
+    })

@@ -1,10 +1,9 @@
 -- What is looked up in a plan: the sources of an event, the puts of a key, the calls on a name, and the fences and gets that bring a key to a node.
-use Rattle.std.specs.Prelude.{◌≡◌, ◌≢◌, ℕ, zero, suc, ◌<◌, ◌≤◌, List, ◌++◌, true, Option, Some, None, map, option_map, option_to_list, slice_get, MatchOption}
-use Rattle.wire_runs.specs.Plan.{Plan, Event, Put, Get, LookupWait, kind, event_of}
+use Rattle.std.specs.Prelude.{◌≡◌, ◌≢◌, ◌==◌, ℕ, zero, suc, ◌<◌, ◌≤◌, List, ◌++◌, Bool, true, false, Option, Some, None, map, option_map, option_to_list, slice_get, MatchOption}
+use Rattle.wire_runs.specs.Plan.{Plan, Event, Kind, Put, Get, Publish, Lookup, LookupWait, Unpublish, UnpublishAll, kind, event_of}
 use Rattle.wire_types.specs.declared.Event.{Event as CodeEvent}
 use Rattle.wire_types.specs.declared.Scope.{Scope}
 use Rattle.wire_runs.specs.Puts.{own}
-use Rattle.wire_runs.specs.Names.{calls_name}
 use Rattle.wire_runs.specs.Order.{Edge, Stores, IsArrival, PublishesOnce}
 use Rattle.wire_runs.specs.Races.{ByFence, Brings, GetDelivers, IsPutOnce}
 use Rattle.wire_runs.specs.EventLists.{AreAll}
@@ -47,9 +46,25 @@ pub record IsFirstPut (plan : Plan) (x : Event) (key : ℕ) : Type 0 where
 abbrev pub AreArrivals : Plan → List ℕ → ℕ → List Event → Type 0
 AreArrivals plan members j places = AreAll (IsArrival plan members j) places
 
--- the calls on a name
+-- whether it is a call on this name alone
+abbrev pub is_plain_call : ℕ → Option Kind → Bool
+is_plain_call name (Some (Publish n)) = n == name
+is_plain_call name (Some (Lookup n)) = n == name
+is_plain_call name (Some (LookupWait n)) = n == name
+is_plain_call name (Some (Unpublish n)) = n == name
+is_plain_call name _ = false
+
+-- the calls on a name alone
 abbrev pub AreNameCalls : Plan → ℕ → List Event → Type 0
-AreNameCalls plan name places = AreAll (λ x. calls_name plan name x (kind plan x) ≡ true) places
+AreNameCalls plan name places = AreAll (λ x. is_plain_call name (kind plan x) ≡ true) places
+
+-- the publishes of a name
+abbrev pub ArePublishes : Plan → ℕ → List Event → Type 0
+ArePublishes plan name places = AreAll (λ x. kind plan x ≡ Some (Publish name)) places
+
+-- the calls of a process that take away all its names
+abbrev pub AreSweeps : Plan → ℕ → List Event → Type 0
+AreSweeps plan p places = AreAll (λ x. (x.proc ≡ p) × (kind plan x ≡ Some UnpublishAll)) places
 
 -- the gets that bring p's key to the node
 abbrev pub AreGetDeliveries : Plan → ℕ → ℕ → ℕ → List Event → Type 0

@@ -8,7 +8,7 @@ use Rattle.wire_content.specs.Scripts.{Scripts, IsSound, set_at}
 use Rattle.wire_content.specs.Planned.{planned_call}
 use Rattle.wire_runs.specs.Ends.{call_size}
 use Rattle.wire_plan.specs.declared.kind.Kind.{Kind as CodeKind}
-use Rattle.wire_plan.specs.declared.kind.Kind.TheVariants.{Put, Commit, Arrive, Leave, Get, GetNow, Publish, Lookup, LookupWait, Unpublish, Fixed}
+use Rattle.wire_plan.specs.declared.kind.Kind.TheVariants.{Put, Commit, Arrive, Leave, Get, GetNow, Publish, Lookup, LookupWait, Unpublish, UnpublishAll, Fixed}
 
 -- the event of a kind, given the table of sets
 abbrev pub kind_of : List (List ℕ) → CodeKind → Kind
@@ -22,6 +22,7 @@ kind_of sets (Publish name) = plan.Publish name
 kind_of sets (Lookup name) = plan.Lookup name
 kind_of sets (LookupWait name) = plan.LookupWait name
 kind_of sets (Unpublish name) = plan.Unpublish name
+kind_of sets UnpublishAll = plan.UnpublishAll
 kind_of sets (Fixed reply) = plan.Fixed reply
 
 -- the events of a call after its first

@@ -1,4 +1,4 @@
-//! Events listed by a number: that of a name.
+//! Events listed by a number: that of a name or of a process.
 
 ghost use Rattle.std.specs.Prelude.{◌≡◌, ◌≢◌, ◌<◌, ◌++◌, ◌∷◌, [], ℕ, suc, List, Some, length, map, OnOk, IfOk};
 ghost use Rattle.wire_runs.specs.Plan.{event_of, kind_at};
@@ -20,25 +20,28 @@ pub(crate) enum Listing {
     NameCalls,
     /// The publishes of a name, by the name.
     Publishes,
-    /// The calls that can take a name away, by the name.
+    /// The unpublishes of a name, by the name.
     Takes,
+    /// The calls that take away all names of a process, by the process.
+    Sweeps,
 }
 
 impl Listing {
-    // The name that an event is listed under, if it is listed.
-    fn number_of(self, kind: Kind) -> Option<u32>
-        ensures { (plan : runs.Plan) (sets : List (List ℕ)) (number : ℕ) (x : runs.Event) →
-            is_listed plan self number x (Some (kind_of sets kind)) ≡ is_number result number }
+    // The number that an event of a process is listed under, if it is listed.
+    fn number_of(self, proc: Proc, kind: Kind) -> Option<u32>
+        ensures { (plan : runs.Plan) (sets : List (List ℕ)) (number at : ℕ) →
+            is_listed plan self number (record { proc = proc.number; at = at }) (Some (kind_of sets kind)) ≡ is_number result number }
     {
         match self {
             Listing::NameCalls => name_called(kind),
             Listing::Publishes => name_published(kind),
             Listing::Takes => name_taken(kind),
+            Listing::Sweeps => proc_swept(proc, kind),
         }
     }
 }
 
-// The name of a call on a name.
+// The name of a call on one name.
 fn name_called(kind: Kind) -> Option<u32>
     ensures { (plan : runs.Plan) (sets : List (List ℕ)) (number : ℕ) (x : runs.Event) →
         is_listed plan Listing.NameCalls number x (Some (kind_of sets kind)) ≡ is_number result number }
@@ -63,13 +66,24 @@ fn name_published(kind: Kind) -> Option<u32>
     }
 }
 
-// The name of a call that can take it away.
+// The name of an unpublish of one name.
 fn name_taken(kind: Kind) -> Option<u32>
     ensures { (plan : runs.Plan) (sets : List (List ℕ)) (number : ℕ) (x : runs.Event) →
         is_listed plan Listing.Takes number x (Some (kind_of sets kind)) ≡ is_number result number }
 {
     match kind {
         Kind::Unpublish { name } => Some(name),
+        _ => None,
+    }
+}
+
+// The process whose names a call takes away.
+fn proc_swept(proc: Proc, kind: Kind) -> Option<u32>
+    ensures { (plan : runs.Plan) (sets : List (List ℕ)) (number at : ℕ) →
+        is_listed plan Listing.Sweeps number (record { proc = proc.number; at = at }) (Some (kind_of sets kind)) ≡ is_number result number }
+{
+    match kind {
+        Kind::UnpublishAll => Some(proc.number),
         _ => None,
     }
 }
@@ -141,7 +155,7 @@ impl ByNumber {
         ensures { OnOk result ((plan : runs.Plan) (sets : List (List ℕ)) → kind_at plan event.proc.number event.at ≡ Some (kind_of sets kind)
             → AreListedTo plan listing event.proc.number event.at self.old → AreListedTo plan listing event.proc.number (suc event.at) self.new) }
     {
-        if let Some(number) = listing.number_of(kind) {
+        if let Some(number) = listing.number_of(event.proc, kind) {
             self.add(alloc, number, event)?;
         }
         Ok(())

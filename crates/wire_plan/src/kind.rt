@@ -38,6 +38,8 @@ pub enum Kind {
     LookupWait { name: u32 },
     /// The end of a name that its caller published.
     Unpublish { name: u32 },
+    /// The end of all names that its caller published.
+    UnpublishAll,
     /// A call of a reserved key or name, with its reply.
     Fixed(Reply),
 }
@@ -111,5 +113,6 @@ pub(crate) fn first_kind(scripts: &Scripts, places: &ProcMap, call: Call) -> Kin
         Call::Lookup { name } => name_kind(scripts, name, Kind::Lookup { name }),
         Call::LookupWait { name } => name_kind(scripts, name, Kind::LookupWait { name }),
         Call::Unpublish { name } => name_kind(scripts, name, Kind::Unpublish { name }),
+        Call::UnpublishAll => Kind::UnpublishAll,
     }
 }

@@ -5,23 +5,25 @@ ghost use Rattle.wire_runs.specs.Plan.{event_of};
 ghost use Rattle.wire_runs.specs.Plan as runs;
 ghost use Rattle.wire_content.specs.Planned.{plan_of};
 ghost use Rattle.wire_runs.specs.Order.{PublishesOnce};
-ghost use Rattle.wire_plan.specs.Index.{AreNameCalls};
-ghost use Rattle.wire_plan.specs.Tables.{only_of, AreNamesOf};
+ghost use Rattle.wire_plan.specs.Index.{AreNameCalls, ArePublishes, AreSweeps};
+ghost use Rattle.wire_plan.specs.Tables.{only_of, IsUnswept, AreNamesOf};
 
 use crate::by_number::{ByNumber, Listing};
 use crate::events::Events;
 use std::alloc::{AllocError, Global};
-use wire_types::Event;
+use wire_types::{Event, Proc};
 
-/// The calls on each name, and of these the publishes and what can take the name away.
+/// The calls on each name alone, of these the publishes and the unpublishes, and the calls of each process
+/// that take away all its names.
 #[derive(Drop)]
 pub(crate) struct NameTable {
     calls: ByNumber,
     publishes: ByNumber,
     takes: ByNumber,
+    sweeps: ByNumber,
 }
 
-// The publish of a name, where there is one and nothing can take the name away.
+// The publish of a name, where there is one and no unpublish of the name alone.
 fn only_publish(publishes: &[Event], takes: &[Event]) -> Option<Event>
     ensures { result ≡ only_of publishes.now takes.now }
 {
@@ -43,10 +45,11 @@ impl NameTable {
             calls: ByNumber::of(alloc, events, Listing::NameCalls)?,
             publishes: ByNumber::of(alloc, events, Listing::Publishes)?,
             takes: ByNumber::of(alloc, events, Listing::Takes)?,
+            sweeps: ByNumber::of(alloc, events, Listing::Sweeps)?,
         })
     }
 
-    /// The calls on a name, in process order: publishes, lookups and unpublishes (PMIx Standard 5.0,
+    /// The calls on a name alone, in process order: publishes, lookups and unpublishes (PMIx Standard 5.0,
     /// PMIx_Publish, PMIx_Lookup, PMIx_Unpublish). None where no event calls it.
     pub(crate) fn calls(&self, name: u32) -> &[Event]
         ensures { (plan : runs.Plan) → AreNamesOf plan self.now → AreNameCalls plan name (map event_of result.now) }
@@ -54,11 +57,39 @@ impl NameTable {
         self.calls.list(name)
     }
 
+    /// The publishes of a name, in process order.
+    pub(crate) fn publishes(&self, name: u32) -> &[Event]
+        ensures { (plan : runs.Plan) → AreNamesOf plan self.now → ArePublishes plan name (map event_of result.now) }
+    {
+        self.publishes.list(name)
+    }
+
+    /// The calls of a process that take away all names that it has published, in their order.
+    pub(crate) fn sweeps(&self, proc: Proc) -> &[Event]
+        ensures { (plan : runs.Plan) → AreNamesOf plan self.now → AreSweeps plan proc.number (map event_of result.now) }
+    {
+        self.sweeps.list(proc.number)
+    }
+
+    // A publish, where its process never takes away all its names.
+    fn unswept(&self, publish: Event) -> Option<Event>
+        ensures { (plan : runs.Plan) → AreNamesOf plan self.now → IsUnswept plan publish result }
+    {
+        if self.sweeps(publish.proc).is_empty() {
+            Some(publish)
+        } else {
+            None
+        }
+    }
+
     /// The publish of a name that is published once and that nobody unpublishes. None of any other name.
     pub(crate) fn once_published(&self, name: u32) -> Option<Event>
         ensures { (plan : runs.Plan) → AreNamesOf plan self.now →
             MatchOption result ((x : runs.Event) → PublishesOnce plan x name → ⊥) (λ x. PublishesOnce plan (event_of x) name) }
     {
-        only_publish(self.publishes.list(name), self.takes.list(name))
+        match only_publish(self.publishes(name), self.takes.list(name)) {
+            Some(publish) => self.unswept(publish),
+            None => None,
+        }
     }
 }

@@ -14,7 +14,7 @@ ghost use Rattle.wire_runs.specs.Ends.{call_of, calls_of, first_event};
 ghost use Rattle.wire_runs.specs.Plan.{event_total};
 ghost use Rattle.wire_runs.specs.Order.{may_come, Stores, PublishesOnce};
 ghost use Rattle.wire_runs.specs.Races.{IsPutOnce};
-ghost use Rattle.wire_plan.specs.Index.{AreSources, AreArrivals, AreNameCalls, AreGetDeliveries, IsAwaited, IsFirstPut, IsNextDelivery, source_list, previous_of};
+ghost use Rattle.wire_plan.specs.Index.{AreSources, AreArrivals, AreNameCalls, ArePublishes, AreSweeps, AreGetDeliveries, IsAwaited, IsFirstPut, IsNextDelivery, source_list, previous_of};
 ghost use Rattle.wire_plan.specs.Indexed.{IsIndexed};
 ghost use Rattle.wire_plan.specs.Meetings.{is_of_fence, IsMet};
 
@@ -310,11 +310,25 @@ impl Plan {
         self.index.names.once_published(name)
     }
 
-    /// The calls on a name, in process order. Each name is a shard of its own.
+    /// The calls on a name alone, in process order. Each name is a shard of its own.
     pub fn name_calls(&self, name: u32) -> &[Event]
         ensures { AreNameCalls (plan_of self.now) name (map event_of result.now) }
     {
         self.index.names.calls(name)
+    }
+
+    /// The publishes of a name, in process order.
+    pub fn publishes(&self, name: u32) -> &[Event]
+        ensures { ArePublishes (plan_of self.now) name (map event_of result.now) }
+    {
+        self.index.names.publishes(name)
+    }
+
+    /// The calls of a process that take away all names that it has published, in their order.
+    pub fn sweeps(&self, proc: Proc) -> &[Event]
+        ensures { AreSweeps (plan_of self.now) proc.number (map event_of result.now) }
+    {
+        self.index.names.sweeps(proc)
     }
 }
 

@@ -1,8 +1,10 @@
 -- The three kinds are all findings.
-use Rattle.std.proofs.Common.{◌↔◌, refl, ℕ, Bool, List, inl, inr}
+use Rattle.std.proofs.Common.{◌↔◌, refl, List, inl, inr}
 use Rattle.wire_runs.specs.Plan.{Plan}
 use Rattle.wire_runs.specs.Findings.{Finding, Rewrite, KeyRace, NameRace, IsFound, IsSorted}
-use Rattle.wire_races.specs.Findings.{all_shown, AreFindings}
+use Rattle.wire_content.specs.Scripts.{Scripts}
+use Rattle.wire_content.specs.Planned.{plan_of}
+use Rattle.wire_races.specs.Findings.{all_shown, lower_name, AreFindings}
 use Rattle.wire_races.specs.declared.finding.Finding.{Finding as Told}
 use Rattle.wire_races.specs.Collected.{Tells, AreFound}
 use Rattle.wire_races.specs.FindingKinds.{IsOfRewrite, IsOfKey, IsOfName, AllAdded}
@@ -16,9 +18,9 @@ each_kind plan a b c d r k n (NameRace x y name) h =
     let f = NameRace x y name in (n f).1 (inr ((x, y, name, refl), h))
 
 -- one kind after another
-pub all_kinds : (plan : Plan) (a b c d : List Told) (found : List Told) → AllAdded plan IsOfRewrite a b → AllAdded plan IsOfKey b c → AllAdded plan IsOfName c d → AreFound plan d →
-    ((f : Finding) → Tells plan found f ↔ Tells plan d f) → ((lower_name : ℕ → ℕ → Bool) → IsSorted lower_name (all_shown plan found)) → AreFindings plan found
-all_kinds plan a b c d found r k n only is sorted = λ lower_name. record {
-  those = λ f. ((λ h. only f ((is f).0 h)), (λ h. (is f).1 (each_kind plan a b c d r k n f h)));
-  sorted = sorted lower_name;
+pub all_kinds : (s : Scripts) (a b c d : List Told) (found : List Told) → AllAdded (plan_of s) IsOfRewrite a b → AllAdded (plan_of s) IsOfKey b c → AllAdded (plan_of s) IsOfName c d →
+    AreFound (plan_of s) d → ((f : Finding) → Tells (plan_of s) found f ↔ Tells (plan_of s) d f) → IsSorted (lower_name s.names) (all_shown (plan_of s) found) → AreFindings s found
+all_kinds s a b c d found r k n only is sorted = record {
+  those = λ f. ((λ h. only f ((is f).0 h)), (λ h. (is f).1 (each_kind (plan_of s) a b c d r k n f h)));
+  sorted = sorted;
 }

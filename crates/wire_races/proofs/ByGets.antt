@@ -1,21 +1,20 @@
 -- The races of a get with the gets that bring its key to its node.
-use Rattle.std.proofs.Common.{◌≡◌, ◌∙◌, ap, sym, refl, subst, ℕ, suc, ◌-◌, ◌<◌, ◌≤◌, List, length, Some, arith, inl, inr}
+use Rattle.std.proofs.Common.{◌≡◌, ◌∙◌, ap, sym, subst, ℕ, suc, ◌-◌, ◌<◌, ◌≤◌, List, length, Some, arith, inl, inr}
 use Rattle.std.specs.Prelude.{slice_get, slice_index_or, map}
 use Rattle.std.proofs.lemmas.Bool.{cases_eq, cases_lt}
 use Rattle.std.proofs.lemmas.Option.{same_Some, slice_get_within}
 use Rattle.wire_runs.specs.Plan.{Plan, Event, event_of}
 use Rattle.wire_types.specs.declared.place.Event.{Event as CodeEvent}
 use Rattle.wire_races.proofs.Lists.{place_at}
-use Rattle.wire_runs.specs.EventLists.{IsLower, AreAll}
+use Rattle.wire_runs.specs.EventLists.{AreAll}
 use Rattle.wire_runs.specs.Order.{Live, Before}
 use Rattle.wire_runs.specs.Races.{GetDelivers}
-use Rattle.wire_runs.specs.Findings.{Finding}
 use Rattle.wire_plan.specs.Index.{AreGetDeliveries}
 use Rattle.wire_races.specs.declared.finding.Finding.{Finding as Told}
 use Rattle.wire_races.specs.Collected.{AreFound}
 use Rattle.wire_races.specs.Adding.{Adds}
 use Rattle.wire_races.specs.KeyRaces.{IsRaceOf}
-use Rattle.wire_races.specs.GetRaces.{AreOfOne, IsSureByGet, MayRace, IsRaceByGet, AreRacesByGets, AreRacesBelow}
+use Rattle.wire_races.specs.GetRaces.{AreOfOne, IsSureByGet, MayRace, AreRacesByGets, AreRacesBelow}
 use Rattle.wire_races.proofs.Growing.{adds_none, adds_same, adds_both}
 use Rattle.wire_runs.proofs.Histories.{before_live, same_process, joined}
 

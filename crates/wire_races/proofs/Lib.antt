@@ -15,6 +15,7 @@ pub mod Deliveries
 pub mod Lists
 pub mod Names
 pub mod NameRaces
+mod Swept
 pub mod Rivals
 pub mod OneList
 pub mod Marked

@@ -5,6 +5,8 @@ use Rattle.std.proofs.lemmas.Option.{slice_get_within, same_Some, slice_get-map,
 use Rattle.std.proofs.lemmas.List.{length-map, length-take-le, map-append, take-append-drop}
 use Rattle.wire_runs.specs.Plan.{Plan, Event, event_of}
 use Rattle.wire_types.specs.declared.place.Event.{Event as CodeEvent}
+use Rattle.wire_types.specs.declared.Proc.{Proc}
+use Rattle.wire_content.specs.Scripts.{numbers_of}
 use Rattle.wire_runs.specs.EventLists.{IsLower}
 use Rattle.wire_runs.specs.Fate.{IsIn}
 use Rattle.wire_races.specs.NameRaces.{AreCallsOn, AreOf, IsCut}
@@ -98,3 +100,6 @@ stretch plan name calls n x le are first cut (suc k) z e =
 pub stretch_more : (calls : List CodeEvent) (n : ℕ) (x : CodeEvent) → slice_get calls 0 ≡ Some x → IsCut (λ z. z.proc ≤ x.proc.number) (map event_of calls) n → 0 < n
 stretch_more calls zero x first cut = absurd (cut.above 0 (event_of x) (omega arith) (slice_get-map event_of calls 0 ∙ ap (option_map event_of) first) (omega arith))
 stretch_more calls (suc n) x first cut = omega arith
+
+pub number_at : (procs : List Proc) (k : ℕ) (d : Proc) → k < length procs → slice_get (numbers_of procs) k ≡ Some (slice_index_or procs k d).number
+number_at procs k d lt = slice_get-map (λ (p : Proc). p.number) procs k ∙ ap (option_map (λ (p : Proc). p.number)) (slice_get-get_or procs k d lt)

@@ -1,26 +1,27 @@
 -- Races on names: where the calls stand that race with one call, and how the findings grow.
-use Rattle.std.proofs.Common.{◌≡◌, ◌≢◌, ◌⊎◌, ◌↔◌, inl, inr, ℕ, ◌+◌, ◌<◌, ◌≤◌, List, [], ◌∷◌, ◌++◌, true, Some, refl, sym, ap, ◌∙◌, subst, arith}
-use Rattle.std.specs.Prelude.{slice_get}
+use Rattle.std.proofs.Common.{◌≡◌, ◌≢◌, ◌⊎◌, ◌↔◌, inl, inr, ⊎_elim, ℕ, ◌+◌, ◌<◌, ◌≤◌, List, [], ◌∷◌, ◌++◌, true, false, Option, Some, refl, sym, ap, ◌∙◌, subst, arith}
+use Rattle.std.specs.Prelude.{slice_get, nat_lt}
+use borrow.Author.Tests.{ltb-true, ltb-false}
 use Rattle.std.proofs.lemmas.Option.{same_Some}
-use Rattle.std.proofs.lemmas.Bool.{cases_eq, cases_lt}
-use Rattle.wire_runs.specs.Plan.{Plan, Event, kind}
+use Rattle.std.proofs.lemmas.Bool.{cases_eq, cases_lt, cond_both, true≢false}
+use Rattle.wire_runs.specs.Plan.{Plan, Event, Kind, Publish, Lookup, LookupWait, Unpublish, UnpublishAll, kind, event_count}
 use Rattle.wire_runs.specs.Names.{writes_name, calls_name}
 use Rattle.wire_runs.specs.Order.{Live, edge, Announces}
 use Rattle.wire_runs.specs.EventLists.{IsLower}
 use Rattle.wire_runs.specs.Fate.{IsIn}
-use Rattle.wire_runs.specs.Races.{IsUnordered}
+use Rattle.wire_runs.specs.Races.{IsUnordered, IsNameRace}
 use Rattle.wire_runs.specs.Findings.{Finding, NameRace, IsFound}
 use Rattle.wire_races.specs.declared.finding.Finding.{Finding as Told}
-use Rattle.wire_plan.specs.Index.{AreNameCalls}
+use Rattle.wire_plan.specs.Index.{is_plain_call, AreNameCalls}
 use Rattle.wire_runs.proofs.Histories.{before_live, joined, same_process}
 use Rattle.wire_races.specs.Collected.{Tells, AreFound, IsAdded}
 use Rattle.wire_races.specs.FindingKinds.{IsOfName}
 use Rattle.wire_races.specs.Adding.{Adds}
-use Rattle.wire_races.specs.NameRaces.{IsRaceOn, IsRaceFrom, IsRaceWith, AreCallsOn, AreOf, AreRivals, HasRivals, IsBelow, IsCut}
+use Rattle.wire_races.specs.NameRaces.{IsRaceOn, IsPlainRaceOn, IsRaceFrom, IsRaceWith, race_between, AreCallsOn, AreOf, AreRivals, AreHigher, HasRivals, IsBelow, IsCut}
 use Rattle.wire_races.specs.declared.name_races.Border.{Border}
 use Rattle.wire_races.specs.declared.name_races.Border.TheVariants.{FirstNotBefore, FirstAfter}
 use Rattle.wire_races.proofs.Lists.{in_index, index_in, in_left, in_right, in_parts, get_left, get_right, first_calls, other_calls}
-use Rattle.wire_races.proofs.Calls.{writes_calls}
+use Rattle.wire_races.proofs.Calls.{writes_calls, starts_within, starts_named}
 use Rattle.wire_races.proofs.Growing.{adds_one, adds_both}
 
 -- of the calls of a process those below a border are the first
@@ -88,24 +89,24 @@ pub record IsAmong (name : ℕ) (x : Event) (calls : List Event) (from to k : �
   pub above : from ≤ j
   pub below : j < to
   pub done : j < k
-  pub is : f ≡ NameRace x z name
+  pub is : f ≡ race_between x z name
 
 pub among_none : (name : ℕ) (x : Event) (calls : List Event) (from to : ℕ) (f : Finding) → IsAmong name x calls from to from f → ⊥
 among_none name x calls from to f a = let ge = a.above in let lt = a.done in omega (arith, ge, lt)
 
 -- the race with one call more
 pub among_more : (plan : Plan) (name : ℕ) (x : Event) (calls : List Event) (from to k : ℕ) (z : Event) (old now new : List Told)
-    → slice_get calls k ≡ Some z → from ≤ k → k < to → IsFound plan (NameRace x z name) → Adds plan old now (IsAmong name x calls from to k) → IsAdded plan now new (NameRace x z name) →
+    → slice_get calls k ≡ Some z → from ≤ k → k < to → IsFound plan (race_between x z name) → Adds plan old now (IsAmong name x calls from to k) → IsAdded plan now new (race_between x z name) →
     Adds plan old new (IsAmong name x calls from to (k + 1))
 among_more plan name x calls from to k z old now new at ge lt is a told =
-    adds_both plan old now new (IsAmong name x calls from to k) (λ f. f ≡ NameRace x z name) (IsAmong name x calls from to (k + 1))
+    adds_both plan old now new (IsAmong name x calls from to k) (λ f. f ≡ race_between x z name) (IsAmong name x calls from to (k + 1))
     (λ f m. let done = m.done in record { j = m.j; z = m.z; at = m.at; above = m.above; below = m.below; done = omega (arith, done); is = m.is })
     (λ f e. record { j = k; z = z; at = at; above = ge; below = lt; done = omega arith; is = e })
     (λ f m. elim (cases_eq m.j k) [
-      | inl same ↦ inr (m.is ∙ ap (λ v. NameRace x v name) (same_Some m.z z (sym m.at ∙ ap (slice_get calls) same ∙ at)))
+      | inl same ↦ inr (m.is ∙ ap (λ v. race_between x v name) (same_Some m.z z (sym m.at ∙ ap (slice_get calls) same ∙ at)))
       | inr other ↦ inl (let done = m.done in record { j = m.j; z = m.z; at = m.at; above = m.above; below = m.below; done = omega (arith, done, other); is = m.is })
     ])
-    a (adds_one plan now new (λ f. f ≡ NameRace x z name) (NameRace x z name) a.found is told refl (λ f e. e))
+    a (adds_one plan now new (λ f. f ≡ race_between x z name) (race_between x z name) a.found is told refl (λ f e. e))
 
 turned : (plan : Plan) (x y : Event) → IsUnordered plan x y → IsUnordered plan y x
 turned plan x y u = record { live_x = u.live_y; live_y = u.live_x; not_before = u.not_after; not_after = u.not_before }
@@ -136,34 +137,55 @@ pub one_changes : (plan : Plan) (x y : Event) (name : ℕ) → IsFound plan (Nam
 one_changes plan x y name (low, inl r) never = absurd (never r.x_writes)
 one_changes plan x y name (low, inr r) never = r.x_writes
 
+-- two calls stand in one of two orders
+pub between : (x y : Event) (name : ℕ) (P : Finding → Type 0) → (x.proc < y.proc → P (NameRace x y name)) → (y.proc ≤ x.proc → P (NameRace y x name)) → P (race_between x y name)
+between x y name P lower higher =
+    cond_both (nat_lt x.proc y.proc) (NameRace x y name) (NameRace y x name) P (λ t. lower (ltb-true x.proc y.proc t)) (λ f. higher (ltb-false x.proc y.proc f))
+
+pub between_lower : (x y : Event) (name : ℕ) → x.proc < y.proc → race_between x y name ≡ NameRace x y name
+between_lower x y name lt = between x y name (λ f. f ≡ NameRace x y name) (λ _. refl) (λ le. absurd (omega (arith, lt, le)))
+
+pub between_higher : (x y : Event) (name : ℕ) → y.proc < x.proc → race_between x y name ≡ NameRace y x name
+between_higher x y name lt = between x y name (λ f. f ≡ NameRace y x name) (λ low. absurd (omega (arith, lt, low))) (λ _. refl)
+
+pub between_rest : (x y : Event) (name : ℕ) → y.proc ≤ x.proc → race_between x y name ≡ NameRace y x name
+between_rest x y name le = between x y name (λ f. f ≡ NameRace y x name) (λ low. absurd (omega (arith, le, low))) (λ _. refl)
+
+pub unordered_between : (plan : Plan) (x y : Event) (name : ℕ) → IsFound plan (race_between x y name) → IsUnordered plan x y
+unordered_between plan x y name = between x y name (λ f. IsFound plan f → IsUnordered plan x y)
+    (λ _ r. race_unordered plan x y name r) (λ _ r. turned plan y x (race_unordered plan y x name r))
+
 -- the calls between the borders race with x, and no others
 module _ (plan : Plan) (name : ℕ) (x : Event) (calls : List Event) (from to : ℕ) (on_name : calls_name plan name x (kind plan x) ≡ true) (live : Live plan x) (rivals : AreRivals plan name x calls)
     (first : IsCut (IsBelow plan x FirstNotBefore) calls from) (last : IsCut (IsBelow plan x FirstAfter) calls to) where
   unordered : (j : ℕ) (z : Event) → slice_get calls j ≡ Some z → from ≤ j → j < to → IsUnordered plan x z
   unordered j z at ge lt = let h = last.below j z lt at in record { live_x = live; live_y = h.0; not_before = h.1; not_after = first.above j z ge at }
 
-  pub is_race : (j : ℕ) (z : Event) → slice_get calls j ≡ Some z → from ≤ j → j < to → IsFound plan (NameRace x z name)
-  is_race j z at ge lt =
+  one_of_them : (j : ℕ) (z : Event) → slice_get calls j ≡ Some z → from ≤ j → j < to → IsNameRace plan x z name ⊎ IsNameRace plan z x name
+  one_of_them j z at ge lt =
       let u = unordered j z at ge lt in
-      let higher = rivals.higher j z at in (
-        inl higher,
-        elim (rivals.change j z at) [
-          | inl writes ↦ inl (record {
-            x_writes = writes;
-            y_calls = rivals.calls_on.each j z at;
-            others = λ e. omega (arith, higher, e);
-            not_once = λ once waits. u.not_before (edge live (Announces name waits once) u.live_y);
-            unordered = u;
-          })
-          | inr writes ↦ inr (record {
-            x_writes = writes;
-            y_calls = on_name;
-            others = λ e. omega (arith, higher, e);
-            not_once = λ once waits. u.not_after (edge u.live_y (Announces name waits once) live);
-            unordered = turned plan x z u;
-          })
-        ],
-      )
+      elim (rivals.change j z at) [
+        | inl writes ↦ inl (record {
+          x_writes = writes;
+          y_calls = rivals.calls_on.each j z at;
+          others = rivals.others j z at;
+          not_once = λ once waits. u.not_before (edge live (Announces name waits once) u.live_y);
+          unordered = u;
+        })
+        | inr writes ↦ inr (record {
+          x_writes = writes;
+          y_calls = on_name;
+          others = λ e. rivals.others j z at (sym e);
+          not_once = λ once waits. u.not_after (edge u.live_y (Announces name waits once) live);
+          unordered = turned plan x z u;
+        })
+      ]
+
+  pub is_race : (j : ℕ) (z : Event) → slice_get calls j ≡ Some z → from ≤ j → j < to → IsFound plan (race_between x z name)
+  is_race j z at ge lt =
+      let others = rivals.others j z at in
+      let race = one_of_them j z at ge lt in
+      between x z name (IsFound plan) (λ low. (inl low, race)) (λ le. (inl (omega (arith, le, others)), ⊎_elim (λ r. inr r) (λ r. inl r) race))
 
   pub among_race : (k : ℕ) (f : Finding) → IsAmong name x calls from to k f → IsRaceWith plan name x calls f
   among_race k f a = record { y = a.z; there = index_in calls a.z a.j a.at; is = a.is; found = subst (IsFound plan) (sym a.is) (is_race a.j a.z a.at a.above a.below) }
@@ -171,7 +193,7 @@ module _ (plan : Plan) (name : ℕ) (x : Event) (calls : List Event) (from to : 
   pub race_among : (k : ℕ) → to ≤ k → (f : Finding) → IsRaceWith plan name x calls f → IsAmong name x calls from to k f
   race_among k past f r =
       let w = in_index calls r.y r.there in
-      let u = race_unordered plan x r.y name (subst (IsFound plan) r.is r.found) in
+      let u = unordered_between plan x r.y name (subst (IsFound plan) r.is r.found) in
       let ge : from ≤ w.0 = elim (cases_lt w.0 from) [ inl lt ↦ absurd (u.not_after (first.below w.0 r.y lt w.1)) | inr ge ↦ ge ] in
       let lt : w.0 < to = elim (cases_lt w.0 to) [ inl lt ↦ lt | inr le ↦ absurd (last.above w.0 r.y le w.1 (u.live_y, u.not_before)) ] in
       record { j = w.0; z = r.y; at = w.1; above = ge; below = lt; done = omega (arith, lt, past); is = r.is }
@@ -180,14 +202,14 @@ module _ (plan : Plan) (name : ℕ) (x : Event) (calls : List Event) (from to : 
 pub first_rivals : (plan : Plan) (name : ℕ) (x : Event) (xs ys : List Event) → AreRivals plan name x (xs ++ ys) → AreRivals plan name x xs
 first_rivals plan name x xs ys are = record {
   calls_on = first_calls plan name xs ys are.calls_on;
-  higher = λ k z e. are.higher k z (get_left xs ys k z e);
+  others = λ k z e. are.others k z (get_left xs ys k z e);
   change = λ k z e. are.change k z (get_left xs ys k z e);
 }
 
 pub other_rivals : (plan : Plan) (name : ℕ) (x : Event) (xs ys : List Event) → AreRivals plan name x (xs ++ ys) → AreRivals plan name x ys
 other_rivals plan name x xs ys are = record {
   calls_on = other_calls plan name xs ys are.calls_on;
-  higher = λ k z e. are.higher _ z (get_right xs ys k z e);
+  others = λ k z e. are.others _ z (get_right xs ys k z e);
   change = λ k z e. are.change _ z (get_right xs ys k z e);
 }
 
@@ -229,18 +251,46 @@ none_left plan name x old now all found left = record {
   only = λ f h. (left f).0 (inl h);
 }
 
--- the races of x with all its rivals are those with any higher call
-pub from_with : (plan : Plan) (name : ℕ) (x : Event) (calls : List Event) (f : Finding) → IsRaceWith plan name x calls f → IsRaceFrom plan name x f
-from_with plan name x calls f r = record { y = r.y; is = r.is; found = r.found }
+-- the races of x with all its rivals are those with any higher call on the name alone
+pub from_with : (plan : Plan) (name : ℕ) (x : Event) (calls : List Event) → AreHigher plan name x calls → (f : Finding) → IsRaceWith plan name x calls f → IsRaceFrom plan name x f
+from_with plan name x calls higher f r =
+    let w = in_index calls r.y r.there in
+    let h = higher w.0 r.y w.1 in
+    record { y = r.y; is = r.is ∙ between_lower x r.y name h.0; found = r.found; plain = h.1 }
 
 pub with_from : (plan : Plan) (name : ℕ) (x : Event) (calls : List Event) → HasRivals plan name x calls → (f : Finding) → IsRaceFrom plan name x f → IsRaceWith plan name x calls f
-with_from plan name x calls all f r = record { y = r.y; there = all r.y (subst (IsFound plan) r.is r.found); is = r.is; found = r.found }
+with_from plan name x calls all f r =
+    let found = subst (IsFound plan) r.is r.found in
+    record { y = r.y; there = all r.y r.plain found; is = r.is ∙ sym (between_lower x r.y name (race_lower plan x r.y name found)); found = r.found }
 
 pub from_live : (plan : Plan) (name : ℕ) (x : Event) (f : Finding) → IsRaceFrom plan name x f → Live plan x
 from_live plan name x f r = (race_unordered plan x r.y name (subst (IsFound plan) r.is r.found)).live_x
 
+-- a call on one name is a call on it
+pub plain_calls : (plan : Plan) (name : ℕ) (x : Event) (o : Option Kind) → is_plain_call name o ≡ true → calls_name plan name x o ≡ true
+plain_calls plan name x (Some (Publish n)) h = h
+plain_calls plan name x (Some (Lookup n)) h = h
+plain_calls plan name x (Some (LookupWait n)) h = h
+plain_calls plan name x (Some (Unpublish n)) h = h
+plain_calls plan name x _ h = absurd (true≢false (sym h))
+
+pub plain_here : (plan : Plan) (name : ℕ) (z : Event) → is_plain_call name (kind plan z) ≡ true → calls_name plan name z (kind plan z) ≡ true
+plain_here plan name z h = plain_calls plan name z (kind plan z) h
+
+pub plain_there : (plan : Plan) (name : ℕ) (z : Event) → is_plain_call name (kind plan z) ≡ true → z.at < event_count plan z.proc
+plain_there plan name z h = starts_within plan z (starts_named plan name z (plain_here plan name z h))
+
+-- and the other calls on it take away all names
+pub plain_or_not : (plan : Plan) (name : ℕ) (x : Event) (o : Option Kind) → calls_name plan name x o ≡ true → (is_plain_call name o ≡ true) ⊎ (o ≡ Some UnpublishAll)
+plain_or_not plan name x (Some (Publish n)) h = inl h
+plain_or_not plan name x (Some (Lookup n)) h = inl h
+plain_or_not plan name x (Some (LookupWait n)) h = inl h
+plain_or_not plan name x (Some (Unpublish n)) h = inl h
+plain_or_not plan name x (Some UnpublishAll) h = inr refl
+plain_or_not plan name x _ h = absurd (true≢false (sym h))
+
 -- a race on the name is of one of the calls on it
-pub caller_in : (plan : Plan) (name : ℕ) (all : List Event) → AreNameCalls plan name all → (y : Event) → calls_name plan name y (kind plan y) ≡ true → IsIn y all
+pub caller_in : (plan : Plan) (name : ℕ) (all : List Event) → AreNameCalls plan name all → (y : Event) → is_plain_call name (kind plan y) ≡ true → IsIn y all
 caller_in plan name all are y calls = let w = are.all y calls in index_in all y w.0 w.1
 
 pub on_name : (plan : Plan) (name : ℕ) (f : Finding) → IsRaceOn plan name f → IsOfName f
@@ -269,11 +319,11 @@ with_more plan name done x old now new =
       | inr i ↦ inr (subst (λ v. IsRaceFrom plan name v f) (only_one x r.0 i) r.2)
     ])
 
--- all calls on the name
-pub among_on : (plan : Plan) (name : ℕ) (all : List Event) (f : Finding) → IsRaceAmong plan name all f → IsRaceOn plan name f
-among_on plan name all f r = record { x = r.0; y = r.2.y; is = r.2.is; found = r.2.found }
+-- all calls on the name alone
+pub among_on : (plan : Plan) (name : ℕ) (all : List Event) → AreNameCalls plan name all → (f : Finding) → IsRaceAmong plan name all f → IsPlainRaceOn plan name f
+among_on plan name all are f r =
+    let w = in_index all r.0 r.1 in
+    record { x = r.0; y = r.2.y; is = r.2.is; found = r.2.found; plain_x = are.only w.0 r.0 w.1; plain_y = r.2.plain }
 
-pub on_among : (plan : Plan) (name : ℕ) (all : List Event) → AreNameCalls plan name all → (f : Finding) → IsRaceOn plan name f → IsRaceAmong plan name all f
-on_among plan name all are f r =
-    let found = subst (IsFound plan) r.is r.found in
-    (r.x, caller_in plan name all are r.x (low_calls plan r.x r.y name found), record { y = r.y; is = r.is; found = r.found })
+pub on_among : (plan : Plan) (name : ℕ) (all : List Event) → AreNameCalls plan name all → (f : Finding) → IsPlainRaceOn plan name f → IsRaceAmong plan name all f
+on_among plan name all are f r = (r.x, caller_in plan name all are r.x r.plain_x, record { y = r.y; is = r.is; found = r.found; plain = r.plain_y })

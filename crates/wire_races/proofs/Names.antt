@@ -1,18 +1,23 @@
 -- The names of calls are those of the scripts.
-use Rattle.std.proofs.Common.{◌≡◌, inl, inr, ℕ, zero, suc, ◌+◌, ◌-◌, ◌<◌, ◌≤◌, List, [], ◌∷◌, ◌++◌, Bool, true, Option, Some, None, map, length, refl, sym, ap, ◌∙◌, subst, arith}
+use Rattle.std.proofs.Common.{◌≡◌, inl, inr, ⊎_elim, ℕ, zero, suc, ◌+◌, ◌-◌, ◌<◌, ◌≤◌, List, [], ◌∷◌, ◌++◌, Bool, true, Option, Some, None, map, length, refl, sym, ap, ◌∙◌, subst, arith, eq-eqb}
 use Rattle.std.specs.Prelude.{slice_get, option_map, if◌then◌else◌}
 use Rattle.std.proofs.lemmas.Option.{slice_get-map}
 use Rattle.std.proofs.lemmas.Bool.{true≢false, cases_lt, cond_both, eqb-true}
-use Rattle.wire_runs.specs.Plan.{Plan, Event, Kind, Call, kinds_of, set_of, kind, kind_at, kinds, process_kinds, CallPut, CallGet, CallGetNow, CallPublish, CallLookup, CallLookupWait, CallUnpublish}
+use Rattle.wire_runs.specs.Plan.{Plan, Event, Kind, Call, kinds_of, set_of, kind, kind_at, kinds, event_count, process_kinds, CallPut, CallGet, CallGetNow, CallPublish, CallLookup, CallLookupWait, CallUnpublish}
 use Rattle.wire_runs.specs.Plan.{CallFixed}
 use Rattle.wire_runs.specs.Plan as plan
 use Rattle.wire_types.specs.declared.Call.{Call as Written}
-use Rattle.wire_types.specs.declared.Call.TheVariants.{Put, Commit, Fence, Get, GetNow, Publish, Lookup, LookupWait, Unpublish}
+use Rattle.wire_types.specs.declared.Call.TheVariants.{Put, Commit, Fence, Get, GetNow, Publish, Lookup, LookupWait, Unpublish, UnpublishAll}
 use Rattle.wire_types.specs.declared.Reply.{Reply}
 use Rattle.wire_content.specs.Scripts.{Process, Scripts, IsSound, name_in, calls_in, set_at}
+use Rattle.wire_content.specs.Apart.{AreApart}
 use Rattle.wire_content.specs.Planned.{plan_of, planned_call, planned_process}
 use Rattle.wire_runs.specs.Names.{calls_name}
+use Rattle.wire_plan.specs.Index.{is_plain_call}
 use Rattle.wire_plan.proofs.Planning.{events_first}
+use Rattle.wire_plan.proofs.Published.{published_at}
+use Rattle.wire_races.proofs.NameRaces.{plain_or_not}
+use Rattle.wire_races.specs.Standings.{AreNamesOf}
 use Rattle.wire_races.proofs.Calls.{get_left, get_right}
 
 get_late : {A : Type 0} (xs ys : List A) (k : ℕ) → length xs ≤ k → slice_get (xs ++ ys) k ≡ slice_get ys (k - length xs)
@@ -20,7 +25,7 @@ get_late xs ys k le = let same : k ≡ length xs + (k - length xs) = omega (arit
 
 module _ (s : Scripts) (name : ℕ) (x : Event) where
   abbrev on_it : Option Kind → Bool
-  on_it o = calls_name (plan_of s) name x o
+  on_it o = is_plain_call name o
 
   the_one : (e : Kind) (i : ℕ) → on_it (slice_get (e ∷ []) i) ≡ true → on_it (Some e) ≡ true
   the_one e zero h = h
@@ -44,6 +49,7 @@ module _ (s : Scripts) (name : ℕ) (x : Event) where
   written_name (Lookup n) i h = ap Some (eqb-true n name (unless_named _ _ (CallLookup n) (plan.Lookup n) i refl h))
   written_name (LookupWait n) i h = ap Some (eqb-true n name (unless_named _ _ (CallLookupWait n) (plan.LookupWait n) i refl h))
   written_name (Unpublish n) i h = ap Some (eqb-true n name (unless_named _ _ (CallUnpublish n) (plan.Unpublish n) i refl h))
+  written_name UnpublishAll i h = absurd (true≢false (sym (the_one plan.UnpublishAll i h)))
 
   written_call : (calls : List Written) (i : ℕ) → on_it (slice_get (kinds_of (map (planned_call s) calls)) i) ≡ true → (c : ℕ) × (call : Written) × (slice_get calls c ≡ Some call)
       × (name_in call ≡ Some name)
@@ -64,9 +70,25 @@ module _ (s : Scripts) (name : ℕ) (x : Event) where
   planned_calls None = refl
   planned_calls (Some q) = refl
 
-  pub named_within : IsSound s → on_it (kind (plan_of s) x) ≡ true → name < length s.names
+  plain_within : IsSound s → on_it (kind (plan_of s) x) ≡ true → name < length s.names
   unfolding kind_at kinds
-  named_within sound h =
+  plain_within sound h =
       let es = ap process_kinds (slice_get-map (planned_process s) s.processes x.proc) ∙ planned_calls (slice_get s.processes x.proc) in
       let w = written_call (calls_in (slice_get s.processes x.proc)) x.at (subst (λ l. on_it (slice_get l x.at) ≡ true) es h) in
       sound.names x.proc w.0 name w.1 w.2 w.3
+
+-- a call that takes away all names is on those that its script publishes
+pub named_within : (s : Scripts) (name : ℕ) (x : Event) → IsSound s → calls_name (plan_of s) name x (kind (plan_of s) x) ≡ true → name < length s.names
+named_within s name x sound h = elim (plain_or_not (plan_of s) name x (kind (plan_of s) x) h) [
+  | inl plain ↦ plain_within s name x sound plain
+  | inr sweeps ↦
+      (let w = published_at (plan_of s) x.proc name (event_count (plan_of s) x.proc) (sym (ap (calls_name (plan_of s) name x) sweeps) ∙ h) in
+      plain_within s name (record { proc = x.proc; at = w.0 }) sound (ap (is_plain_call name) w.2 ∙ eq-eqb name name refl))
+]
+
+-- the names of scripts are those of the findings of their plan
+pub names_of : (s : Scripts) → IsSound s → AreApart s.names → AreNamesOf (plan_of s) s.names
+names_of s sound apart = record {
+  apart = apart;
+  within = λ x y name r. ⊎_elim (λ h. named_within s name y sound h.y_calls) (λ h. named_within s name x sound h.y_calls) r.1;
+}

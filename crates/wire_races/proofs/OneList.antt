@@ -1,7 +1,12 @@
 -- The list of the findings that are told is one, and empty where the plan is settled.
-use Rattle.std.proofs.Common.{◌≡◌, ap, refl, sym, subst, ℕ, zero, suc, ◌<◌, List, [], ◌∷◌, length, take, Bool, false, inl, inr, arith}
+use Rattle.std.proofs.Common.{◌≡◌, ap, refl, sym, subst, ℕ, zero, suc, ◌<◌, List, [], ◌∷◌, length, take, true, ◌∙◌, inl, inr, arith}
 use Rattle.std.specs.Prelude.{◌↔◌}
 use Rattle.std.proofs.lemmas.Bool.{cases_lt, true≢false}
+use Rattle.std.proofs.lemmas.Cmp.{nat_list_cmp_total}
+use Rattle.std.specs.Cmp.Lexicographic.{slice_cmp}
+use Rattle.std.specs.declared.cmp.Ordering.{Ordering}
+use Rattle.std.specs.declared.cmp.Ordering.TheVariants.{Less, Equal, Greater}
+use Rattle.std.specs.Ordering.{ordering_index, ordering_reverse, is_lt, nat_cmp}
 use Rattle.wire_runs.specs.Plan.{Plan, Event, Call, CallPut, CallCommit, CallFence, CallGet, CallGetNow, CallPublish, CallLookup, CallLookupWait, CallUnpublish, CallUnpublishAll, CallFixed, kinds_of}
 use Rattle.wire_types.specs.declared.CallAt.{CallAt}
 use Rattle.wire_runs.specs.Ends.{call_size, calls_of, first_event}
@@ -9,7 +14,9 @@ use Rattle.wire_runs.specs.Races.{IsSettled}
 use Rattle.wire_runs.specs.Findings.{Finding, IsFound, Has, IsFindings}
 use Rattle.wire_runs.specs.Laws.{IsOneWay}
 use Rattle.wire_runs.proofs.Findings.{no_findings, one_list}
-use Rattle.wire_races.specs.Findings.{shown, all_shown, AreFindings}
+use Rattle.wire_content.specs.Scripts.{Scripts, text_at}
+use Rattle.wire_content.specs.Planned.{plan_of}
+use Rattle.wire_races.specs.Findings.{shown, all_shown, lower_name, AreFindings}
 use Rattle.wire_races.specs.declared.finding.Finding.{Finding as Told}
 use Rattle.wire_races.specs.declared.finding.Finding.TheVariants as told_as
 use Rattle.wire_races.proofs.Calls.{low_of, high_of, longer}
@@ -104,28 +111,33 @@ same_list plan (x ∷ xs) (y ∷ ys) a b e =
     let tails = same_list plan xs ys (λ f h. a f (inr h)) (λ f h. b f (inr h)) rest in
     cc (heads, tails)
 
--- an order of the names
-none_lower : ℕ → ℕ → Bool
-none_lower a b = false
+is_less : (r : Ordering) → is_lt r ≡ true → r ≡ Less
+is_less Less e = refl
+is_less Equal e = absurd (true≢false (sym e))
+is_less Greater e = absurd (true≢false (sym e))
 
-none_both : IsOneWay none_lower
-unfolding none_lower
-none_both a b e f = true≢false (sym e)
+-- of two names at most one is the lower one
+one_way : (names : List (List ℕ)) → IsOneWay (lower_name names)
+one_way names a b e f =
+    let there = is_less (slice_cmp nat_cmp (text_at names a) (text_at names b)) e in
+    let back = is_less (slice_cmp nat_cmp (text_at names b) (text_at names a)) f in
+    let turned = nat_list_cmp_total.antisymm (text_at names a) (text_at names b) in
+    let d = ap ordering_index (sym there ∙ turned ∙ ap ordering_reverse back) in
+    omega (arith, d)
 
-pub one_told : (plan : Plan) (xs ys : List Told) → AreFindings plan xs → AreFindings plan ys → xs ≡ ys
-one_told plan xs ys a b =
-    let one = a none_lower in
-    let other = b none_lower in
-    same_list plan xs ys (λ f. (one.those f).0) (λ f. (other.those f).0) (one_list plan none_lower (all_shown plan xs) (all_shown plan ys) none_both one other)
+pub one_told : (s : Scripts) (xs ys : List Told) → AreFindings s xs → AreFindings s ys → xs ≡ ys
+one_told s xs ys a b =
+    let plan = plan_of s in
+    same_list plan xs ys (λ f. (a.those f).0) (λ f. (b.those f).0) (one_list plan (lower_name s.names) (all_shown plan xs) (all_shown plan ys) (one_way s.names) a b)
 
 none_there : (plan : Plan) (found : List Told) → ((f : Finding) → Has (all_shown plan found) f → ⊥) → found ≡ []
 none_there plan [] never = refl
 none_there plan (x ∷ xs) never = absurd (never (shown plan x) (inl refl))
 
-pub none_told : (plan : Plan) (found : List Told) → AreFindings plan found → (found ≡ []) ↔ IsSettled plan
-none_told plan found are = (
-  (λ e. (no_findings plan none_lower).0 (subst (λ l. IsFindings plan none_lower (all_shown plan l)) e (are none_lower))),
-  (λ s.
-      let none = (no_findings plan none_lower).1 s in
-      none_there plan found (λ f h. (none.those f).1 (((are none_lower).those f).0 h))),
+pub none_told : (s : Scripts) (found : List Told) → AreFindings s found → (found ≡ []) ↔ IsSettled (plan_of s)
+none_told s found are = (
+  (λ e. (no_findings (plan_of s) (lower_name s.names)).0 (subst (λ l. IsFindings (plan_of s) (lower_name s.names) (all_shown (plan_of s) l)) e are)),
+  (λ settled.
+      let none = (no_findings (plan_of s) (lower_name s.names)).1 settled in
+      none_there (plan_of s) found (λ f h. (none.those f).1 ((are.those f).0 h))),
 )

@@ -4,31 +4,38 @@ use Rattle.std.proofs.lemmas.Bool.{cond_both}
 use Rattle.std.proofs.lemmas.List.Sorted.{Contains-permutation, IsPermutation-sym}
 use Rattle.std.proofs.lemmas.List.Kept.{IsStrictlySortedBy-dedup}
 use Rattle.std.specs.Cmp.{IsTotalOrder, ranked, nat_cmp_total, bool_cmp_total, on_total, then_total}
+use Rattle.std.specs.Cmp.Lexicographic.{slice_cmp}
+use Rattle.std.proofs.lemmas.Cmp.{nat_list_cmp_total}
 use Rattle.std.specs.List.{AllByRecursion, dedup, dedup_from}
 use Rattle.std.specs.List.Sorted.{IsPermutation, IsStrictlySortedBy}
 use Rattle.std.specs.List.Sorted as order
 use Rattle.std.specs.declared.cmp.Ordering.{Ordering}
 use Rattle.std.specs.declared.cmp.Ordering.TheVariants.{Less, Equal, Greater}
-use Rattle.std.specs.Ordering.{ordering_then, ordering_index, nat_cmp, bool_cmp, eq_by_cmp, is_eq, on}
+use Rattle.std.specs.Ordering.{ordering_then, ordering_index, nat_cmp, bool_cmp, eq_by_cmp, is_eq, is_lt}
 use Rattle.wire_runs.specs.Plan.{Plan, Event, kinds_of}
 use Rattle.wire_types.specs.declared.CallAt.{CallAt}
+use Rattle.wire_types.specs.declared.Proc.{Proc}
 use Rattle.wire_runs.specs.EventLists.{IsLower}
 use Rattle.wire_runs.specs.Ends.{calls_of, first_event}
 use Rattle.wire_runs.specs.Findings.{Finding, IsPairLower, IsSooner, IsFound, IsSorted}
 use Rattle.wire_races.specs.declared.finding.Finding.{Finding as Told}
 use Rattle.wire_races.specs.declared.finding.Finding.TheVariants.{Rewrite, KeyRace, NameRace}
 use Rattle.wire_races.specs.declared.found.Standing.{Standing}
-use Rattle.wire_races.specs.Findings.{shown, all_shown}
-use Rattle.wire_races.specs.Collected.{Tells, AreFound, UnpublishesSingly}
-use Rattle.wire_races.specs.Standings.{standing, call_cmp, standing_cmp}
-use Rattle.wire_races.proofs.Told.{low_call, high_call, shown_low, shown_high, one_first, one_standing}
+use Rattle.wire_content.specs.Scripts.{text_at}
+use Rattle.wire_races.specs.Findings.{shown, all_shown, lower_name}
+use Rattle.wire_races.specs.Collected.{Tells, AreFound}
+use Rattle.wire_races.specs.Standings.{standing, race_name, call_cmp, standing_cmp, told_cmp, AreNamesOf}
+use Rattle.wire_races.proofs.Told.{low_call, high_call, shown_low, shown_high, one_first, never_both, one_standing}
 use Rattle.wire_races.proofs.OneList.{rising}
 
 call_total : IsTotalOrder call_cmp
 call_total = then_total (on_total (λ (v : CallAt). v.proc.number) nat_cmp_total) (on_total (λ (v : CallAt). v.call) nat_cmp_total)
 
-pub standing_total : IsTotalOrder standing_cmp
+standing_total : IsTotalOrder standing_cmp
 standing_total = then_total (on_total (λ (p : Standing). p.is_race) bool_cmp_total) (then_total (on_total (λ (p : Standing). p.by) call_total) (on_total (λ (p : Standing). p.then) call_total))
+
+pub told_total : (names : List (List ℕ)) → IsTotalOrder (told_cmp names)
+told_total names = then_total (on_total standing standing_total) (on_total (race_name names) nat_list_cmp_total)
 
 equal_both : (r s : Ordering) → ordering_then r s ≡ Equal → (r ≡ Equal) × (s ≡ Equal)
 equal_both Less s e = let d = ap ordering_index e in absurd (omega (arith, d))
@@ -40,8 +47,8 @@ less_either Less s e = inl refl
 less_either Equal s e = inr (refl, e)
 less_either Greater s e = let d = ap ordering_index e in absurd (omega (arith, d))
 
-never_less : (s : Ordering) → ordering_then Greater s ≡ Less → ⊥
-never_less s e = let d = ap ordering_index e in omega (arith, d)
+never_less : (s : Ordering) (t : Ordering) → ordering_then (ordering_then Greater s) t ≡ Less → ⊥
+never_less s t e = let d = ap ordering_index e in omega (arith, d)
 
 number_one : (m n : ℕ) → nat_cmp m n ≡ Equal → m ≡ n
 number_one m n e = ranked m n Equal (sym e)
@@ -85,7 +92,7 @@ lower_self : (x y : Event) → x ≡ y → IsLower x y → ⊥
 lower_self x y e (inl lt) = let p = ap (λ (z : Event). z.proc) e in omega (arith, lt, p)
 lower_self x y e (inr h) = let i = ap (λ (z : Event). z.at) e in let lt = h.1 in omega (arith, lt, i)
 
-module _ (plan : Plan) (lower_name : ℕ → ℕ → Bool) where
+module _ (plan : Plan) (names : List (List ℕ)) (of : AreNamesOf plan names) where
   pair_lower : (f g : Told) → IsFound plan (shown plan f) → ordering_then (call_cmp (low_call f) (low_call g)) (call_cmp (high_call f) (high_call g)) ≡ Less →
       IsPairLower (first_event plan (low_call f)) (first_event plan (high_call f)) (first_event plan (low_call g)) (first_event plan (high_call g))
   pair_lower f g a e = elim (less_either (call_cmp (low_call f) (low_call g)) (call_cmp (high_call f) (high_call g)) e) [
@@ -105,24 +112,54 @@ module _ (plan : Plan) (lower_name : ℕ → ℕ → Bool) where
         (call_lower plan v x (shown_low plan (Rewrite v w) (Rewrite v w) refl a) l.1)))
   ]
 
-  sooner : (f g : Told) → IsFound plan (shown plan f) → IsFound plan (shown plan g) → standing_cmp (standing f) (standing g) ≡ Less → IsSooner lower_name (shown plan f) (shown plan g)
-  sooner (Rewrite v w) (Rewrite x y) a b e = rewrite_lower v w x y a b e
+  -- without a name, one stands before another by their standings alone
+  unnamed_less : (r : Ordering) → ordering_then r Equal ≡ Less → r ≡ Less
+  unnamed_less Less e = refl
+  unnamed_less Equal e = e
+  unnamed_less Greater e = let d = ap ordering_index e in absurd (omega (arith, d))
+
+  by_name : (v w x y : CallAt) (m n : ℕ) → IsFound plan (shown plan (NameRace v w m)) → told_cmp names (NameRace v w m) (NameRace x y n) ≡ Less →
+      IsSooner (lower_name names) (shown plan (NameRace v w m)) (shown plan (NameRace x y n))
+  by_name v w x y m n a e = elim (less_either (standing_cmp (standing (NameRace v w m)) (standing (NameRace x y n))) (slice_cmp nat_cmp (text_at names m) (text_at names n)) e) [
+    | inl l ↦ inl (pair_lower (NameRace v w m) (NameRace x y n) a l)
+    | inr l ↦ (
+        let one = standing_same (standing (NameRace v w m)) (standing (NameRace x y n)) l.0 in
+        inr (ap (λ (p : Standing). first_event plan p.by) one, ap (λ (p : Standing). first_event plan p.then) one, ap is_lt l.1))
+  ]
+
+  key_first : (v w x y : CallAt) (p : Proc) (k n : ℕ) → IsFound plan (shown plan (KeyRace v w p k)) → IsFound plan (shown plan (NameRace x y n)) →
+      told_cmp names (KeyRace v w p k) (NameRace x y n) ≡ Less → IsPairLower (first_event plan v) (first_event plan w) (first_event plan x) (first_event plan y)
+  key_first v w x y p k n a b e = elim (less_either (standing_cmp (standing (KeyRace v w p k)) (standing (NameRace x y n))) (slice_cmp nat_cmp [] (text_at names n)) e) [
+    | inl l ↦ pair_lower (KeyRace v w p k) (NameRace x y n) a l
+    | inr l ↦ never_both plan v w x y p k n (standing_same (standing (KeyRace v w p k)) (standing (NameRace x y n)) l.0) a b
+  ]
+
+  name_first : (v w x y : CallAt) (p : Proc) (k n : ℕ) → IsFound plan (shown plan (NameRace v w n)) → IsFound plan (shown plan (KeyRace x y p k)) →
+      told_cmp names (NameRace v w n) (KeyRace x y p k) ≡ Less → IsPairLower (first_event plan v) (first_event plan w) (first_event plan x) (first_event plan y)
+  name_first v w x y p k n a b e = elim (less_either (standing_cmp (standing (NameRace v w n)) (standing (KeyRace x y p k))) (slice_cmp nat_cmp (text_at names n) []) e) [
+    | inl l ↦ pair_lower (NameRace v w n) (KeyRace x y p k) a l
+    | inr l ↦ never_both plan x y v w p k n (sym (standing_same (standing (NameRace v w n)) (standing (KeyRace x y p k)) l.0)) b a
+  ]
+
+  sooner : (f g : Told) → IsFound plan (shown plan f) → IsFound plan (shown plan g) → told_cmp names f g ≡ Less → IsSooner (lower_name names) (shown plan f) (shown plan g)
+  sooner (Rewrite v w) (Rewrite x y) a b e = rewrite_lower v w x y a b (unnamed_less (standing_cmp (standing (Rewrite v w)) (standing (Rewrite x y))) e)
   sooner (Rewrite v w) (KeyRace x y q l) a b e = tt
   sooner (Rewrite v w) (NameRace x y m) a b e = tt
-  sooner (KeyRace v w p k) (Rewrite x y) a b e = absurd (never_less (ordering_then (call_cmp v y) (call_cmp w x)) e)
-  sooner (NameRace v w n) (Rewrite x y) a b e = absurd (never_less (ordering_then (call_cmp v y) (call_cmp w x)) e)
-  sooner (KeyRace v w p k) (KeyRace x y q l) a b e = pair_lower (KeyRace v w p k) (KeyRace x y q l) a e
-  sooner (KeyRace v w p k) (NameRace x y m) a b e = pair_lower (KeyRace v w p k) (NameRace x y m) a e
-  sooner (NameRace v w n) (KeyRace x y q l) a b e = pair_lower (NameRace v w n) (KeyRace x y q l) a e
-  sooner (NameRace v w n) (NameRace x y m) a b e = inl (pair_lower (NameRace v w n) (NameRace x y m) a e)
+  sooner (KeyRace v w p k) (Rewrite x y) a b e = absurd (never_less (ordering_then (call_cmp v y) (call_cmp w x)) Equal e)
+  sooner (NameRace v w n) (Rewrite x y) a b e = absurd (never_less (ordering_then (call_cmp v y) (call_cmp w x)) (slice_cmp nat_cmp (text_at names n) []) e)
+  sooner (KeyRace v w p k) (KeyRace x y q l) a b e = pair_lower (KeyRace v w p k) (KeyRace x y q l) a (unnamed_less (standing_cmp (standing (KeyRace v w p k)) (standing (KeyRace x y q l))) e)
+  sooner (KeyRace v w p k) (NameRace x y m) a b e = key_first v w x y p k m a b e
+  sooner (NameRace v w n) (KeyRace x y q l) a b e = name_first v w x y q l n a b e
+  sooner (NameRace v w n) (NameRace x y m) a b e = by_name v w x y n m a e
 
-  first_sooner : (f : Told) (fs : List Told) → IsFound plan (shown plan f) → AreFound plan fs → AllByRecursion (λ g. on standing standing_cmp f g ≡ Less) fs → (g : Finding) → Tells plan fs g →
-      IsSooner lower_name (shown plan f) g
+  first_sooner : (f : Told) (fs : List Told) → IsFound plan (shown plan f) → AreFound plan fs → AllByRecursion (λ g. told_cmp names f g ≡ Less) fs → (g : Finding) → Tells plan fs g →
+      IsSooner (lower_name names) (shown plan f) g
   first_sooner f [] a found all g h = absurd h
-  first_sooner f (x ∷ fs) a found all g (inl is) = subst (λ t. IsSooner lower_name (shown plan f) t) (sym is) (sooner f x a (found (shown plan x) (inl refl)) all.0)
+  first_sooner f (x ∷ fs) a found all g (inl is) =
+      subst (λ t. IsSooner (lower_name names) (shown plan f) t) (sym is) (sooner f x a (found (shown plan x) (inl refl)) all.0)
   first_sooner f (x ∷ fs) a found all g (inr h) = first_sooner f fs a (λ t i. found t (inr i)) all.1 g h
 
-  all_sorted : (fs : List Told) → AreFound plan fs → IsStrictlySortedBy (on standing standing_cmp) fs → IsSorted lower_name (all_shown plan fs)
+  all_sorted : (fs : List Told) → AreFound plan fs → IsStrictlySortedBy (told_cmp names) fs → IsSorted (lower_name names) (all_shown plan fs)
   unfolding IsStrictlySortedBy
   all_sorted [] found s = tt
   all_sorted (f ∷ fs) found s = (
@@ -130,26 +167,38 @@ module _ (plan : Plan) (lower_name : ℕ → ℕ → Bool) where
     all_sorted fs (λ t i. found t (inr i)) s.1,
   )
 
--- whether two findings have one standing
-abbrev pub same_standing : Told → Told → Bool
-same_standing = eq_by_cmp (on standing standing_cmp)
+-- whether two findings have one place in the list
+abbrev pub same_place : List (List ℕ) → Told → Told → Bool
+same_place names = eq_by_cmp (told_cmp names)
+
+text_one : (xs ys : List ℕ) → slice_cmp nat_cmp xs ys ≡ Equal → xs ≡ ys
+text_one [] [] e = refl
+text_one [] (y ∷ ys) e = let d = ap ordering_index e in absurd (omega (arith, d))
+text_one (x ∷ xs) [] e = let d = ap ordering_index e in absurd (omega (arith, d))
+text_one (x ∷ xs) (y ∷ ys) e =
+    let both = equal_both (nat_cmp x y) (slice_cmp nat_cmp xs ys) e in
+    let first = number_one x y both.0 in
+    let rest = text_one xs ys both.1 in
+    λ t. first t ∷ rest t
 
 equal_is : (r : Ordering) → is_eq r ≡ true → r ≡ Equal
 equal_is Less e = cc
 equal_is Equal e = refl
 equal_is Greater e = cc
 
-module _ (plan : Plan) (one : UnpublishesSingly plan) where
-  one_there : (x k : Told) → same_standing x k ≡ true → IsFound plan (shown plan x) → IsFound plan (shown plan k) → shown plan x ≡ shown plan k
-  one_there x k e a b = one_standing plan one x k (standing_same (standing x) (standing k) (equal_is (standing_cmp (standing x) (standing k)) e)) a b
+module _ (plan : Plan) (names : List (List ℕ)) (of : AreNamesOf plan names) where
+  one_there : (x k : Told) → same_place names x k ≡ true → IsFound plan (shown plan x) → IsFound plan (shown plan k) → shown plan x ≡ shown plan k
+  one_there x k e a b =
+      let both = equal_both (standing_cmp (standing x) (standing k)) (slice_cmp nat_cmp (race_name names x) (race_name names k)) (equal_is (told_cmp names x k) e) in
+      one_standing plan names of x k (standing_same (standing x) (standing k) both.0) (text_one (race_name names x) (race_name names k) both.1) a b
 
   -- what is told once is told as before
-  kept : (k : Told) (xs : List Told) (f : Finding) → AreFound plan (k ∷ xs) → Tells plan (k ∷ xs) f → Tells plan (dedup_from same_standing k xs) f
+  kept : (k : Told) (xs : List Told) (f : Finding) → AreFound plan (k ∷ xs) → Tells plan (k ∷ xs) f → Tells plan (dedup_from (same_place names) k xs) f
   kept k [] f found h = h
   kept k (x ∷ xs) f found h =
       let rest : AreFound plan (x ∷ xs) = λ g i. found g (inr i) in
       let without : AreFound plan (k ∷ xs) = λ g i. found g (⊎_elim (λ e. inl e) (λ j. inr (inr j)) i) in
-      cond_both (same_standing x k) (dedup_from same_standing k xs) (k ∷ dedup_from same_standing x xs) (λ l. Tells plan l f)
+      cond_both (same_place names x k) (dedup_from (same_place names) k xs) (k ∷ dedup_from (same_place names) x xs) (λ l. Tells plan l f)
       (λ t. kept k xs f without (elim h [
         | inl e ↦ inl e
         | inr i ↦ elim i [
@@ -159,14 +208,14 @@ module _ (plan : Plan) (one : UnpublishesSingly plan) where
       ]))
       (λ n. elim h [ inl e ↦ inl e | inr i ↦ inr (kept x xs f rest i) ])
 
-  were : (k : Told) (xs : List Told) (f : Finding) → Tells plan (dedup_from same_standing k xs) f → Tells plan (k ∷ xs) f
+  were : (k : Told) (xs : List Told) (f : Finding) → Tells plan (dedup_from (same_place names) k xs) f → Tells plan (k ∷ xs) f
   were k [] f = λ h. h
   were k (x ∷ xs) f =
-      cond_both (same_standing x k) (dedup_from same_standing k xs) (k ∷ dedup_from same_standing x xs) (λ l. Tells plan l f → Tells plan (k ∷ x ∷ xs) f)
+      cond_both (same_place names x k) (dedup_from (same_place names) k xs) (k ∷ dedup_from (same_place names) x xs) (λ l. Tells plan l f → Tells plan (k ∷ x ∷ xs) f)
       (λ t h. ⊎_elim (λ e. inl e) (λ i. inr (inr i)) (were k xs f h))
       (λ n h. elim h [ inl e ↦ inl e | inr i ↦ inr (were x xs f i) ])
 
-  once : (xs : List Told) (f : Finding) → AreFound plan xs → Tells plan (dedup same_standing xs) f ↔ Tells plan xs f
+  once : (xs : List Told) (f : Finding) → AreFound plan xs → Tells plan (dedup (same_place names) xs) f ↔ Tells plan xs f
   once [] f found = ((λ h. h), (λ h. h))
   once (x ∷ xs) f found = ((λ h. were x xs f h), (λ h. kept x xs f found h))
 
@@ -183,7 +232,7 @@ module _ (plan : Plan) (one : UnpublishesSingly plan) where
   moved : (xs ys : List Told) (f : Finding) → IsPermutation xs ys → Tells plan xs f → Tells plan ys f
   moved xs ys f p h = let w = told_at xs f h in subst (λ g. Tells plan ys g) (sym w.2) (at_told ys w.0 (Contains-permutation xs ys w.0 p w.1))
 
-  module _ (xs ys zs : List Told) (p : IsPermutation xs ys) (is : zs ≡ dedup same_standing ys) (found : AreFound plan xs) where
+  module _ (xs ys zs : List Told) (p : IsPermutation xs ys) (is : zs ≡ dedup (same_place names) ys) (found : AreFound plan xs) where
     sorted_found : AreFound plan ys
     sorted_found f h = found f (moved ys xs f (IsPermutation-sym xs ys p) h)
 
@@ -195,7 +244,7 @@ module _ (plan : Plan) (one : UnpublishesSingly plan) where
     )
 
     -- in the order of findings
-    pub list_sorted : order.IsSorted (on standing standing_cmp) ys → (lower_name : ℕ → ℕ → Bool) → IsSorted lower_name (all_shown plan zs)
-    list_sorted up lower_name =
-        all_sorted plan lower_name zs (λ f h. found f ((list_tells f).0 h))
-        (subst (λ l. IsStrictlySortedBy (on standing standing_cmp) l) (sym is) (IsStrictlySortedBy-dedup (on_total standing standing_total) (λ x y. refl) ys up))
+    pub list_sorted : order.IsSorted (told_cmp names) ys → IsSorted (lower_name names) (all_shown plan zs)
+    list_sorted up =
+        all_sorted plan names of zs (λ f h. found f ((list_tells f).0 h))
+        (subst (λ l. IsStrictlySortedBy (told_cmp names) l) (sym is) (IsStrictlySortedBy-dedup (told_total names) (λ x y. refl) ys up))

@@ -1,18 +1,17 @@
 -- With which higher calls a call on a name may race.
 use Rattle.std.proofs.Common.{◌≡◌, ◌∙◌, inl, inr, ℕ, suc, ◌+◌, ◌<◌, ◌≤◌, List, [], ◌∷◌, ◌++◌, length, true, Some, sym, ap, subst, arith}
-use Rattle.std.specs.Prelude.{slice_get}
+use Rattle.std.specs.Prelude.{slice_get, ◌≢◌}
 use Rattle.std.proofs.lemmas.Bool.{cases_eq, cases_lt}
 use Rattle.std.proofs.lemmas.Option.{same_Some, slice_get_within}
 use Rattle.wire_runs.specs.Plan.{Plan, Event, kind}
 use Rattle.wire_runs.specs.Names.{writes_name}
 use Rattle.wire_runs.specs.EventLists.{AreAll}
 use Rattle.wire_runs.specs.Fate.{IsIn}
-use Rattle.wire_plan.specs.Index.{AreNameCalls}
+use Rattle.wire_plan.specs.Index.{is_plain_call, AreNameCalls}
 use Rattle.wire_runs.proofs.EventLists.{all_same, all_and_one}
-use Rattle.wire_races.specs.NameRaces.{AreCallsOn, AreRivals, HasRivals, AreWriters, IsAbove, IsCut}
-use Rattle.wire_races.proofs.Calls.{writes_calls}
+use Rattle.wire_races.specs.NameRaces.{AreCallsOn, AreRivals, AreHigher, HasRivals, AreWriters, IsAbove, IsCut}
 use Rattle.wire_races.proofs.Lists.{in_index, index_in, in_parts, get_left, get_right, other_calls}
-use Rattle.wire_races.proofs.NameRaces.{caller_in, race_lower, high_calls, one_changes}
+use Rattle.wire_races.proofs.NameRaces.{plain_calls, caller_in, race_lower, one_changes}
 
 -- calls in two parts, where the first ones are of processes up to p
 pub cut_above : (p : ℕ) (calls front rest : List Event) (n : ℕ) → calls ≡ front ++ rest → n ≡ length front → IsCut (λ z. z.proc ≤ p) calls n → IsAbove p calls rest
@@ -39,30 +38,42 @@ module _ (plan : Plan) (name : ℕ) (x : Event) where
   above_calls : (calls rest : List Event) → IsAbove x.proc calls rest → AreCallsOn plan name calls → AreCallsOn plan name rest
   above_calls calls rest above are = other_calls plan name above.front rest (subst (λ l. AreCallsOn plan name l) above.parts are)
 
+  in_whole : (calls rest : List Event) (above : IsAbove x.proc calls rest) (k : ℕ) (z : Event) → slice_get rest k ≡ Some z → slice_get calls (length above.front + k) ≡ Some z
+  in_whole calls rest above k z e = subst (λ l. slice_get l (length above.front + k) ≡ Some z) (sym above.parts) (get_right above.front rest k z e)
+
+  above_others : (calls rest : List Event) → IsAbove x.proc calls rest → (k : ℕ) (z : Event) → slice_get rest k ≡ Some z → x.proc ≢ z.proc
+  above_others calls rest above k z e same = let lt = above.higher k z e in omega (arith, lt, same)
+
   pub all_calls : (places : List Event) → AreNameCalls plan name places → AreCallsOn plan name places
-  all_calls places are = record { each = are.only; rising = are.rising }
+  all_calls places are = record { each = λ k z e. plain_calls plan name z (kind plan z) (are.only k z e); rising = are.rising }
 
   pub all_writers : (places : List Event) → AreWriters plan name places → AreCallsOn plan name places
-  all_writers places are = record { each = λ k z e. writes_calls plan name z (kind plan z) (are.only k z e); rising = are.rising }
+  all_writers places are = record { each = λ k z e. plain_calls plan name z (kind plan z) (are.only k z e).0; rising = are.rising }
 
   -- where x may change the name
   pub changing : (calls rest : List Event) → AreNameCalls plan name calls → writes_name plan name x (kind plan x) ≡ true → IsAbove x.proc calls rest → AreRivals plan name x rest
-  changing calls rest are writes above = record { calls_on = above_calls calls rest above (all_calls calls are); higher = above.higher; change = λ k z e. inl writes }
+  changing calls rest are writes above = record { calls_on = above_calls calls rest above (all_calls calls are); others = above_others calls rest above; change = λ k z e. inl writes }
+
+  pub higher_calls : (calls rest : List Event) → AreNameCalls plan name calls → IsAbove x.proc calls rest → AreHigher plan name x rest
+  higher_calls calls rest are above k z e = (above.higher k z e, are.only (length above.front + k) z (in_whole calls rest above k z e))
 
   pub all_changing : (calls rest : List Event) → AreNameCalls plan name calls → IsAbove x.proc calls rest → HasRivals plan name x rest
-  all_changing calls rest are above y found = still_there calls rest above y (race_lower plan x y name found) (caller_in plan name calls are y (high_calls plan x y name found))
+  all_changing calls rest are above y plain found = still_there calls rest above y (race_lower plan x y name found) (caller_in plan name calls are y plain)
 
   -- where it can't
   pub reading : (writers rest : List Event) → AreWriters plan name writers → IsAbove x.proc writers rest → AreRivals plan name x rest
   reading writers rest are above = record {
     calls_on = above_calls writers rest above (all_writers writers are);
-    higher = above.higher;
-    change = λ k z e. inr (are.only (length above.front + k) z (subst (λ l. slice_get l (length above.front + k) ≡ Some z) (sym above.parts) (get_right above.front rest k z e)));
+    others = above_others writers rest above;
+    change = λ k z e. inr (are.only (length above.front + k) z (in_whole writers rest above k z e)).1;
   }
 
+  pub higher_writers : (writers rest : List Event) → AreWriters plan name writers → IsAbove x.proc writers rest → AreHigher plan name x rest
+  higher_writers writers rest are above k z e = (above.higher k z e, (are.only (length above.front + k) z (in_whole writers rest above k z e)).0)
+
   pub all_reading : (writers rest : List Event) → AreWriters plan name writers → (writes_name plan name x (kind plan x) ≡ true → ⊥) → IsAbove x.proc writers rest → HasRivals plan name x rest
-  all_reading writers rest are never above y found =
-      let w = are.all y (one_changes plan x y name found never) in
+  all_reading writers rest are never above y plain found =
+      let w = are.all y (plain, one_changes plan x y name found never) in
       still_there writers rest above y (race_lower plan x y name found) (index_in writers y w.0 w.1)
 
 -- a call that may change the name, one of the first k calls on it
@@ -94,6 +105,6 @@ module _ (plan : Plan) (name : ℕ) (calls : List Event) (are : AreNameCalls pla
 
   pub every_writer : (k : ℕ) (writers : List Event) → length calls ≤ k → AreAll (IsWriterBelow plan name calls k) writers → AreWriters plan name writers
   every_writer k writers end =
-      all_same (IsWriterBelow plan name calls k) (λ z. writes_name plan name z (kind plan z) ≡ true) writers
-      (λ z w. w.3)
-      (λ z w. let at = are.all z (writes_calls plan name z (kind plan z) w) in let lt = slice_get_within calls at.0 z at.1 in (at.0, omega (arith, lt, end), at.1, w))
+      all_same (IsWriterBelow plan name calls k) (λ z. (is_plain_call name (kind plan z) ≡ true) × (writes_name plan name z (kind plan z) ≡ true)) writers
+      (λ z w. (are.only w.0 z w.2, w.3))
+      (λ z w. let at = are.all z w.0 in let lt = slice_get_within calls at.0 z at.1 in (at.0, omega (arith, lt, end), at.1, w.1))

@@ -1,9 +1,11 @@
 -- Findings as they are told, and what a race of two events is on.
-use Rattle.std.proofs.Common.{◌≡◌, ◌∙◌, ap, sym, refl, subst, ℕ, ◌<◌, true, false, Option, Some, length, arith, inl, inr, eqb-true, lt-ltb}
-use Rattle.std.specs.Prelude.{is_some, ◌≢◌}
+use Rattle.std.proofs.Common.{◌≡◌, ◌∙◌, ap, sym, refl, subst, ℕ, ◌<◌, true, false, List, Option, Some, length, arith, inl, inr, lt-ltb}
+use Rattle.std.specs.Prelude.{is_some}
 use Rattle.std.proofs.lemmas.Bool.{cases_lt, true≢false}
-use Rattle.wire_runs.specs.Plan.{Plan, Event, Kind, Put, GetNow, Publish, Lookup, LookupWait, Unpublish, UnpublishAll, kind}
+use Rattle.wire_runs.specs.Plan.{Plan, Event, Kind, Put, GetNow, Publish, Lookup, LookupWait, Unpublish, kind}
 use Rattle.wire_types.specs.declared.CallAt.{CallAt}
+use Rattle.wire_types.specs.declared.Proc.{Proc}
+use Rattle.wire_content.specs.Scripts.{text_at}
 use Rattle.wire_runs.specs.Names.{calls_name}
 use Rattle.wire_runs.specs.Races.{IsRewrite}
 use Rattle.wire_plan.specs.Index.{IsFirstPut}
@@ -11,9 +13,8 @@ use Rattle.wire_runs.specs.Findings.{Finding, KeyRace, NameRace, IsFound}
 use Rattle.wire_runs.specs.Findings as findings
 use Rattle.wire_runs.specs.Ends.{calls_of, first_event}
 use Rattle.wire_plan.proofs.KeyFacts.{put_exactly}
-use Rattle.wire_races.specs.Collected.{UnpublishesSingly}
 use Rattle.wire_races.specs.Findings.{shown}
-use Rattle.wire_races.specs.Standings.{standing}
+use Rattle.wire_races.specs.Standings.{standing, race_name, AreNamesOf}
 use Rattle.wire_races.specs.declared.found.Standing.{Standing}
 use Rattle.wire_races.specs.declared.finding.Finding.{Finding as Told}
 use Rattle.wire_races.specs.declared.finding.Finding.TheVariants as told_as
@@ -40,13 +41,9 @@ named_by : (plan : Plan) (x y z : Event) (n name : ℕ) (p : Option Kind) → ca
 named_by plan x y z n name (Some (GetNow owner key)) h = absurd (true≢false (sym h))
 named_by plan x y z n name _ h = refl
 
-named : (plan : Plan) (x y v w : Event) (name : ℕ) (o p : Option Kind) → o ≢ Some UnpublishAll → calls_name plan name v o ≡ true → calls_name plan name w p ≡ true → told x y o p ≡ NameRace x y name
-named plan x y v w name (Some (Publish n)) p one h i = named_by plan x y w n name p i ∙ ap (NameRace x y) (eqb-true n name h)
-named plan x y v w name (Some (Lookup n)) p one h i = named_by plan x y w n name p i ∙ ap (NameRace x y) (eqb-true n name h)
-named plan x y v w name (Some (LookupWait n)) p one h i = named_by plan x y w n name p i ∙ ap (NameRace x y) (eqb-true n name h)
-named plan x y v w name (Some (Unpublish n)) p one h i = named_by plan x y w n name p i ∙ ap (NameRace x y) (eqb-true n name h)
-named plan x y v w name (Some UnpublishAll) p one h i = absurd (one refl)
-named plan x y v w name _ p one h i = absurd (true≢false (sym h))
+named : (plan : Plan) (x y v w : Event) (name : ℕ) (o p : Option Kind) → calls_name plan name v o ≡ true → calls_name plan name w p ≡ true → told x y o p ≡ NameRace x y (name_of o)
+named plan x y v w name (Some (GetNow owner key)) p h i = absurd (true≢false (sym h))
+named plan x y v w name _ p h i = named_by plan x y w _ name p i
 
 -- the events tell which race it is
 by_events : (plan : Plan) (x y : Event) (a b : Option Kind) (f : Finding) → kind plan x ≡ a → kind plan y ≡ b → told x y a b ≡ f → told x y (kind plan x) (kind plan y) ≡ f
@@ -66,10 +63,10 @@ key_told plan x y p k (low, inr (inr r)) = from (delivery_source plan y x p k r)
     from (Arriving members collect is) = by_events plan x y _ _ _ r.is is refl
     from (Getting owner key is) = by_events plan x y _ _ _ r.is is refl
 
--- where an unpublish is of one name, the events tell on which name the race is
-name_told : (plan : Plan) → UnpublishesSingly plan → (x y : Event) (n : ℕ) → IsFound plan (NameRace x y n) → told x y (kind plan x) (kind plan y) ≡ NameRace x y n
-name_told plan one x y n (low, inl r) = named plan x y x y n (kind plan x) (kind plan y) (one x) (writes_calls plan n x (kind plan x) r.x_writes) r.y_calls
-name_told plan one x y n (low, inr r) = named plan x y x y n (kind plan x) (kind plan y) (one x) r.y_calls (writes_calls plan n y (kind plan y) r.x_writes)
+-- the events tell that the race is on a name
+name_told : (plan : Plan) (x y : Event) (n : ℕ) → IsFound plan (NameRace x y n) → told x y (kind plan x) (kind plan y) ≡ NameRace x y (name_of (kind plan x))
+name_told plan x y n (low, inl r) = named plan x y x y n (kind plan x) (kind plan y) (writes_calls plan n x (kind plan x) r.x_writes) r.y_calls
+name_told plan x y n (low, inr r) = named plan x y x y n (kind plan x) (kind plan y) r.y_calls (writes_calls plan n y (kind plan y) r.x_writes)
 
 -- the race of the calls of a standing
 abbrev told_there : Plan → Standing → Finding
@@ -78,17 +75,31 @@ told_there plan p = told (first_event plan p.by) (first_event plan p.then) (kind
 apart : {A : Type 0} (a b : Standing) → a ≡ b → a.is_race ≡ true → b.is_race ≡ false → A
 apart a b e t f = absurd (true≢false (sym t ∙ ap (λ (p : Standing). p.is_race) e ∙ f))
 
--- a standing has one finding
-pub one_standing : (plan : Plan) → UnpublishesSingly plan → (f g : Told) → standing f ≡ standing g → IsFound plan (shown plan f) → IsFound plan (shown plan g) → shown plan f ≡ shown plan g
-one_standing plan one (told_as.Rewrite v w) (told_as.Rewrite x y) e a b = ap (λ (p : Standing). findings.Rewrite (first_event plan p.then) (first_event plan p.by)) e
-one_standing plan one (told_as.KeyRace v w p k) (told_as.KeyRace x y q l) e a b = sym (key_told plan _ _ p.number k a) ∙ (ap (told_there plan) e ∙ key_told plan _ _ q.number l b)
-one_standing plan one (told_as.KeyRace v w p k) (told_as.NameRace x y n) e a b = sym (key_told plan _ _ p.number k a) ∙ (ap (told_there plan) e ∙ name_told plan one _ _ n b)
-one_standing plan one (told_as.NameRace v w m) (told_as.KeyRace x y q l) e a b = sym (name_told plan one _ _ m a) ∙ (ap (told_there plan) e ∙ key_told plan _ _ q.number l b)
-one_standing plan one (told_as.NameRace v w m) (told_as.NameRace x y n) e a b = sym (name_told plan one _ _ m a) ∙ (ap (told_there plan) e ∙ name_told plan one _ _ n b)
-one_standing plan one (told_as.Rewrite v w) (told_as.KeyRace x y q l) e a b = apart _ _ (sym e) refl refl
-one_standing plan one (told_as.Rewrite v w) (told_as.NameRace x y n) e a b = apart _ _ (sym e) refl refl
-one_standing plan one (told_as.KeyRace v w p k) (told_as.Rewrite x y) e a b = apart _ _ e refl refl
-one_standing plan one (told_as.NameRace v w m) (told_as.Rewrite x y) e a b = apart _ _ e refl refl
+-- two calls don't race on a key and on a name
+pub never_both : {A : Type 0} (plan : Plan) (v w x y : CallAt) (p : Proc) (k n : ℕ) → standing (told_as.KeyRace v w p k) ≡ standing (told_as.NameRace x y n) →
+    IsFound plan (shown plan (told_as.KeyRace v w p k)) → IsFound plan (shown plan (told_as.NameRace x y n)) → A
+never_both plan v w x y p k n e a b =
+    let one = sym (key_told plan _ _ p.number k a) ∙ (ap (told_there plan) e ∙ name_told plan _ _ n b) in
+    cc one
+
+-- races on names whose texts are the same are on one name
+same_name : (plan : Plan) (names : List (List ℕ)) → AreNamesOf plan names → (x y v w : Event) (m n : ℕ) → IsFound plan (NameRace x y m) → IsFound plan (NameRace v w n) → text_at names m ≡ text_at names n → m ≡ n
+same_name plan names of x y v w m n a b e = of.apart m n (of.within x y m a) (of.within v w n b) e
+
+-- a standing has one finding, or one for each name
+pub one_standing : (plan : Plan) (names : List (List ℕ)) → AreNamesOf plan names → (f g : Told) → standing f ≡ standing g → race_name names f ≡ race_name names g → IsFound plan (shown plan f) →
+    IsFound plan (shown plan g) → shown plan f ≡ shown plan g
+one_standing plan names of (told_as.Rewrite v w) (told_as.Rewrite x y) e t a b = ap (λ (p : Standing). findings.Rewrite (first_event plan p.then) (first_event plan p.by)) e
+one_standing plan names of (told_as.KeyRace v w p k) (told_as.KeyRace x y q l) e t a b = sym (key_told plan _ _ p.number k a) ∙ (ap (told_there plan) e ∙ key_told plan _ _ q.number l b)
+one_standing plan names of (told_as.KeyRace v w p k) (told_as.NameRace x y n) e t a b = never_both plan v w x y p k n e a b
+one_standing plan names of (told_as.NameRace v w m) (told_as.KeyRace x y q l) e t a b = never_both plan x y v w q l m (sym e) b a
+one_standing plan names of (told_as.NameRace v w m) (told_as.NameRace x y n) e t a b =
+    ap (λ (p : Standing). NameRace (first_event plan p.by) (first_event plan p.then) m) e
+    ∙ ap (NameRace (first_event plan x) (first_event plan y)) (same_name plan names of _ _ _ _ m n a b t)
+one_standing plan names of (told_as.Rewrite v w) (told_as.KeyRace x y q l) e t a b = apart _ _ (sym e) refl refl
+one_standing plan names of (told_as.Rewrite v w) (told_as.NameRace x y n) e t a b = apart _ _ (sym e) refl refl
+one_standing plan names of (told_as.KeyRace v w p k) (told_as.Rewrite x y) e t a b = apart _ _ e refl refl
+one_standing plan names of (told_as.NameRace v w m) (told_as.Rewrite x y) e t a b = apart _ _ e refl refl
 
 not_sooner : (plan : Plan) (p key i j : ℕ) → IsFirstPut plan (record { proc = p; at = i }) key → IsFirstPut plan (record { proc = p; at = j }) key → i < j → ⊥
 not_sooner plan p key i j a b lt = true≢false (sym (put_exactly plan p key i j a ∙ lt-ltb i j lt) ∙ ap is_some b.first)

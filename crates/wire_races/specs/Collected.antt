@@ -1,6 +1,6 @@
 -- What is found so far: for the contracts of private functions.
-use Rattle.std.specs.Prelude.{◌≡◌, ◌≢◌, ◌⊎◌, ◌↔◌, List, Some}
-use Rattle.wire_runs.specs.Plan.{Plan, Event, UnpublishAll, kind}
+use Rattle.std.specs.Prelude.{◌≡◌, ◌⊎◌, ◌↔◌, List}
+use Rattle.wire_runs.specs.Plan.{Plan}
 use Rattle.wire_runs.specs.Findings.{Finding, IsFound, Has}
 use Rattle.wire_races.specs.declared.finding.Finding.{Finding as Told}
 use Rattle.wire_races.specs.Findings.{all_shown}
@@ -16,7 +16,3 @@ AreFound plan found = (f : Finding) → Tells plan found f → IsFound plan f
 -- the same findings, and this one
 abbrev pub IsAdded : Plan → List Told → List Told → Finding → Type 0
 IsAdded plan old new added = (f : Finding) → Tells plan new f ↔ (Tells plan old f ⊎ (f ≡ added))
-
--- no call of the plan takes away all names, so an unpublish is of one name, and two calls race on one name at most
-abbrev pub UnpublishesSingly : Plan → Type 0
-UnpublishesSingly plan = (x : Event) → kind plan x ≢ Some UnpublishAll

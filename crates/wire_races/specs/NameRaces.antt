@@ -1,9 +1,10 @@
 -- The findings on names, and where the calls stand that race with one call: for the contracts of private functions.
-use Rattle.std.specs.Prelude.{◌≡◌, ◌⊎◌, ◌<◌, ◌≤◌, ℕ, List, ◌++◌, Some, true, slice_get}
-use Rattle.wire_runs.specs.Plan.{Plan, Event, kind}
-use Rattle.wire_runs.specs.Names.{writes_name, calls_name}
+use Rattle.std.specs.Prelude.{◌≡◌, ◌≢◌, ◌⊎◌, ◌<◌, ◌≤◌, ℕ, List, ◌++◌, Option, Some, true, nat_lt, slice_get, if◌then◌else◌}
+use Rattle.wire_runs.specs.Plan.{Plan, Event, Kind, UnpublishAll, kind, event_count}
+use Rattle.wire_runs.specs.Names.{publishes, writes_name, calls_name}
 use Rattle.wire_runs.specs.Order.{Live, Before}
 use Rattle.wire_runs.specs.EventLists.{IsLower, AreAll}
+use Rattle.wire_plan.specs.Index.{is_plain_call}
 use Rattle.wire_runs.specs.Fate.{IsIn}
 use Rattle.wire_runs.specs.Findings.{Finding, NameRace, IsFound}
 use Rattle.wire_races.specs.declared.name_races.Border.{Border}
@@ -16,17 +17,31 @@ pub record IsRaceOn (plan : Plan) (name : ℕ) (f : Finding) : Type 0 where
   pub is : f ≡ NameRace x y name
   pub found : IsFound plan f
 
--- a race on the name of the call x with a higher one
+-- the same of calls on this name alone
+pub record IsPlainRaceOn (plan : Plan) (name : ℕ) (f : Finding) : Type 0 where
+  pub x : Event
+  pub y : Event
+  pub is : f ≡ NameRace x y name
+  pub found : IsFound plan f
+  pub plain_x : is_plain_call name (kind plan x) ≡ true
+  pub plain_y : is_plain_call name (kind plan y) ≡ true
+
+-- a race on the name of the call x with a higher one on this name alone
 pub record IsRaceFrom (plan : Plan) (name : ℕ) (x : Event) (f : Finding) : Type 0 where
   pub y : Event
   pub is : f ≡ NameRace x y name
   pub found : IsFound plan f
+  pub plain : is_plain_call name (kind plan y) ≡ true
+
+-- two calls of different processes, the lower first
+abbrev pub race_between : Event → Event → ℕ → Finding
+race_between x y name = if nat_lt x.proc y.proc then NameRace x y name else NameRace y x name
 
 -- a race on the name of the call x with one of these calls
 pub record IsRaceWith (plan : Plan) (name : ℕ) (x : Event) (calls : List Event) (f : Finding) : Type 0 where
   pub y : Event
   pub there : IsIn y calls
-  pub is : f ≡ NameRace x y name
+  pub is : f ≡ race_between x y name
   pub found : IsFound plan f
 
 -- calls on the name, the lower first
@@ -42,20 +57,24 @@ AreOf p calls = (k : ℕ) (z : Event) → slice_get calls k ≡ Some z → z.pro
 abbrev pub IsStretch : List Event → Type 0
 IsStretch calls = (p : ℕ) × AreOf p calls
 
--- calls on the name of higher processes than that of x: each of them may change the name, or x may
+-- calls on the name of other processes than that of x: each of them may change the name, or x may
 pub record AreRivals (plan : Plan) (name : ℕ) (x : Event) (calls : List Event) : Type 0 where
   pub calls_on : AreCallsOn plan name calls
-  pub higher : (k : ℕ) (z : Event) → slice_get calls k ≡ Some z → x.proc < z.proc
+  pub others : (k : ℕ) (z : Event) → slice_get calls k ≡ Some z → x.proc ≢ z.proc
   pub change : (k : ℕ) (z : Event) → slice_get calls k ≡ Some z → (writes_name plan name x (kind plan x) ≡ true)
       ⊎ (writes_name plan name z (kind plan z) ≡ true)
 
--- each higher call that races with x is among these
-abbrev pub HasRivals : Plan → ℕ → Event → List Event → Type 0
-HasRivals plan name x calls = (y : Event) → IsFound plan (NameRace x y name) → IsIn y calls
+-- all are calls of higher processes than that of x, and on the name alone
+abbrev pub AreHigher : Plan → ℕ → Event → List Event → Type 0
+AreHigher plan name x calls = (k : ℕ) (z : Event) → slice_get calls k ≡ Some z → (x.proc < z.proc) × (is_plain_call name (kind plan z) ≡ true)
 
--- the calls that may change the name
+-- each higher call on the name alone that races with x is among these
+abbrev pub HasRivals : Plan → ℕ → Event → List Event → Type 0
+HasRivals plan name x calls = (y : Event) → is_plain_call name (kind plan y) ≡ true → IsFound plan (NameRace x y name) → IsIn y calls
+
+-- the calls on the name alone that may change it
 abbrev pub AreWriters : Plan → ℕ → List Event → Type 0
-AreWriters plan name places = AreAll (λ z. writes_name plan name z (kind plan z) ≡ true) places
+AreWriters plan name places = AreAll (λ z. (is_plain_call name (kind plan z) ≡ true) × (writes_name plan name z (kind plan z) ≡ true)) places
 
 -- the rest of the calls are those of higher processes than p
 pub record IsAbove (p : ℕ) (calls rest : List Event) : Type 0 where
@@ -73,3 +92,54 @@ IsBelow plan x FirstAfter y = Live plan y × (Before plan x y → ⊥)
 pub record IsCut (holds : Event → Type 0) (calls : List Event) (n : ℕ) : Type 0 where
   pub below : (k : ℕ) (z : Event) → k < n → slice_get calls k ≡ Some z → holds z
   pub above : (k : ℕ) (z : Event) → n ≤ k → slice_get calls k ≡ Some z → holds z → ⊥
+
+-- whether x is looked at beside a call z that takes away all names of its process: x is a call of another process, and where x takes away
+-- all names too, of a lower one
+abbrev pub FacesBy : Option Kind → Event → Event → Type 0
+FacesBy (Some UnpublishAll) x z = x.proc < z.proc
+FacesBy _ x z = x.proc ≢ z.proc
+
+abbrev pub Faces : Plan → Event → Event → Type 0
+Faces plan x z = FacesBy (kind plan x) x z
+
+-- the calls of a process that take away all its names, as far as x is looked at beside them
+abbrev pub AreFacing : Plan → Event → ℕ → List Event → Type 0
+AreFacing plan x p places = AreAll (λ z. (z.proc ≡ p) × (kind plan z ≡ Some UnpublishAll) × Faces plan x z) places
+
+-- it is one of these
+abbrev pub IsOneOf : ℕ → List ℕ → Type 0
+IsOneOf p ps = (k : ℕ) × (slice_get ps k ≡ Some p)
+
+-- these processes publish the name, and each that publishes it and can take away all its names is among them
+pub record AreSweepers (plan : Plan) (name : ℕ) (ps : List ℕ) : Type 0 where
+  pub each : (k p : ℕ) → slice_get ps k ≡ Some p → publishes plan p name (event_count plan p) ≡ true
+  pub all : (z : Event) → kind plan z ≡ Some UnpublishAll → publishes plan z.proc name (event_count plan z.proc) ≡ true → IsOneOf z.proc ps
+
+-- a race on the name of the call x with a call of one of these processes that takes away all its names
+pub record IsSweptRace (plan : Plan) (name : ℕ) (x : Event) (ps : List ℕ) (f : Finding) : Type 0 where
+  pub y : Event
+  pub sweeps : kind plan y ≡ Some UnpublishAll
+  pub there : IsOneOf y.proc ps
+  pub faces : Faces plan x y
+  pub is : f ≡ race_between x y name
+  pub found : IsFound plan f
+
+-- the same of one of these calls
+abbrev pub IsSweptAmong : Plan → ℕ → List Event → List ℕ → Finding → Type 0
+IsSweptAmong plan name calls ps f = (x : Event) × IsIn x calls × IsSweptRace plan name x ps f
+
+-- the same of a call that takes away all names of one of the processes `qs`
+abbrev pub IsSweptBy : Plan → ℕ → List ℕ → List ℕ → Finding → Type 0
+IsSweptBy plan name qs ps f = (x : Event) × (kind plan x ≡ Some UnpublishAll) × IsOneOf x.proc qs × IsSweptRace plan name x ps f
+
+-- all are calls on the name
+abbrev pub AreOn : Plan → ℕ → List Event → Type 0
+AreOn plan name calls = (k : ℕ) (z : Event) → slice_get calls k ≡ Some z → calls_name plan name z (kind plan z) ≡ true
+
+-- a race on the name in which a call takes away all names of its process
+pub record IsSweptRaceOn (plan : Plan) (name : ℕ) (f : Finding) : Type 0 where
+  pub x : Event
+  pub y : Event
+  pub is : f ≡ NameRace x y name
+  pub found : IsFound plan f
+  pub sweeps : (kind plan x ≡ Some UnpublishAll) ⊎ (kind plan y ≡ Some UnpublishAll)

@@ -37,6 +37,7 @@ fn live_fate(marked: &MarkedPlan<'_>, event: Event) -> Fate
         Kind::Put { .. } | Kind::Commit | Kind::Leave { .. } => Fate::Says(Reply::bare(
             Status::Success,
         )),
+        Kind::UnpublishAll => Fate::Says(Reply::bare(Status::Success)),
         Kind::Arrive { .. } => Fate::Silent,
         Kind::Get { owner, key } => Fate::Says(get_reply(plan, event, owner, key)),
         Kind::GetNow { owner, key } => Fate::Says(get_now_reply(marked, event, owner, key)),

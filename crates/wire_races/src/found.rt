@@ -1,14 +1,14 @@
 //! The findings so far, and the list that they come to.
 
-ghost use Rattle.std.specs.Prelude.{◌≡◌, ◌↔◌, ◌++◌, ◌∷◌, ℕ, Bool, [], IsTrue, OnOk};
-ghost use Rattle.std.specs.Ordering.{eq_by_cmp, is_lt};
+ghost use Rattle.std.specs.Prelude.{◌≡◌, ◌↔◌, ◌++◌, ◌∷◌, [], IsTrue, OnOk};
+ghost use Rattle.std.specs.Ordering.{is_eq, is_lt};
 ghost use Rattle.wire_runs.specs.Plan as runs;
 ghost use Rattle.wire_runs.specs.Findings as told;
 ghost use Rattle.wire_runs.specs.Findings.{IsSorted};
-ghost use Rattle.wire_races.specs.Findings.{shown, all_shown};
-ghost use Rattle.wire_races.specs.Collected.{Tells, AreFound, IsAdded, UnpublishesSingly};
-ghost use Rattle.wire_races.specs.Packing.{all_told_by};
-ghost use Rattle.wire_races.specs.Standings.{entry_standing, standing_cmp, AreInOrder};
+ghost use Rattle.wire_races.specs.Findings.{shown, all_shown, lower_name};
+ghost use Rattle.wire_races.specs.Collected.{Tells, AreFound, IsAdded};
+ghost use Rattle.wire_races.specs.Packing.{told_by, all_told_by};
+ghost use Rattle.wire_races.specs.Standings.{standing, race_name, entry_cmp, AreInOrder, AreNamesOf};
 
 use crate::compact::FindingList;
 use crate::finding::Finding;
@@ -16,10 +16,12 @@ use crate::packed::{Packed, Subject, pack, unpack};
 use std::alloc::{AllocError, Global};
 use std::cmp::Ordering;
 use std::marker::Model;
+use wire_content::Texts;
 use wire_types::CallAt;
 
 /// Where a finding stands in the list: a rewrite by the later put, and behind all of them a race by its
-/// calls, the lower first.
+/// calls, the lower first. Two calls can race on several names; these findings have one standing, and
+/// stand by the bytes of the names.
 #[derive(Clone, Copy, PartialEq, Eq, PartialOrd, Ord)]
 struct Standing {
     is_race: bool,
@@ -28,9 +30,10 @@ struct Standing {
 }
 
 // The standing of the finding that an entry stands for.
-fn standing_of(entry: &Packed) -> Standing
-    ensures { result ≡ entry_standing entry.now }
+fn standing_of(subjects: &[Subject], entry: &Packed) -> Standing
+    ensures { result ≡ standing (told_by subjects.now entry.now) }
 {
+    let _ = subjects;
     Standing {
         is_race: entry.subject != 0,
         by: entry.by,
@@ -38,25 +41,45 @@ fn standing_of(entry: &Packed) -> Standing
     }
 }
 
-// Whether two findings have one standing.
-fn is_same_standing(x: &Packed, y: &Packed) -> bool
-    ensures { result ≡ eq_by_cmp standing_cmp (entry_standing x.now) (entry_standing y.now) }
+// The bytes of the name of a race on a name, none for other findings.
+fn name_of<'a>(names: &'a Texts, subjects: &[Subject], entry: &Packed) -> &'a [u8]
+    ensures { result.now ≡ race_name names.now (told_by subjects.now entry.now) }
 {
-    standing_of(x).cmp(&standing_of(y)) == Ordering::Equal
+    match unpack(subjects, *entry) {
+        Finding::NameRace(_, _, name) => names.text(name),
+        _ => b"".as_slice(),
+    }
+}
+
+// How the findings of two entries stand in the list. Names are looked at only where all else is the same.
+fn compare(names: &Texts, subjects: &[Subject], x: &Packed, y: &Packed) -> Ordering
+    ensures { result ≡ entry_cmp names.now subjects.now x.now y.now }
+{
+    match standing_of(subjects, x).cmp(&standing_of(subjects, y)) {
+        Ordering::Equal => name_of(names, subjects, x).cmp(name_of(names, subjects, y)),
+        apart => apart,
+    }
+}
+
+// Whether two entries stand for one finding.
+fn is_same(names: &Texts, subjects: &[Subject], x: &Packed, y: &Packed) -> bool
+    ensures { result ≡ is_eq (entry_cmp names.now subjects.now x.now y.now) }
+{
+    compare(names, subjects, x, y) == Ordering::Equal
 }
 
 // Whether the finding of one entry stands before that of another.
-fn stands_before(x: &Packed, y: &Packed) -> bool
-    ensures { result ≡ is_lt (standing_cmp (entry_standing x.now) (entry_standing y.now)) }
+fn stands_before(names: &Texts, subjects: &[Subject], x: &Packed, y: &Packed) -> bool
+    ensures { result ≡ is_lt (entry_cmp names.now subjects.now x.now y.now) }
 {
-    standing_of(x).cmp(&standing_of(y)).is_lt()
+    compare(names, subjects, x, y).is_lt()
 }
 
 // Whether each entry's finding stands before that of the next, so that none is there twice.
-fn are_in_order(entries: &[Packed]) -> bool
-    ensures { IsTrue result → AreInOrder entries.now }
+fn are_in_order(names: &Texts, subjects: &[Subject], entries: &[Packed]) -> bool
+    ensures { IsTrue result → AreInOrder names.now subjects.now entries.now }
 {
-    entries.is_sorted_by(|x, y| stands_before(x, y))
+    entries.is_sorted_by(|x, y| stands_before(names, subjects, x, y))
 }
 
 /// Findings as they are met, in any order, in few bytes. One that is met twice stands there twice.
@@ -126,18 +149,19 @@ impl Found {
         self.push_all(piece.subjects.as_slice(), piece.entries.as_slice())
     }
 
-    /// The findings of a plan, each once, in their order. Where they were met so, nothing is moved.
-    pub(crate) fn into_list(self) -> FindingList
-        ensures those { (plan : runs.Plan) → UnpublishesSingly plan → AreFound plan self → (f : told.Finding) → Tells plan result f ↔ Tells plan self f }
-        ensures sorted { (plan : runs.Plan) → UnpublishesSingly plan → AreFound plan self → (lower_name : ℕ → ℕ → Bool)
-            → IsSorted lower_name (all_shown plan result) }
+    /// The findings of a plan with these names, each once, in their order. Where they were met so, nothing is
+    /// moved.
+    pub(crate) fn into_list(self, names: &Texts) -> FindingList
+        ensures those { (plan : runs.Plan) → AreNamesOf plan names.now → AreFound plan self → (f : told.Finding) → Tells plan result f ↔ Tells plan self f }
+        ensures sorted { (plan : runs.Plan) → AreNamesOf plan names.now → AreFound plan self → IsSorted (lower_name names.now) (all_shown plan result) }
     {
         let mut entries = self.entries;
-        if are_in_order(entries.as_slice()) {
-            return FindingList::new(entries, self.subjects);
+        let subjects = self.subjects;
+        if are_in_order(names, subjects.as_slice(), entries.as_slice()) {
+            return FindingList::new(entries, subjects);
         }
-        entries.sort_unstable_by_key(|entry| standing_of(entry));
-        entries.dedup_by(|x, y| is_same_standing(x, y));
-        FindingList::new(entries, self.subjects)
+        entries.sort_unstable_by(|x, y| compare(names, subjects.as_slice(), x, y));
+        entries.dedup_by(|x, y| is_same(names, subjects.as_slice(), x, y));
+        FindingList::new(entries, subjects)
     }
 }

@@ -25,14 +25,16 @@ fn all_findings(
     marks: &Marks,
 ) -> Result<FindingList, AllocError>
     requires { AreMarks (plan_of plan.now) marks.now }
-    ensures { IfOk result (AreFindings (plan_of plan.now)) }
+    ensures { IfOk result (AreFindings plan.now) }
 {
     let mut found = Found::new(alloc);
     add_rewrites(plan, &mut found)?;
     add_key_races(rt, alloc, plan, marks, &mut found)?;
     let marked = marks.with(plan);
     add_name_races(rt, alloc, &marked, &mut found)?;
-    let list = found.into_list();
+    let names = plan.scripts().names();
+    names.are_apart();
+    let list = found.into_list(names);
     Ok(list)
 }
 
@@ -44,14 +46,14 @@ fn vec_of_findings(
     marks: &Marks,
 ) -> Result<Vec<Finding>, AllocError>
     requires { AreMarks (plan_of plan.now) marks.now }
-    ensures { IfOk result (λ found. AreFindings (plan_of plan.now) found.items) }
+    ensures { IfOk result (λ found. AreFindings plan.now found.items) }
 {
     let list = all_findings(rt, alloc, plan, marks)?;
     list.to_vec(alloc)
 }
 
 /// The findings of a plan, each once: the rewrites by the later put, then the races by the lower
-/// event and the higher one. Several threads look for the races, and the list is the same whatever
+/// event and the higher one, and those of one pair by the bytes of their names. Several threads look for the races, and the list is the same whatever
 /// pieces they take. The caller ensures that the marks are those of the plan. The one fault is
 /// `Fault::Memory`.
 ///
@@ -65,7 +67,7 @@ pub fn finding_list(
     marks: &Marks,
 ) -> Result<FindingList, Fault>
     requires { AreMarks (plan_of plan.now) marks.now }
-    ensures ok { IfOk result (AreFindings (plan_of plan.now)) }
+    ensures ok { IfOk result (AreFindings plan.now) }
     ensures memory { IsOkUnless result Fault.Memory }
 {
     let list = all_findings(rt, alloc, plan, marks)?;
@@ -73,7 +75,7 @@ pub fn finding_list(
 }
 
 /// The findings of a plan, each once: the rewrites by the later put, then the races by the lower
-/// event and the higher one. Several threads look for the races, and the list is the same whatever
+/// event and the higher one, and those of one pair by the bytes of their names. Several threads look for the races, and the list is the same whatever
 /// pieces they take. The caller ensures that the marks are those of the plan. The one fault is
 /// `Fault::Memory`.
 ///
@@ -86,7 +88,7 @@ pub fn findings(
     marks: &Marks,
 ) -> Result<Vec<Finding>, Fault>
     requires { AreMarks (plan_of plan.now) marks.now }
-    ensures ok { IfOk result (λ found. AreFindings (plan_of plan.now) found.items) }
+    ensures ok { IfOk result (λ found. AreFindings plan.now found.items) }
     ensures memory { IsOkUnless result Fault.Memory }
 {
     let found = vec_of_findings(rt, alloc, plan, marks)?;

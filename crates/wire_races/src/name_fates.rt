@@ -61,8 +61,8 @@ pub(crate) fn waiting_fate(plan: &Plan, standing: Option<Event>) -> Fate
     Fate::Says(lookup_reply(plan, standing))
 }
 
-/// How many of the publishes and unpublishes of a name are before an event, by bisection: in a settled plan
-/// each is before those that stand behind it.
+/// How many of the updates of a name are before an event, by bisection: in a settled plan each is before those
+/// that stand behind it.
 fn count_before(marks: &Marks, updates: &[Update], event: Event) -> usize
     ensures within { result ≤ length updates.now }
     ensures cut { (plan : runs.Plan) (name : ℕ) → IsSettled plan → AreMarks plan marks.now → AreUpdates plan (Live plan) name updates.now

@@ -1,21 +1,22 @@
 //! Races on names.
 
-ghost use Rattle.std.specs.Prelude.{◌≡◌, ◌<◌, ◌≤◌, ◌↔◌, ℕ, Some, true, IsTrue, IfOk, OnOk, length, map, take, slice_get};
+ghost use Rattle.std.specs.Prelude.{◌≡◌, ◌<◌, ◌≤◌, ◌↔◌, ℕ, Some, true, false, IsTrue, IfOk, OnOk, length, map, take, slice_get};
 ghost use Rattle.wire_runs.specs.Plan.{event_of, kind, event_count};
 ghost use Rattle.wire_runs.specs.Plan as runs;
 ghost use Rattle.wire_content.specs.Planned.{plan_of};
 ghost use Rattle.wire_runs.specs.Names.{calls_name, writes_name};
 ghost use Rattle.wire_runs.specs.Order.{Live};
 ghost use Rattle.wire_runs.specs.Findings.{NameRace};
-ghost use Rattle.wire_plan.specs.Index.{AreNameCalls};
+ghost use Rattle.wire_plan.specs.Index.{is_plain_call, AreNameCalls};
 ghost use Rattle.wire_marks.specs.Clocks.{AreMarks};
 ghost use Rattle.wire_races.specs.Findings.{shown};
 ghost use Rattle.wire_races.specs.FindingKinds.{IsOfName, AllAdded};
 ghost use Rattle.wire_races.specs.Collected.{AreFound};
 ghost use Rattle.wire_races.specs.Adding.{Adds};
 ghost use Rattle.wire_races.specs.Pieces.{IsPiece, ArePieces};
-ghost use Rattle.wire_races.specs.NameRaces.{IsRaceOn, IsRaceFrom, IsRaceWith, AreCallsOn, AreOf, IsStretch, AreRivals, HasRivals, AreWriters, IsAbove};
-ghost use Rattle.wire_races.specs.NameRaces.{IsBelow, IsCut};
+ghost use Rattle.wire_races.specs.NameRaces.{IsRaceOn, IsPlainRaceOn, IsRaceFrom, IsRaceWith, race_between, AreCallsOn, AreOf, IsStretch, AreRivals, AreHigher, HasRivals, AreWriters};
+ghost use Rattle.wire_races.specs.NameRaces.{IsAbove, IsBelow, IsCut, Faces, AreFacing, IsOneOf, AreSweepers, IsSweptRace, IsSweptAmong, IsSweptBy, AreOn, IsSweptRaceOn};
+ghost use Rattle.wire_content.specs.Scripts.{numbers_of};
 
 use crate::finding::Finding;
 use crate::found::Found;
@@ -42,9 +43,10 @@ struct NameCall {
     event: Event,
 }
 
-// Whether a call can change what stands under its name.
+// Whether a call on a name alone can change what stands there.
 fn is_write(plan: &Plan, x: NameCall) -> bool
-    requires { x.event.at < event_count (plan_of plan.now) x.event.proc.number }
+    requires there { x.event.at < event_count (plan_of plan.now) x.event.proc.number }
+    requires plain { is_plain_call x.name (kind (plan_of plan.now) (event_of x.event)) ≡ true }
     ensures { result ≡ writes_name (plan_of plan.now) x.name (event_of x.event) (kind (plan_of plan.now) (event_of x.event)) }
 {
     match plan.kind(x.event) {
@@ -54,13 +56,18 @@ fn is_write(plan: &Plan, x: NameCall) -> bool
     }
 }
 
-// The race of a call with a higher one on the same name.
+// The race of a call with one of another process on the same name.
 fn race_of(plan: &Plan, x: NameCall, y: Event) -> Finding
     requires x { calls_name (plan_of plan.now) x.name (event_of x.event) (kind (plan_of plan.now) (event_of x.event)) ≡ true }
     requires y { calls_name (plan_of plan.now) x.name (event_of y) (kind (plan_of plan.now) (event_of y)) ≡ true }
-    ensures { shown (plan_of plan.now) result ≡ NameRace (event_of x.event) (event_of y) x.name }
+    ensures { shown (plan_of plan.now) result ≡ race_between (event_of x.event) (event_of y) x.name }
 {
-    Finding::NameRace(plan.call_of(x.event), plan.call_of(y), x.name)
+    let is_lower = x.event.proc.number < y.proc.number;
+    if is_lower {
+        Finding::NameRace(plan.call_of(x.event), plan.call_of(y), x.name)
+    } else {
+        Finding::NameRace(plan.call_of(y), plan.call_of(x.event), x.name)
+    }
 }
 
 // Whether a call stands below a border of the calls that may race with x.
@@ -92,7 +99,7 @@ fn count_below(marked: &MarkedPlan<'_>, x: Event, border: Border, run: &[Event])
     low
 }
 
-// Adds the races of a live call with higher calls of one process. The one publish of a name and a
+// Adds the races of a live call with calls of another process. The one publish of a name and a
 // lookup that waits for it are in order where both are live, so they aren't between the borders.
 fn add_between(
     marked: &MarkedPlan<'_>,
@@ -179,6 +186,7 @@ fn add_call(
     requires found { AreFound (plan_of marked.now) found.old }
     requires x { calls_name (plan_of marked.now) x.name (event_of x.event) (kind (plan_of marked.now) (event_of x.event)) ≡ true }
     requires rivals { AreRivals (plan_of marked.now) x.name (event_of x.event) (map event_of rivals.now) }
+    requires higher { AreHigher (plan_of marked.now) x.name (event_of x.event) (map event_of rivals.now) }
     requires all { HasRivals (plan_of marked.now) x.name (event_of x.event) (map event_of rivals.now) }
     ensures { OnOk result (Adds (plan_of marked.now) found.old found.new (IsRaceFrom (plan_of marked.now) x.name (event_of x.event))) }
 {
@@ -200,10 +208,11 @@ fn calls_above(calls: &[Event], proc: Proc) -> &[Event]
 // The calls with which a call on a name may race as the lower one: those of higher processes, and if it
 // can't change the name, only such as can.
 fn rivals_of<'a>(plan: &Plan, x: NameCall, calls: &'a [Event], writers: &'a [Event]) -> &'a [Event]
-    requires x { calls_name (plan_of plan.now) x.name (event_of x.event) (kind (plan_of plan.now) (event_of x.event)) ≡ true }
+    requires x { is_plain_call x.name (kind (plan_of plan.now) (event_of x.event)) ≡ true }
     requires calls { AreNameCalls (plan_of plan.now) x.name (map event_of calls.now) }
     requires writers { AreWriters (plan_of plan.now) x.name (map event_of writers.now) }
     ensures rivals { AreRivals (plan_of plan.now) x.name (event_of x.event) (map event_of result.now) }
+    ensures higher { AreHigher (plan_of plan.now) x.name (event_of x.event) (map event_of result.now) }
     ensures all { HasRivals (plan_of plan.now) x.name (event_of x.event) (map event_of result.now) }
 {
     if is_write(plan, x) {
@@ -213,7 +222,7 @@ fn rivals_of<'a>(plan: &Plan, x: NameCall, calls: &'a [Event], writers: &'a [Eve
     }
 }
 
-// The calls on a name that can change it.
+// The calls on a name alone that can change it.
 fn writers_of(alloc: Global, plan: &Plan, name: u32) -> Result<Vec<Event>, AllocError>
     ensures { IfOk result (λ writers. AreWriters (plan_of plan.now) name (map event_of writers.items)) }
 {
@@ -228,7 +237,7 @@ fn writers_of(alloc: Global, plan: &Plan, name: u32) -> Result<Vec<Event>, Alloc
     Ok(writers)
 }
 
-// Adds the races on a name, from the lower call of each.
+// Adds the races between calls on a name alone, from the lower call of each.
 fn add_races_on(
     marked: &MarkedPlan<'_>,
     found: &mut Found,
@@ -237,7 +246,7 @@ fn add_races_on(
 ) -> Result<(), AllocError>
     requires found { AreFound (plan_of marked.now) found.old }
     requires writers { AreWriters (plan_of marked.now) name (map event_of writers.now) }
-    ensures { OnOk result (Adds (plan_of marked.now) found.old found.new (IsRaceOn (plan_of marked.now) name)) }
+    ensures { OnOk result (Adds (plan_of marked.now) found.old found.new (IsPlainRaceOn (plan_of marked.now) name)) }
 {
     let plan = marked.plan();
     let calls = plan.name_calls(name);
@@ -251,6 +260,140 @@ fn add_races_on(
     Ok(())
 }
 
+// Whether a call is looked at beside those of a process that take away all its names: it is a call of another
+// process on one name, or it takes away all names itself and its process is lower.
+fn faces(plan: &Plan, x: Event, proc: Proc) -> bool
+    requires { x.at < event_count (plan_of plan.now) x.proc.number }
+    ensures { (z : runs.Event) → z.proc ≡ proc.number → (IsTrue result ↔ Faces (plan_of plan.now) (event_of x) z) }
+{
+    match plan.kind(x) {
+        Kind::UnpublishAll => x.proc.number < proc.number,
+        _ => x.proc.number != proc.number,
+    }
+}
+
+// The calls of a process that take away all its names, as far as this call is looked at beside them.
+fn facing<'a>(plan: &'a Plan, x: Event, proc: Proc) -> &'a [Event]
+    requires { x.at < event_count (plan_of plan.now) x.proc.number }
+    ensures { AreFacing (plan_of plan.now) (event_of x) proc.number (map event_of result.now) }
+{
+    if faces(plan, x, proc) {
+        plan.sweeps(proc)
+    } else {
+        &[]
+    }
+}
+
+// Adds the races of a call with those calls of these processes that take away all their names.
+fn add_swept(
+    marked: &MarkedPlan<'_>,
+    found: &mut Found,
+    x: NameCall,
+    procs: &[Proc],
+) -> Result<(), AllocError>
+    requires found { AreFound (plan_of marked.now) found.old }
+    requires x { calls_name (plan_of marked.now) x.name (event_of x.event) (kind (plan_of marked.now) (event_of x.event)) ≡ true }
+    requires procs { AreSweepers (plan_of marked.now) x.name (numbers_of procs.now) }
+    ensures { OnOk result (Adds (plan_of marked.now) found.old found.new (IsSweptRace (plan_of marked.now) x.name (event_of x.event) (numbers_of procs.now))) }
+{
+    if !marked.live(x.event) {
+        return Ok(());
+    }
+    let plan = marked.plan();
+    for proc in procs {
+        add_between(marked, found, x, facing(plan, x.event, *proc))?;
+    }
+    Ok(())
+}
+
+// The same of each of these calls.
+fn add_all_swept(
+    marked: &MarkedPlan<'_>,
+    found: &mut Found,
+    name: u32,
+    calls: &[Event],
+    procs: &[Proc],
+) -> Result<(), AllocError>
+    requires found { AreFound (plan_of marked.now) found.old }
+    requires calls { AreOn (plan_of marked.now) name (map event_of calls.now) }
+    requires procs { AreSweepers (plan_of marked.now) name (numbers_of procs.now) }
+    ensures { OnOk result (Adds (plan_of marked.now) found.old found.new (IsSweptAmong (plan_of marked.now) name (map event_of calls.now) (numbers_of procs.now))) }
+{
+    for event in calls {
+        let event = *event;
+        add_swept(marked, found, NameCall { name, event }, procs)?;
+    }
+    Ok(())
+}
+
+// The races on a name between calls of these processes that take away all their names.
+fn add_sweeps(
+    marked: &MarkedPlan<'_>,
+    found: &mut Found,
+    name: u32,
+    procs: &[Proc],
+) -> Result<(), AllocError>
+    requires found { AreFound (plan_of marked.now) found.old }
+    requires procs { AreSweepers (plan_of marked.now) name (numbers_of procs.now) }
+    ensures { OnOk result (Adds (plan_of marked.now) found.old found.new (IsSweptBy (plan_of marked.now) name (numbers_of procs.now) (numbers_of procs.now))) }
+{
+    let plan = marked.plan();
+    for proc in procs {
+        add_all_swept(marked, found, name, plan.sweeps(*proc), procs)?;
+    }
+    Ok(())
+}
+
+// Whether this process is the last of these.
+fn is_last(procs: &[Proc], proc: Proc) -> bool
+    ensures { IsTrue result → IsOneOf proc.number (numbers_of procs.now) }
+{
+    match procs.last() {
+        Some(last) => last.number == proc.number,
+        None => false,
+    }
+}
+
+// Whether a process can take away all its names, and isn't the last of these.
+fn is_new(plan: &Plan, procs: &[Proc], proc: Proc) -> bool
+    ensures { result ≡ false → (z : runs.Event) → z.proc ≡ proc.number → kind (plan_of plan.now) z ≡ Some runs.UnpublishAll → IsOneOf proc.number (numbers_of procs.now) }
+{
+    if plan.sweeps(proc).is_empty() {
+        return false;
+    }
+    !is_last(procs, proc)
+}
+
+// The processes that publish a name and can take away all their names.
+fn sweepers_of(alloc: Global, plan: &Plan, name: u32) -> Result<Vec<Proc>, AllocError>
+    ensures { IfOk result (λ procs. AreSweepers (plan_of plan.now) name (numbers_of procs.items)) }
+{
+    let publishes = plan.publishes(name);
+    let mut procs = Vec::new(alloc);
+    for publish in publishes {
+        if is_new(plan, procs.as_slice(), publish.proc) {
+            procs.push(publish.proc)?;
+        }
+    }
+    Ok(procs)
+}
+
+// Adds the races on a name in which a call of one of these processes takes away all its names.
+fn add_races_swept(
+    marked: &MarkedPlan<'_>,
+    found: &mut Found,
+    name: u32,
+    procs: &[Proc],
+) -> Result<(), AllocError>
+    requires found { AreFound (plan_of marked.now) found.old }
+    requires procs { AreSweepers (plan_of marked.now) name (numbers_of procs.now) }
+    ensures { OnOk result (Adds (plan_of marked.now) found.old found.new (IsSweptRaceOn (plan_of marked.now) name)) }
+{
+    let plan = marked.plan();
+    add_all_swept(marked, found, name, plan.name_calls(name), procs)?;
+    add_sweeps(marked, found, name, procs)
+}
+
 // The races on a name: a piece of the search.
 fn piece(alloc: Global, marked: &MarkedPlan<'_>, name: u32) -> Result<Found, AllocError>
     ensures { IfOk result (IsPiece (plan_of marked.now) (IsRaceOn (plan_of marked.now) name)) }
@@ -258,6 +401,8 @@ fn piece(alloc: Global, marked: &MarkedPlan<'_>, name: u32) -> Result<Found, All
     let mut found = Found::new(alloc);
     let writers = writers_of(alloc, marked.plan(), name)?;
     add_races_on(marked, &mut found, name, writers.as_slice())?;
+    let procs = sweepers_of(alloc, marked.plan(), name)?;
+    add_races_swept(marked, &mut found, name, procs.as_slice())?;
     Ok(found)
 }
 
@@ -290,7 +435,8 @@ fn pieces(
 ///
 /// Each call on a name is compared with those of higher processes, which are cut into stretches of one
 /// process each. Those of a stretch that race with a call stand between two borders, which are found by
-/// bisection. So the races on a name are found in their order.
+/// bisection. So the races on a name are found in their order. The calls of a process that take away all its
+/// names are such a stretch too, on each name that the process publishes; no list has them name by name.
 pub(crate) fn add_name_races(
     rt: &(impl Threads + Sync),
     alloc: Global,

@@ -53,7 +53,7 @@ impl Settled {
     /// The plan as a settled one, where the list of its findings is empty; else all is given back.
     pub fn try_new(plan: Plan, marks: Marks, findings: Vec<Finding>) -> Result<Settled, Unsettled>
         requires marks { AreMarks (plan_of plan) marks }
-        requires findings { AreFindings (plan_of plan) findings.items }
+        requires findings { AreFindings plan findings.items }
         ensures variant { IsOk result ↔ (findings.items ≡ []) }
         ensures settled { IsOk result ↔ IsSettled (plan_of plan) }
         ensures kept { IfOk result (λ s. s ≡ plan) }

@@ -6,7 +6,7 @@ use Rattle.std.proofs.lemmas.Fmt.{length-decimal-le}
 use Rattle.std.proofs.lemmas.Option.{slice_get_past}
 use Rattle.std.proofs.lemmas.List.Sums.{count_by-le-length}
 use Rattle.wire_types.specs.declared.Call.{Call}
-use Rattle.wire_types.specs.declared.Call.TheVariants.{Put, Commit, Fence, Get, GetNow, Publish, Lookup, LookupWait, Unpublish}
+use Rattle.wire_types.specs.declared.Call.TheVariants.{Put, Commit, Fence, Get, GetNow, Publish, Lookup, LookupWait, Unpublish, UnpublishAll}
 use Rattle.wire_types.specs.declared.CallAt.{CallAt}
 use Rattle.wire_types.specs.declared.Proc.{Proc}
 use Rattle.wire_content.specs.Scripts.{Scripts, IsSound, call_at, text_at}
@@ -59,6 +59,7 @@ put_key_short s longest (Some (Publish name value)) keys = omega arith
 put_key_short s longest (Some (Lookup name)) keys = omega arith
 put_key_short s longest (Some (LookupWait name)) keys = omega arith
 put_key_short s longest (Some (Unpublish name)) keys = omega arith
+put_key_short s longest (Some UnpublishAll) keys = omega arith
 
 rewrite_short : (s : Scripts) (room : ℕ) (first later : CallAt) → FitsWords s room → AreNumbered first later → length (finding_line s (Rewrite first later)) ≤ room
 rewrite_short s room first later fits small =

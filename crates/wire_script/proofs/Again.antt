@@ -7,7 +7,7 @@ use Rattle.wire_types.specs.declared.Fault.{Fault}
 use Rattle.wire_types.specs.declared.Fault.TheVariants.{UnknownName, NotMember}
 use Rattle.wire_types.specs.declared.Call.{Call as Numbered}
 use Rattle.wire_types.specs.declared.Call.TheVariants as call
-use Rattle.wire_lines.specs.Said.{Item, One, Every, Set, Own, Listed, Call, Put, Commit, Fence, Get, GetNow, Publish, Lookup, LookupWait, Unpublish}
+use Rattle.wire_lines.specs.Said.{Item, One, Every, Set, Own, Listed, Call, Put, Commit, Fence, Get, GetNow, Publish, Lookup, LookupWait, Unpublish, UnpublishAll}
 use Rattle.wire_content.specs.Scripts.{Process, Scripts}
 use Rattle.wire_content.specs.Canonical.{call_said}
 use Rattle.wire_script.specs.FirstPass.{Name, Started, Declared, is_among, number_or_count}
@@ -97,6 +97,7 @@ module _ (f : Change) (d : Declared) where
   declared_changed (Lookup name) = refl
   declared_changed (LookupWait name) = refl
   declared_changed (Unpublish name) = refl
+  declared_changed UnpublishAll = refl
 
   caller_changed : (p : Started) (c : Call) → is_with_caller (changed_declaration f d) (changed_process f p) c ≡ is_with_caller d p c
   caller_changed p (Put scope key value) = refl
@@ -108,6 +109,7 @@ module _ (f : Change) (d : Declared) where
   caller_changed p (Lookup name) = refl
   caller_changed p (LookupWait name) = refl
   caller_changed p (Unpublish name) = refl
+  caller_changed p UnpublishAll = refl
 
   sets_changed : (job : ℕ) (c : Call) → sets_in (changed_declaration f d) job c ≡ sets_in d job c
   sets_changed job (Put scope key value) = refl
@@ -119,6 +121,7 @@ module _ (f : Change) (d : Declared) where
   sets_changed job (Lookup name) = refl
   sets_changed job (LookupWait name) = refl
   sets_changed job (Unpublish name) = refl
+  sets_changed job UnpublishAll = refl
 
   numbered_changed : (s : Seen) (job : ℕ) (c : Call) → numbered (changed_declaration f d) s job c ≡ numbered d s job c
   numbered_changed s job (Put scope key value) = refl
@@ -130,6 +133,7 @@ module _ (f : Change) (d : Declared) where
   numbered_changed s job (Lookup name) = refl
   numbered_changed s job (LookupWait name) = refl
   numbered_changed s job (Unpublish name) = refl
+  numbered_changed s job UnpublishAll = refl
 
 -- what the calls name, call by call, after a change
 module _ (f : Change) (g h : ℕ → Call → List (List ℕ)) where

@@ -1,7 +1,8 @@
 -- What is declared, with other calls in place of its own: lines that are changed call by call declare it.
 use Rattle.std.proofs.Common.{◌≡◌, ◌∙◌, ap, sym, subst, refl, ℕ, ◌+◌, ◌-◌, ◌<◌, ◌≤◌, List, [], ◌∷◌, ◌++◌, Bool, true, false, map, length, length-append, Result, Ok, Err, MatchResult, inl, inr, arith}
 use Rattle.std.proofs.Common.{if◌then◌else◌}
-use Rattle.std.specs.Prelude.{not, nat_lt, ⊤}
+use Rattle.std.specs.Prelude.{not, nat_lt, ◌&&◌, ⊤}
+use Rattle.wire_lines.proofs.Colon.{and_left}
 use Rattle.std.proofs.lemmas.List.{length-map, map-append}
 use borrow.Author.Tests.{ltb-true}
 use Rattle.wire_types.specs.declared.Fault.{Fault}
@@ -10,7 +11,7 @@ use Rattle.wire_lines.specs.Said.{Call, Said, Header, Keep, Node, Job, Rank, Cal
 use Rattle.wire_lines.specs.declared.Version.{Version}
 use Rattle.wire_script.specs.declared.limits.Size.{Size}
 use Rattle.wire_script.specs.Statements.{Statement}
-use Rattle.wire_script.specs.FirstPass.{Started, Declared, number_or_count, after, judged, is_in_place, is_short, is_short_call, is_known, is_again, has_room, with_call, nothing, Judges, JudgesAll}
+use Rattle.wire_script.specs.FirstPass.{Started, Declared, number_or_count, after, judged, is_in_place, is_short, is_short_call, is_known, is_again, has_room, has_call, with_call, nothing, Judges, JudgesAll}
 use Rattle.wire_script.specs.FirstPass.{FirstPass}
 use Rattle.wire_script.proofs.Recut.{numbered_lines}
 
@@ -75,13 +76,18 @@ pub record IsFit (c : Call) : Type 0 where
   pub lawful : IsLawfulCall c
   pub short : is_short_call c ≡ true
 
+-- one that may stand in place of another, in a file of whatever version
+pub record IsFitFor (old new : Call) : Type 0 where
+  pub fit : IsFit new
+  pub place : (v : Version) → has_call v new ≡ has_call v old
+
 abbrev pub FitsLine : Change → Declared → Said → Type 0
 FitsLine f d (Header version) = ⊤
 FitsLine f d Keep = ⊤
 FitsLine f d (Node name) = ⊤
 FitsLine f d (Job name) = ⊤
 FitsLine f d (Rank node) = ⊤
-FitsLine f d (Calls c) = IsFit (f (last_job d.processes) c)
+FitsLine f d (Calls c) = IsFitFor c (f (last_job d.processes) c)
 
 changed_lawful : (f : Change) (d : Declared) (a : Said) → FitsLine f d a → IsLawful a → IsLawful (changed_line f d a)
 changed_lawful f d (Header version) h l = l
@@ -89,7 +95,7 @@ changed_lawful f d Keep h l = l
 changed_lawful f d (Node name) h l = l
 changed_lawful f d (Job name) h l = l
 changed_lawful f d (Rank node) h l = l
-changed_lawful f d (Calls c) h l = h.lawful
+changed_lawful f d (Calls c) h l = h.fit.lawful
 
 changed_taken : (f : Change) (d : Declared) (a : Said) → FitsLine f d a → IsTaken d a → IsTaken (changed_declaration f d) (changed_line f d a)
 changed_taken f d (Header version) h t = record { place = t.place; short = t.short; known = t.known; again = t.again; room = t.room }
@@ -98,7 +104,7 @@ changed_taken f d (Node name) h t = record { place = t.place; short = t.short; k
 changed_taken f d (Job name) h t = record { place = t.place; short = t.short; known = t.known; again = t.again; room = t.room }
 changed_taken f d (Rank node) h t =
     record { place = t.place; short = t.short; known = t.known; again = t.again; room = ap (λ n. nat_lt n d.limits.processes) (length-map d.processes (changed_process f)) ∙ t.room }
-changed_taken f d (Calls c) h t = record { place = t.place; short = h.short; known = t.known; again = t.again; room = t.room }
+changed_taken f d (Calls c) h t = record { place = ap (λ b. nat_lt 0 d.ranks && b) (h.place d.version) ∙ t.place; short = h.fit.short; known = t.known; again = t.again; room = t.room }
 
 -- lines, with their numbers, lead from one declaration to another
 abbrev pub Runs : List (ℕ × Said) → Declared → Declared → Type 0
@@ -203,7 +209,7 @@ ranks_kept d n (Calls c) h = omega (arith, ranks_with d.processes (n, c))
 
 module _ (f : Change) where
   abbrev Fits : ℕ → Call → Type 0
-  Fits job c = IsFit (f job c)
+  Fits job c = IsFitFor c (f job c)
 
   -- what all calls of a later declaration are, those of an earlier one are, and the call of the line between
   line_fits : (d : Declared) (n : ℕ) (a : Said) → HasRanks d → IsTaken d a → AllCalls Fits (after d n a).processes → AllCalls Fits d.processes × FitsLine f d a
@@ -212,7 +218,7 @@ module _ (f : Change) where
   line_fits d n (Node name) r t h = (h, tt)
   line_fits d n (Job name) r t h = (h, tt)
   line_fits d n (Rank node) r t h = (push_kept Fits d.processes _ h, tt)
-  line_fits d n (Calls c) r t h = let some = ltb-true _ _ t.place in with_kept Fits d.processes (n, c) (omega arith) h
+  line_fits d n (Calls c) r t h = let some = ltb-true 0 d.ranks (and_left (nat_lt 0 d.ranks) (has_call d.version c) t.place) in with_kept Fits d.processes (n, c) (omega arith) h
 
   run_fits : (ls : List (ℕ × Said)) (d e : Declared) → HasRanks d → Runs ls d e → AllCalls Fits e.processes → AllCalls Fits d.processes
   run_fits [] d e r t h = subst (λ x. AllCalls Fits x.processes) (sym t) h

@@ -1,6 +1,6 @@
 -- What was read reads under version 2 too.
 use Rattle.std.proofs.Common.{◌≡◌, ◌∙◌, ap, sym, subst, refl, ℕ, ◌≤◌, List, [], ◌∷◌, map, length, arith, Some, None, Result, Ok, Err, MatchResult, inl, inr, if◌then◌else◌}
-use Rattle.std.specs.Prelude.{not}
+use Rattle.std.specs.Prelude.{not, ◌&&◌, true}
 use Rattle.std.specs.List.{list_any, list_all}
 use borrow.Author.Tests.{ltb-true, lt-ltb}
 use Rattle.wire_types.specs.declared.Fault.{Fault}
@@ -9,7 +9,7 @@ use Rattle.wire_types.specs.declared.Call.TheVariants as call
 use Rattle.wire_lines.specs.declared.Version.{Version}
 use Rattle.wire_lines.specs.declared.Version.TheVariants as version
 use Rattle.wire_lines.specs.Text.{lines_of}
-use Rattle.wire_lines.specs.Said.{Item, One, Every, Set, Own, Listed, Call, Put, Commit, Fence, Get, GetNow, Publish, Lookup, LookupWait, Unpublish, Said, Header, Keep, Node, Job, Rank, Calls}
+use Rattle.wire_lines.specs.Said.{Item, One, Every, Set, Own, Listed, Call, Put, Commit, Fence, Get, GetNow, Publish, Lookup, LookupWait, Unpublish, UnpublishAll, Said, Header, Keep, Node, Job, Rank, Calls}
 use Rattle.wire_content.specs.Scripts.{Scripts, under_version_2}
 use Rattle.wire_content.specs.Canonical.{canonical}
 use Rattle.wire_script.specs.declared.limits.Limits.{Limits}
@@ -17,11 +17,11 @@ use Rattle.wire_script.specs.declared.limits.Size.{Size}
 use Rattle.wire_script.specs.declared.limits.Size.TheVariants.{OfVersion, Large}
 use Rattle.wire_script.specs.Limits.{limits_of}
 use Rattle.wire_script.specs.Statements.{statements}
-use Rattle.wire_script.specs.FirstPass.{Name, Started, Declared, nothing, number_or_count, after, FirstPass}
+use Rattle.wire_script.specs.FirstPass.{Name, Started, Declared, nothing, number_or_count, has_call, after, FirstPass}
 use Rattle.wire_script.specs.Reads.{Seen, has_proc, names_it, is_in, places_from, set_members, is_declared_item, is_declared_set, is_declared_call, is_with_caller, call_fault, first_of}
 use Rattle.wire_script.specs.Reads.{fault_in, first_fault, keys_in, names_in, values_in, sets_in, in_calls, first_seen, seen_in, numbered, scripts_with, scripts_of, second_pass, ReadsShort}
 use Rattle.wire_script.specs.Back.{MigratedReadsBack}
-use Rattle.wire_lines.proofs.Colon.{and_right}
+use Rattle.wire_lines.proofs.Colon.{and_left, and_right}
 use Rattle.wire_script.proofs.Changed.{IsTaken, Runs, first_run, kept_header}
 use Rattle.wire_script.proofs.ReadBack.{second_ok, declared_back}
 
@@ -39,6 +39,11 @@ roomier : (size : Size) (v : Version) → IsRoomier (limits_of size v) (limits_o
 roomier OfVersion version.One = record { nodes = omega arith; jobs = omega arith; processes = omega arith; calls = omega arith }
 roomier OfVersion version.Two = record { nodes = omega arith; jobs = omega arith; processes = omega arith; calls = omega arith }
 roomier Large v = record { nodes = omega arith; jobs = omega arith; processes = omega arith; calls = omega arith }
+
+-- a file of version 2 may make each call
+second_has : (c : Call) → has_call version.Two c ≡ true
+second_has UnpublishAll = refl
+second_has _ = refl
 
 module _ (m : Limits) where
   -- a line that is taken is taken under version 2, where there is more room
@@ -60,7 +65,8 @@ module _ (m : Limits) where
   taken_moved d (Calls c) r t =
       let low = ltb-true _ _ t.room in
       let more = r.calls in
-      record { place = t.place; short = t.short; known = t.known; again = t.again; room = lt-ltb d.calls m.calls (omega (arith, low, more)) }
+      let place = ap (λ b. b && has_call version.Two c) (and_left _ _ t.place) ∙ second_has c in
+      record { place = place; short = t.short; known = t.known; again = t.again; room = lt-ltb d.calls m.calls (omega (arith, low, more)) }
 
   after_moved : (d : Declared) (n : ℕ) (a : Said) → moved version.Two m (after d n a) ≡ after (moved version.Two m d) n a
   after_moved d n (Header w) = refl
@@ -112,6 +118,7 @@ module _ (v : Version) (m : Limits) (d : Declared) where
   declared_moved (Lookup name) = refl
   declared_moved (LookupWait name) = refl
   declared_moved (Unpublish name) = refl
+  declared_moved UnpublishAll = refl
 
   caller_moved : (p : Started) (c : Call) → is_with_caller (moved v m d) p c ≡ is_with_caller d p c
   caller_moved p (Put scope key value) = refl
@@ -123,6 +130,7 @@ module _ (v : Version) (m : Limits) (d : Declared) where
   caller_moved p (Lookup name) = refl
   caller_moved p (LookupWait name) = refl
   caller_moved p (Unpublish name) = refl
+  caller_moved p UnpublishAll = refl
 
   fault_moved : (p : Started) (line : ℕ) (c : Call) → call_fault (moved v m d) p line c ≡ call_fault d p line c
   fault_moved p line c = λ t. if not (declared_moved c t) then Some (UnknownName line) else if not (caller_moved p c t) then Some (NotMember line) else None
@@ -145,6 +153,7 @@ module _ (v : Version) (m : Limits) (d : Declared) where
   sets_moved job (Lookup name) = refl
   sets_moved job (LookupWait name) = refl
   sets_moved job (Unpublish name) = refl
+  sets_moved job UnpublishAll = refl
 
   numbered_moved : (s : Seen) (job : ℕ) (c : Call) → numbered (moved v m d) s job c ≡ numbered d s job c
   numbered_moved s job (Put scope key value) = refl
@@ -156,6 +165,7 @@ module _ (v : Version) (m : Limits) (d : Declared) where
   numbered_moved s job (Lookup name) = refl
   numbered_moved s job (LookupWait name) = refl
   numbered_moved s job (Unpublish name) = refl
+  numbered_moved s job UnpublishAll = refl
 
   abbrev seen_with : List (List ℕ) → Seen
   seen_with sets = record {

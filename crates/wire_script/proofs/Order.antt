@@ -176,7 +176,7 @@ body_added d (Rank node) t s other =
     (job_push d.nodes d.jobs d.processes p (omega arith)
     ∙ ap (λ x. jobs_lines d.nodes d.processes 0 d.jobs ++ Rank x ∷ []) ((text_at_number d.nodes node t.known).1))
 body_added d (Calls c) t s other =
-    let l = s.last (ltb-true _ _ t.place) in
+    let l = s.last (ltb-true _ _ (and_left _ _ t.place)) in
     at_end (map (λ n. Node n) d.nodes) (jobs_lines d.nodes d.processes 0 d.jobs) (jobs_lines d.nodes (with_call d.processes (0, c)) 0 d.jobs) (Calls c)
     (subst (λ ps. jobs_lines d.nodes (with_call ps (0, c)) 0 d.jobs ≡ jobs_lines d.nodes ps 0 d.jobs ++ Calls c ∷ []) (sym l.2) (call_push d.nodes d.jobs l.0 l.1 (0, c) l.3))
 
@@ -205,7 +205,7 @@ shape_kept d (Rank node) t s =
       last = λ h. (d.processes, p, refl, omega arith);
     }
 shape_kept d (Calls c) t s =
-    let l = s.last (ltb-true _ _ t.place) in
+    let l = s.last (ltb-true _ _ (and_left _ _ t.place)) in
     let new = with_calls l.1 (l.1.calls ++ (0, c) ∷ []) in
     let is : with_call d.processes (0, c) ≡ l.0 ++ new ∷ [] = ap (λ ps. with_call ps (0, c)) l.2 ∙ call_last l.0 l.1 (0, c) in
     let front = below_front (length d.jobs) l.0 l.1 (subst (AllBelow (length d.jobs)) l.2 s.below) in

@@ -10,7 +10,7 @@ use Rattle.wire_types.specs.declared.Scope.{Scope}
 use Rattle.wire_types.specs.declared.Scope.TheVariants.{Local, Remote, Global}
 use Rattle.wire_lines.specs.declared.Version.TheVariants as version
 use Rattle.wire_lines.specs.Text.{pieces_of, lines_of, is_blank, words_of}
-use Rattle.wire_lines.specs.Said.{Item, One, Every, Set, Own, Listed, Put, Commit, Fence, Get, GetNow, Publish, Lookup, LookupWait, Unpublish}
+use Rattle.wire_lines.specs.Said.{Item, One, Every, Set, Own, Listed, Put, Commit, Fence, Get, GetNow, Publish, Lookup, LookupWait, Unpublish, UnpublishAll}
 use Rattle.wire_lines.specs.Said.{Said, Header, Keep, Node, Job, Rank, Calls, IsLawfulItem, AreLawful, IsLawfulSet, IsLawful, first_word, other_words, is_word_byte, is_name_byte, is_word, is_name}
 use Rattle.wire_lines.specs.Said.{spelled_proc, spelled_scope, spelled_item, spelled_set, collect_words}
 use Rattle.wire_lines.proofs.Colon.{and_left, and_right}
@@ -178,6 +178,7 @@ words_said (Calls (Publish name value)) h = (refl, (and_left _ _ h.0, (h.1, tt))
 words_said (Calls (Lookup name)) h = (refl, (and_left _ _ h, tt))
 words_said (Calls (LookupWait name)) h = (refl, (and_left _ _ h, tt))
 words_said (Calls (Unpublish name)) h = (refl, (and_left _ _ h, tt))
+words_said (Calls UnpublishAll) h = (refl, (refl, tt))
 words_said (Calls (Get job rank key)) h = (refl, (proc_word job rank h.0 h.1, (and_left _ _ h.2, tt)))
 words_said (Calls (GetNow job rank key)) h = (refl, (proc_word job rank h.0 h.1, (and_left _ _ h.2, tt)))
 
@@ -194,6 +195,7 @@ said_counts (Calls (Publish name value)) = refl
 said_counts (Calls (Lookup name)) = refl
 said_counts (Calls (LookupWait name)) = refl
 said_counts (Calls (Unpublish name)) = refl
+said_counts (Calls UnpublishAll) = refl
 said_counts (Calls (Get job rank key)) = refl
 said_counts (Calls (GetNow job rank key)) = refl
 

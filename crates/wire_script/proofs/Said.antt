@@ -8,15 +8,16 @@ use borrow.Author.Tests.{ltb-true, eqb-true}
 use Rattle.wire_types.specs.declared.Scope.{Scope}
 use Rattle.wire_types.specs.declared.Call as call
 use Rattle.wire_types.specs.declared.Call.TheVariants as variant
-use Rattle.wire_lines.specs.Said.{Set, Call, Put, Commit, Fence, Get, GetNow, Publish, Lookup, LookupWait, Unpublish, Header, Node, Job, Rank, Calls}
+use Rattle.wire_lines.specs.Said.{Set, Call, Put, Commit, Fence, Get, GetNow, Publish, Lookup, LookupWait, Unpublish, UnpublishAll, Header, Node, Job, Rank, Calls}
 use Rattle.wire_lines.proofs.Colon.{and_left, and_right}
 use Rattle.wire_content.specs.Scripts.{Process, text_at}
 use Rattle.wire_content.specs.Canonical.{process_at, job_of, set_said, call_said, process_said, jobs_said, keep_said, lines_said}
-use Rattle.wire_script.specs.FirstPass.{Name, Started, Declared, is_among, number_or_count}
+use Rattle.wire_lines.specs.declared.Version.{Version}
+use Rattle.wire_script.specs.FirstPass.{Name, Started, Declared, is_among, number_or_count, has_call}
 use Rattle.wire_script.specs.Reads.{Seen, is_proc, proc_number, has_proc, is_in, set_members, is_declared_call, is_with_caller, first_fault, keys_in, names_in, values_in, sets_in, in_calls}
 use Rattle.wire_script.specs.Reads.{first_seen, seen_in, numbered, process_of, scripts_with, scripts_of}
 use Rattle.wire_script.proofs.Seen.{seen_among, among_flat, text_at_number}
-use Rattle.wire_script.proofs.Changed.{changed_call, changed_process, changed_declaration, IsFit, CallsAre, AllCalls}
+use Rattle.wire_script.proofs.Changed.{changed_call, changed_process, changed_declaration, IsFit, IsFitFor, CallsAre, AllCalls}
 use Rattle.wire_script.proofs.Order.{process_lines, of_job, jobs_lines, declared_lines}
 use Rattle.wire_script.proofs.Ranked.{IsGood, below_at}
 use Rattle.wire_script.proofs.SameMembers.{process_there, set_kept, members_kept, set_declared, set_short, set_lawful}
@@ -35,8 +36,8 @@ pub record HasCall (d : Declared) (job : ℕ) (c : Call) : Type 0 where
   pub values : (x : List ℕ) → is_among (values_in c) x ≡ true → is_among (seen_in d).values x ≡ true
   pub sets : (x : List ℕ) → is_among (sets_in d job c) x ≡ true → is_among (seen_in d).sets x ≡ true
 
-has_call : (d : Declared) (k : ℕ) (p : Started) (i : ℕ) (c : ℕ × Call) → CallAt d.processes k p i c → HasCall d p.job c.1
-has_call d k p i c at = record {
+names_call : (d : Declared) (k : ℕ) (p : Started) (i : ℕ) (c : ℕ × Call) → CallAt d.processes k p i c → HasCall d p.job c.1
+names_call d k p i c at = record {
   keys = λ x e. in_seen (λ job. keys_in) d.processes k p i c x at e;
   names = λ x e. in_seen (λ job. names_in) d.processes k p i c x at e;
   values = λ x e. in_seen (λ job. values_in) d.processes k p i c x at e;
@@ -127,6 +128,7 @@ call_is_said d job (Publish name value) g h m =
 call_is_said d job (Lookup name) g h m = inl (ap Lookup (text_back (seen_in d).names (name ∷ []) name h.names (alone name)))
 call_is_said d job (LookupWait name) g h m = inl (ap LookupWait (text_back (seen_in d).names (name ∷ []) name h.names (alone name)))
 call_is_said d job (Unpublish name) g h m = inl (ap Unpublish (text_back (seen_in d).names (name ∷ []) name h.names (alone name)))
+call_is_said d job UnpublishAll g h m = inl refl
 
 fence_is_again : (d : Declared) (g : IsGood d) (job : ℕ) (set : Set) (collect : Bool) → IsAgain d job (Fence set collect) (fence_again d job set collect)
 fence_is_again d g job set collect = record {
@@ -153,10 +155,15 @@ said_fits d k p c g at fit m (inr (set, collect, is, e)) =
     let caller = sym (ap (is_with_caller d p) is) ∙ m in
     subst IsFit (sym e) (record { lawful = set_lawful d (seen_in d) g p.job set k p at caller; short = set_short d (seen_in d) g p.job set })
 
+-- a call is said in a file of each version that may make it
+said_place : (d : Declared) (job : ℕ) (c : Call) → IsSaid d job c → (v : Version) → has_call v (canonical_call d job c) ≡ has_call v c
+said_place d job c (inl e) v = ap (has_call v) e
+said_place d job c (inr (set, collect, is, e)) v = ap (has_call v) e ∙ sym (ap (has_call v) is)
+
 -- what the scripts say names the same
 pub again_same : (d : Declared) → IsGood d → first_fault d d.processes ≡ None → IsSameChange d (canonical_call d)
 again_same d g u k p i c at =
-    said_is_again d p.job c.1 g (call_is_said d p.job c.1 g (has_call d k p i c at) (all_met d d.processes k p i c u at).0)
+    said_is_again d p.job c.1 g (call_is_said d p.job c.1 g (names_call d k p i c at) (all_met d d.processes k p i c u at).0)
 
 module _ (P : ℕ → Call → Type 0) where
   calls_by_place : (job : ℕ) (cs : List (ℕ × Call)) → ((i : ℕ) (c : ℕ × Call) → slice_get cs i ≡ Some c → P job c.1) → CallsAre P job cs
@@ -180,10 +187,11 @@ module _ (P : ℕ → Call → Type 0) where
   at_place (q ∷ ps) (suc k) p i c h at = at_place ps k p i c h.1 at
 
 -- and may be said
-pub again_fits : (d : Declared) → IsGood d → AllCalls (λ job c. IsFit c) d.processes → first_fault d d.processes ≡ None → AllCalls (λ job c. IsFit (canonical_call d job c)) d.processes
-again_fits d g fit u = all_by_place (λ job c. IsFit (canonical_call d job c)) d.processes (λ k p i c at.
+pub again_fits : (d : Declared) → IsGood d → AllCalls (λ job c. IsFit c) d.processes → first_fault d d.processes ≡ None → AllCalls (λ job c. IsFitFor c (canonical_call d job c)) d.processes
+again_fits d g fit u = all_by_place (λ job c. IsFitFor c (canonical_call d job c)) d.processes (λ k p i c at.
     let m = all_met d d.processes k p i c u at in
-    said_fits d k p c.1 g at.0 (at_place (λ job b. IsFit b) d.processes k p i c fit at) m.1 (call_is_said d p.job c.1 g (has_call d k p i c at) m.0))
+    let said = call_is_said d p.job c.1 g (names_call d k p i c at) m.0 in
+    record { fit = said_fits d k p c.1 g at.0 (at_place (λ job b. IsFit b) d.processes k p i c fit at) m.1 said; place = said_place d p.job c.1 said })
 
 -- the lines of scripts are those of what is declared, with what the scripts say of each call
 module _ (d : Declared) where

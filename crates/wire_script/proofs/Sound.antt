@@ -44,6 +44,7 @@ call_sets d own (said.Publish name value) = tt
 call_sets d own (said.Lookup name) = tt
 call_sets d own (said.LookupWait name) = tt
 call_sets d own (said.Unpublish name) = tt
+call_sets d own said.UnpublishAll = tt
 
 all_sets : (d : Declared) → Each (IsOfTest d) (seen_in d).sets
 all_sets d =
@@ -99,6 +100,7 @@ fence_said d s own (said.Publish name value) n b e = absurd (cc)
 fence_said d s own (said.Lookup name) n b e = absurd (cc)
 fence_said d s own (said.LookupWait name) n b e = absurd (cc)
 fence_said d s own (said.Unpublish name) n b e = absurd (cc)
+fence_said d s own said.UnpublishAll n b e = absurd (cc)
 
 alone : (x : List ℕ) → is_among (x ∷ []) x ≡ true
 alone x = let same : bytes_eq x x ≡ true = (bytes_eq-Decides x x).1 refl in rw same refl
@@ -155,6 +157,7 @@ owner_said d s own (said.Publish name value) n e declared = absurd (cc)
 owner_said d s own (said.Lookup name) n e declared = absurd (cc)
 owner_said d s own (said.LookupWait name) n e declared = absurd (cc)
 owner_said d s own (said.Unpublish name) n e declared = absurd (cc)
+owner_said d s own said.UnpublishAll n e declared = absurd (cc)
 
 sound_owners : (d : Declared) → first_fault d d.processes ≡ None → AreOwned (map (process_of d (seen_in d)) d.processes)
 sound_owners d none i j n call e named =
@@ -175,6 +178,7 @@ name_said d s own (said.Publish name value) n e = (name, alone name, cc)
 name_said d s own (said.Lookup name) n e = (name, alone name, cc)
 name_said d s own (said.LookupWait name) n e = (name, alone name, cc)
 name_said d s own (said.Unpublish name) n e = (name, alone name, cc)
+name_said d s own said.UnpublishAll n e = absurd (cc)
 
 sound_names : (d : Declared) → AreNamed (map (process_of d (seen_in d)) d.processes) (seen_in d).names
 sound_names d i j n call e named =

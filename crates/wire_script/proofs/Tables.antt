@@ -36,6 +36,7 @@ keys_step d s own (said.Publish name value) = refl
 keys_step d s own (said.Lookup name) = refl
 keys_step d s own (said.LookupWait name) = refl
 keys_step d s own (said.Unpublish name) = refl
+keys_step d s own said.UnpublishAll = refl
 
 names_step : (d : Declared) (s : Seen) (job : ℕ) (c : said.Call) → (seen_with d s job c).names ≡ texts_after s.names (names_in c)
 names_step d s own (said.Put scope key value) = refl
@@ -47,6 +48,7 @@ names_step d s own (said.Publish name value) = refl
 names_step d s own (said.Lookup name) = refl
 names_step d s own (said.LookupWait name) = refl
 names_step d s own (said.Unpublish name) = refl
+names_step d s own said.UnpublishAll = refl
 
 values_step : (d : Declared) (s : Seen) (job : ℕ) (c : said.Call) → (seen_with d s job c).values ≡ texts_after s.values (values_in c)
 values_step d s own (said.Put scope key value) = refl
@@ -58,6 +60,7 @@ values_step d s own (said.Publish name value) = refl
 values_step d s own (said.Lookup name) = refl
 values_step d s own (said.LookupWait name) = refl
 values_step d s own (said.Unpublish name) = refl
+values_step d s own said.UnpublishAll = refl
 
 sets_step : (d : Declared) (s : Seen) (job : ℕ) (c : said.Call) → (seen_with d s job c).sets ≡ texts_after s.sets (sets_in d job c)
 sets_step d s own (said.Put scope key value) = refl
@@ -69,6 +72,7 @@ sets_step d s own (said.Publish name value) = refl
 sets_step d s own (said.Lookup name) = refl
 sets_step d s own (said.LookupWait name) = refl
 sets_step d s own (said.Unpublish name) = refl
+sets_step d s own said.UnpublishAll = refl
 
 -- the tables after all calls are those of what the calls name, each once as first seen
 pub all_seen_is : (d : Declared) → all_seen d nothing_seen d.processes ≡ seen_in d
@@ -106,6 +110,7 @@ with_call_goes_on d s own (said.Publish name value) = record { keys = goes_on_se
 with_call_goes_on d s own (said.Lookup name) = record { keys = goes_on_self s.keys; names = with_goes_on s.names name; values = goes_on_self s.values; sets = goes_on_self s.sets }
 with_call_goes_on d s own (said.LookupWait name) = record { keys = goes_on_self s.keys; names = with_goes_on s.names name; values = goes_on_self s.values; sets = goes_on_self s.sets }
 with_call_goes_on d s own (said.Unpublish name) = record { keys = goes_on_self s.keys; names = with_goes_on s.names name; values = goes_on_self s.values; sets = goes_on_self s.sets }
+with_call_goes_on d s own said.UnpublishAll = record { keys = goes_on_self s.keys; names = goes_on_self s.names; values = goes_on_self s.values; sets = goes_on_self s.sets }
 
 pub with_calls_goes_on : (d : Declared) (s : Seen) (job : ℕ) (cs : List (ℕ × said.Call)) → GoOn s (seen_after d s job cs)
 with_calls_goes_on d s job [] = go_on_self s
@@ -130,6 +135,7 @@ call_grows d s own (said.Publish name value) = let m = with_grows s.names name i
 call_grows d s own (said.Lookup name) = let m = with_grows s.names name in omega (arith, m)
 call_grows d s own (said.LookupWait name) = let m = with_grows s.names name in omega (arith, m)
 call_grows d s own (said.Unpublish name) = let m = with_grows s.names name in omega (arith, m)
+call_grows d s own said.UnpublishAll = omega arith
 
 pub calls_grow : (d : Declared) (s : Seen) (job : ℕ) (cs : List (ℕ × said.Call)) → entry_count (seen_after d s job cs) ≤ entry_count s + 2 * length cs
 calls_grow d s job [] = omega arith

@@ -1,16 +1,17 @@
 -- What a file declares is within the limits.
 use Rattle.std.proofs.Common.{◌≡◌, ◌∙◌, ap, sym, subst, refl, ◌≤◌, ℕ, ◌+◌, ◌-◌, ◌<◌, List, [], ◌∷◌, ◌++◌, Bool, true, false, map, length, Result, Ok, Err, MatchResult, inl, inr, arith, length-append}
 use Rattle.std.proofs.Common.{if◌then◌else◌}
-use Rattle.std.specs.Prelude.{not, sum_by}
+use Rattle.std.specs.Prelude.{not, nat_lt, sum_by}
 use borrow.Author.Tests.{ltb-true}
 use Rattle.std.proofs.lemmas.List.{length-map}
 use Rattle.std.proofs.lemmas.List.Sums.{sum_by-cons}
 use Rattle.wire_types.specs.declared.Fault.{Fault}
 use Rattle.wire_types.specs.declared.Fault.TheVariants.{TooLong, BadLine, UnknownName, Twice, TooMany}
 use Rattle.wire_lines.specs.Said.{Said, Header, Keep, Node, Job, Rank, Calls, Call}
+use Rattle.wire_lines.proofs.Colon.{and_left}
 use Rattle.wire_content.specs.Scripts.{IsCounted}
 use Rattle.wire_script.specs.Statements.{Statement}
-use Rattle.wire_script.specs.FirstPass.{Started, Declared, number_or_count, nothing, after, is_in_place, is_short, is_known, is_again, has_room, with_call, Judges, JudgesAll, FirstPass}
+use Rattle.wire_script.specs.FirstPass.{Started, Declared, number_or_count, nothing, after, is_in_place, is_short, is_known, is_again, has_room, has_call, with_call, Judges, JudgesAll, FirstPass}
 use Rattle.wire_script.specs.Reads.{Seen, numbered, process_of}
 use Rattle.wire_lines.specs.declared.Version.{Version}
 use Rattle.wire_lines.specs.declared.Version.TheVariants as version
@@ -68,7 +69,7 @@ kept d n (Rank node) p r w =
     }
 kept d n (Calls call) p r w =
     let room = ltb-true _ _ r in
-    let placed = ltb-true _ _ p in
+    let placed = ltb-true 0 d.ranks (and_left (nat_lt 0 d.ranks) (has_call d.version call) p) in
     let same = same_length d.processes (n, call) in
     let ranks = w.few_ranks in
     let processes = w.few_processes in

@@ -3,7 +3,7 @@ use Rattle.std.specs.Prelude.{◌≡◌, ℕ, ◌+◌, ◌-◌, ◌==◌, ◌&&�
 use Rattle.std.specs.Prelude.{◌⊎◌, if◌then◌else◌}
 use Rattle.std.specs.List.{list_any, list_all, position_or_len}
 use Rattle.std.specs.Str.{bytes_eq}
-use Rattle.wire_lines.specs.Said.{Item, One, Every, Set, Own, Listed, Call, Put, Commit, Fence, Get, GetNow, Publish, Lookup, LookupWait, Unpublish}
+use Rattle.wire_lines.specs.Said.{Item, One, Every, Set, Own, Listed, Call, Put, Commit, Fence, Get, GetNow, Publish, Lookup, LookupWait, Unpublish, UnpublishAll}
 use Rattle.wire_lines.specs.Said.{Said, Header, Keep, Node, Job, Rank, Calls, Says}
 use Rattle.wire_lines.specs.declared.Version.{Version}
 use Rattle.wire_lines.specs.declared.Version.TheVariants as version
@@ -52,6 +52,16 @@ abbrev pub has_keep : Version → Bool
 has_keep version.One = false
 has_keep version.Two = true
 
+-- whether a file of this version may say `unpublish *`
+abbrev pub has_star : Version → Bool
+has_star version.One = false
+has_star version.Two = true
+
+-- whether it may make the call
+abbrev pub has_call : Version → Call → Bool
+has_call version UnpublishAll = has_star version
+has_call version _ = true
+
 -- whether the line may stand after what was declared: `keep` once, before all other lines
 abbrev pub is_in_place : Declared → Said → Bool
 is_in_place d (Header version) = false
@@ -59,7 +69,7 @@ is_in_place d Keep = has_keep d.version && (not d.keeps && (length d.nodes == 0 
 is_in_place d (Node name) = length d.jobs == 0
 is_in_place d (Job name) = true
 is_in_place d (Rank node) = nat_lt 0 (length d.jobs)
-is_in_place d (Calls call) = nat_lt 0 d.ranks
+is_in_place d (Calls call) = nat_lt 0 d.ranks && has_call d.version call
 
 abbrev pub is_short_name : Name → Bool
 is_short_name name = nat_le (length name) name_bytes
@@ -85,6 +95,7 @@ is_short_call (Publish name value) = is_short_name name && is_short_value value
 is_short_call (Lookup name) = is_short_name name
 is_short_call (LookupWait name) = is_short_name name
 is_short_call (Unpublish name) = is_short_name name
+is_short_call UnpublishAll = true
 
 -- whether the names, keys and values are within their limits
 abbrev pub is_short : Said → Bool

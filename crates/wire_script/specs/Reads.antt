@@ -6,7 +6,7 @@ use Rattle.std.specs.Str.{bytes_eq}
 use Rattle.wire_types.specs.declared.Fault.{Fault}
 use Rattle.wire_types.specs.declared.Fault.TheVariants.{TooLong, UnknownName, NotMember}
 use Rattle.wire_types.specs.declared.Call.{Call}
-use Rattle.wire_types.specs.declared.Call.TheVariants.{Put, Commit, Fence, Get, GetNow, Publish, Lookup, LookupWait, Unpublish}
+use Rattle.wire_types.specs.declared.Call.TheVariants.{Put, Commit, Fence, Get, GetNow, Publish, Lookup, LookupWait, Unpublish, UnpublishAll}
 use Rattle.wire_lines.specs.Text.{lines_of}
 use Rattle.wire_lines.specs.Said as said
 use Rattle.wire_content.specs.Scripts.{Process, Scripts}
@@ -66,6 +66,7 @@ is_declared_call d (said.Publish name value) = true
 is_declared_call d (said.Lookup name) = true
 is_declared_call d (said.LookupWait name) = true
 is_declared_call d (said.Unpublish name) = true
+is_declared_call d said.UnpublishAll = true
 
 -- whether the caller is in the set of its fence
 abbrev pub is_with_caller : Declared → Started → said.Call → Bool
@@ -78,6 +79,7 @@ is_with_caller d caller (said.Publish name value) = true
 is_with_caller d caller (said.Lookup name) = true
 is_with_caller d caller (said.LookupWait name) = true
 is_with_caller d caller (said.Unpublish name) = true
+is_with_caller d caller said.UnpublishAll = true
 
 -- the fault of a call of this process, on this line
 abbrev pub call_fault : Declared → Started → ℕ → said.Call → Option Fault
@@ -111,6 +113,7 @@ keys_in (said.Publish name value) = []
 keys_in (said.Lookup name) = []
 keys_in (said.LookupWait name) = []
 keys_in (said.Unpublish name) = []
+keys_in said.UnpublishAll = []
 
 -- the names: those of a publish, a lookup and an unpublish
 abbrev pub names_in : said.Call → List Name
@@ -123,6 +126,7 @@ names_in (said.Publish name value) = name ∷ []
 names_in (said.Lookup name) = name ∷ []
 names_in (said.LookupWait name) = name ∷ []
 names_in (said.Unpublish name) = name ∷ []
+names_in said.UnpublishAll = []
 
 -- the values: those of a put and a publish
 abbrev pub values_in : said.Call → List (List ℕ)
@@ -135,6 +139,7 @@ values_in (said.Publish name value) = value ∷ []
 values_in (said.Lookup name) = []
 values_in (said.LookupWait name) = []
 values_in (said.Unpublish name) = []
+values_in said.UnpublishAll = []
 
 -- the sets, by their members: that of a fence, called by a process of this job
 abbrev pub sets_in : Declared → ℕ → said.Call → List (List ℕ)
@@ -147,6 +152,7 @@ sets_in d own_job (said.Publish name value) = []
 sets_in d own_job (said.Lookup name) = []
 sets_in d own_job (said.LookupWait name) = []
 sets_in d own_job (said.Unpublish name) = []
+sets_in d own_job said.UnpublishAll = []
 
 -- what all calls of these processes name, call by call, where f says what one call of a process of a job names
 abbrev pub in_calls : (ℕ → said.Call → List (List ℕ)) → List Started → List (List ℕ)
@@ -183,6 +189,7 @@ numbered d s own_job (said.Publish name value) = Publish (number_or_count s.name
 numbered d s own_job (said.Lookup name) = Lookup (number_or_count s.names name)
 numbered d s own_job (said.LookupWait name) = LookupWait (number_or_count s.names name)
 numbered d s own_job (said.Unpublish name) = Unpublish (number_or_count s.names name)
+numbered d s own_job said.UnpublishAll = UnpublishAll
 
 abbrev pub process_of : Declared → Seen → Started → Process
 process_of d s p = record { job = p.job; rank = p.rank; node = p.node; calls = map (λ c. numbered d s p.job c.1) p.calls }

@@ -30,6 +30,7 @@ seen_with d s own_job (said.Publish name value) = record s { names = with_text s
 seen_with d s own_job (said.Lookup name) = record s { names = with_text s.names name }
 seen_with d s own_job (said.LookupWait name) = record s { names = with_text s.names name }
 seen_with d s own_job (said.Unpublish name) = record s { names = with_text s.names name }
+seen_with d s own_job said.UnpublishAll = s
 
 -- the tables after these calls of a process of this job
 abbrev pub seen_after : Declared → Seen → ℕ → List (ℕ × said.Call) → Seen

@@ -62,7 +62,7 @@ fn is_short_call(call: &CallLine) -> bool
 {
     match call {
         CallLine::Put { key, value, .. } => is_short_name(key) && is_short_value(value),
-        CallLine::Commit => true,
+        CallLine::Commit | CallLine::UnpublishAll => true,
         CallLine::Fence { set, .. } => is_short_set(set),
         CallLine::Get { owner, key } | CallLine::GetNow { owner, key } => is_short_name(owner.job)
             && is_short_name(key),
@@ -108,6 +108,16 @@ fn may_say_keep(draft: &Draft) -> bool
     }
 }
 
+/// Whether a file of this version may make the call: version 1 doesn't know that of all names.
+fn may_call(version: Version, call: &CallLine) -> bool
+    ensures { result ≡ spec.has_call version (call_by call.now) }
+{
+    match version {
+        Version::One => !matches!(call, CallLine::UnpublishAll),
+        Version::Two => true,
+    }
+}
+
 fn is_in_place(draft: &Draft, said: &Line) -> bool
     ensures { result ≡ spec.is_in_place (declared_of draft.now) (said_by said.now) }
 {
@@ -117,7 +127,7 @@ fn is_in_place(draft: &Draft, said: &Line) -> bool
         Line::Node(_) => draft.jobs.is_empty(),
         Line::Job(_) => true,
         Line::Rank(_) => 0 < draft.jobs.len(),
-        Line::Calls(_) => 0 < draft.ranks,
+        Line::Calls(call) => 0 < draft.ranks && may_call(draft.version, call),
     }
 }
 

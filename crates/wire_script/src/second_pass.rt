@@ -209,6 +209,7 @@ fn number_call(
         CallLine::Unpublish { name } => Ok(Call::Unpublish {
             name: number_text(alloc, &mut numbering.tables.names, name)?,
         }),
+        CallLine::UnpublishAll => Ok(Call::UnpublishAll),
     }
 }
 

@@ -30,7 +30,7 @@ pub record AreTold (scripts : Scripts) (races : List Finding) (count : ℕ) (tex
 -- the first races among the findings were tried, so many at most
 pub record IsTriedText (scripts : Scripts) (most : ℕ) (text : List ℕ) (ended : Ended) : Type 0 where
   pub found : List Finding
-  pub those : AreFindings (plan_of scripts) found
+  pub those : AreFindings scripts found
   pub told : AreTold scripts (take most (races_of found)) (length (races_of found)) text ended
 
 -- all of the text went out

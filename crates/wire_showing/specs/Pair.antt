@@ -27,9 +27,9 @@ pub data IsSearched (scripts : Scripts) (x y : CallAt) (part : Part) (text : Lis
 
 -- of two calls: what is written of their race, where it is among the findings, else that no race is reported
 pub data IsPairText (scripts : Scripts) (x y : CallAt) (part : Part) (text : List ℕ) (ended : Ended) : Type 0 where
-  Reported : (found : List Finding) → AreFindings (plan_of scripts) found → IsReported found x y → IsSearched scripts x y part text ended →
+  Reported : (found : List Finding) → AreFindings scripts found → IsReported found x y → IsSearched scripts x y part text ended →
       IsPairText scripts x y part text ended
-  Unreported : (found : List Finding) → AreFindings (plan_of scripts) found → (IsReported found x y → ⊥) → text ≡ no_race_text → ended ≡ Clean →
+  Unreported : (found : List Finding) → AreFindings scripts found → (IsReported found x y → ⊥) → text ≡ no_race_text → ended ≡ Clean →
       IsPairText scripts x y part text ended
 
 -- the words name two calls of the scripts, and the text tells of them

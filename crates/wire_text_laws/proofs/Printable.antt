@@ -5,7 +5,7 @@ use Rattle.std.specs.Fmt.{digits, digits_onto, digit_glyph}
 use Rattle.std.specs.List.{list_all, flat_map}
 use Rattle.std.proofs.lemmas.List.{map-append}
 use borrow.Author.Tests.{leb-true, lt-ltb}
-use Rattle.wire_lines.specs.Said.{Call, Put, Commit, Fence, Get, GetNow, Publish, Lookup, LookupWait, Unpublish, Said, Header, Keep, Node, Job, Rank, Calls, IsLawful, IsLawfulCall, is_word_byte}
+use Rattle.wire_lines.specs.Said.{Call, Put, Commit, Fence, Get, GetNow, Publish, Lookup, LookupWait, Unpublish, UnpublishAll, Said, Header, Keep, Node, Job, Rank, Calls, IsLawful, IsLawfulCall, is_word_byte}
 use Rattle.wire_lines.specs.Said.{is_name_byte, is_word, is_name, is_key}
 use Rattle.wire_lines.proofs.Colon.{and_left, and_right}
 use Rattle.wire_content.specs.Scripts.{Scripts, text_at}
@@ -110,6 +110,7 @@ keys_kept (Publish name value) l = tt
 keys_kept (Lookup name) l = tt
 keys_kept (LookupWait name) l = tt
 keys_kept (Unpublish name) l = tt
+keys_kept UnpublishAll l = tt
 
 names_kept : (c : Call) → IsLawfulCall c → Each IsKept (names_in c)
 names_kept (Put scope key value) l = tt
@@ -121,6 +122,7 @@ names_kept (Publish name value) l = (key_kept name l.0, tt)
 names_kept (Lookup name) l = (key_kept name l, tt)
 names_kept (LookupWait name) l = (key_kept name l, tt)
 names_kept (Unpublish name) l = (key_kept name l, tt)
+names_kept UnpublishAll l = tt
 
 values_kept : (c : Call) → IsLawfulCall c → Each IsKept (values_in c)
 values_kept (Put scope key value) l = (word_kept value l.1, tt)
@@ -132,6 +134,7 @@ values_kept (Publish name value) l = (word_kept value l.1, tt)
 values_kept (Lookup name) l = tt
 values_kept (LookupWait name) l = tt
 values_kept (Unpublish name) l = tt
+values_kept UnpublishAll l = tt
 
 -- what all calls name
 module _ (f : Call → List (List ℕ)) (h : (c : Call) → IsLawfulCall c → Each IsKept (f c)) where

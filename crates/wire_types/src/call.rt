@@ -32,4 +32,6 @@ pub enum Call {
     LookupWait { name: u32 },
     /// `PMIx_Unpublish` of one name.
     Unpublish { name: u32 },
+    /// `PMIx_Unpublish` of no keys in particular: of all names that the caller has published.
+    UnpublishAll,
 }

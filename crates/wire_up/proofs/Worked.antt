@@ -25,7 +25,7 @@ use Rattle.wire_up.specs.Replay.{Tells, TellsFound, IsReplay, WritesOneEnd, Brea
 use Rattle.wire_commands.proofs.Checked.{judged_so}
 
 -- of a settled plan
-pub settled_told : (mode : Mode) (s shown : Scripts) (none : List Finding) (ends : Ends) (text : List ℕ) → none ≡ [] → ((none ≡ []) ↔ IsSettled (plan_of s)) → AreFindings (plan_of s) none →
+pub settled_told : (mode : Mode) (s shown : Scripts) (none : List Finding) (ends : Ends) (text : List ℕ) → none ≡ [] → ((none ≡ []) ↔ IsSettled (plan_of s)) → AreFindings s none →
     shown ≡ s → ends ≡ plain_ends s → text ≡ report_form mode.json shown ends → IsReplay mode s Clean text
 settled_told mode s shown (f ∷ fs) ends text is law those same at told = let bad : f ∷ fs ≡ [] = is in absurd (cc)
 settled_told mode s shown [] ends text is law those same at told =
@@ -37,7 +37,7 @@ found_tells : (mode : Mode) (s : Scripts) (found : List Finding) (text : List �
 found_tells mode s [] text some tells = absurd (some refl)
 found_tells mode s (f ∷ fs) text some tells = tells
 
-pub found_told : (mode : Mode) (s : Scripts) (found counted : List Finding) (ended : Ended) (text : List ℕ) → ((found ≡ []) ↔ IsSettled (plan_of s)) → AreFindings (plan_of s) found → found ≢ [] →
+pub found_told : (mode : Mode) (s : Scripts) (found counted : List Finding) (ended : Ended) (text : List ℕ) → ((found ≡ []) ↔ IsSettled (plan_of s)) → AreFindings s found → found ≢ [] →
     counted ≡ found → ended ≡ ended_with counted
     → TellsFound mode.json mode.anyway s found text → IsReplay mode s ended text
 found_told mode s found counted ended text law those some count ends tells =
@@ -74,17 +74,17 @@ clean_writes mode coming old new s ended text shown read rehearsal is wrote clea
     record { scripts = s; read = read; one_end = rehearsal.judged.one_end clean; wrote = subst (λ t. Appends old new t) (is ∙ tells) wrote }
 
 -- a plan in a settled one, and one with what is found in it
-pub settled_ok : (s plan : Scripts) (found : List Finding) (r : Result Scripts Unsettled) → plan ≡ s → AreFindings (plan_of plan) found → (IsOk r ↔ (found ≡ [])) → IfOk r (λ t. t ≡ plan) →
-    IfOk r (λ t. (t ≡ s) × AreFindings (plan_of t) [])
+pub settled_ok : (s plan : Scripts) (found : List Finding) (r : Result Scripts Unsettled) → plan ≡ s → AreFindings plan found → (IsOk r ↔ (found ≡ [])) → IfOk r (λ t. t ≡ plan) →
+    IfOk r (λ t. (t ≡ s) × AreFindings t [])
 settled_ok s plan found (Ok t) is those variant kept =
     let none : found ≡ [] = variant.0 refl in
-    (kept ∙ is, subst (λ q. AreFindings (plan_of q) []) (sym kept) (subst (λ f. AreFindings (plan_of plan) f) none those))
+    (kept ∙ is, subst (λ q. AreFindings q []) (sym kept) (subst (λ f. AreFindings plan f) none those))
 settled_ok s plan found (Err u) is those variant kept = tt
 
-pub unsettled_err : (s plan : Scripts) (found : Vec Finding Global) (marks : Clocks) (r : Result Scripts Unsettled) → plan ≡ s → AreFindings (plan_of plan) found.items → (IsOk r ↔ (found.items ≡ []))
-    → IfErr r (λ u. (u.plan ≡ plan) × (u.marks ≡ marks) × (u.findings ≡ found)) → IfErr r (λ u. (u.plan ≡ s) × AreFindings (plan_of u.plan) u.findings.items × (u.findings.items ≢ []))
+pub unsettled_err : (s plan : Scripts) (found : Vec Finding Global) (marks : Clocks) (r : Result Scripts Unsettled) → plan ≡ s → AreFindings plan found.items → (IsOk r ↔ (found.items ≡ []))
+    → IfErr r (λ u. (u.plan ≡ plan) × (u.marks ≡ marks) × (u.findings ≡ found)) → IfErr r (λ u. (u.plan ≡ s) × AreFindings u.plan u.findings.items × (u.findings.items ≢ []))
 unsettled_err s plan found marks (Ok t) is those variant back = tt
 unsettled_err s plan found marks (Err u) is those variant back =
     let same : u.findings.items ≡ found.items = ap (λ v. v.items) back.2 in
-    let of_plan : AreFindings (plan_of u.plan) found.items = subst (λ q. AreFindings (plan_of q) found.items) (sym back.0) those in
-    (back.0 ∙ is, subst (λ f. AreFindings (plan_of u.plan) f) (sym same) of_plan, λ none. let bad = variant.1 (sym same ∙ none) in cc)
+    let of_plan : AreFindings u.plan found.items = subst (λ q. AreFindings q found.items) (sym back.0) those in
+    (back.0 ∙ is, subst (λ f. AreFindings u.plan f) (sym same) of_plan, λ none. let bad = variant.1 (sym same ∙ none) in cc)

@@ -80,7 +80,7 @@ fn find_races(
     plan: &Plan,
 ) -> Result<(Marks, Vec<Finding>), Fault>
     ensures marks { IfOk result (λ m. AreMarks (plan_of plan.now) m.0) }
-    ensures findings { IfOk result (λ m. AreFindings (plan_of plan.now) m.1.items) }
+    ensures findings { IfOk result (λ m. AreFindings plan.now m.1.items) }
     ensures err { IfErr result (λ e. e ≡ Memory) }
 {
     let marks = Marks::of(alloc, plan)?;
@@ -94,8 +94,8 @@ fn settle(
     alloc: Global,
     scripts: Scripts,
 ) -> Result<Result<Settled, Unsettled>, Fault>
-    ensures settled { IfOk result (λ r. IfOk r (λ s. (s ≡ scripts) × AreFindings (plan_of s) [])) }
-    ensures unsettled { IfOk result (λ r. IfErr r (λ u. (u.plan ≡ scripts) × AreFindings (plan_of u.plan) u.findings.items × (u.findings.items ≢ []))) }
+    ensures settled { IfOk result (λ r. IfOk r (λ s. (s ≡ scripts) × AreFindings s [])) }
+    ensures unsettled { IfOk result (λ r. IfErr r (λ u. (u.plan ≡ scripts) × AreFindings u.plan u.findings.items × (u.findings.items ≢ []))) }
     ensures err { IfErr result (λ e. e ≡ Memory) }
 {
     let plan = Plan::build(alloc, scripts)?;
@@ -117,7 +117,7 @@ fn run_settled<R: Threads + Wait + Sync, G: Gate + Sync>(
     mode: Mode,
 ) -> Result<(Rehearsed, Vec<u8>), Fault>
     requires workers { MayWork staff.workers }
-    requires none { AreFindings (plan_of settled.now) [] }
+    requires none { AreFindings settled.now [] }
     ensures ok { IfOk result (λ r. IsReplay mode settled.now r.0.ended r.1.items) }
     ensures calls { IfOk result (λ r. TellsCalls settled.now r.0.ended (line_in r.0.failure)) }
     ensures err { IfErr result (λ e. e ≡ Memory) }
@@ -174,7 +174,7 @@ fn tell_unsettled<R: Threads + Wait + Sync, G: Gate + Sync>(
     mode: Mode,
 ) -> Result<(Rehearsed, Vec<u8>), Fault>
     requires workers { MayWork staff.workers }
-    requires those { AreFindings (plan_of unsettled.now.plan) unsettled.now.findings.items }
+    requires those { AreFindings unsettled.now.plan unsettled.now.findings.items }
     requires some { unsettled.now.findings.items ≢ [] }
     ensures ok { IfOk result (λ r. IsReplay mode unsettled.now.plan r.0.ended r.1.items) }
     ensures calls { IfOk result (λ r. TellsCalls unsettled.now.plan r.0.ended (line_in r.0.failure)) }

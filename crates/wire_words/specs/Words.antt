@@ -1,7 +1,7 @@
 -- The words of the texts, as bytes: calls and processes, and what became of a call.
 use Rattle.std.specs.Prelude.{ℕ, ◌+◌, List, [], ◌++◌, Option, Some, None, codes, decimal, slice_get}
 use Rattle.wire_types.specs.declared.Call.{Call}
-use Rattle.wire_types.specs.declared.Call.TheVariants.{Put, Commit, Fence, Get, GetNow, Publish, Lookup, LookupWait, Unpublish}
+use Rattle.wire_types.specs.declared.Call.TheVariants.{Put, Commit, Fence, Get, GetNow, Publish, Lookup, LookupWait, Unpublish, UnpublishAll}
 use Rattle.wire_types.specs.declared.CallAt.{CallAt}
 use Rattle.wire_types.specs.declared.Status.{Status}
 use Rattle.wire_types.specs.declared.Status.TheVariants.{Success, NotFound, ExistsOutsideScope, DuplicateKey, BadParam}
@@ -34,6 +34,7 @@ verb_of (Publish name value) = verb.Publish
 verb_of (Lookup name) = verb.Lookup
 verb_of (LookupWait name) = verb.LookupWait
 verb_of (Unpublish name) = verb.Unpublish
+verb_of UnpublishAll = verb.Unpublish
 
 -- its text, as it is spelled in a file
 abbrev pub verb_text : Call → List ℕ

@@ -75,7 +75,7 @@ pub fn verb(call: &Call) -> &'static str
         Call::Publish { .. } => "publish",
         Call::Lookup { .. } => "lookup",
         Call::LookupWait { .. } => "lookup-wait",
-        Call::Unpublish { .. } => "unpublish",
+        Call::Unpublish { .. } | Call::UnpublishAll => "unpublish",
     }
 }
 

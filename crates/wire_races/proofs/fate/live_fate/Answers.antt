@@ -55,3 +55,11 @@ returns-in-Unpublish c = λ fate_of past is_past got.
     let found = option_map event_of c.standing_publish-in-Unpublish.result in
     unpublish_says plan y past c.in-Unpublish.name found (stands plan y c.in-Unpublish.name found fate_of past c.standing_publish-in-Unpublish.ensures.standing is_past) c.unpublish_reply.result
     (rw c.plan-plan.ensures at c.in-Unpublish.ensures) c.unpublish_reply.ensures
+
+pub returns-in-UnpublishAll : goal.returns-in-UnpublishAll
+returns-in-UnpublishAll c = λ fate_of past is_past got.
+    let plan = plan_of c.args.marked.now in
+    let y = event_of c.args.event in
+    let k = kind_of c.args.marked.now.sets in
+    let told = ap (λ r. r ∷ []) (sym c.bare-in-UnpublishAll.ensures) in
+    says plan y past (Some (k c.kind.result)) c.bare-in-UnpublishAll.result (rw c.plan-plan.ensures at c.kind.ensures) (rw c.in-UnpublishAll.is refl) (rw c.in-UnpublishAll.is told)

@@ -1,4 +1,4 @@
-use Rattle.std.proofs.Common.{◌≡◌, ◌+◌, ◌-◌, ◌/◌, ◌<◌, suc, refl, length, arith}
+use Rattle.std.proofs.Common.{◌+◌, ◌-◌, ◌/◌, ◌<◌, refl, length, arith}
 use Rattle.wire_types.specs.declared.Event.{Event}
 use Rattle.wire_races.proofs.ByGets.{one_at}
 use Rattle.wire_races.proofs.get_races.process_end.Goals as goal

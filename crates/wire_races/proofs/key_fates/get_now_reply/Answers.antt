@@ -1,4 +1,4 @@
-use Rattle.std.proofs.Common.{◌∙◌, ◌<◌, ap, refl, sym, subst, ◌∷◌, [], eq-eqb}
+use Rattle.std.proofs.Common.{◌∙◌, ◌<◌, ap, sym, subst, ◌∷◌, [], eq-eqb}
 use Rattle.std.proofs.lemmas.Bool.{true≢false}
 use Rattle.wire_runs.specs.Plan.{event_of, process_count}
 use Rattle.wire_content.specs.Planned.{plan_of}

@@ -3,10 +3,10 @@ use Rattle.std.proofs.lemmas.List.{map_more, take_all}
 use Rattle.wire_runs.specs.Plan.{event_of}
 use Rattle.wire_content.specs.Planned.{plan_of}
 use Rattle.wire_races.specs.Adding.{Adds}
-use Rattle.wire_races.specs.NameRaces.{IsRaceOn}
+use Rattle.wire_races.specs.NameRaces.{IsPlainRaceOn}
 use Rattle.wire_races.proofs.Lists.{place_at}
 use Rattle.wire_races.proofs.Growing.{adds_none, adds_same}
-use Rattle.wire_races.proofs.NameRaces.{IsRaceAmong, with_more, among_on, on_among}
+use Rattle.wire_races.proofs.NameRaces.{plain_here, IsRaceAmong, with_more, among_on, on_among}
 use Rattle.wire_races.proofs.name_races.add_races_on.Goals as goal
 
 pub loop-event-init : goal.loop-event-init
@@ -25,8 +25,8 @@ returns c =
     let plan = plan_of c.args.marked.now in
     let calls = c.name_calls-calls.result.now in
     let all : take c.loop-event.event-index calls ≡ calls = take_all c.loop-event.event-index calls (omega arith) in
-    adds_same plan c.args.found.now c.loop-event.found (IsRaceAmong plan c.args.name (map event_of calls)) (IsRaceOn plan c.args.name)
-    (among_on plan c.args.name (map event_of calls)) (on_among plan c.args.name (map event_of calls) (rw c.plan-plan.ensures at c.name_calls-calls.ensures))
+    adds_same plan c.args.found.now c.loop-event.found (IsRaceAmong plan c.args.name (map event_of calls)) (IsPlainRaceOn plan c.args.name)
+    (among_on plan c.args.name (map event_of calls) (rw c.plan-plan.ensures at c.name_calls-calls.ensures)) (on_among plan c.args.name (map event_of calls) (rw c.plan-plan.ensures at c.name_calls-calls.ensures))
     (subst (λ l. Adds plan c.args.found.now c.loop-event.found (IsRaceAmong plan c.args.name (map event_of l))) all c.loop-event.invariant)
 
 pub rivals_of-requires-clause-x : goal.rivals_of-requires-clause-x
@@ -34,5 +34,8 @@ rivals_of-requires-clause-x c = rw c.plan-plan.ensures ((rw c.plan-plan.ensures 
     (place_at c.name_calls-calls.result.now c.loop-event.event-index _ c.loop-event-test.true))
 
 pub add_call-requires-clause-x : goal.add_call-requires-clause-x
-add_call-requires-clause-x c = (rw c.plan-plan.ensures at c.name_calls-calls.ensures).only c.loop-event.event-index _
-    (place_at c.name_calls-calls.result.now c.loop-event.event-index _ c.loop-event-test.true)
+add_call-requires-clause-x c = plain_here (plan_of c.args.marked.now) c.args.name _ ((rw c.plan-plan.ensures at c.name_calls-calls.ensures).only c.loop-event.event-index _
+    (place_at c.name_calls-calls.result.now c.loop-event.event-index _ c.loop-event-test.true))
+
+pub add_call-requires-clause-higher : goal.add_call-requires-clause-higher
+add_call-requires-clause-higher c = rw c.plan-plan.ensures at c.rivals_of.ensures.higher

@@ -5,16 +5,20 @@ use Rattle.wire_runs.specs.Plan.{event_of}
 use Rattle.wire_content.specs.Planned.{plan_of}
 use Rattle.wire_runs.specs.EventLists.{AreAll}
 use Rattle.wire_races.proofs.Lists.{place_at}
-use Rattle.wire_races.proofs.Calls.{starts_within, starts_named}
+use Rattle.wire_races.proofs.NameRaces.{plain_there}
 use Rattle.wire_races.proofs.Rivals.{IsWriterBelow, one_writer, no_writer, every_writer}
 use Rattle.wire_races.proofs.name_races.writers_of.Goals as goal
 use Rattle.wire_races.proofs.name_races.writers_of.Goals.{then-is_write+in_ok-push, else-is_write}
 
-pub is_write-requires : goal.is_write-requires
-is_write-requires c =
+pub is_write-requires-clause-there : goal.is_write-requires-clause-there
+is_write-requires-clause-there c =
     let plan = plan_of c.args.plan.now in
     let calls = c.name_calls-calls.result.now in
-    starts_within plan _ (starts_named plan c.args.name _ (c.name_calls-calls.ensures.only c.loop-event.event-index _ (place_at calls c.loop-event.event-index _ c.loop-event-test.true)))
+    plain_there plan c.args.name _ (c.name_calls-calls.ensures.only c.loop-event.event-index _ (place_at calls c.loop-event.event-index _ c.loop-event-test.true))
+
+pub is_write-requires-clause-plain : goal.is_write-requires-clause-plain
+is_write-requires-clause-plain c =
+    c.name_calls-calls.ensures.only c.loop-event.event-index _ (place_at c.name_calls-calls.result.now c.loop-event.event-index _ c.loop-event-test.true)
 
 pub loop-event-preserved : goal.loop-event-preserved
 loop-event-preserved c =

@@ -9,7 +9,7 @@ returns-in_ok-add c = λ plan sets is are.
     let p = c.args.event.proc.number in
     let i = c.args.event.at in
     listed_more plan c.args.listing p i c.in-Some.number c.args.self.now c.add.new.self
-    (λ number. ap (is_listed plan c.args.listing number (place p i)) is ∙ c.number_of.ensures plan sets number (place p i) ∙ ap (λ o. is_number o number) c.in-Some.is)
+    (λ number. ap (is_listed plan c.args.listing number (place p i)) is ∙ c.number_of.ensures plan sets number i ∙ ap (λ o. is_number o number) c.in-Some.is)
     c.in_ok-add.ensures.here c.in_ok-add.ensures.others are
 
 pub returns-in_default : goal.returns-in_default
@@ -17,5 +17,5 @@ returns-in_default c = λ plan sets is are.
     let p = c.args.event.proc.number in
     let i = c.args.event.at in
     listed_other plan c.args.listing p i c.args.self.now
-    (λ number. ap (is_listed plan c.args.listing number (place p i)) is ∙ c.number_of.ensures plan sets number (place p i) ∙ ap (λ o. is_number o number) c.in_default.is)
+    (λ number. ap (is_listed plan c.args.listing number (place p i)) is ∙ c.number_of.ensures plan sets number i ∙ ap (λ o. is_number o number) c.in_default.is)
     are

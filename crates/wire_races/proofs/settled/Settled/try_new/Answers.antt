@@ -1,7 +1,6 @@
 use Rattle.std.proofs.Common.{◌≡◌, ◌∙◌, [], sym, refl, length, ap, arith, eqb-true, eq-eqb}
 use Rattle.std.proofs.lemmas.Bool.{true≢false}
 use Rattle.std.proofs.lemmas.List.{nil_from_length}
-use Rattle.wire_content.specs.Planned.{plan_of}
 use Rattle.wire_races.proofs.OneList.{none_told}
 use Rattle.wire_races.proofs.settled.Settled.try_new.Goals as goal
 
@@ -10,13 +9,13 @@ invariant_of-result c =
     let none = eqb-true _ _ (sym c.is_empty.ensures ∙ c.if-not-is_empty.false) in
     let ok = c.args.findings.ok.0 in
     let empty : c.args.findings.items ≡ [] = nil_from_length c.args.findings.items (omega (arith, none, ok)) in
-    ((none_told (plan_of c.args.plan) c.args.findings.items c.requires.findings).0 empty, c.requires.marks)
+    ((none_told c.args.plan c.args.findings.items c.requires.findings).0 empty, c.requires.marks)
 
 pub returns-then-not-is_empty-clause-settled : goal.returns-then-not-is_empty-clause-settled
 returns-then-not-is_empty-clause-settled c = (
   (λ t. absurd (true≢false (sym t))),
   (λ s.
-      let empty = ap length ((none_told (plan_of c.args.plan) c.args.findings.items c.requires.findings).1 s) in
+      let empty = ap length ((none_told c.args.plan c.args.findings.items c.requires.findings).1 s) in
       let ok = c.args.findings.ok.0 in
       let none = eq-eqb _ _ (omega (arith, empty, ok)) in
       absurd (true≢false (sym (c.is_empty.ensures ∙ none) ∙ c.if-not-is_empty.true))),
@@ -28,6 +27,6 @@ returns-clause-settled c = (
       let none = eqb-true _ _ (sym c.is_empty.ensures ∙ c.if-not-is_empty.false) in
       let ok = c.args.findings.ok.0 in
       let empty : c.args.findings.items ≡ [] = nil_from_length c.args.findings.items (omega (arith, none, ok)) in
-      (none_told (plan_of c.args.plan) c.args.findings.items c.requires.findings).0 empty),
+      (none_told c.args.plan c.args.findings.items c.requires.findings).0 empty),
   (λ s. refl),
 )

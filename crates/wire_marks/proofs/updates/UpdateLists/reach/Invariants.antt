@@ -1,7 +1,7 @@
 use Rattle.std.proofs.Common.{◌≡◌, ℕ, [], length, map, get_or}
 use Rattle.wire_marks.specs.Updates.{updates_at}
 use Rattle.wire_marks.proofs.Noting.{noted_in}
-use Rattle.wire_marks.proofs.updates.Updates.reach.Given as goal
+use Rattle.wire_marks.proofs.updates.UpdateLists.reach.Given as goal
 
 abbrev pub invariant-loop : goal.invariant-loop
 invariant-loop l = record {

@@ -1,8 +1,9 @@
 use Rattle.std.proofs.Common.{◌<◌, ◌∙◌, ◌++◌, ◌∷◌, [], length, ap, arith}
 use Rattle.std.proofs.lemmas.List.{length-map}
 use Rattle.wire_marks.specs.Updates.{updates_at}
-use Rattle.wire_marks.proofs.Noting.{noted_in, append_here, append_others}
-use Rattle.wire_marks.proofs.updates.Updates.append.Goals as goal
+use Rattle.wire_marks.proofs.Noting.{noted_in, append_here, set_same, append_others}
+use Rattle.wire_marks.proofs.Holding.{err_anyway}
+use Rattle.wire_marks.proofs.updates.UpdateLists.append.Goals as goal
 
 pub returns-clause-here : goal.returns-clause-here
 returns-clause-here c =
@@ -16,3 +17,13 @@ returns-clause-here c =
 
 pub returns-clause-others : goal.returns-clause-others
 returns-clause-others c = λ n ne. append_others c.self.inside.by_name.items c.args.name n c.push.new.self ne ∙ ap (λ xs. updates_at xs n) c.self.view_is
+
+pub returns-in_err-push-clause-err : goal.returns-in_err-push-clause-err
+returns-in_err-push-clause-err c =
+    let lists = c.self.inside.by_name.items in
+    let len = length-map lists noted_in in
+    let view = ap length c.self.view_is in
+    let there = c.requires in
+    let low : c.args.name < length lists = omega (arith, len, view, there) in
+    err_anyway c.from_residual.result _
+    (λ n. set_same lists c.args.name c.index_mut.result.now c.push.new.self low c.index_mut.ensures.value c.in_err-push.ensures.items n ∙ ap (λ xs. updates_at xs n) c.self.view_is)

@@ -1,0 +1,175 @@
+-- Lists of names: what is added to one of them, and that they have each name under which something stands.
+use Rattle.std.proofs.Common.{◌≡◌, ◌∙◌, ap, refl, sym, subst, ℕ, zero, suc, ◌<◌, List, [], ◌∷◌, ◌++◌, ◌-◌, ◌⊎◌, ⊎_elim, true, Option, Some, None, length, length-append, arith, inl, inr, map, get_or, eqb-true}
+use Rattle.std.specs.Prelude.{slice_get, slice_set, option_map, is_some, ◌≢◌, Vec, Result, Ok, Err, OnOk, OnErr}
+use Rattle.std.specs.declared.alloc.Global.{Global}
+use Rattle.std.proofs.lemmas.Bool.{cases_Bool, cases_eq, true≢false, cond_both}
+use Rattle.wire_runs.specs.Plan.{Event, event_of}
+use Rattle.wire_runs.specs.Step.{is_publisher}
+use Rattle.wire_marks.specs.declared.updates.Update.{Update}
+use Rattle.wire_runs.proofs.EventLists.{in_front, at_end}
+use Rattle.wire_marks.specs.Updates.{updates_at, standing_after, standing_in, after_publish, after_unpublish, names_at, IsAmong, IsAppended, IsSwept, IsCleared, AreHeld}
+
+abbrev pub names_in : Vec ℕ Global → List ℕ
+names_in list = list.items
+
+-- a list more, with nothing in it
+pub reach_more : (lists : List (Vec ℕ Global)) (new : Vec ℕ Global) (n : ℕ) → new.items ≡ [] → get_or (map names_in (lists ++ new ∷ [])) n [] ≡ get_or (map names_in lists) n []
+reach_more [] new zero none_there = none_there
+reach_more [] new (suc n) none_there = refl
+reach_more (list ∷ lists) new zero none_there = refl
+reach_more (list ∷ lists) new (suc n) none_there = reach_more lists new n none_there
+
+-- one of the lists has one more
+pub append_here : (lists : List (Vec ℕ Global)) (i : ℕ) (was now : Vec ℕ Global) (u : ℕ) → i < length lists → was ≡ get_or lists i was → now.items ≡ was.items ++ u ∷ [] →
+    get_or (map names_in (slice_set lists i now)) i [] ≡ get_or (map names_in lists) i [] ++ u ∷ []
+append_here [] i was now u lt is push = absurd (omega (arith, lt))
+append_here (list ∷ lists) zero was now u lt is push = push ∙ ap (λ (v : Vec ℕ Global). v.items ++ u ∷ []) is
+append_here (list ∷ lists) (suc i) was now u lt is push = append_here lists i was now u (omega (arith, lt)) is push
+
+-- and where nothing was added all stay
+pub set_same : (lists : List (Vec ℕ Global)) (i : ℕ) (was now : Vec ℕ Global) → i < length lists → was ≡ get_or lists i was → now.items ≡ was.items → (n : ℕ) →
+    get_or (map names_in (slice_set lists i now)) n [] ≡ get_or (map names_in lists) n []
+set_same [] i was now lt is same n = absurd (omega (arith, lt))
+set_same (list ∷ lists) zero was now lt is same zero = same ∙ ap (λ (v : Vec ℕ Global). v.items) is
+set_same (list ∷ lists) zero was now lt is same (suc n) = refl
+set_same (list ∷ lists) (suc i) was now lt is same zero = refl
+set_same (list ∷ lists) (suc i) was now lt is same (suc n) = set_same lists i was now (omega (arith, lt)) is same n
+
+-- and the others stay
+pub append_others : (lists : List (Vec ℕ Global)) (i n : ℕ) (now : Vec ℕ Global) → n ≢ i → get_or (map names_in (slice_set lists i now)) n [] ≡ get_or (map names_in lists) n []
+append_others [] i n now ne = refl
+append_others (list ∷ lists) zero zero now ne = absurd (ne refl)
+append_others (list ∷ lists) zero (suc n) now ne = refl
+append_others (list ∷ lists) (suc i) zero now ne = refl
+append_others (list ∷ lists) (suc i) (suc n) now ne = append_others lists i n now (λ e. ne (ap suc e))
+
+-- of one process names are added, or nothing
+module _ (lists : List (List Update)) (old new : List (List ℕ)) where
+  pub held_same : ((p : ℕ) → names_at new p ≡ names_at old p) → AreHeld lists old → AreHeld lists new
+  held_same same are = λ name p by. subst (IsAmong name) (sym (same p)) (are name p by)
+
+  among_more : (name n : ℕ) (names : List ℕ) → IsAmong name names → IsAmong name (names ++ n ∷ [])
+  among_more name n names (k, is) = (k, in_front names n k name is)
+
+  pub held_more : (q n : ℕ) → names_at new q ≡ names_at old q ++ n ∷ [] → ((p : ℕ) → p ≢ q → names_at new p ≡ names_at old p) → AreHeld lists old → AreHeld lists new
+  held_more q n here others are = λ name p by. elim (cases_eq p q) [
+    | inl e ↦ subst (λ r. IsAmong name (names_at new r)) (sym e) (subst (IsAmong name) (sym here) (among_more name n (names_at old q) (subst (λ r. IsAmong name (names_at old r)) e (are name p by))))
+    | inr ne ↦ subst (IsAmong name) (sym (others p ne)) (are name p by)
+  ]
+
+  -- where nothing of a process stands any more, its names may go
+  pub held_cleared : (q : ℕ) → ((name : ℕ) → IsCleared q (updates_at lists name)) → ((p : ℕ) → p ≢ q → names_at new p ≡ names_at old p) → AreHeld lists old → AreHeld lists new
+  held_cleared q cleared others are = λ name p by. elim (cases_eq p q) [
+    | inl e ↦ absurd (true≢false (sym (subst (λ r. is_publisher r (standing_in (updates_at lists name)) ≡ true) e by) ∙ cleared name))
+    | inr ne ↦ subst (IsAmong name) (sym (others p ne)) (are name p by)
+  ]
+
+standing_last : (us : List Update) (u : Update) → standing_in (us ++ u ∷ []) ≡ option_map event_of u.standing
+standing_last us u =
+    let last : length (us ++ u ∷ []) - 1 ≡ length us = omega (arith, length-append us (u ∷ [])) in
+    ap (λ i. standing_after (slice_get (us ++ u ∷ []) i)) last ∙ ap standing_after (at_end us u)
+
+-- a publish by a process stands after what came to a name, or its event is by that process
+by_publish : (x : Event) (o : Option Event) (p : ℕ) → is_publisher p (after_publish x o) ≡ true → (is_publisher p o ≡ true) ⊎ (x.proc ≡ p)
+by_publish x (Some y) p h = inl h
+by_publish x None p h = inr (eqb-true x.proc p h)
+
+by_unpublish : (q : ℕ) (o : Option Event) (p : ℕ) → is_publisher p (after_unpublish q o) ≡ true → is_publisher p o ≡ true
+by_unpublish q o p h = cond_both (is_publisher q o) None o (λ r. is_publisher p r ≡ true → is_publisher p o ≡ true) (λ t k. absurd (true≢false (sym k))) (λ f k. k) h
+
+module _ (old new : List (List Update)) (held : List (List ℕ)) where
+  pub lists_same : ((n : ℕ) → updates_at new n ≡ updates_at old n) → AreHeld old held → AreHeld new held
+  lists_same same are = λ name p by. are name p (ap (λ us. is_publisher p (standing_in us)) (sym (same name)) ∙ by)
+
+  module _ (n : ℕ) (u : Update) (here : updates_at new n ≡ updates_at old n ++ u ∷ []) (others : (m : ℕ) → m ≢ n → updates_at new m ≡ updates_at old m) where
+    stands_now : (p : ℕ) → is_publisher p (standing_in (updates_at new n)) ≡ true → is_publisher p (option_map event_of u.standing) ≡ true
+    stands_now p by = ap (is_publisher p) (sym (ap standing_in here ∙ standing_last (updates_at old n) u)) ∙ by
+
+    with_one : ((p : ℕ) → is_publisher p (option_map event_of u.standing) ≡ true → IsAmong n (names_at held p)) → AreHeld old held → AreHeld new held
+    with_one it are = λ name p by. elim (cases_eq name n) [
+      | inl e ↦ subst (λ m. IsAmong m (names_at held p)) (sym e) (it p (stands_now p (subst (λ m. is_publisher p (standing_in (updates_at new m)) ≡ true) e by)))
+      | inr ne ↦ are name p (ap (λ us. is_publisher p (standing_in us)) (sym (others name ne)) ∙ by)
+    ]
+
+    pub publish_held : (x : Event) → option_map event_of u.standing ≡ after_publish x (standing_in (updates_at old n)) → IsAmong n (names_at held x.proc) → AreHeld old held → AreHeld new held
+    publish_held x stands among are = with_one (λ p by. ⊎_elim (λ was. are n p was) (λ e. subst (λ q. IsAmong n (names_at held q)) e among)
+        (by_publish x (standing_in (updates_at old n)) p (ap (is_publisher p) (sym stands) ∙ by))) are
+
+    pub unpublish_held : (q : ℕ) → option_map event_of u.standing ≡ after_unpublish q (standing_in (updates_at old n)) → AreHeld old held → AreHeld new held
+    unpublish_held q stands are = with_one (λ p by. are n p (by_unpublish q (standing_in (updates_at old n)) p (ap (is_publisher p) (sym stands) ∙ by))) are
+
+  swept_by : (z : Event) (name p : ℕ) → IsSwept z (updates_at old name) (updates_at new name) → is_publisher p (standing_in (updates_at new name)) ≡ true →
+      is_publisher p (standing_in (updates_at old name)) ≡ true
+  swept_by z name p (inl same) by = ap (λ us. is_publisher p (standing_in us)) (sym same) ∙ by
+  swept_by z name p (inr (was, u, it, none, list)) by =
+      absurd (true≢false (sym (ap (is_publisher p) (sym (ap standing_in list ∙ standing_last (updates_at old name) u ∙ none)) ∙ by)))
+
+  pub swept_held : (z : Event) → ((name : ℕ) → IsSwept z (updates_at old name) (updates_at new name)) → AreHeld old held → AreHeld new held
+  swept_held z swept are = λ name p by. are name p (swept_by z name p (swept name) by)
+
+  -- where each name of a process is cleared, so is each name
+  pub all_cleared : (z : Event) → ((name : ℕ) → IsSwept z (updates_at old name) (updates_at new name)) →
+      ((k n : ℕ) → slice_get (names_at held z.proc) k ≡ Some n → IsCleared z.proc (updates_at new n)) → AreHeld old held → (name : ℕ) → IsCleared z.proc (updates_at new name)
+  all_cleared z swept each are name = elim (cases_Bool (is_publisher z.proc (standing_in (updates_at new name)))) [
+    | inl by ↦ (let among = are name z.proc (swept_by z name z.proc (swept name) by) in each among.0 name among.1)
+    | inr none ↦ none
+  ]
+
+-- one sweep after another
+pub swept_twice : (z : Event) (a b c : List Update) → IsSwept z a b → IsSwept z b c → IsSwept z a c
+swept_twice z a b c (inl ab) (inl bc) = inl (bc ∙ ab)
+swept_twice z a b c (inl ab) (inr (by, u, it, none, list)) =
+    inr (ap (λ us. is_publisher z.proc (standing_in us)) (sym ab) ∙ by, u, it, none, list ∙ ap (λ us. us ++ u ∷ []) ab)
+swept_twice z a b c (inr h) (inl bc) = inr (h.0, h.1, h.2, h.3, bc ∙ h.4)
+swept_twice z a b c (inr h) (inr k) =
+    absurd (true≢false (sym (ap (is_publisher z.proc) (sym (ap standing_in h.4 ∙ standing_last a h.1 ∙ h.3)) ∙ k.0)))
+
+-- what is cleared stays so
+pub cleared_still : (z : Event) (a b : List Update) → IsSwept z a b → IsCleared z.proc a → IsCleared z.proc b
+cleared_still z a b (inl same) cleared = ap (λ us. is_publisher z.proc (standing_in us)) same ∙ cleared
+cleared_still z a b (inr h) cleared = absurd (true≢false (sym h.0 ∙ cleared))
+
+-- what is added is cleared
+pub added_cleared : (p : ℕ) (old new : List Update) (u : Update) → new ≡ old ++ u ∷ [] → option_map event_of u.standing ≡ None → IsCleared p new
+added_cleared p old new u list none = ap (is_publisher p) (ap standing_in list ∙ standing_last old u ∙ none)
+
+-- what one call to add an update leaves, whether it failed or not
+module _ {A E : Type 0} (r : Result A E) (old new : List (List Update)) (n : ℕ) (u : Update) where
+  abbrev pub Added : Type 0
+  Added = OnOk r (updates_at new n ≡ updates_at old n ++ u ∷ []) × OnOk r ((m : ℕ) → m ≢ n → updates_at new m ≡ updates_at old m) × OnErr r ((m : ℕ) → updates_at new m ≡ updates_at old m)
+
+pub added_swept : {A E : Type 0} (r : Result A E) (old new : List (List Update)) (n : ℕ) (u : Update) (z : Event) → Added r old new n u → is_publisher z.proc (standing_in (updates_at old n)) ≡ true →
+    event_of u.event ≡ z → option_map event_of u.standing ≡ None → (m : ℕ) → IsSwept z (updates_at old m) (updates_at new m)
+added_swept (Err e) old new n u z added by it none m = inl (added.2 m)
+added_swept (Ok v) old new n u z added by it none m = elim (cases_eq m n) [
+  | inl e ↦ subst (λ k. IsSwept z (updates_at old k) (updates_at new k)) (sym e) (inr (by, u, it, none, added.0))
+  | inr ne ↦ inl (added.1 m ne)
+]
+
+pub publish_kept : {A E : Type 0} (r : Result A E) (old new : List (List Update)) (held : List (List ℕ)) (n : ℕ) (u : Update) (x : Event) → Added r old new n u →
+    option_map event_of u.standing ≡ after_publish x (standing_in (updates_at old n)) → IsAmong n (names_at held x.proc) → AreHeld old held → AreHeld new held
+publish_kept (Err e) old new held n u x added stands among are = lists_same old new held added.2 are
+publish_kept (Ok v) old new held n u x added stands among are = publish_held old new held n u added.0 added.1 x stands among are
+
+pub unpublish_kept : {A E : Type 0} (r : Result A E) (old new : List (List Update)) (held : List (List ℕ)) (n : ℕ) (u : Update) (q : ℕ) → Added r old new n u →
+    option_map event_of u.standing ≡ after_unpublish q (standing_in (updates_at old n)) → AreHeld old held → AreHeld new held
+unpublish_kept (Err e) old new held n u q added stands are = lists_same old new held added.2 are
+unpublish_kept (Ok v) old new held n u q added stands are = unpublish_held old new held n u added.0 added.1 q stands are
+
+-- and an update that is added
+pub appended : {A E : Type 0} (r : Result A E) (old new : List (List Update)) (n : ℕ) (u : Update) (z : Event) (stands : Option Event) → Added r old new n u → event_of u.event ≡ z →
+    option_map event_of u.standing ≡ stands → OnOk r (IsAppended z n stands old new)
+appended (Err e) old new n u z stands added it left = tt
+appended (Ok v) old new n u z stands added it left = record { update = u; it = it; left = left; list = added.0; others = added.1 }
+
+pub among_last : (name : ℕ) (old new : List ℕ) → new ≡ old ++ name ∷ [] → IsAmong name new
+among_last name old new is = (length old, ap (λ l. slice_get l (length old)) is ∙ at_end old name)
+
+-- nothing stands in no lists
+pub none_held : (lists : List (List Update)) (held : List (List ℕ)) → lists ≡ [] → AreHeld lists held
+none_held lists held none = λ name p by. absurd (true≢false (sym by ∙ ap (λ l. is_publisher p (standing_in (updates_at l name))) none))
+
+-- what holds anyway holds where it failed
+pub err_anyway : {A E : Type 0} (r : Result A E) (P : Type 0) → P → OnErr r P
+err_anyway (Ok v) P p = tt
+err_anyway (Err e) P p = p

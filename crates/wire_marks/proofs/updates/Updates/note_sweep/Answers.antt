@@ -1,0 +1,28 @@
+use Rattle.std.proofs.Common.{◌∙◌, ap, sym, subst, ℕ}
+use Rattle.std.specs.Prelude.{slice_get}
+use Rattle.wire_runs.specs.Plan.{event_of}
+use Rattle.wire_marks.specs.Updates.{updates_at, IsSwept}
+use Rattle.wire_marks.proofs.Holding.{swept_held, held_cleared, all_cleared}
+use Rattle.wire_marks.proofs.updates.Updates.note_sweep.Goals as goal
+
+pub invariant_of-self : goal.invariant_of-self
+invariant_of-self c = swept_held c.self.inside.lists c.sweep_all.new.self c.self.inside.held (event_of c.args.event) c.sweep_all.ensures.each c.self.invariant
+
+pub invariant_of-self-2 : goal.invariant_of-self-2
+invariant_of-self-2 c =
+    let z = event_of c.args.event in
+    let still = swept_held c.self.inside.lists c.sweep_all.new.self c.self.inside.held z c.sweep_all.ensures.each c.self.invariant in
+    let cleared = all_cleared c.self.inside.lists c.sweep_all.new.self c.self.inside.held z c.sweep_all.ensures.each (rw c.list.ensures at c.in_ok-sweep_all.ensures.cleared) c.self.invariant in
+    held_cleared c.sweep_all.new.self c.self.inside.held c.clear.new.self c.args.event.proc.number cleared c.clear.ensures still
+
+pub returns-clause-cleared : goal.returns-clause-cleared
+returns-clause-cleared c =
+    all_cleared c.self.inside.lists c.sweep_all.new.self c.self.inside.held (event_of c.args.event) c.sweep_all.ensures.each (rw c.list.ensures at c.in_ok-sweep_all.ensures.cleared) c.self.invariant
+
+pub returns-in_err-sweep_all-clause-each : goal.returns-in_err-sweep_all-clause-each
+returns-in_err-sweep_all-clause-each c =
+    subst (λ l. (n : ℕ) → IsSwept (event_of c.args.event) (updates_at l n) (updates_at c.sweep_all.new.self n)) c.self.view_is c.sweep_all.ensures.each
+
+pub returns-clause-each : goal.returns-clause-each
+returns-clause-each c =
+    subst (λ l. (n : ℕ) → IsSwept (event_of c.args.event) (updates_at l n) (updates_at c.sweep_all.new.self n)) c.self.view_is c.sweep_all.ensures.each

@@ -1,0 +1,34 @@
+use Rattle.std.proofs.Common.{◌≡◌, map, take, sym, subst, arith}
+use Rattle.std.proofs.lemmas.List.{map_more, take_all}
+use Rattle.wire_runs.specs.Plan.{event_of}
+use Rattle.wire_content.specs.Planned.{plan_of}
+use Rattle.wire_content.specs.Scripts.{numbers_of}
+use Rattle.wire_races.specs.Adding.{Adds}
+use Rattle.wire_races.specs.NameRaces.{IsSweptAmong}
+use Rattle.wire_races.proofs.Lists.{place_at}
+use Rattle.wire_races.proofs.Growing.{adds_none}
+use Rattle.wire_races.proofs.Swept.{among_swept}
+use Rattle.wire_races.proofs.name_races.add_all_swept.Goals as goal
+
+pub loop-event-init : goal.loop-event-init
+loop-event-init c = adds_none (plan_of c.args.marked.now) c.args.found.now _ c.requires.found (λ f r. r.1)
+
+pub add_swept-requires-clause-x : goal.add_swept-requires-clause-x
+add_swept-requires-clause-x c = c.requires.calls c.loop-event.event-index _ (place_at c.args.calls.now c.loop-event.event-index _ c.loop-event-test.true)
+
+pub loop-event-preserved : goal.loop-event-preserved
+loop-event-preserved c =
+    let plan = plan_of c.args.marked.now in
+    let name = c.args.name in
+    let calls = c.args.calls.now in
+    let ps = numbers_of c.args.procs.now in
+    let n = c.loop-event.event-index in
+    subst (λ l. Adds plan c.args.found.now c.add_swept.new.found (IsSweptAmong plan name l ps)) (sym (map_more event_of calls n _ c.loop-event-test.true))
+    (among_swept plan name ps (map event_of (take n calls)) _ c.args.found.now c.loop-event.found c.add_swept.new.found c.loop-event.invariant c.in_ok-add_swept.ensures)
+
+pub returns : goal.returns
+returns c =
+    let plan = plan_of c.args.marked.now in
+    let calls = c.args.calls.now in
+    let all : take c.loop-event.event-index calls ≡ calls = take_all c.loop-event.event-index calls (omega arith) in
+    subst (λ l. Adds plan c.args.found.now c.loop-event.found (IsSweptAmong plan c.args.name (map event_of l) (numbers_of c.args.procs.now))) all c.loop-event.invariant
