@@ -163,6 +163,7 @@ class FirstPass:
     def take_call(self, number, verb, rest):
         """Takes a line of a call."""
         shape = SHAPES[verb] + (("collect",) if verb == b"fence" and len(rest) == 2 else ())
+        shape = ("star",) if verb == b"unpublish" and rest == [b"*"] and self.version == b"2" else shape
         well = len(rest) == len(shape) and all(fits(*it) for it in zip(shape, rest))
         if not well or not self.jobs or not self.jobs[-1][1]:
             raise Refused("BadLine", number)

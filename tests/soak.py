@@ -81,6 +81,8 @@ class Maker:
             self.sizes[0] = dice.choice((40, 255, 256, 257, 512, 513))
         self.procs = [b"%s:%d" % (job, rank) for job, size in zip(self.jobs, self.sizes) for rank in range(size)]
         self.puts, self.published = collections.defaultdict(list), []
+        self.version = dice.choice((b"1", b"2", b"2"))
+        self.stars = 0.01 if self.version == b"1" else 0.4
 
     def proc(self):
         return self.dice.choice(self.procs)
@@ -112,6 +114,8 @@ class Maker:
             return [verb, self.some_set(caller), b"collect"][: dice.choice((2, 3))]
         if verb in (b"get", b"get-now"):
             return [verb, self.proc(), key]
+        if verb == b"unpublish" and dice.random() < self.stars:
+            return [verb, b"*"]
         return [verb, key, dice.choice(VALUES)] if verb == b"publish" else [verb, key]
 
     def tame_call(self, caller):
@@ -135,14 +139,15 @@ class Maker:
             return [b"publish", self.published[-1], dice.choice(VALUES)]
         if kind < 0.95 and self.published:
             return [b"lookup-wait", dice.choice(self.published)]
+        if kind < 0.96 and self.stars > 0.1:
+            return [b"unpublish", b"*"]
         return [b"get", self.proc(), dice.choice(RESERVED)]
 
     def lines(self):
         """The lines, each a list of words."""
         dice, most = self.dice, self.dice.choice((2, 4, 8, 14))
-        version = dice.choice((b"1", b"2", b"2"))
-        keep = [[b"keep"]] if dice.random() < (0.01 if version == b"1" else 0.5) else []
-        lines = [[b"rehearsal", version], *keep, *([b"node", it] for it in self.nodes)]
+        keep = [[b"keep"]] if dice.random() < (0.01 if self.version == b"1" else 0.5) else []
+        lines = [[b"rehearsal", self.version], *keep, *([b"node", it] for it in self.nodes)]
         for job, size in zip(self.jobs, self.sizes):
             lines.append([b"job", job])
             for rank in range(size):
