@@ -1,3 +1,4 @@
 pub mod Rows
 pub mod ClockTrees
+pub mod Trees
 pub mod Rising

@@ -6,6 +6,7 @@ ghost use Rattle.wire_clocks.specs.Rising.{rising_says, IsRising};
 
 use crate::trees::ClockTrees;
 use std::alloc::AllocError;
+use std::marker::Model;
 
 /// A clock that is being made: the root of what is in its tree already, and the least numbers of one block of 16
 /// processes that isn't. So to raise it at processes that stand side by side changes their block once.
@@ -14,6 +15,16 @@ pub struct Rising {
     root: u32,
     block: u32,
     least: [u32; 16],
+}
+
+impl Model for Rising {
+    ghost use Rattle.wire_clocks.specs.Rising.{Raise};
+
+    ghost Value = { Raise };
+
+    ghost view = { λ r. record { base = r.root; block = r.block; least = r.least } };
+
+    ghost inverse = { λ v. record { root = v.base; block = v.block; least = v.least } };
 }
 
 impl Rising {

@@ -1,10 +1,10 @@
 //! The trees of the clocks of some processes.
 
 ghost use Rattle.std.specs.Prelude.{◌≡◌, ◌<◌, ◌≤◌, ◌^◌, ◌↔◌, ◌==◌, ℕ, IsTrue, IfOk, max, if◌then◌else◌};
-ghost use Rattle.wire_clocks.specs.Rows.{IsZero};
 
 use crate::rows::{join, number, place, put, raise_block};
 use std::alloc::{AllocError, Global};
+use std::marker::Model;
 
 /// Clocks of some processes, each kept as the number of the top row of its tree, which is its root. A clock
 /// never changes: what raises or joins clocks makes another one.
@@ -12,9 +12,17 @@ use std::alloc::{AllocError, Global};
 pub struct ClockTrees {
     rows: Vec<[u32; 16]>,
     levels: u32,
-    ghost zero: { IsZero rows.items },
-    ghost shallow: { levels ≤ 8 },
-    ghost high: { 0 < levels },
+}
+
+impl Model for ClockTrees {
+    ghost use Rattle.wire_clocks.specs.ClockTrees.{Clocks};
+    ghost use Rattle.wire_clocks.specs.Trees.{clocks_of_trees, AreTrees};
+
+    ghost Value = { Clocks };
+
+    ghost view = { λ t. clocks_of_trees t.rows.items t.levels };
+
+    ghost invariant = { λ t. AreTrees t.rows.items t.levels };
 }
 
 // The height of trees for this many processes.
@@ -41,12 +49,13 @@ fn is_within(levels: u32, process: u32) -> bool
 
 impl ClockTrees {
     ghost use Rattle.std.specs.Prelude.{◌≡◌, ◌<◌, ◌≤◌, ◌*◌, ◌^◌, ◌/◌, ◌%◌, ◌==◌, ℕ, IfOk, max, slice_index, if◌then◌else◌};
-    ghost use Rattle.wire_clocks.specs.ClockTrees.{says, IsRoot, Holds, Keeps};
+    ghost use Rattle.wire_clocks.specs.ClockTrees.{says, IsRoot, Holds, HasZeros, Keeps};
 
     /// Trees for clocks of this many processes, as yet with the clock of zeros alone. The only error is that
     /// memory ran out, here as in all that follows.
     pub fn new(alloc: Global, processes: u32) -> Result<ClockTrees, AllocError>
-        ensures { IfOk result (λ trees. (process : ℕ) → process < processes → Holds trees process) }
+        ensures holds { IfOk result (λ trees. (process : ℕ) → process < processes → Holds trees process) }
+        ensures zeros { IfOk result HasZeros }
     {
         let mut rows = Vec::new(alloc);
         rows.push([0; 16])?;
@@ -61,7 +70,9 @@ impl ClockTrees {
         ensures number { result ≡ 0 }
         ensures root { IsRoot self.now result }
         ensures says { (q : ℕ) → says self.now result q ≡ 0 }
+        ensures first { Holds self.now 0 }
     {
+        let _ = &self.rows;
         0
     }
 

@@ -10,8 +10,8 @@ use Rattle.wire_runs.proofs.Basics.{event_within}
 use Rattle.wire_runs.proofs.Due.{live_source, live_may, place_path}
 use Rattle.wire_runs.proofs.Histories.{no_cycle, before_live}
 use Rattle.wire_marks.specs.Clocks.{items_at}
-use Rattle.wire_clocks.specs.ClockTrees.{says, IsRoot, Holds}
-use Rattle.wire_clocks.proofs.Staying.{clocks_stay_through, holds_kept}
+use Rattle.wire_clocks.specs.ClockTrees.{says, IsRoot, Holds, HasZeros}
+use Rattle.wire_clocks.proofs.Staying.{clocks_stay_through, holds_kept, zeros_kept}
 use Rattle.wire_marks.specs.Clocks.{Clocks, marked_count, root_at, base_at, own_of, clock_over, clock_of, IsClock, AreMarks}
 use Rattle.wire_marks.specs.Marking.{IsReady, IsStuck, AreBased, AreClocks, next_of, IsStuckAt, IsNextBase, sum_to, unmarked, IsGrown, Adds, Notes}
 use Rattle.wire_marks.specs.Updates.{updates_at, AreUpdates}
@@ -65,6 +65,7 @@ trees_grown old new based grown = record {
   there = λ y n e. grown.trees.roots n (based.there y n (sym (ap (λ ns. slice_get (items_at ns y.proc) y.at) grown.roots) ∙ e));
   room = λ p lt. holds_kept old.trees new.trees p grown.trees (based.room p (let same = ap length grown.roots in omega (arith, lt, same)));
   few = λ p. let same = ap (λ ns. length (items_at ns p)) grown.roots in let few = based.few p in omega (arith, same, few);
+  zeros = zeros_kept old.trees new.trees grown.trees based.zeros;
 }
 
 module _ (old new : Clocks) (based : AreBased old) (grown : IsGrown old new) where
@@ -168,6 +169,7 @@ module _ (plan : Plan) (old new : Clocks) (p n : ℕ) (there : p < process_count
       | inl e ↦ subst (λ k. marked_count new k < 2 ^ 32) (sym e) (let here = count_here in let few = next.few in omega (arith, here, few))
       | inr ne ↦ let c = count_other q ne in let few = sound.based.few q in omega (arith, c, few)
     ];
+    zeros = subst HasZeros (sym adds.trees) sound.based.zeros;
   }
 
   next_marked : marked_count old p < marked_count new p

@@ -14,7 +14,6 @@ use Rattle.wire_plan.specs.Index.{AreSources, AreArrivals, AwaitsCommit, AwaitsP
 use Rattle.wire_plan.specs.Meetings.{fence_members}
 use Rattle.wire_marks.specs.declared.joins.Meeting.{Meeting}
 use Rattle.wire_clocks.specs.ClockTrees.{IsRoot, Holds}
-use Rattle.wire_clocks.proofs.Staying.{zero_is_root, zero_says}
 use Rattle.wire_marks.specs.Clocks.{Clocks, items_in, items_at, marked_count, root_at, base_at, own_of, clock_of, LeadsTo}
 use Rattle.wire_marks.specs.Marking.{AreBased, AreClocks, IsReady, IsBase, next_of, IsNextBase, IsGrown, Adds, root_or_zero, root_before, Counts, IsRaised, Notes}
 use Rattle.wire_marks.specs.Meeting.{AreMarked, IsJoin, IsJoined, IsMeeting, IsMeetingAt, IsEmpty, AreMeetings, AreGrowing, AreAdded, AreOthersKept, IsLeaveOf}
@@ -28,6 +27,12 @@ use Rattle.wire_marks.proofs.Leaving.{leave_after}
 pub raised_not_below : (here : Bool) (new old number : ℕ) → new ≡ (if here then max old number else old) → old ≤ new
 raised_not_below true new old number is = omega (arith, is)
 raised_not_below false new old number is = omega (arith, is)
+
+-- a clock that is joined with a base, and then raised by what stands in one process, is joined with both
+pub joined_with_both : (here : Bool) (new between old base number : ℕ) → new ≡ (if here then max between (number + 1) else between) → between ≡ max old base →
+    new ≡ max old (max base (if here then suc number else 0))
+joined_with_both true new between old base number raised joined = omega (arith, raised, joined)
+joined_with_both false new between old base number raised joined = omega (arith, raised, joined)
 
 -- the trees have numbers for the process of a marked event
 pub marked_room : (clocks : Clocks) (z : Event) → AreBased clocks → z.at < marked_count clocks z.proc → Holds clocks.trees z.proc
@@ -247,11 +252,11 @@ counted_below plan clocks z w sound mz mw lt q = elim (cases_lt (clock_of clocks
 ]
 
 pub before_fits : (clocks : Clocks) (previous : Option Event) → AreBased clocks → IsRoot clocks.trees (root_before clocks previous)
-before_fits clocks None based = zero_is_root clocks.trees
+before_fits clocks None based = based.zeros.root
 before_fits clocks (Some z) based = go (root_at clocks z) refl
   where
     go : (o : Option ℕ) → root_at clocks z ≡ o → IsRoot clocks.trees (root_or_zero o)
-    go None e = zero_is_root clocks.trees
+    go None e = based.zeros.root
     go (Some n) e = based.there z n e
 
 -- the base of the event before, raised to the clock of what is awaited
@@ -279,7 +284,7 @@ module _ (plan : Plan) (clocks : Clocks) (p : ℕ) (previous awaited : Option Ev
       rw (is, m.1) refl
 
   previous_from : (o : Option Event) → previous ≡ o → (q n : ℕ) → n < base_at clocks (root_before clocks o) q → (z : Event) × Edge plan z (next_of clocks p) × (n < clock_of clocks z q)
-  previous_from None is q n lt = absurd (let none : base_at clocks 0 q ≡ 0 = zero_says clocks.trees q in omega (arith, lt, none))
+  previous_from None is q n lt = absurd (let none : base_at clocks 0 q ≡ 0 = sound.based.zeros.zeros q in omega (arith, lt, none))
   previous_from (Some z) is q n lt =
       let e = subst (λ o. clock_of clocks z q ≡ max (base_at clocks (root_before clocks o) q) (own_of z q)) is (previous_over z is q) in
       (z, previous_edge plan (next_of clocks p) previous awaited [] are z is, omega (arith, lt, e))

@@ -1,5 +1,5 @@
--- What the marks of a plan are: how many events of each process are live, a clock for each of them, and the live publishes and
--- unpublishes of each name.
+-- What the marks of a plan are: how many events of each process are live, a clock for each of them, and the live calls that can
+-- change each name.
 use Rattle.std.specs.Prelude.{◌≡◌, ◌⊎◌, ◌↔◌, ◌<◌, ◌==◌, ℕ, suc, List, [], Option, Some, None, Vec, max, length, slice_get, if◌then◌else◌}
 use Rattle.std.specs.declared.alloc.Global.{Global}
 use Rattle.wire_runs.specs.Plan.{Plan, Event}

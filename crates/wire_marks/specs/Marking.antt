@@ -2,7 +2,7 @@
 use Rattle.std.specs.Prelude.{Some, None, Option, ◌≡◌, ◌≢◌, ◌⊎◌, ◌<◌, ◌≤◌, ◌+◌, ◌-◌, ◌^◌, zero, ◌++◌, ◌∷◌, [], ℕ, suc, true, max, length}
 use Rattle.wire_runs.specs.Plan.{Plan, Event, kind, event_count, process_count}
 use Rattle.wire_runs.specs.Order.{Edge, may_come, Live}
-use Rattle.wire_clocks.specs.ClockTrees.{IsRoot, Holds, Keeps}
+use Rattle.wire_clocks.specs.ClockTrees.{IsRoot, Holds, HasZeros, Keeps}
 use Rattle.wire_marks.specs.Updates.{updates_at, AreUpdates, IsNoted}
 use Rattle.wire_marks.specs.Clocks.{items_at, Clocks, marked_count, root_at, base_at, own_of, clock_of, IsClock}
 
@@ -24,11 +24,12 @@ pub record IsBase (plan : Plan) (clock : Event → ℕ → ℕ) (y : Event) (bas
   pub from : (q n : ℕ) → n < base q → (z : Event) × Edge plan z y × (n < clock z q)
   pub covers : (q : ℕ) (z : Event) → Edge plan z y → clock z q ≤ max (base q) (own_of y q)
 
--- each marked event has the root of a base, the bases have numbers for each process, and all numbers fit
+-- each marked event has the root of a base, the bases have numbers for each process, all numbers fit, and 0 is the root of zeros
 pub record AreBased (clocks : Clocks) : Type 0 where
   pub there : (y : Event) (n : ℕ) → root_at clocks y ≡ Some n → IsRoot clocks.trees n
   pub room : (p : ℕ) → p < length clocks.roots.items → Holds clocks.trees p
   pub few : (p : ℕ) → marked_count clocks p < 2 ^ 32
+  pub zeros : HasZeros clocks.trees
 
 -- what holds of the clocks while they grow
 pub record AreClocks (plan : Plan) (clocks : Clocks) : Type 0 where
@@ -75,7 +76,7 @@ pub record Adds (old new : Clocks) (p n : ℕ) : Type 0 where
   pub here : items_at new.roots.items p ≡ items_at old.roots.items p ++ n ∷ []
   pub others : (q : ℕ) → q ≢ p → items_at new.roots.items q ≡ items_at old.roots.items q
 
--- z is noted, if it is a publish or an unpublish
+-- z is noted under each name that it can change
 abbrev pub Notes : Plan → Event → Clocks → Clocks → Type 0
 Notes plan z old new = (name : ℕ) → IsNoted plan z name (updates_at old.updates name) (updates_at new.updates name)
 

@@ -19,7 +19,7 @@ use wire_types::{Event, Proc};
 
 /// For each marked event of each process the root of its base, and the trees that these are roots of. The clock
 /// of an event counts the events up to it in its process, and what its base counts. And the marked
-/// publishes and unpublishes of each name.
+/// calls that can change each name.
 #[derive(Drop)]
 pub(crate) struct Clocks {
     pub roots: Vec<Vec<u32>>,

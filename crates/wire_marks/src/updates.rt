@@ -16,7 +16,7 @@ use wire_types::{Event, Proc};
 /// A live call that can change a name, in a list of them.
 #[derive(Clone, Copy, Debug, PartialEq, Eq)]
 pub struct Update {
-    /// The publish or unpublish.
+    /// The call: a publish, or one that takes away this name or all names of its process.
     pub event: Event,
     /// The publish that stands under the name after it, where the events of the list happened in their
     /// order; `None` where none stands there.
@@ -230,8 +230,7 @@ impl Updates {
         Ok(())
     }
 
-    /// Notes an event of the plan, where it is a publish or an unpublish. The only error is that memory ran
-    /// out.
+    /// Notes an event of the plan under each name that it can change. The only error is that memory ran out.
     pub(crate) fn note(
         &mut self,
         alloc: Global,

@@ -1,27 +1,40 @@
-use Rattle.std.proofs.Common.{◌≡◌, ◌<◌, ◌^◌, ◌/◌, ◌%◌, ◌==◌, ℕ, slice_index, max, refl}
-use Rattle.wire_clocks.proofs.Staying.{clocks_keep}
-use Rattle.std.specs.Prelude.{nat_lt, if◌then◌else◌}
+use Rattle.std.proofs.Common.{◌≡◌, ◌==◌, ◌*◌, ◌/◌, ◌%◌, ◌<◌, ◌^◌, ℕ, slice_index, max, sym, subst}
 use Rattle.std.proofs.lemmas.Result.{IfOk-weaker}
-use Rattle.wire_clocks.specs.Rows.{tree_says}
-use Rattle.wire_clocks.specs.ClockTrees.{says}
-use Rattle.wire_clocks.proofs.Blocks.{block_low, block_says}
+use Rattle.std.specs.Prelude.{IfOk, if◌then◌else◌}
+use Rattle.wire_clocks.specs.Rows.{tree_says, IsTree}
+use Rattle.wire_clocks.specs.ClockTrees.{says, IsRoot, Keeps, Holds}
+use Rattle.wire_clocks.specs.Trees.{clocks_of_trees}
+use Rattle.wire_clocks.proofs.Standing.{tree_of_root, root_of_tree, trees_kept, clocks_keep}
+use Rattle.wire_clocks.proofs.Made.{block_raised_says}
 use Rattle.wire_clocks.proofs.trees.ClockTrees.raise_block.Goals as goal
 
-pub returns-clause-keeps : goal.returns-clause-keeps
-returns-clause-keeps c = clocks_keep c.args.self.now _ refl c.raise_block.ensures.keeps
+pub raise_block-requires-clause-root : goal.raise_block-requires-clause-root
+raise_block-requires-clause-root c =
+    tree_of_root c.self.inside.rows.items c.self.inside.levels c.args.root c.self.invariant (subst (λ clocks. IsRoot clocks c.args.root) (sym c.self.view_is) c.requires.root)
 
-pub raise_block-requires-clause-block : goal.raise_block-requires-clause-block
-raise_block-requires-clause-block c = block_low c.args.self.now.levels c.args.block c.args.self.now.high c.requires.block
+pub returns-clause-keeps : goal.returns-clause-keeps
+returns-clause-keeps c = subst (λ clocks. Keeps clocks (clocks_of_trees c.raise_block.new.rows.items c.self.inside.levels)) c.self.view_is
+    (clocks_keep c.self.inside.rows.items c.raise_block.new.rows.items c.self.inside.levels c.self.invariant c.raise_block.ensures.keeps)
+
+pub returns-clause-root : goal.returns-clause-root
+returns-clause-root c =
+    let new = c.raise_block.new.rows.items in
+    let height = c.self.inside.levels in
+    IfOk-weaker c.raise_block.result (λ t. IsTree new height t) (λ t. IsRoot (clocks_of_trees new height) t)
+    (λ t tree. root_of_tree new height t (trees_kept c.self.inside.rows.items new height c.self.invariant c.raise_block.ensures.keeps) tree) c.raise_block.ensures.tree
 
 pub returns-clause-says : goal.returns-clause-says
 returns-clause-says c =
-    let old = c.args.self.now in
-    let levels = c.args.self.now.levels in
+    let old = c.self.inside.rows.items in
     let new = c.raise_block.new.rows.items in
+    let height = c.self.inside.levels in
     let root = c.args.root in
+    let block = c.args.block in
     let least = c.args.least.now in
-    IfOk-weaker c.raise_block.result (λ r. (q : ℕ) → q < 16 ^ levels → tree_says new levels r
-    q ≡ (if q / 16 == c.args.block then max (tree_says old.rows.items levels root q) (slice_index least (q % 16)) else tree_says old.rows.items levels root q)) (λ r. (q : ℕ) →
-    (if nat_lt q (16 ^ levels) then tree_says new levels r q else 0) ≡ (if q / 16 == c.args.block then max (says old root q) (slice_index least (q % 16)) else says old root q))
-    (λ r each q. block_says levels c.args.block q (tree_says new levels r q) (tree_says old.rows.items levels root q) (slice_index least (q % 16)) old.high c.requires.block (each q))
-    c.raise_block.ensures.says
+    subst (λ clocks. IfOk c.raise_block.result (λ t. (q : ℕ) → says (clocks_of_trees new height) t q
+    ≡ (if q / 16 == block then max (says clocks root q) (slice_index least (q % 16)) else says clocks root q))) c.self.view_is
+    (IfOk-weaker c.raise_block.result (λ t. (q : ℕ) → q < 16 ^ height → tree_says new height t
+    q ≡ (if q / 16 == block then max (tree_says old height root q) (slice_index least (q % 16)) else tree_says old height root q)) (λ t. (q : ℕ) → says (clocks_of_trees new height) t q
+    ≡ (if q / 16 == block then max (says (clocks_of_trees old height) root q) (slice_index least (q % 16)) else says (clocks_of_trees old height) root q))
+    (λ t each. block_raised_says old new height root block t least c.self.invariant (trees_kept old new height c.self.invariant c.raise_block.ensures.keeps)
+    (subst (λ clocks. Holds clocks (16 * block)) (sym c.self.view_is) c.requires.block) each) c.raise_block.ensures.says)

@@ -4,7 +4,6 @@ use Rattle.std.proofs.lemmas.Option.{slice_get-map, slice_get-get_or}
 use Rattle.wire_runs.specs.Plan.{event_of}
 use Rattle.wire_clocks.specs.ClockTrees.{says}
 use Rattle.wire_clocks.specs.Rising.{rising_says}
-use Rattle.wire_clocks.proofs.Staying.{zero_says}
 use Rattle.wire_marks.specs.Meeting.{IsJoin}
 use Rattle.wire_marks.proofs.Growing.{clock_grown, grown_keeps, grown_through}
 use Rattle.wire_marks.proofs.Joining.{join_step, join_as}
@@ -19,7 +18,7 @@ loop-event-init c = record {
     from = λ q m lt. absurd (let none = c.new-rising.ensures.zeros q in omega (arith, lt, none));
     covers = λ q k z lt h. absurd (omega (arith, lt));
   };
-  last = λ q. let none = zero_says c.args.self.now.trees q in omega (arith, none);
+  last = λ q. let none = c.requires.based.zeros.zeros q in omega (arith, none);
 }
 
 pub raise_to-requires-clause-marked : goal.raise_to-requires-clause-marked

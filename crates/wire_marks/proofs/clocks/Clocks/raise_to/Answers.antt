@@ -1,10 +1,10 @@
-use Rattle.std.proofs.Common.{◌≡◌, ◌∙◌, ◌==◌, sym, arith}
+use Rattle.std.proofs.Common.{◌≡◌, ◌∙◌, ◌==◌, Some, max, sym, ap, arith}
 use Rattle.wire_runs.specs.Plan.{event_of}
 use Rattle.wire_clocks.specs.ClockTrees.{says}
 use Rattle.wire_clocks.specs.Rising.{rising_says}
 use Rattle.wire_clocks.proofs.Staying.{holds_kept}
-use Rattle.wire_marks.specs.Clocks.{base_at}
-use Rattle.wire_marks.proofs.Joining.{raised_not_below, marked_room}
+use Rattle.wire_marks.specs.Clocks.{base_at, root_at, clock_over}
+use Rattle.wire_marks.proofs.Joining.{raised_not_below, joined_with_both, marked_room}
 use Rattle.wire_marks.proofs.clocks.Clocks.raise_to.Goals as goal
 
 pub join_base-requires-clause-root : goal.join_base-requires-clause-root
@@ -13,6 +13,15 @@ join_base-requires-clause-root c = c.requires.based.there (event_of c.args.event
 pub raise-requires-clause-process : goal.raise-requires-clause-process
 raise-requires-clause-process c = holds_kept c.args.self.now.trees c.join_base.new.self.trees c.args.event.proc.number c.in_ok-join_base.ensures.grown.trees
     (marked_room c.args.self.now (event_of c.args.event) c.requires.based c.requires.marked)
+
+pub returns-clause-each : goal.returns-clause-each
+returns-clause-each c = λ q.
+    let root = c.unwrap-root.result in
+    let there : root_at c.args.self.now (event_of c.args.event) ≡ Some root = sym c.root.ensures ∙ c.unwrap-root.ensures in
+    let before = rising_says c.args.self.now.trees c.args.rising.now q in
+    joined_with_both (q == c.args.event.proc.number) (rising_says c.raise.new.trees c.raise.new.self q) (rising_says c.join_base.new.self.trees c.join_base.new.rising q) before
+    (base_at c.args.self.now root q) c.args.event.at (c.in_ok-raise.ensures.raised q) (c.in_ok-join_base.ensures.joined q)
+    ∙ ap (λ o. max before (clock_over c.args.self.now (event_of c.args.event) o q)) (sym there)
 
 pub returns-clause-last : goal.returns-clause-last
 returns-clause-last c = λ q.
