@@ -47,6 +47,9 @@ ONLY_A_NAME = " (only because a proof file names what the edit took away, so thi
 Function = collections.namedtuple("Function", "path begin body end")
 # An edit that can be applied: the texts of the files that it changes, and if it changes one body alone, its file, the file's text, its function.
 Edit = collections.namedtuple("Edit", "crate path texts file was function")
+# What `rt.must_fail` answers of an edit that is refused: a word in some versions of the kit, "yes" in others. A limit that the prover meets
+# wherever it checks the same is a refusal, as for `rt`.
+REFUSALS = True, getattr(rt, "REFUSED", True), getattr(rt, "AT_LIMIT", True)
 # What became of an edit, the words that say so, and whether it was tried alone.
 Outcome = collections.namedtuple("Outcome", "is_refused text is_alone", defaults=[False])
 
@@ -249,9 +252,9 @@ def try_alone(edit):
 
 
 def try_whole(edit):
-    """Tries one edit by a check of its whole crate. A limit that the prover meets wherever it checks the same is a refusal, as for `rt`."""
-    kind, text = rt.must_fail(edit.crate, edit.path, ["--jobs", "1"])
-    return Outcome(kind in (rt.REFUSED, rt.AT_LIMIT), text)
+    """Tries one edit by a check of its whole crate."""
+    answer, text = rt.must_fail(edit.crate, edit.path, ["--jobs", "1"])
+    return Outcome(answer in REFUSALS, text)
 
 
 def side_by_side(work, ended):

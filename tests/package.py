@@ -221,13 +221,15 @@ def has_words(name, page, words):
     return not missing or tell(name, f"has nothing of {missing}")
 
 
-# What each shell must offer for a line: the line, and words of the answer.
+# What each shell must offer for a line: the line, and the words of the answer, in the order of the alphabet.
 LINES = (
     ("wire_up ch", ["check"]),
     ("wire_up mi", ["migrate"]),
     ("wire_up wi", ["witness"]),
     ("wire_up replay --w", ["--workers"]),
-    ("wire_up check --l", ["--large"]),
+    ("wire_up check --l", ["--large", "--lines"]),
+    ("wire_up check --e", ["--explain"]),
+    ("wire_up why --j", ["--json"]),
     ("wire_up migrate --l", ["--large"]),
     ("wire_up witness --m", ["--most"]),
     ("wire_up-record --st", ["--strict"]),
@@ -239,12 +241,12 @@ $(complete -p {name} | sed 's/.*-F \\([^ ]*\\).*/\\1/') && printf '%s\\n' "${{CO
 
 
 def offered(shell, file, line):
-    """What a shell offers at the end of a line; of zsh, only whether it reads the file."""
+    """The words that a shell offers at the end of a line, in the order of the alphabet; of zsh, only whether it reads the file."""
     if shell == "bash":
         script = BASH.format(file=shlex.quote(file), line=line, name=line.split()[0])
-        return run("bash", "--norc", "-c", f"complete_it() {{ {script}; }}; complete_it").stdout.split()
+        return sorted(run("bash", "--norc", "-c", f"complete_it() {{ {script}; }}; complete_it").stdout.split())
     if shell == "fish":
-        return re.findall(r"(?m)^\S+", run("fish", "--no-config", "-c", f"source {shlex.quote(file)}; complete -C '{line}'").stdout)
+        return sorted(re.findall(r"(?m)^\S+", run("fish", "--no-config", "-c", f"source {shlex.quote(file)}; complete -C '{line}'").stdout))
     return [] if run("zsh", "-f", "-n", file).returncode else None
 
 
