@@ -256,7 +256,36 @@ def checks(room):
     yield Run("no such file to check", ["check", os.path.join(room, "none")], status=4, said=read)
     yield Run("a check, and a full device", ["check", racy], status=4, said=full, set_up=onto("/dev/full", 1))
     yield Run("a check of two files", ["check", example, example], status=5, said=usage)
+    yield from grouped_checks(room, twice, fences, odd)
     yield Run("check with an unknown option", ["check", "--loud", example], status=5, said=usage)
+
+
+def grouped_checks(room, twice, fences, odd):
+    """The runs of `check --lines`."""
+    racy, words = "examples/early-get.plan", ["check", "--lines"]
+    calls = "%s:7: 1 race on key card: app:0 2 commit\n%s:9: note: app:1 1 get-now\n"
+    last = "findings 1 in 1 group\n"
+    names = [b"%s:%d: 1 race on name x%d: app:0 %d publish\n%s:%d: note: app:1 %d publish\n" % (twice.encode(), n + 5, n, n + 1, twice.encode(), n + 4102, n + 1) for n in range(4096)]
+    again = b"rehearsal 1\nnode n0\n\njob a\nrank n0\nput global k 1\nput global k 2\nput global m 1\nput global m 2\ncommit\nput global m 3\nrank n0\nget-now a:0 n\nput local m 1\nput local m 1\n"
+    groups = b"<stdin>:8: 3 rewrites of key m: a:0 3 put\n<stdin>:9: note: a:0 4 put\n<stdin>:6: 1 rewrite of key k: a:0 1 put\n<stdin>:7: note: a:0 2 put\nfindings 4 in 2 groups\n"
+    odd_name = written(room, "odd\x1bn\u00e4me.plan", text_of(racy))
+    shown = odd_name.replace("\x1b", "?").replace("\u00e4", "??")
+    turned = b"rehearsal 1\nnode n0\njob a\nrank n0\nget-now a:1 k\nrank n0\nput global k v\ncommit\nrank n0\nget-now a:1 k\n"
+    both = b"<stdin>:5: 2 races on key k: a:0 1 get-now\n<stdin>:8: note: a:1 2 commit\nfindings 2 in 1 group\n"
+    read, full, memory = b"wire_up: fault 10 Read\n", b"wire_up: fault 11 Write 0\n", b"wire_up: fault 1 Memory\n"
+    yield Run("a check with lines", [*words, racy], status=1, wrote=(calls % (racy, racy) + last).encode())
+    yield Run("a check with lines of standard input", words, given=text_of(racy), status=1, wrote=(calls % ("<stdin>", "<stdin>") + last).encode())
+    yield Run("a check with lines of a file with an odd name", [*words, odd_name], status=1, wrote=(calls % (shown, shown) + last).encode())
+    yield Run("a check with lines, and nothing found", [*words, "--large", EXAMPLE], wrote=NOTHING)
+    yield Run("a check with lines of names published twice", [*words, twice], status=1, wrote=b"".join([*names, b"findings 4096 in 4096 groups\n"]))
+    yield Run("groups of keys that are put again", words, given=again, status=1, wrote=groups)
+    yield Run("one group of calls in either order of the ranks", words, given=turned, status=1, wrote=both)
+    yield Run("a check with lines of a file that is refused", [*words, odd], status=2, said=b"wire_up: fault 4 BadLine 10\n")
+    yield Run("too little memory for a check with lines", [*words, fences], status=3, said=memory, set_up=with_little_memory)
+    yield Run("a check with lines, and standard input closed", words, status=4, said=read, set_up=closed(0))
+    yield Run("no such file to check with lines", [*words, os.path.join(room, "none")], status=4, said=read)
+    yield Run("lines of calls in JSON", [*words, "--json", racy], status=5, said=b"wire_up: usage --lines\n")
+    yield Run("a check with lines, and a full device", [*words, racy], status=4, said=full, set_up=onto("/dev/full", 1))
 
 
 def migrations(room):
@@ -292,7 +321,85 @@ def as_json(report):
         proc, _, verb, reply, *value = line.split(" ")
         ranks.setdefault(proc, []).append({"reply": reply, "verb": verb, **dict(zip(["value"], value))})
     form = {"ranks": [{"calls": calls, "proc": proc} for proc, calls in ranks.items()], "waiting": int(waiting.split()[1])}
+    return one_line(form)
+
+
+def one_line(form):
+    """An object of JSON as it is written."""
     return json.dumps(form, sort_keys=True, separators=(",", ":")).encode() + b"\n"
+
+
+def found_as_json(findings):
+    """What `check` writes, as JSON."""
+    return one_line({"findings": findings.decode().splitlines()[:-1]})
+
+
+def place_of(proc, number):
+    return {"call": int(number), "proc": proc}
+
+
+def answer_as_json(answer):
+    """What `why` writes, as JSON."""
+    first, *lines = [line.split(" ") for line in answer.decode().splitlines()]
+    if first == ["unordered"]:
+        return one_line({"before": None, "dead": [place_of(*words) for _, *words in lines]})
+    steps = [{**place_of(proc, number), "verb": verb, **dict(zip(["half"], half))} for proc, number, verb, *half in lines]
+    return one_line({"before": {"before": "first", "after": "second"}[first[0]], "chain": steps})
+
+
+def forms(room):
+    """The runs of `check`, `follow`, `why` and `witness` with `--json`."""
+    racy, cards, odd = "examples/early-get.plan", written(room, "cards.plan", CARDS), written(room, "odd.plan", b"# only\n")
+    fence, still = "examples/card-fence.plan", "examples/standstill.plan"
+    question, full = ["why", "--json", "app:0", "3", "app:1", "4"], b"wire_up: fault 11 Write 0\n"
+    chain = (
+        b'{"before":"%s","chain":[{"call":3,"proc":"app:0","verb":"commit"},{"call":4,"half":"arrive","proc":"app:0","verb":"fence"},'
+        b'{"call":3,"half":"leave","proc":"app:1","verb":"fence"},{"call":4,"proc":"app:1","verb":"get-now"}]}\n'
+    )
+    yield Run("findings as JSON", ["check", "--json", racy], status=1, wrote=b'{"findings":["race app:0 2 app:1 1 key app:0 card"]}\n')
+    yield Run("no findings, as JSON", ["check", "--json", EXAMPLE], wrote=b'{"findings":[]}\n')
+    yield Run("no findings of a large plan, as JSON", ["check", "--json", "--large", EXAMPLE], wrote=b'{"findings":[]}\n')
+    yield Run("a chain as JSON", [*question, fence], wrote=chain % b"first")
+    yield Run("a chain the other way round, as JSON", ["why", "--json", "app:1", "4", "app:0", "3", fence], wrote=chain % b"second")
+    yield Run("no chain, as JSON", ["why", "--json", "app:0", "2", "app:1", "1", racy], wrote=b'{"before":null,"dead":[]}\n')
+    dead = b'{"before":null,"dead":[{"call":2,"proc":"app:0"},{"call":2,"proc":"app:1"}]}\n'
+    yield Run("dead calls as JSON", ["why", "--json", "app:0", "2", "app:1", "2", still], wrote=dead)
+    alone = b'{"before":null,"dead":[{"call":2,"proc":"app:0"}]}\n'
+    yield Run("a dead call asked against itself, as JSON", ["why", "--json", "app:0", "2", "app:0", "2", still], wrote=alone)
+    order = written(room, "lowest.order", "".join(f"app:{rank}\n" for rank in "00001112001222").encode())
+    yield Run("an order as JSON", ["follow", "--json", order, cards], wrote=as_json(CARDS_REPORT))
+    late = written(room, "late.order", b"app:1\n")
+    told = b"app:0 1 put ready\napp:0 2 commit unreached\napp:1 1 get-now PMIX_ERR_NOT_FOUND\nwaiting 0\n"
+    yield Run("a step as JSON", ["follow", "--json", late, racy], wrote=as_json(told))
+    for it in examples(".findings"):
+        found = text_of(f"examples/{it}.findings")
+        status = int(found != NOTHING)
+        yield Run(f"findings of {it} as JSON", ["check", "--json", f"examples/{it}.plan"], status=status, wrote=found_as_json(found))
+    for it in examples(".question"):
+        words, answer = text_of(f"examples/{it}.question").decode().split(), text_of(f"examples/{it}.answer")
+        yield Run(f"a question about {it}, as JSON", ["why", "--json", *words, f"examples/{it}.plan"], wrote=answer_as_json(answer))
+    for it in examples(".order"):
+        report = text_of(f"examples/{it}.followed")
+        yield Run(f"an order of {it}, as JSON", ["follow", "--json", f"examples/{it}.order", f"examples/{it}.plan"], wrote=as_json(report))
+    asked = ["witness", "--json", "app:0", "2", "app:1", "1", racy]
+    runs_of_it = (
+        b'{"first":{"order":["app:0","app:0","app:1"],"reply":"PMIX_SUCCESS","value":"10.0.0.1:7000"},"race":true,'
+        b'"second":{"order":["app:0","app:1","app:0"],"reply":"PMIX_ERR_NOT_FOUND"},"shown":{"call":1,"proc":"app:1","verb":"get-now"}}\n'
+    )
+    yield Run("a witness as JSON", asked, status=1, wrote=runs_of_it)
+    yield Run("no race, as JSON", ["witness", "--json", "app:0", "1", "app:1", "1", racy], wrote=b'{"race":false,"shown":null}\n')
+    yield Run("a witness as JSON, and a full device", asked, status=4, said=full, set_up=onto("/dev/full", 1))
+    none = b'{"counts":{"not_shown":0,"not_tried":1,"races":1,"shown":0},"races":[]}\n'
+    yield Run("no race tried, as JSON", ["witness", "--json", "--most", "0", racy], wrote=none)
+    tried = (
+        b'{"counts":{"not_shown":0,"not_tried":0,"races":1,"shown":1},'
+        b'"races":[{"finding":"race app:0 2 app:1 1 key app:0 card","shown":{"call":1,"proc":"app:1"}}]}\n'
+    )
+    yield Run("the races as JSON", ["witness", "--json", racy], status=1, wrote=tried)
+    yield Run("a file that is refused, for JSON", ["check", "--json", odd], status=2, said=b"wire_up: fault 3 BadHeader 2\n")
+    yield Run("a wrong word, for JSON", ["why", "--json", "app:0", "9", "app:1", "1", racy], status=2, said=b"wire_up: fault 13 BadOrder 2\n")
+    for words, plan in ((["check", "--json"], racy), (question, fence), (["follow", "--json", late], racy)):
+        yield Run(f"{words[0]} as JSON, and a full device", [*words, plan], status=4, said=full, set_up=onto("/dev/full", 1))
 
 
 def rehearsals(room):
@@ -327,7 +434,7 @@ def rehearsals(room):
     yield Run("workers told twice", ["replay", "--workers", "1", "--workers", "1", cards], status=5, said=usage)
     yield Run("anyway told twice", ["replay", "--anyway", "--anyway", cards], status=5, said=usage)
     yield Run("a check by workers", ["check", "--workers", "1", cards], status=5, said=usage)
-    yield Run("help on replay", ["replay", "--help"], wrote=(b"--workers <N>", b"--json", b"--anyway", b"--complete"))
+    yield Run("help on replay", ["replay", "--help"], wrote=(b"--workers <N>", b"--json", b"--anyway", b"--complete", b"--explain"))
 
 
 def completions(room):
@@ -360,6 +467,70 @@ def completions(room):
     yield Run("complete, and standard error closed", ["replay", "--complete"], given=late, status=1, wrote=of_late, set_up=closed(2))
     yield Run("complete told twice", ["replay", "--complete", "--complete", racy], status=5, said=usage)
     yield Run("a check that is complete", ["check", "--complete", racy], status=5, said=usage)
+
+
+# Files that are refused, each with the fault and what explains it.
+EXPLAINED = (
+    ("a word misspelt", b"rehearsal 1\nnode n0\njob app\nrank n0\nput global k v\n\n  comit\n", b"fault 4 BadLine 7\n  7 |   comit\n  expected: a call of this rank, 'rank NODE' or 'job NAME'\n  nearest word: commit\n"),
+    ("a word that is near none", b"rehearsal 1\nnode n0\njob app\nbarrier\n", b"fault 4 BadLine 4\n  4 | barrier\n  expected: 'rank NODE' or 'job NAME'\n"),
+    ("a word before the first job", b"rehearsal 2\nkeep\nnod n0\n", b"fault 4 BadLine 3\n  3 | nod n0\n  expected: 'node NAME' or 'job NAME', or 'keep' right below 'rehearsal 2'\n  nearest word: node\n"),
+    ("as near as another", b"rehearsal 1\njob app\npet\n", b"fault 4 BadLine 3\n  3 | pet\n  expected: 'rank NODE' or 'job NAME'\n  nearest word: put\n"),
+    ("a line that is cut", b"rehearsal 1\nnode n0\njob app\nrank n0\nget app:0", b"fault 4 BadLine 5\n  5 | get app:0\n  expected: 'get JOB:RANK KEY', below a line 'rank'\n"),
+    ("a node after a job", b"rehearsal 1\njob app\nnode n0\n", b"fault 4 BadLine 3\n  3 | node n0\n  expected: 'node NAME', before the first job; a name is without ':', ',', '#' and '*'\n"),
+    ("an empty file", b"", b"fault 3 BadHeader 1\n  1 | (the file ends here)\n  expected: 'rehearsal 1' or 'rehearsal 2', before all other lines\n"),
+    ("a header misspelt", b"# mine\nrehersal 1\r\n", b"fault 3 BadHeader 2\n  2 | rehersal 1\n  expected: 'rehearsal 1' or 'rehearsal 2', before all other lines\n  nearest word: rehearsal\n"),
+    ("bytes of a terminal", b"rehearsal 1\n\x1b[2J\x07\x7f\xc3\xa4\tcommit\n", b"fault 4 BadLine 2\n  2 | ?[2J?????commit\n  expected: 'node NAME' or 'job NAME', or 'keep' right below 'rehearsal 2'\n"),
+    ("a long line", b"rehearsal 1\n" + b"x" * 121 + b"\n", b"fault 4 BadLine 2\n  2 | " + b"x" * 120 + b"..\n  expected: 'node NAME' or 'job NAME', or 'keep' right below 'rehearsal 2'\n"),
+    ("a line just short enough", b"rehearsal 1\n" + b"x" * 120 + b"\n", b"fault 4 BadLine 2\n  2 | " + b"x" * 120 + b"\n  expected: 'node NAME' or 'job NAME', or 'keep' right below 'rehearsal 2'\n"),
+    ("an unknown node", b"rehearsal 1\nnode n0\njob app\nrank n1\n", b"fault 5 UnknownName 4\n  4 | rank n1\n  expected: a node, a job or a rank that the file declares\n"),
+    ("a name told twice", b"rehearsal 1\nnode n0\nnode n0\n", b"fault 6 Twice 3\n  3 | node n0\n  expected: a name that no line of this kind above has\n"),
+    ("a fence without its caller", b"rehearsal 1\nnode n0\njob app\nrank n0\nfence app:1\nrank n0\n", b"fault 7 NotMember 5\n  5 | fence app:1\n  expected: a set with the rank that calls the fence\n"),
+)
+
+ORDERED = b"  expected: a rank of the plan, such as app:0, alone, in an order within its limit\n"
+
+# The words of a question, each wrong, with what explains it.
+ASKED = (
+    ("app:\u00e4", b"  word 1 | app:??\n  expected: a rank of the plan, such as app:0\n"),
+    ("99", b"  word 2 | 99\n  expected: the number of a call of this rank, from 1\n"),
+    ("app", b"  word 3 | app\n  expected: a rank of the plan, such as app:0\n"),
+    ("0", b"  word 4 | 0\n  expected: the number of a call of this rank, from 1\n"),
+)
+
+
+def explanations(room):
+    """The runs with `--explain`."""
+    racy, cards = written(room, "explained.plan", RACY), written(room, "explained-cards.plan", CARDS)
+    for name, plan, said in EXPLAINED:
+        first = b"wire_up: " + said.split(b"\n")[0] + b"\n"
+        for words in (["check"], ["replay", "--workers", "2"], ["migrate"], ["witness"], ["why", "app:0", "1", "app:0", "1", "/dev/stdin"]):
+            yield Run(f"{name}, explained by {words[0]}", [*words, "--explain"], given=plan, status=2, said=b"wire_up: " + said)
+            yield Run(f"{name}, by {words[0]}", words, given=plan, status=2, said=first)
+        path = written(room, f"{name}.plan", plan)
+        yield Run(f"{name}, explained by follow", ["follow", "--explain", os.devnull, path], status=2, said=b"wire_up: " + said)
+        yield Run(f"{name}, explained, and standard error closed", ["check", "--explain", path], status=2, set_up=closed(2))
+    order = written(room, "explained.order", b"# first\napp:0\n  app:7 \n")
+    yield Run("an order explained", ["follow", "--explain", order, racy], status=2, said=b"wire_up: fault 13 BadOrder 3\n  3 |   app:7 \n" + ORDERED)
+    yield Run("an order not explained", ["follow", order, racy], status=2, said=b"wire_up: fault 13 BadOrder 3\n")
+    yield Run("a plan refused before its order is", ["follow", "--explain", order], given=b"rehersal 1\n", status=2, said=b"wire_up: fault 3 BadHeader 1\n  1 | rehersal 1\n  expected: 'rehearsal 1' or 'rehearsal 2', before all other lines\n  nearest word: rehearsal\n")
+    for n, (word, told) in enumerate(ASKED, 1):
+        asked = ["app:0", "1", "app:1", "1"]
+        asked[n - 1] = word
+        for words in (["why"], ["witness"], ["witness", "--first"]):
+            said = b"wire_up: fault 13 BadOrder %d\n" % n
+            yield Run(f"the wrong word {n}, explained by {' '.join(words)}", [*words, "--explain", *asked, racy], status=2, said=said + told)
+            yield Run(f"the wrong word {n}, by {' '.join(words)}", [*words, *asked, racy], status=2, said=said)
+    early = written(room, "explained-early.order", b"app:1\napp:1\n")
+    said = b"wire_up: fault 12 NotReady 2\n"
+    yield Run("a step explained that can't be taken", ["follow", "--explain", early, racy], status=2, said=said + b"  expected: a rank that can take its next step\n")
+    yield Run("a step not explained that can't be taken", ["follow", early, racy], status=2, said=said)
+    yield Run("nothing to explain", ["check", "--explain", cards], wrote=NOTHING)
+    yield Run("a report and nothing to explain", ["replay", "--explain", cards], wrote=CARDS_REPORT)
+    yield Run("a race and nothing to explain", ["check", "--explain", racy], status=1, wrote=(b"findings 1\n",))
+    yield Run("no such file, explained", ["check", "--explain", os.path.join(room, "none")], status=4, said=b"wire_up: fault 10 Read\n  expected: a file that can be opened and read\n")
+    yield Run("no worker, explained", ["replay", "--explain", "--workers", "0", cards], status=2, said=b"wire_up: fault 9 Workers\n  expected: 1 to 64 workers\n")
+    yield Run("a full device, explained", ["check", "--explain", cards], status=4, said=b"wire_up: fault 11 Write 0\n  expected: an output that can be written\n", set_up=onto("/dev/full", 1))
+    yield Run("explained twice", ["check", "--explain", "--explain", cards], status=5, said=(b"Usage: wire_up",))
 
 
 KEEPING = b"rehearsal 2\nkeep\nnode n0\nnode n1\njob app\nrank n0\nput global k v\ncommit\nrank n1\nget app:0 k\nfence app:1,app:2\nrank n1\n"
@@ -496,6 +667,41 @@ def runs_anyway(program, room, workers, as_form):
     return well or tell(name, f"ended with {ran.returncode}, and wrote {ran.stdout[:300]}")
 
 
+def tried_as_json(text):
+    """What `witness` writes of all races, as JSON."""
+    *lines, last = [line.split(" ") for line in text.decode().splitlines()]
+    races = []
+    for verdict, *words in lines:
+        shown, words = (place_of(*words[:2]), words[2:]) if verdict == "shown" else (None, words)
+        races.append({"finding": " ".join(words), "shown": shown})
+    counts = {word.replace("-", "_"): int(count) for word, count in zip(last[::2], last[1::2])}
+    return one_line({"counts": counts, "races": races})
+
+
+def witness_as_json(text):
+    """What `witness` writes of two calls, as JSON."""
+    first, *lines = text.decode().splitlines()
+    if first in ("no race", "not shown"):
+        return one_line({"race": first == "not shown", "shown": None})
+    _, proc, number, verb = first.split(" ")
+    ends, rest = [line.split(" ")[1:] for line in lines[:2]], lines[2:]
+    count = int(rest[0].split(" ")[1])
+    orders = rest[1 : count + 1], rest[count + 2 :]
+    told = [{"order": order, "reply": reply, **dict(zip(["value"], value))} for (reply, *value), order in zip(ends, orders)]
+    return one_line({"first": told[0], "race": True, "second": told[1], "shown": {**place_of(proc, number), "verb": verb}})
+
+
+def shows_alike(program, name):
+    """Whether `witness` tells the same of an example's races in lines and as JSON."""
+    plan = f"examples/{name}.plan"
+    races = [line.split(" ")[1:5] for line in text_of(f"examples/{name}.findings").decode().splitlines() if line.startswith("race ")]
+    for words, form in [([], tried_as_json)] + [(calls, witness_as_json) for calls in races]:
+        lines, json_form = (start(program, Run(name, ["witness", *option, *words, plan]), stdout=subprocess.PIPE) for option in ([], ["--json"]))
+        if (lines.returncode, form(lines.stdout), b"") != (json_form.returncode, json_form.stdout, json_form.stderr):
+            return tell(f"witness --json {' '.join(words)} {plan}", f"ended with {json_form.returncode}, and wrote {json_form.stdout[:300]}")
+    return True
+
+
 def left_on(told):
     """What is left on a terminal, in its rows, of what was written to it."""
     rows = []
@@ -589,9 +795,10 @@ def tell(name, what):
 def all_runs(program):
     """Runs all, and answers how many went well and how many didn't."""
     with tempfile.TemporaryDirectory(prefix="wire-up-") as room:
-        parts = runs, rehearsals, completions, keepings, checks, follows, questions, migrations, machines
+        parts = runs, rehearsals, completions, explanations, keepings, checks, follows, questions, forms, migrations, machines
         well = [went_well(program, run) for part in parts for run in part(room)]
         well += [runs_anyway(program, room, n, form) for n in (1, 2, 7) for form in ([], ["--json"])]
+        well += [shows_alike(program, name) for name in examples(".plan")]
         well += lines_shown(program)
         well += [breaks_off(program, room, size) for size in (1, 20, len(text_of(ITS_REPORT)) - 1)]
     for kept, shown in ((EXAMPLE, "crates/program/data/business-card.plan"), (ITS_REPORT, "crates/program/stdout")):

@@ -105,6 +105,7 @@ CIRCLE = "rehearsal 1\nnode n\njob a\n" + "".join(f"rank n\nget a:{(n + 1) % 3} 
 CIRCLE += "rank n\nfence all\nlookup-wait no\n"
 LATE = "rehearsal 1\nnode n\njob a\nrank n\nget a:0 own\npublish p 1\nrank n\nlookup-wait p\nrank n\nput global k v\nget a:1 none\nrank n\nget a:2 k\n"
 NAMES = "rehearsal 1\nnode n\njob a\n" + "rank n\npublish p 1\nunpublish p\nlookup-wait p\n" * 3 + "rank n\nlookup p\n"
+STAR = "rehearsal 2\nnode n\njob a\nrank n\npublish p 1\nunpublish *\nrank n\nlookup-wait p\n"
 SHAPES = "rehearsal 1\n" + "".join(f"node n{n}\n" for n in range(14)) + "job a\n" + "".join(
     f"rank n{n % 14}\n" + f"put global k{'x' * (n % 20)} v\ncommit\nfence all collect\n" + "get a:0 k\n" * (n % 5) + "fence all\n"
     for n in range(28)
@@ -119,7 +120,7 @@ def made_plans(program, room):
         path = os.path.join(room, f"recorded-{os.path.basename(os.path.dirname(folder))}.plan")
         subprocess.run([sys.executable, RECORDER, "--checker", program, "-o", path, "--from", folder], capture_output=True, timeout=SECONDS, check=True)
         plans.append(path)
-    texts = {"hostile": HOSTILE, "circle": CIRCLE, "late": LATE, "names": NAMES, "shapes": SHAPES, "empty": EMPTY, "cards": cards(6, 2, 5)}
+    texts = {"hostile": HOSTILE, "circle": CIRCLE, "late": LATE, "names": NAMES, "star": STAR, "shapes": SHAPES, "empty": EMPTY, "cards": cards(6, 2, 5)}
     plans += [write(os.path.join(room, f"{name}.plan"), text) for name, text in texts.items()]
     return [*plans, largest(room), largest(room, "fence all collect")]
 

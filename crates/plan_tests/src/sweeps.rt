@@ -200,27 +200,33 @@ node n0
 job app
 rank n0
 unpublish *
+publish ab 1
 publish b 1
-publish B 1
 publish a 1
+publish B 1
 rank n0
 lookup-wait b
 unpublish *
 publish a 2
 publish B 2
+publish ab 2
 ",
         findings: "\
 race app:0 1 app:1 1 name b
 race app:0 1 app:1 2 name B
 race app:0 1 app:1 2 name a
+race app:0 1 app:1 2 name ab
 race app:0 1 app:1 3 name a
 race app:0 1 app:1 4 name B
-race app:0 2 app:1 1 name b
-race app:0 3 app:1 2 name B
-race app:0 3 app:1 4 name B
+race app:0 1 app:1 5 name ab
+race app:0 2 app:1 2 name ab
+race app:0 2 app:1 5 name ab
+race app:0 3 app:1 1 name b
 race app:0 4 app:1 2 name a
 race app:0 4 app:1 3 name a
-findings 10
+race app:0 5 app:1 2 name B
+race app:0 5 app:1 4 name B
+findings 14
 ",
     },
 ];

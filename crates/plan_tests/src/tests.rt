@@ -157,20 +157,40 @@ fn migrated(rt: &impl Abort, alloc: Global, name: &str, plan: &[u8]) -> MemorySi
     to
 }
 
-/// Each plan has its report under version 2 too, and that text is migrated to itself.
+/// Asserts that a plan has its findings under version 2 too, and that this text is migrated to itself. Answers the
+/// text.
+fn check_migrated(rt: &(impl Abort + Threads + Sync), alloc: Global, row: &Checked) -> MemorySink {
+    let text = migrated(rt, alloc, row.name, row.plan);
+    let is_of_version_2 = text.bytes.starts_with(b"rehearsal 2\n".as_slice());
+    assert!(rt; is_of_version_2, "{}", row.name);
+    check_found(rt, alloc, row, text.bytes.as_slice(), usize::MAX);
+    let again = migrated(rt, alloc, row.name, text.bytes.as_slice());
+    assert_same(rt, row.name, again.bytes.as_slice(), text.bytes.as_slice());
+    text
+}
+
+/// The same of plans that have reports: they have them under version 2 too.
+fn check_migrations(rt: &(impl Abort + Threads + Sync), alloc: Global, rows: &[Reported]) {
+    for row in rows {
+        let text = check_migrated(rt, alloc, &found_of(row));
+        check_report(rt, alloc, row, text.bytes.as_slice(), usize::MAX);
+    }
+}
+
+/// Each plan has its findings and its report under version 2 too.
 #[test]
 fn migrations(rt: HostRuntime) -> Result<(), Fail> {
     let alloc = rt.alloc();
-    for row in crate::reports::all() {
-        let text = migrated(&rt, alloc, row.name, row.plan);
-        assert!(rt;
-            text.bytes.starts_with(b"rehearsal 2\n".as_slice()),
-            "{}",
-            row.name
-        );
-        check_report(&rt, alloc, row, text.bytes.as_slice(), usize::MAX);
-        let again = migrated(&rt, alloc, row.name, text.bytes.as_slice());
-        assert_same(&rt, row.name, again.bytes.as_slice(), text.bytes.as_slice());
+    check_migrations(&rt, alloc, crate::reports::all());
+    check_migrations(&rt, alloc, crate::fences::all());
+    check_migrations(&rt, alloc, crate::names::all());
+    check_migrations(&rt, alloc, crate::keeps::all());
+    check_migrations(&rt, alloc, crate::sweeps::all());
+    for row in crate::findings::all() {
+        check_migrated(&rt, alloc, row);
+    }
+    for row in crate::sweeps::racing() {
+        check_migrated(&rt, alloc, row);
     }
     Ok(())
 }
@@ -497,28 +517,39 @@ fn fault_of(answer: Result<Ended, Fault>) -> Result<(), Fault> {
     }
 }
 
-/// Asserts that a plan has these findings, and that the check ends with their number.
-fn check_found(rt: &(impl Abort + Threads + Sync), alloc: Global, row: &Checked, per_call: usize) {
+/// Asserts that a plan has the findings of a row, and that the check ends with their number.
+fn check_found(
+    rt: &(impl Abort + Threads + Sync),
+    alloc: Global,
+    row: &Checked,
+    plan: &[u8],
+    per_call: usize,
+) {
     let ended = match row.findings.lines().count() as u64 {
         1 => Ended::Clean,
         lines => Ended::Found(lines.saturating_sub(1)),
     };
     let mut to = writer(alloc, per_call);
-    let answer = check(rt, alloc, &mut reader(row.plan, per_call), &mut to);
+    let answer = check(rt, alloc, &mut reader(plan, per_call), &mut to);
     assert_eq!(rt; answer, Ok(ended), "{}", row.name);
     assert_same(rt, row.name, to.bytes.as_slice(), row.findings.as_bytes());
+}
+
+/// What is found in a plan that has a report too.
+fn found_of(row: &Reported) -> Checked {
+    Checked {
+        name: row.name,
+        plan: row.plan,
+        findings: row.findings,
+    }
 }
 
 /// The same of plans that have reports too.
 fn check_reported(rt: &(impl Abort + Threads + Sync), alloc: Global, rows: &[Reported]) {
     for row in rows {
-        let row = Checked {
-            name: row.name,
-            plan: row.plan,
-            findings: row.findings,
-        };
-        check_found(rt, alloc, &row, 1);
-        check_found(rt, alloc, &row, usize::MAX);
+        let row = found_of(row);
+        check_found(rt, alloc, &row, row.plan, 1);
+        check_found(rt, alloc, &row, row.plan, usize::MAX);
     }
 }
 
@@ -539,12 +570,12 @@ fn findings(rt: HostRuntime) -> Result<(), Fail> {
     check_reported(&rt, alloc, crate::keeps::all());
     check_reported(&rt, alloc, crate::sweeps::all());
     for row in crate::findings::all() {
-        check_found(&rt, alloc, row, 1);
-        check_found(&rt, alloc, row, usize::MAX);
+        check_found(&rt, alloc, row, row.plan, 1);
+        check_found(&rt, alloc, row, row.plan, usize::MAX);
     }
     for row in crate::sweeps::racing() {
-        check_found(&rt, alloc, row, 1);
-        check_found(&rt, alloc, row, usize::MAX);
+        check_found(&rt, alloc, row, row.plan, 1);
+        check_found(&rt, alloc, row, row.plan, usize::MAX);
     }
     for row in crate::refusals::all() {
         check_unfound(&rt, alloc, row);

@@ -2,12 +2,14 @@
 //! with a status: 0 done without findings, 1 findings or a call that fails, 2 refused, 3 memory, 4 reading or writing, 5 usage.
 #![tactic(auto)]
 
+mod kept;
 mod terminal_line;
 
 ghost use Rattle.std.specs.Thread.{IsSync};
 
 use clap::Error;
 use clap::error::ErrorKind;
+use kept::{Kept, KeptReader};
 use std::alloc::{AllocError, Global};
 use std::fs::{File, OpenFile};
 use std::io::Read;
@@ -18,11 +20,14 @@ use std::thread::Threads;
 use std::time::Clock;
 use std::{env, io, thread};
 use terminal_line::{NotedReader, NotedWriter, Progress, Streams, start_line};
+use wire_explain::{explain_order, explain_plan, explain_word};
+use wire_placing::{PlanFile, check_located};
 use wire_sched::OpenGate;
 use wire_types::{Fault, FromRead, ToWrite, write_out};
 use wire_up::{
-    Manner, Mode, Orders, Part, Refusal, Request, Size, check_sized, follow_sized, migrate_sized,
-    read_request, rehearse_complete, rehearse_sized, why_sized, witness, witnesses,
+    CallWords, Form, Manner, Mode, Orders, Part, Refusal, Request, Size, Tries, check_in_form,
+    follow_in_form, migrate_sized, read_request, rehearse_complete, rehearse_sized, why_in_form,
+    witness, witnesses_in_form,
 };
 
 /// The exit status of what was done, where nothing is to be told by it.
@@ -32,10 +37,12 @@ const DONE: u8 = 0;
 const USAGE: u8 = 5;
 
 /// Why the program didn't do what it was asked to do.
-#[derive(Clone, Copy)]
+#[derive(Drop)]
 enum Failure {
     /// A fault of the library, not yet told.
     Fault(Fault),
+    /// A fault, and what explains it.
+    Explained(Fault, Vec<u8>),
     /// A command line that can't be read. The user was told already.
     Usage,
 }
@@ -83,8 +90,12 @@ fn obey<'a>(
 ) -> Result<u8, Failure> {
     match read_request(rt.alloc(), words) {
         Ok(request) => {
+            if has_two_forms(&request) {
+                let _ = rt.eprintln("wire_up: usage --lines");
+                return Err(Failure::Usage);
+            }
             let progress = Progress::new(work_of(&request), streams);
-            Ok(serve_with_line(rt, request, &progress)?)
+            serve_with_line(rt, request, &progress)
         }
         Err(Refusal::Workers) => {
             let _ = rt.eprintln("wire_up: usage --workers");
@@ -101,9 +112,23 @@ fn obey<'a>(
     }
 }
 
+/// Whether an answer is wanted both with the lines of calls and as JSON, which has none.
+fn has_two_forms(request: &Request<'_>) -> bool {
+    match request {
+        Request::Check { lines, json, .. } => *lines && *json,
+        _ => false,
+    }
+}
+
 /// The limits that hold: the large ones, or those of the plan's version.
 fn size_of(large: bool) -> Size {
     if large { Size::Large } else { Size::OfVersion }
+}
+
+/// Within which limits a command reads, and in which form it writes.
+fn form_of(large: bool, json: bool) -> Form {
+    let size = size_of(large);
+    Form { size, json }
 }
 
 /// What a command does once it has read all, in one word.
@@ -117,20 +142,115 @@ fn work_of(request: &Request<'_>) -> &'static str {
     }
 }
 
+/// Whether a fault is to be explained.
+fn is_explained(request: &Request<'_>) -> bool {
+    match request {
+        Request::Check { explain, .. }
+        | Request::Replay { explain, .. }
+        | Request::Follow { explain, .. }
+        | Request::Why { explain, .. }
+        | Request::Migrate { explain, .. }
+        | Request::Witness { explain, .. }
+        | Request::Witnesses { explain, .. } => *explain,
+    }
+}
+
+/// The words of a question: they name two calls.
+#[derive(Clone, Copy)]
+struct Question<'a> {
+    first: CallWords<'a>,
+    second: CallWords<'a>,
+}
+
+/// The question of a command that has one.
+fn question_of<'a>(request: &Request<'a>) -> Option<Question<'a>> {
+    match request {
+        Request::Why { first, second, .. } | Request::Witness { first, second, .. } => {
+            Some(Question {
+                first: *first,
+                second: *second,
+            })
+        }
+        _ => None,
+    }
+}
+
+/// The word of a question at a place, from 1.
+fn word_at<'a>(question: Question<'a>, place: u64) -> Option<&'a str> {
+    match place {
+        1 => Some(question.first.proc),
+        2 => Some(question.first.number),
+        3 => Some(question.second.proc),
+        4 => Some(question.second.number),
+        _ => None,
+    }
+}
+
+/// What a command notes while it works: how far it is, and what it was given and has read.
+#[derive(Drop)]
+struct Watch<'p, 'w> {
+    progress: &'p Progress,
+    question: Option<Question<'w>>,
+    plan: Kept,
+    order: Kept,
+}
+
+/// What explains a fault of an order, or of the words of a question.
+fn explain_place(
+    alloc: Global,
+    place: u64,
+    watch: &Watch<'_, '_>,
+) -> Result<Option<Vec<u8>>, AllocError> {
+    if let Some(question) = watch.question {
+        return match word_at(question, place) {
+            Some(word) => Ok(Some(explain_word(alloc, place, word)?)),
+            None => Ok(None),
+        };
+    }
+    match &watch.order.bytes {
+        Some(bytes) => Ok(Some(explain_order(alloc, bytes.as_slice(), place)?)),
+        None => Ok(None),
+    }
+}
+
+/// What explains a fault, where a copy of the plan was kept.
+fn explain(
+    alloc: Global,
+    fault: Fault,
+    watch: &Watch<'_, '_>,
+) -> Result<Option<Vec<u8>>, AllocError> {
+    let Some(bytes) = &watch.plan.bytes else {
+        return Ok(None);
+    };
+    match fault {
+        Fault::Memory => Ok(None),
+        Fault::BadOrder(place) => explain_place(alloc, place, watch),
+        _ => Ok(Some(explain_plan(alloc, bytes.as_slice(), fault)?)),
+    }
+}
+
+/// A fault, with what explains it, where that is wanted and memory serves.
+fn explained(alloc: Global, fault: Fault, watch: &Watch<'_, '_>) -> Failure {
+    match explain(alloc, fault, watch) {
+        Ok(Some(text)) => Failure::Explained(fault, text),
+        Ok(None) | Err(_) => Failure::Fault(fault),
+    }
+}
+
 /// Runs the command that was requested, with a line on the terminal that says how far it is, and answers the exit status.
 fn serve_with_line<R: Files + Input + Print + Eprint + AllocGlobal + Clock + Threads + Wait + Sync>(
     rt: &R,
     request: Request<'_>,
     progress: &Progress,
-) -> Result<u8, Fault> {
+) -> Result<u8, Failure> {
     thread::scope(
         thread::scope_env(),
         rt,
-        |scope| -> Result<u8, Fault>
+        |scope| -> Result<u8, Failure>
             requires { IsSync R.row }
         {
             let line = start_line(scope, rt, progress);
-            let answer = serve(rt, request, progress);
+            let answer = serve_explained(rt, request, progress);
             progress.close(rt);
             if let Some(line) = line {
                 line.join(rt);
@@ -140,14 +260,45 @@ fn serve_with_line<R: Files + Input + Print + Eprint + AllocGlobal + Clock + Thr
     )
 }
 
+/// Runs the command that was requested, and answers the exit status. A fault is explained where the request says so.
+fn serve_explained(
+    rt: &(impl Files + Input + Print + Eprint + AllocGlobal + Threads + Wait + Sync),
+    request: Request<'_>,
+    progress: &Progress,
+) -> Result<u8, Failure> {
+    let wanted = is_explained(&request);
+    let mut watch = Watch {
+        progress,
+        question: question_of(&request),
+        plan: Kept::new(rt.alloc(), wanted),
+        order: Kept::new(rt.alloc(), wanted),
+    };
+    match serve(rt, request, &mut watch) {
+        Ok(status) => Ok(status),
+        Err(fault) => Err(explained(rt.alloc(), fault, &watch)),
+    }
+}
+
 /// Runs the command that was requested, and answers the exit status.
 fn serve(
     rt: &(impl Files + Input + Print + Eprint + AllocGlobal + Threads + Wait + Sync),
     request: Request<'_>,
-    progress: &Progress,
+    watch: &mut Watch<'_, '_>,
 ) -> Result<u8, Fault> {
     match request {
-        Request::Check { plan, large } => check_plan(rt, plan, size_of(large), progress),
+        Request::Check {
+            plan,
+            lines,
+            json,
+            large,
+            ..
+        } => {
+            if lines {
+                check_places(rt, plan, size_of(large), watch)
+            } else {
+                check_plan(rt, plan, form_of(large, json), watch)
+            }
+        }
         Request::Replay {
             plan,
             workers,
@@ -155,6 +306,7 @@ fn serve(
             anyway,
             complete,
             large,
+            ..
         } => {
             let manner = Manner {
                 size: size_of(large),
@@ -163,34 +315,47 @@ fn serve(
                 gate: &OpenGate,
             };
             if complete {
-                replay_completely(rt, plan, manner, progress)
+                replay_completely(rt, plan, manner, watch)
             } else {
-                replay_plan(rt, plan, manner, progress)
+                replay_plan(rt, plan, manner, watch)
             }
         }
-        Request::Follow { order, plan, large } => {
-            follow_order(rt, order, plan, size_of(large), progress)
-        }
+        Request::Follow {
+            order,
+            plan,
+            json,
+            large,
+            ..
+        } => follow_order(rt, order, plan, form_of(large, json), watch),
         Request::Why {
             first,
             second,
             plan,
+            json,
             large,
+            ..
         } => {
             let words = [first.proc, first.number, second.proc, second.number];
-            answer_question(rt, words, plan, size_of(large), progress)
+            answer_question(rt, words, plan, form_of(large, json), watch)
         }
-        Request::Migrate { plan, large } => migrate_plan(rt, plan, size_of(large), progress),
+        Request::Migrate { plan, large, .. } => migrate_plan(rt, plan, size_of(large), watch),
         Request::Witness {
             first,
             second,
             orders,
             plan,
+            json,
+            ..
         } => {
             let words = [first.proc, first.number, second.proc, second.number];
-            show_race(rt, words, part_of(orders), plan, progress)
+            show_race(rt, words, part_of(orders, json), plan, watch)
         }
-        Request::Witnesses { most, plan } => show_races(rt, most, plan, progress),
+        Request::Witnesses {
+            most,
+            plan,
+            json,
+            ..
+        } => show_races(rt, Tries { most, json }, plan, watch),
     }
 }
 
@@ -240,7 +405,8 @@ fn open_plan<'p, R: Files + Input + Eprint + Wait>(
     rt: &R,
     plan: Option<&str>,
     progress: &'p Progress,
-) -> Result<FromRead<NotedReader<'p, Opened<R::File, R::Reader>>>, Fault> {
+    kept: &'p mut Kept,
+) -> Result<FromRead<KeptReader<'p, NotedReader<'p, Opened<R::File, R::Reader>>>>, Fault> {
     let (opened, size) = match plan {
         Some(path) => {
             let file = judge_read(File::open(rt, path))?;
@@ -252,7 +418,8 @@ fn open_plan<'p, R: Files + Input + Eprint + Wait>(
             (Opened::Standard(rt.reader()), None)
         }
     };
-    Ok(FromRead::new(NotedReader::new(opened, progress, size)))
+    let noted = NotedReader::new(opened, progress, size);
+    Ok(FromRead::new(KeptReader::new(noted, kept)))
 }
 
 /// How many bytes a file has, where the system says it.
@@ -267,12 +434,38 @@ fn length_of(file: &impl OpenFile) -> Option<u64> {
 fn check_plan(
     rt: &(impl Files + Input + Print + Eprint + AllocGlobal + Threads + Wait + Sync),
     plan: Option<&str>,
-    size: Size,
-    progress: &Progress,
+    form: Form,
+    watch: &mut Watch<'_, '_>,
 ) -> Result<u8, Fault> {
-    let mut reader = open_plan(rt, plan, progress)?;
+    let progress = watch.progress;
+    let mut reader = open_plan(rt, plan, progress, &mut watch.plan)?;
     let mut writer = ToWrite::new(NotedWriter::new(rt, progress));
-    Ok(check_sized(rt, rt.alloc(), size, &mut reader, &mut writer)?.status())
+    Ok(check_in_form(rt, rt.alloc(), form, &mut reader, &mut writer)?.status())
+}
+
+/// The name by which a plan is told of.
+fn name_of(plan: Option<&str>) -> &str {
+    match plan {
+        Some(path) => path,
+        None => "<stdin>",
+    }
+}
+
+/// Checks a plan, and tells its findings in groups, with the lines of their calls.
+fn check_places(
+    rt: &(impl Files + Input + Print + Eprint + AllocGlobal + Threads + Wait + Sync),
+    plan: Option<&str>,
+    size: Size,
+    watch: &mut Watch<'_, '_>,
+) -> Result<u8, Fault> {
+    let progress = watch.progress;
+    let mut reader = open_plan(rt, plan, progress, &mut watch.plan)?;
+    let mut writer = ToWrite::new(NotedWriter::new(rt, progress));
+    let file = PlanFile {
+        name: name_of(plan).as_bytes(),
+        size,
+    };
+    Ok(check_located(rt, rt.alloc(), file, &mut reader, &mut writer)?.status())
 }
 
 /// Replays a plan. It is opened before the number of workers is judged.
@@ -280,9 +473,10 @@ fn replay_plan(
     rt: &(impl Files + Input + Print + Eprint + AllocGlobal + Threads + Wait + Sync),
     plan: Option<&str>,
     manner: Manner<'_, OpenGate>,
-    progress: &Progress,
+    watch: &mut Watch<'_, '_>,
 ) -> Result<u8, Fault> {
-    let mut reader = open_plan(rt, plan, progress)?;
+    let progress = watch.progress;
+    let mut reader = open_plan(rt, plan, progress, &mut watch.plan)?;
     let mut writer = ToWrite::new(NotedWriter::new(rt, progress));
     Ok(rehearse_sized(rt, rt.alloc(), &mut reader, &mut writer, manner)?.status())
 }
@@ -292,9 +486,10 @@ fn replay_completely(
     rt: &(impl Files + Input + Print + Eprint + AllocGlobal + Threads + Wait + Sync),
     plan: Option<&str>,
     manner: Manner<'_, OpenGate>,
-    progress: &Progress,
+    watch: &mut Watch<'_, '_>,
 ) -> Result<u8, Fault> {
-    let mut reader = open_plan(rt, plan, progress)?;
+    let progress = watch.progress;
+    let mut reader = open_plan(rt, plan, progress, &mut watch.plan)?;
     let mut writer = ToWrite::new(NotedWriter::new(rt, progress));
     let rehearsed = rehearse_complete(rt, rt.alloc(), &mut reader, &mut writer, manner)?;
     if let Some(line) = &rehearsed.failure {
@@ -317,10 +512,11 @@ fn follow_order(
     rt: &(impl Files + Input + Print + Eprint + AllocGlobal + Wait),
     order: &str,
     plan: Option<&str>,
-    size: Size,
-    progress: &Progress,
+    form: Form,
+    watch: &mut Watch<'_, '_>,
 ) -> Result<u8, Fault> {
-    let mut reader = open_plan(rt, plan, progress)?;
+    let progress = watch.progress;
+    let mut reader = open_plan(rt, plan, progress, &mut watch.plan)?;
     if plan.is_none() {
         // Where standard input is closed, the order would be opened in its place, and be read as the
         // plan. A read of no bytes fails there, and takes nothing anywhere else.
@@ -328,9 +524,10 @@ fn follow_order(
     }
     let order = judge_read(File::open(rt, order))?;
     let size_of_order = length_of(&order);
-    let mut order = FromRead::new(NotedReader::new(order, progress, size_of_order));
+    let noted = NotedReader::new(order, progress, size_of_order);
+    let mut order = FromRead::new(KeptReader::new(noted, &mut watch.order));
     let mut writer = ToWrite::new(NotedWriter::new(rt, progress));
-    follow_sized(rt.alloc(), size, &mut reader, &mut order, &mut writer)?;
+    follow_in_form(rt.alloc(), form, &mut reader, &mut order, &mut writer)?;
     Ok(DONE)
 }
 
@@ -339,12 +536,13 @@ fn answer_question(
     rt: &(impl Files + Input + Print + Eprint + AllocGlobal + Wait),
     words: [&str; 4],
     plan: Option<&str>,
-    size: Size,
-    progress: &Progress,
+    form: Form,
+    watch: &mut Watch<'_, '_>,
 ) -> Result<u8, Fault> {
-    let mut reader = open_plan(rt, plan, progress)?;
+    let progress = watch.progress;
+    let mut reader = open_plan(rt, plan, progress, &mut watch.plan)?;
     let mut writer = ToWrite::new(NotedWriter::new(rt, progress));
-    why_sized(rt.alloc(), size, &mut reader, &mut writer, words)?;
+    why_in_form(rt.alloc(), form, &mut reader, &mut writer, words)?;
     Ok(DONE)
 }
 
@@ -353,18 +551,19 @@ fn migrate_plan(
     rt: &(impl Files + Input + Print + Eprint + AllocGlobal + Wait),
     plan: Option<&str>,
     size: Size,
-    progress: &Progress,
+    watch: &mut Watch<'_, '_>,
 ) -> Result<u8, Fault> {
-    let mut reader = open_plan(rt, plan, progress)?;
+    let progress = watch.progress;
+    let mut reader = open_plan(rt, plan, progress, &mut watch.plan)?;
     let mut writer = ToWrite::new(NotedWriter::new(rt, progress));
     migrate_sized(rt.alloc(), size, &mut reader, &mut writer)?;
     Ok(DONE)
 }
 
 /// What is written of a witness.
-fn part_of(orders: Orders) -> Part {
+fn part_of(orders: Orders, json: bool) -> Part {
     match orders {
-        Orders::Both => Part::Whole,
+        Orders::Both => { if json { Part::Json } else { Part::Whole } }
         Orders::OfFirst => Part::FirstOrder,
         Orders::OfSecond => Part::SecondOrder,
     }
@@ -376,9 +575,10 @@ fn show_race(
     words: [&str; 4],
     part: Part,
     plan: Option<&str>,
-    progress: &Progress,
+    watch: &mut Watch<'_, '_>,
 ) -> Result<u8, Fault> {
-    let mut reader = open_plan(rt, plan, progress)?;
+    let progress = watch.progress;
+    let mut reader = open_plan(rt, plan, progress, &mut watch.plan)?;
     let mut writer = ToWrite::new(NotedWriter::new(rt, progress));
     Ok(witness(rt, rt.alloc(), &mut reader, &mut writer, words, part)?.status())
 }
@@ -386,13 +586,14 @@ fn show_race(
 /// Tells which races of a plan are shown, so many at most.
 fn show_races(
     rt: &(impl Files + Input + Print + Eprint + AllocGlobal + Threads + Wait + Sync),
-    most: usize,
+    tries: Tries,
     plan: Option<&str>,
-    progress: &Progress,
+    watch: &mut Watch<'_, '_>,
 ) -> Result<u8, Fault> {
-    let mut reader = open_plan(rt, plan, progress)?;
+    let progress = watch.progress;
+    let mut reader = open_plan(rt, plan, progress, &mut watch.plan)?;
     let mut writer = ToWrite::new(NotedWriter::new(rt, progress));
-    Ok(witnesses(rt, rt.alloc(), &mut reader, &mut writer, most)?.status())
+    Ok(witnesses_in_form(rt, rt.alloc(), &mut reader, &mut writer, tries)?.status())
 }
 
 fn run(
@@ -410,6 +611,11 @@ fn main(rt: HostRuntime) -> ExitCode {
         Err(Failure::Usage) => ExitCode::from(USAGE),
         Err(Failure::Fault(fault)) => {
             let _ = fault.write_line(&mut ToWrite::new(rt.stderr()));
+            ExitCode::from(fault.status())
+        }
+        Err(Failure::Explained(fault, text)) => {
+            let _ = fault.write_line(&mut ToWrite::new(rt.stderr()));
+            let _ = write_out(&mut ToWrite::new(rt.stderr()), text.as_slice());
             ExitCode::from(fault.status())
         }
     }

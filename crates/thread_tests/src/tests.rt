@@ -84,7 +84,6 @@ fence all
 lookup x
 lookup y
 publish y 9
-unpublish *
 ";
 
 /// Two processes that wait for nothing.
@@ -412,7 +411,7 @@ fn workers_take_names_away(rt: HostRuntime) -> Result<(), Fail> {
         let (outcome, _) = ran(&rt, alloc, SWEPT, workers, &OpenGate)?;
         let settled = ran_settled(&rt, alloc, SWEPT, workers, &OpenGate)?;
         assert!(rt; settled.rows == outcome.rows && settled.waiting == outcome.waiting);
-        assert_eq!(rt; last_status(&settled, 0), Some(Status::Success));
+        assert_eq!(rt; last_status(&settled, 1), Some(Status::Success));
     }
     Ok(())
 }

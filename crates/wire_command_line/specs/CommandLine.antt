@@ -3,7 +3,9 @@ use Rattle.std.specs.Prelude.{◌≡◌, ◌⊎◌, Bool, true, false, List, [],
 use Rattle.std.specs.List.{list_all}
 use Rattle.std.specs.Option.{option_map_or}
 use Rattle.std.specs.Str.{bytes_eq}
-use Rattle.clap.specs.Words.{App, Rule, Row, Text, HasKind, kind_of, fault_of, first_of, new_app, new_rule, with_rule, with_subcommand, subcommand_of}
+use Rattle.clap.specs.Words.{App, Rule, Row, Text, HasKind, app_of, kind_of, fault_of, first_of, new_app, new_rule, with_rule, with_subcommand, subcommand_of}
+use Rattle.clap.specs.declared.builder.command.Command.{Command}
+use Rattle.clap.specs.declared.builder.command.Command.TheViews.{out-Command as fields_of}
 use Rattle.clap.specs.declared.builder.action.ArgAction.TheVariants.{SetTrue}
 use Rattle.clap.specs.declared.error.Error.{Error}
 use Rattle.clap.specs.declared.error.kind.ErrorKind.TheVariants.{MissingRequiredArgument}
@@ -23,32 +25,47 @@ option_with_word name = record (new_rule name) { long = Some name; value_names =
 abbrev pub flag : Text → Rule
 flag name = record (new_rule name) { long = Some name; action = Some SetTrue }
 
+-- a command becomes another: it takes these words too, where none of its arguments is global, and then none is after it
+pub record Grows (old : Command) (grown : App → App) (new : Command) : Type 0 where
+  pub shape : (fields_of old).has_globals ≡ false → app_of new ≡ grown (app_of old)
+  pub local : (fields_of old).has_globals ≡ false → (fields_of new).has_globals ≡ false
+
 -- the commands
+-- the last words of each: whether a fault is explained, and the plan
+abbrev pub with_plan : App → App
+with_plan line = with_rule (with_rule line (flag (codes "explain"))) (optional_word (codes "FILE"))
+
+-- the forms of an answer
+abbrev pub with_forms : App → App
+with_forms line = with_rule (with_rule line (flag (codes "lines"))) (flag (codes "json"))
+
+abbrev pub with_large : App → App
+with_large line = with_plan (with_rule line (flag (codes "large")))
+
 abbrev pub check_line : App
-check_line = with_rule (with_rule (new_app (codes "check")) (flag (codes "large"))) (optional_word (codes "FILE"))
+check_line = with_large (with_forms (new_app (codes "check")))
 
 abbrev pub replay_line : App
 replay_line =
-    with_rule (with_rule (with_rule (with_rule (with_rule (with_rule (new_app (codes "replay"))
-    (option_with_word (codes "workers"))) (flag (codes "json"))) (flag (codes "anyway"))) (flag (codes "complete"))) (flag (codes "large")))
-    (optional_word (codes "FILE"))
+    with_large (with_rule (with_rule (with_rule (with_rule (new_app (codes "replay"))
+    (option_with_word (codes "workers"))) (flag (codes "json"))) (flag (codes "anyway"))) (flag (codes "complete")))
 
 abbrev pub follow_line : App
-follow_line = with_rule (with_rule (with_rule (new_app (codes "follow")) (needed_word (codes "ORDER"))) (flag (codes "large"))) (optional_word (codes "FILE"))
+follow_line = with_large (with_rule (with_rule (new_app (codes "follow")) (needed_word (codes "ORDER"))) (flag (codes "json")))
 
 abbrev pub why_line : App
 why_line =
-    with_rule (with_rule (with_rule (with_rule (with_rule (with_rule (new_app (codes "why"))
-    (needed_word (codes "P"))) (needed_word (codes "N"))) (needed_word (codes "Q"))) (needed_word (codes "M"))) (flag (codes "large"))) (optional_word (codes "FILE"))
+    with_large (with_rule (with_rule (with_rule (with_rule (with_rule (new_app (codes "why"))
+    (needed_word (codes "P"))) (needed_word (codes "N"))) (needed_word (codes "Q"))) (needed_word (codes "M"))) (flag (codes "json")))
 
 abbrev pub migrate_line : App
-migrate_line = with_rule (with_rule (new_app (codes "migrate")) (flag (codes "large"))) (optional_word (codes "FILE"))
+migrate_line = with_large (new_app (codes "migrate"))
 
 abbrev pub witness_line : App
 witness_line =
-    with_rule (with_rule (with_rule (with_rule (with_rule (with_rule (with_rule (with_rule (new_app (codes "witness"))
-    (flag (codes "first"))) (flag (codes "second"))) (option_with_word (codes "most")))
-    (optional_word (codes "P"))) (optional_word (codes "N"))) (optional_word (codes "Q"))) (optional_word (codes "M"))) (optional_word (codes "FILE"))
+    with_plan (with_rule (with_rule (with_rule (with_rule (with_rule (with_rule (with_rule (with_rule (new_app (codes "witness"))
+    (flag (codes "first"))) (flag (codes "second"))) (option_with_word (codes "most"))) (flag (codes "json")))
+    (optional_word (codes "P"))) (optional_word (codes "N"))) (optional_word (codes "Q"))) (optional_word (codes "M")))
 
 -- the program: it needs one of the six, and has a version
 abbrev pub program_alone : App
@@ -93,10 +110,15 @@ pub record SaidBy (name : Text) (rows : List Row) (asked : Asked) : Type 0 where
   pub command : asked.command.now ≡ name
   pub words : map (λ w. w.now) asked.words.items ≡ words_given rows
   pub workers : asked.workers.now ≡ workers_word rows
+  pub most : asked.most.now ≡ most_word rows
+  pub lines : asked.lines ≡ is_set (codes "lines") rows
   pub json : asked.json ≡ is_set (codes "json") rows
   pub anyway : asked.anyway ≡ is_set (codes "anyway") rows
   pub complete : asked.complete ≡ is_set (codes "complete") rows
+  pub first : asked.first ≡ is_set (codes "first") rows
+  pub second : asked.second ≡ is_set (codes "second") rows
   pub large : asked.large ≡ is_set (codes "large") rows
+  pub explain : asked.explain ≡ is_set (codes "explain") rows
 
 -- what the words of a command line ask for: `clap` finds no fault in them, and it is what its matches for them say, each
 -- needed word among them

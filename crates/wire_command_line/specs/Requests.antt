@@ -37,36 +37,52 @@ has_both one other rows = is_some (first_of one rows) && is_some (first_of other
 abbrev pub is_large : List Row → Bool
 is_large rows = is_set (codes "large") rows
 
--- which orders two flags ask for, nothing where both are given
-abbrev pub orders_of : Bool → Bool → Option Orders
-orders_of false false = Some Both
-orders_of true false = Some OfFirst
-orders_of false true = Some OfSecond
-orders_of true true = None
+-- whether a fault is to be explained
+abbrev pub is_explained : List Row → Bool
+is_explained rows = is_set (codes "explain") rows
+
+-- whether the answer is to be written with lines of the file, or as JSON
+abbrev pub has_lines : List Row → Bool
+has_lines rows = is_set (codes "lines") rows
+
+abbrev pub has_json : List Row → Bool
+has_json rows = is_set (codes "json") rows
+
+-- which orders two flags ask for, nothing where both are given, or where one is given and JSON is asked for
+abbrev pub orders_of : Bool → Bool → Bool → Option Orders
+orders_of _ false false = Some Both
+orders_of json true false = if json then None else Some OfFirst
+orders_of json false true = if json then None else Some OfSecond
+orders_of _ true true = None
 
 abbrev pub orders_said : List Row → Option Orders
-orders_said rows = orders_of (is_set (codes "first") rows) (is_set (codes "second") rows)
+orders_said rows = orders_of (has_json rows) (is_set (codes "first") rows) (is_set (codes "second") rows)
 
 -- the command of this name requests this, with the words that its matches have: each word is the one that was given by its name
 abbrev pub IsRequest : Text → List Row → Request → Type 0
-IsRequest name rows (Check plan large) = (name ≡ codes "check") × (text_of plan ≡ plan_word rows) × (large ≡ is_large rows)
-IsRequest name rows (Replay plan workers json anyway complete large) =
+IsRequest name rows (Check plan lines json large explain) =
+    (name ≡ codes "check") × (text_of plan ≡ plan_word rows) × (lines ≡ has_lines rows) × (json ≡ has_json rows) × (large ≡ is_large rows) × (explain ≡ is_explained rows)
+IsRequest name rows (Replay plan workers json anyway complete large explain) =
     (name ≡ codes "replay") × (text_of plan ≡ plan_word rows)
     × (Some workers ≡ workers_said (workers_word rows))
-    × (json ≡ is_set (codes "json") rows) × (anyway ≡ is_set (codes "anyway") rows) × (complete ≡ is_set (codes "complete") rows)
-    × (large ≡ is_large rows)
-IsRequest name rows (Follow order plan large) =
-    (name ≡ codes "follow") × (Some order.now ≡ first_of (codes "ORDER") rows) × (text_of plan ≡ plan_word rows) × (large ≡ is_large rows)
-IsRequest name rows (Why first second plan large) =
+    × (json ≡ has_json rows) × (anyway ≡ is_set (codes "anyway") rows) × (complete ≡ is_set (codes "complete") rows)
+    × (large ≡ is_large rows) × (explain ≡ is_explained rows)
+IsRequest name rows (Follow order plan json large explain) =
+    (name ≡ codes "follow") × (Some order.now ≡ first_of (codes "ORDER") rows) × (text_of plan ≡ plan_word rows)
+    × (json ≡ has_json rows) × (large ≡ is_large rows) × (explain ≡ is_explained rows)
+IsRequest name rows (Why first second plan json large explain) =
     (name ≡ codes "why") × NamesCall (codes "P") (codes "N") rows first × NamesCall (codes "Q") (codes "M") rows second
-    × (text_of plan ≡ plan_word rows) × (large ≡ is_large rows)
-IsRequest name rows (Migrate plan large) = (name ≡ codes "migrate") × (text_of plan ≡ plan_word rows) × (large ≡ is_large rows)
-IsRequest name rows (Witness first second orders plan) =
+    × (text_of plan ≡ plan_word rows) × (json ≡ has_json rows) × (large ≡ is_large rows) × (explain ≡ is_explained rows)
+IsRequest name rows (Migrate plan large explain) =
+    (name ≡ codes "migrate") × (text_of plan ≡ plan_word rows) × (large ≡ is_large rows) × (explain ≡ is_explained rows)
+IsRequest name rows (Witness first second orders plan json explain) =
     (name ≡ codes "witness") × NamesCall (codes "P") (codes "N") rows first × NamesCall (codes "Q") (codes "M") rows second
     × (Some orders ≡ orders_said rows) × (first_of (codes "most") rows ≡ None) × (text_of plan ≡ plan_word rows)
-IsRequest name rows (Witnesses most plan) =
+    × (json ≡ has_json rows) × (explain ≡ is_explained rows)
+IsRequest name rows (Witnesses most plan json explain) =
     (name ≡ codes "witness") × (first_of (codes "N") rows ≡ None) × (orders_said rows ≡ Some Both)
     × (Some most ≡ most_said (most_word rows)) × (text_of plan ≡ first_of (codes "P") rows)
+    × (json ≡ has_json rows) × (explain ≡ is_explained rows)
 
 -- the command that the words name requests this
 pub record IsRequestBy (command : Option (Text × List Row)) (request : Request) : Type 0 where
@@ -80,7 +96,7 @@ abbrev pub is_full : Text → List Row → Bool
 is_full name rows =
     list_any (bytes_eq name) (codes "check" ∷ codes "replay" ∷ codes "follow" ∷ codes "why" ∷ codes "migrate" ∷ codes "witness" ∷ []) && has_needed name rows
 
--- the words of `witness` are those of two calls, and no `--most` goes with them
+-- the words of `witness` are those of two calls; one order alone has no other form, and no `--most` goes with them
 abbrev pub is_of_pair : List Row → Bool
 is_of_pair rows =
     has_both (codes "P") (codes "N") rows && has_both (codes "Q") (codes "M") rows && is_some (orders_said rows) && not (is_some (first_of (codes "most") rows))

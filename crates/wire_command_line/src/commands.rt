@@ -4,6 +4,7 @@ ghost use Rattle.std.specs.Prelude.{◌≡◌, false, codes, IfOk, IsOkAnd};
 ghost use Rattle.clap.specs.Words.{AddsSubcommand, app_of, rule_of};
 ghost use Rattle.clap.specs.declared.builder.command.Command.TheViews.{out-Command as fields_of};
 ghost use Rattle.wire_command_line.specs.CommandLine as spec;
+ghost use Rattle.wire_command_line.specs.CommandLine.{Grows};
 
 use crate::help::FAULTS_AND_STATUSES;
 use clap::{Arg, ArgAction, Command};
@@ -11,6 +12,9 @@ use std::alloc::{AllocError, Global};
 
 /// What `--version` shows behind the program's name.
 const VERSION: &str = "0.1.0";
+
+/// What is said of `--json`.
+const JSON: &str = "Writes JSON instead of lines";
 
 /// The file of scripts, which may be left out.
 fn file_argument<'a>(alloc: Global) -> Arg<'a>
@@ -78,32 +82,62 @@ fn optional_argument<'a>(alloc: Global, name: &'a str, help: &'a str) -> Arg<'a>
     Arg::new(alloc, name).help(help)
 }
 
+/// A command with the words that come last: whether a fault is explained, and the file of scripts.
+fn with_plan<'a>(alloc: Global, line: Command<'a>) -> Result<Command<'a>, AllocError>
+    ensures { IfOk result (Grows line.entry spec.with_plan) }
+{
+    let explain = "Explains a fault: quotes the line, and says what was expected there";
+    line.arg(flag(alloc, "explain", explain))?
+        .arg(file_argument(alloc))
+}
+
+/// A command with the option that lifts the limits, and with the words that come last.
+fn with_large<'a>(alloc: Global, line: Command<'a>) -> Result<Command<'a>, AllocError>
+    ensures { IfOk result (Grows line.entry spec.with_large) }
+{
+    let line = line.arg(large_flag(alloc))?;
+    with_plan(alloc, line)
+}
+
+/// A command with the two forms of its answer.
+fn with_forms<'a>(
+    alloc: Global,
+    line: Command<'a>,
+    lines: &'a str,
+) -> Result<Command<'a>, AllocError>
+    ensures { IfOk result (Grows line.entry spec.with_forms) }
+{
+    line.arg(flag(alloc, "lines", lines))?
+        .arg(flag(alloc, "json", JSON))
+}
+
 fn check_command<'a>(alloc: Global) -> Result<Command<'a>, AllocError>
     ensures app { IfOk result (λ c. app_of c ≡ spec.check_line) }
     ensures local { IfOk result (λ c. (fields_of c).has_globals ≡ false) }
 {
-    Command::new(alloc, "check")
-        .about("Finds every race between the scripts, and every key that is put twice")
-        .arg(large_flag(alloc))?
-        .arg(file_argument(alloc))
+    let lines =
+        "Groups findings that are alike, and writes the lines of the file of one pair of each";
+    let line = Command::new(alloc, "check").about(
+        "Finds every race between the scripts, and every key that is put twice",
+    );
+    let line = with_forms(alloc, line, lines)?;
+    with_large(alloc, line)
 }
 
 fn replay_command<'a>(alloc: Global) -> Result<Command<'a>, AllocError>
     ensures app { IfOk result (λ c. app_of c ≡ spec.replay_line) }
     ensures local { IfOk result (λ c. (fields_of c).has_globals ≡ false) }
 {
-    let json = "Writes JSON instead of lines";
     let anyway = "Runs scripts with findings too, and shows in which order their steps came";
     let complete =
         "Ends with status 1, and names the first such call, if a call fails or is never answered";
-    Command::new(alloc, "replay")
+    let line = Command::new(alloc, "replay")
         .about("Runs the scripts if nothing is found in them, and shows what became of every call")
         .arg(workers_argument(alloc))?
-        .arg(flag(alloc, "json", json))?
+        .arg(flag(alloc, "json", JSON))?
         .arg(flag(alloc, "anyway", anyway))?
-        .arg(flag(alloc, "complete", complete))?
-        .arg(large_flag(alloc))?
-        .arg(file_argument(alloc))
+        .arg(flag(alloc, "complete", complete))?;
+    with_large(alloc, line)
 }
 
 fn follow_command<'a>(alloc: Global) -> Result<Command<'a>, AllocError>
@@ -111,11 +145,11 @@ fn follow_command<'a>(alloc: Global) -> Result<Command<'a>, AllocError>
     ensures local { IfOk result (λ c. (fields_of c).has_globals ≡ false) }
 {
     let order = "The file of the order: each line names the process that takes the next step";
-    Command::new(alloc, "follow")
+    let line = Command::new(alloc, "follow")
         .about("Runs the scripts in the order of a file, and shows what became of every call")
         .arg(needed_argument(alloc, "ORDER", order))?
-        .arg(large_flag(alloc))?
-        .arg(file_argument(alloc))
+        .arg(flag(alloc, "json", JSON))?;
+    with_large(alloc, line)
 }
 
 fn why_command<'a>(alloc: Global) -> Result<Command<'a>, AllocError>
@@ -125,24 +159,24 @@ fn why_command<'a>(alloc: Global) -> Result<Command<'a>, AllocError>
     let about = "Tells whether a chain of events orders two calls, and shows the chain";
     let first = "The process of the first call: its job, a colon and its rank, as app:0";
     let number = "The number of that call among the calls of its process, from 1";
-    Command::new(alloc, "why")
+    let line = Command::new(alloc, "why")
         .about(about)
         .arg(needed_argument(alloc, "P", first))?
         .arg(needed_argument(alloc, "N", number))?
         .arg(needed_argument(alloc, "Q", "The process of the second call"))?
         .arg(needed_argument(alloc, "M", "The number of that call"))?
-        .arg(large_flag(alloc))?
-        .arg(file_argument(alloc))
+        .arg(flag(alloc, "json", JSON))?;
+    with_large(alloc, line)
 }
 
 fn migrate_command<'a>(alloc: Global) -> Result<Command<'a>, AllocError>
     ensures app { IfOk result (λ c. app_of c ≡ spec.migrate_line) }
     ensures local { IfOk result (λ c. (fields_of c).has_globals ≡ false) }
 {
-    Command::new(alloc, "migrate")
-        .about("Writes the same scripts under version 2 of the format")
-        .arg(large_flag(alloc))?
-        .arg(file_argument(alloc))
+    let line = Command::new(alloc, "migrate").about(
+        "Writes the same scripts under version 2 of the format",
+    );
+    with_large(alloc, line)
 }
 
 fn witness_command<'a>(alloc: Global) -> Result<Command<'a>, AllocError>
@@ -156,16 +190,17 @@ fn witness_command<'a>(alloc: Global) -> Result<Command<'a>, AllocError>
     let second =
         "Writes only the order of the run in which the second call comes first, for 'follow'";
     let proc = "The process of the first call, as in 'why'; or FILE, if it is the only word";
-    Command::new(alloc, "witness")
+    let line = Command::new(alloc, "witness")
         .about(about)
         .arg(flag(alloc, "first", first))?
         .arg(flag(alloc, "second", second))?
         .arg(most_argument(alloc))?
+        .arg(flag(alloc, "json", JSON))?
         .arg(optional_argument(alloc, "P", proc))?
         .arg(optional_argument(alloc, "N", "The number of that call"))?
         .arg(optional_argument(alloc, "Q", "The process of the second call"))?
-        .arg(optional_argument(alloc, "M", "The number of that call"))?
-        .arg(file_argument(alloc))
+        .arg(optional_argument(alloc, "M", "The number of that call"))?;
+    with_plan(alloc, line)
 }
 
 /// The program without its commands.

@@ -110,10 +110,15 @@ fn asked_by<'a>(
         command,
         words: words_given(alloc, found)?,
         workers: workers_given(found),
+        most: most_given(found),
+        lines: is_set(found, "lines"),
         json: is_set(found, "json"),
         anyway: is_set(found, "anyway"),
         complete: is_set(found, "complete"),
+        first: is_set(found, "first"),
+        second: is_set(found, "second"),
         large: is_set(found, "large"),
+        explain: is_set(found, "explain"),
     })
 }
 

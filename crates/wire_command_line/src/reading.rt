@@ -46,7 +46,10 @@ fn read_check<'a>(found: &ArgMatches<'a>) -> Request<'a>
 {
     Request::Check {
         plan: find_word(found, "FILE"),
+        lines: is_set(found, "lines"),
+        json: is_set(found, "json"),
         large: is_set(found, "large"),
+        explain: is_set(found, "explain"),
     }
 }
 
@@ -57,6 +60,7 @@ fn read_migrate<'a>(found: &ArgMatches<'a>) -> Request<'a>
     Request::Migrate {
         plan: find_word(found, "FILE"),
         large: is_set(found, "large"),
+        explain: is_set(found, "explain"),
     }
 }
 
@@ -75,6 +79,7 @@ fn read_replay<'a>(found: &ArgMatches<'a>) -> Option<Request<'a>>
         anyway: is_set(found, "anyway"),
         complete: is_set(found, "complete"),
         large: is_set(found, "large"),
+        explain: is_set(found, "explain"),
     })
 }
 
@@ -89,7 +94,9 @@ fn read_follow<'a>(found: &ArgMatches<'a>) -> Option<Request<'a>>
     Some(Request::Follow {
         order,
         plan: find_word(found, "FILE"),
+        json: is_set(found, "json"),
         large: is_set(found, "large"),
+        explain: is_set(found, "explain"),
     })
 }
 
@@ -108,19 +115,22 @@ fn read_why<'a>(found: &ArgMatches<'a>) -> Option<Request<'a>>
         first,
         second,
         plan: find_word(found, "FILE"),
+        json: is_set(found, "json"),
         large: is_set(found, "large"),
+        explain: is_set(found, "explain"),
     })
 }
 
-/// Which orders `witness` is to write, where not both are asked for by themselves.
+/// Which orders `witness` is to write, where not both are asked for by themselves, nor one as JSON.
 fn read_orders(found: &ArgMatches<'_>) -> Option<Orders>
     ensures { result ≡ spec.orders_said (rows_of (found_of found.now)) }
 {
+    let json = is_set(found, "json");
     match (is_set(found, "first"), is_set(found, "second")) {
         (false, false) => Some(Orders::Both),
-        (true, false) => Some(Orders::OfFirst),
-        (false, true) => Some(Orders::OfSecond),
-        (true, true) => None,
+        (true, false) if !json => Some(Orders::OfFirst),
+        (false, true) if !json => Some(Orders::OfSecond),
+        _ => None,
     }
 }
 
@@ -146,6 +156,8 @@ fn read_pair<'a>(found: &ArgMatches<'a>) -> Option<Request<'a>>
         second,
         orders,
         plan: find_word(found, "FILE"),
+        json: is_set(found, "json"),
+        explain: is_set(found, "explain"),
     })
 }
 
@@ -164,6 +176,8 @@ fn read_all<'a>(found: &ArgMatches<'a>) -> Option<Request<'a>>
     Some(Request::Witnesses {
         most,
         plan: find_word(found, "P"),
+        json: is_set(found, "json"),
+        explain: is_set(found, "explain"),
     })
 }
 

@@ -28,52 +28,68 @@ pub enum Request<'a> {
     /// Finds the races of a plan.
     Check {
         plan: Option<&'a str>,
+        /// The line of the file is written for each call, and findings that are alike are grouped.
+        lines: bool,
+        /// JSON in place of lines of text.
+        json: bool,
         /// The large limits hold, in place of those of the plan's version.
         large: bool,
+        /// A fault is explained.
+        explain: bool,
     },
     /// Runs a plan.
     Replay {
         plan: Option<&'a str>,
         /// 65 for every greater number.
         workers: usize,
-        /// JSON in place of lines.
         json: bool,
         /// Plans in which something is found are run too.
         anyway: bool,
         /// The first call that doesn't succeed is named.
         complete: bool,
         large: bool,
+        explain: bool,
     },
     /// Runs a plan in the order of a file.
     Follow {
         order: &'a str,
         plan: Option<&'a str>,
+        json: bool,
         large: bool,
+        explain: bool,
     },
     /// Tells which of two calls is before the other.
     Why {
         first: CallWords<'a>,
         second: CallWords<'a>,
         plan: Option<&'a str>,
+        json: bool,
         large: bool,
+        explain: bool,
     },
     /// Writes a plan under version 2 of the format.
     Migrate {
         plan: Option<&'a str>,
         large: bool,
+        explain: bool,
     },
     /// Shows the race of two calls by two runs.
     Witness {
         first: CallWords<'a>,
         second: CallWords<'a>,
+        /// An order alone never comes with `json`.
         orders: Orders,
         plan: Option<&'a str>,
+        json: bool,
+        explain: bool,
     },
     /// Tells which races two runs show.
     Witnesses {
         /// How many races are tried, 1,000,000,000 for every greater number.
         most: usize,
         plan: Option<&'a str>,
+        json: bool,
+        explain: bool,
     },
 }
 

@@ -1,15 +1,20 @@
 //! What a command line asks for.
 
-/// What was asked for: a command, its words in order, and the options of `replay`, `--large` among them. Those of `witness`
-/// are read where its request is made.
+/// What was asked for: a command, its words in order, and the options of all commands.
 #[derive(Debug, Drop)]
 pub struct Asked<'a> {
     pub command: &'a str,
     pub words: Vec<&'a str>,
     /// The word of `--workers`, `1` where none was given.
     pub workers: &'a str,
+    /// The word of `--most`, `1000` where none was given.
+    pub most: &'a str,
+    pub lines: bool,
     pub json: bool,
     pub anyway: bool,
     pub complete: bool,
+    pub first: bool,
+    pub second: bool,
     pub large: bool,
+    pub explain: bool,
 }

@@ -92,9 +92,9 @@ pub no_read_of_steps : (s : Scripts) (steps : List ℕ) (e : Fault) → (e ≡ M
 no_read_of_steps s steps e (inl memory) is = let bad : Memory ≡ Read = sym memory ∙ is in cc
 no_read_of_steps s steps e (inr stops) is = let bad : NotReady (suc stops.n) ≡ Read = sym stops.is ∙ is in cc
 
-pub followed_ok : {size : Size} (coming order_coming old new : Option (List ℕ)) (s : Scripts) (order shown : List Proc) (text out : List ℕ) (r : Result (Unit {0}) Fault) → shown ≡ order → ReadAs size coming s →
-    OrdersAs size order_coming s (numbers_of order) → LeadsTo s (numbers_of shown) text → out ≡ text → OnOk r (Appends old new out) → OnOk r (WritesFollowed size coming order_coming old new)
-followed_ok coming order_coming old new s order shown text out (Ok x) same read orders (enabled, is) at wrote =
+pub followed_ok : {size : Size} (json : Bool) (coming order_coming old new : Option (List ℕ)) (s : Scripts) (order shown : List Proc) (text out : List ℕ) (r : Result (Unit {0}) Fault) → shown ≡ order → ReadAs size coming s →
+    OrdersAs size order_coming s (numbers_of order) → LeadsTo json s (numbers_of shown) text → out ≡ text → OnOk r (Appends old new out) → OnOk r (WritesFollowed size json coming order_coming old new)
+followed_ok json coming order_coming old new s order shown text out (Ok x) same read orders (enabled, is) at wrote =
     record {
       scripts = s;
       steps = numbers_of shown;
@@ -102,13 +102,13 @@ followed_ok coming order_coming old new s order shown text out (Ok x) same read 
       enabled = enabled;
       wrote = subst (λ t. Appends old new t) (at ∙ is) wrote;
     }
-followed_ok coming order_coming old new s order shown text out (Err e) same read orders leads at wrote = tt
+followed_ok json coming order_coming old new s order shown text out (Err e) same read orders leads at wrote = tt
 
-pub followed_err : {size : Size} (coming order_coming old new : Option (List ℕ)) (s : Scripts) (order shown : List Proc) (text out : List ℕ) (kept failed : Type 0) (r : Result (Unit {0}) Fault) → shown ≡ order →
-    ReadAs size coming s → OrdersAs size order_coming s (numbers_of order) → LeadsTo s (numbers_of shown) text → out ≡ text → IfErr r (WritesFront old new out) → IfErr r (λ _. failed)
-    → IfErr r (λ e. (StopsBefore size coming order_coming e × kept) ⊎ (BreaksOffFollowed size coming order_coming old new e × failed))
-followed_err coming order_coming old new s order shown text out kept failed (Ok x) same read orders leads at front count = tt
-followed_err coming order_coming old new s order shown text out kept failed (Err e) same read orders (enabled, is) at front count =
+pub followed_err : {size : Size} (json : Bool) (coming order_coming old new : Option (List ℕ)) (s : Scripts) (order shown : List Proc) (text out : List ℕ) (kept failed : Type 0) (r : Result (Unit {0}) Fault) → shown ≡ order →
+    ReadAs size coming s → OrdersAs size order_coming s (numbers_of order) → LeadsTo json s (numbers_of shown) text → out ≡ text → IfErr r (WritesFront old new out) → IfErr r (λ _. failed)
+    → IfErr r (λ e. (StopsBefore size coming order_coming e × kept) ⊎ (BreaksOffFollowed size json coming order_coming old new e × failed))
+followed_err json coming order_coming old new s order shown text out kept failed (Ok x) same read orders leads at front count = tt
+followed_err json coming order_coming old new s order shown text out kept failed (Err e) same read orders (enabled, is) at front count =
     inr (
       record {
         scripts = s;

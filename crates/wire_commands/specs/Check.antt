@@ -1,5 +1,5 @@
 -- What a check writes: all findings of the scripts that were to come from the reader.
-use Rattle.std.specs.Prelude.{◌≡◌, ◌⊎◌, ◌↔◌, ℕ, List, [], ◌∷◌, Option, length}
+use Rattle.std.specs.Prelude.{◌≡◌, ◌⊎◌, ◌↔◌, ℕ, Bool, List, [], ◌∷◌, Option, length}
 use Rattle.std.specs.Io.KnownBytes.{Appends}
 use Rattle.wire_types.specs.Front.{WritesFront}
 use Rattle.wire_types.specs.declared.Fault.{Fault}
@@ -12,7 +12,7 @@ use Rattle.wire_runs.specs.Plan.{Plan}
 use Rattle.wire_runs.specs.Laws.{HasOneEnd, AreUnordered}
 use Rattle.wire_races.specs.declared.finding.Finding.{Finding}
 use Rattle.wire_races.specs.Findings.{AreFindings, all_shown}
-use Rattle.wire_report.specs.Findings.{findings_report}
+use Rattle.wire_report.specs.Findings.{findings_form}
 use Rattle.wire_script.specs.declared.Size.{Size}
 use Rattle.wire_commands.specs.declared.checking.Ended.{Ended}
 use Rattle.wire_commands.specs.declared.checking.Ended.TheVariants.{Clean, Found}
@@ -41,23 +41,23 @@ pub record IsJudged (scripts : Scripts) (found : List Finding) (ended : Ended) :
   pub one_end : ended ≡ Clean → HasOneEnd (plan_of scripts)
   pub unordered : NoneIsOrdered (plan_of scripts) found
 
--- the text of all findings of the scripts, and how a check of them ends
-pub record IsVerdict (scripts : Scripts) (ended : Ended) (text : List ℕ) : Type 0 where
+-- the text of all findings of the scripts, in lines or as JSON, and how a check of them ends
+pub record IsVerdict (json : Bool) (scripts : Scripts) (ended : Ended) (text : List ℕ) : Type 0 where
   pub found : List Finding
   pub judged : IsJudged scripts found ended
-  pub tells : text ≡ findings_report scripts found
+  pub tells : text ≡ findings_form json scripts found
 
 -- all of the findings of the scripts went out
-pub record WritesVerdict (scripts : Scripts) (ended : Ended) (old new : Option (List ℕ)) : Type 0 where
+pub record WritesVerdict (json : Bool) (scripts : Scripts) (ended : Ended) (old new : Option (List ℕ)) : Type 0 where
   pub text : List ℕ
-  pub verdict : IsVerdict scripts ended text
+  pub verdict : IsVerdict json scripts ended text
   pub wrote : Appends old new text
 
 -- exactly as many bytes of the findings of the scripts went out as the fault says, which aren't all of them
-pub record BreaksOffVerdict (scripts : Scripts) (old new : Option (List ℕ)) (fault : Fault) : Type 0 where
+pub record BreaksOffVerdict (json : Bool) (scripts : Scripts) (old new : Option (List ℕ)) (fault : Fault) : Type 0 where
   pub ended : Ended
   pub text : List ℕ
-  pub verdict : IsVerdict scripts ended text
+  pub verdict : IsVerdict json scripts ended text
   pub wrote : WritesFront old new text fault
 
 -- what was to come read as scripts, and every interleaving of their plan that can't go on ends in one state, the plain run's: the
@@ -68,16 +68,16 @@ pub record EndsInOneState (size : Size) (coming : Option (List ℕ)) : Type 0 wh
   pub one_end : HasOneEnd (plan_of scripts)
 
 -- all of the findings of what was to come went out
-pub record WritesFindings (size : Size) (coming : Option (List ℕ)) (ended : Ended) (old new : Option (List ℕ)) : Type 0 where
+pub record WritesFindings (size : Size) (json : Bool) (coming : Option (List ℕ)) (ended : Ended) (old new : Option (List ℕ)) : Type 0 where
   pub scripts : Scripts
   pub read : ReadAs size coming scripts
-  pub wrote : WritesVerdict scripts ended old new
+  pub wrote : WritesVerdict json scripts ended old new
 
 -- exactly as many bytes of the findings went out as the fault says, which aren't all of them
-pub record BreaksOffFindings (size : Size) (coming old new : Option (List ℕ)) (fault : Fault) : Type 0 where
+pub record BreaksOffFindings (size : Size) (json : Bool) (coming old new : Option (List ℕ)) (fault : Fault) : Type 0 where
   pub scripts : Scripts
   pub read : ReadAs size coming scripts
-  pub broke : BreaksOffVerdict scripts old new fault
+  pub broke : BreaksOffVerdict json scripts old new fault
 
 -- why nothing is written: memory ran out, a read failed, or the file is refused
 abbrev pub StopsBeforeFindings : Size → Option (List ℕ) → Fault → Type 0

@@ -1,5 +1,5 @@
 -- What following an order of steps writes: the report of the state to which the steps lead.
-use Rattle.std.specs.Prelude.{◌≡◌, ℕ, suc, List, Option, Some, Ok, Err, ◌⊎◌, false, take, slice_get}
+use Rattle.std.specs.Prelude.{◌≡◌, ℕ, suc, Bool, List, Option, Some, Ok, Err, ◌⊎◌, false, take, slice_get}
 use Rattle.std.specs.Io.KnownBytes.{Appends}
 use Rattle.wire_types.specs.Front.{WritesFront}
 use Rattle.wire_types.specs.declared.Fault.{Fault}
@@ -11,12 +11,12 @@ use Rattle.wire_order.specs.Order.{order_read}
 use Rattle.wire_runs.specs.State.{start}
 use Rattle.wire_runs.specs.Step.{is_enabled, run, IsInterleaving}
 use Rattle.wire_core.specs.EndsAfter.{ends_after}
-use Rattle.wire_report.specs.Report.{report}
+use Rattle.wire_report.specs.Report.{report_form}
 use Rattle.wire_commands.specs.Plain.{WereComing, ReadAs, Refuses}
 
--- the report of the state after these steps
-abbrev pub report_after : Scripts → List ℕ → List ℕ
-report_after scripts steps = report scripts (ends_after scripts steps)
+-- the report of the state after these steps, in lines or as JSON
+abbrev pub report_after : Bool → Scripts → List ℕ → List ℕ
+report_after json scripts steps = report_form json scripts (ends_after scripts steps)
 
 -- what was to come read as an order of these steps of the scripts
 pub record OrdersAs (size : Size) (coming : Option (List ℕ)) (scripts : Scripts) (steps : List ℕ) : Type 0 where
@@ -45,20 +45,20 @@ pub record OrderedAs (size : Size) (coming order_coming : Option (List ℕ)) (sc
   pub order : OrdersAs size order_coming scripts steps
 
 -- each step was enabled when it came, and all of the report of the state after them went out
-pub record WritesFollowed (size : Size) (coming order_coming old new : Option (List ℕ)) : Type 0 where
+pub record WritesFollowed (size : Size) (json : Bool) (coming order_coming old new : Option (List ℕ)) : Type 0 where
   pub scripts : Scripts
   pub steps : List ℕ
   pub ordered : OrderedAs size coming order_coming scripts steps
   pub enabled : IsInterleaving (plan_of scripts) start steps
-  pub wrote : Appends old new (report_after scripts steps)
+  pub wrote : Appends old new (report_after json scripts steps)
 
 -- and of that report exactly as many bytes went out as the fault says, which aren't all of it
-pub record BreaksOffFollowed (size : Size) (coming order_coming old new : Option (List ℕ)) (fault : Fault) : Type 0 where
+pub record BreaksOffFollowed (size : Size) (json : Bool) (coming order_coming old new : Option (List ℕ)) (fault : Fault) : Type 0 where
   pub scripts : Scripts
   pub steps : List ℕ
   pub ordered : OrderedAs size coming order_coming scripts steps
   pub enabled : IsInterleaving (plan_of scripts) start steps
-  pub wrote : WritesFront old new (report_after scripts steps) fault
+  pub wrote : WritesFront old new (report_after json scripts steps) fault
 
 -- the file reads as scripts, and the order has this fault
 pub record RefusesOrder (size : Size) (coming order_coming : Option (List ℕ)) (fault : Fault) : Type 0 where

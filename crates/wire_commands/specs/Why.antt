@@ -1,5 +1,5 @@
 -- What a question writes: whether one call is before another, and the chain that shows it.
-use Rattle.std.specs.Prelude.{◌≡◌, ℕ, List, [], Option, Result, Ok, Err, ◌⊎◌, slice_index_or}
+use Rattle.std.specs.Prelude.{◌≡◌, ℕ, Bool, List, [], Option, Result, Ok, Err, ◌⊎◌, slice_index_or}
 use Rattle.std.specs.Io.KnownBytes.{Appends}
 use Rattle.wire_types.specs.Front.{WritesFront}
 use Rattle.wire_types.specs.declared.CallAt.{CallAt}
@@ -18,27 +18,27 @@ word_at words n = slice_index_or words n []
 abbrev pub Asks : Scripts → List (List ℕ) → Result (CallAt × CallAt) Fault → Type 0
 Asks scripts words named = QuestionReads scripts (word_at words 0) (word_at words 1) (word_at words 2) (word_at words 3) named
 
--- the words name two calls of the scripts, and the text tells their order
-pub record Answers (scripts : Scripts) (words : List (List ℕ)) (text : List ℕ) : Type 0 where
+-- the words name two calls of the scripts, and the text tells their order, in lines or as JSON
+pub record Answers (json : Bool) (scripts : Scripts) (words : List (List ℕ)) (text : List ℕ) : Type 0 where
   pub x : CallAt
   pub y : CallAt
   pub asks : Asks scripts words (Ok (x, y))
-  pub tells : IsChainText scripts x y text
+  pub tells : IsChainText json scripts x y text
 
 -- all of the answer went out
-pub record WritesAnswer (size : Size) (coming : Option (List ℕ)) (words : List (List ℕ)) (old new : Option (List ℕ)) : Type 0 where
+pub record WritesAnswer (size : Size) (json : Bool) (coming : Option (List ℕ)) (words : List (List ℕ)) (old new : Option (List ℕ)) : Type 0 where
   pub scripts : Scripts
   pub read : ReadAs size coming scripts
   pub text : List ℕ
-  pub answers : Answers scripts words text
+  pub answers : Answers json scripts words text
   pub wrote : Appends old new text
 
 -- exactly as many bytes of the answer went out as the fault says, which aren't all of it
-pub record BreaksOffAnswer (size : Size) (coming : Option (List ℕ)) (words : List (List ℕ)) (old new : Option (List ℕ)) (fault : Fault) : Type 0 where
+pub record BreaksOffAnswer (size : Size) (json : Bool) (coming : Option (List ℕ)) (words : List (List ℕ)) (old new : Option (List ℕ)) (fault : Fault) : Type 0 where
   pub scripts : Scripts
   pub read : ReadAs size coming scripts
   pub text : List ℕ
-  pub answers : Answers scripts words text
+  pub answers : Answers json scripts words text
   pub wrote : WritesFront old new text fault
 
 -- the file reads as scripts, and a word of the question has this fault

@@ -1,6 +1,6 @@
 //! A question about two calls of a file of scripts: whether one is before the other.
 
-ghost use Rattle.std.specs.Prelude.{◌≡◌, ◌≢◌, ◌<◌, ◌⊎◌, ℕ, List, Ok, Err, length, map, OnOk, IfOk, IfErr};
+ghost use Rattle.std.specs.Prelude.{◌≡◌, ◌≢◌, ◌<◌, ◌⊎◌, ℕ, List, false, Ok, Err, length, map, OnOk, IfOk, IfErr};
 ghost use Rattle.wire_types.specs.declared.Fault.TheVariants.{Memory, Read};
 ghost use Rattle.wire_types.specs.Counting.{one_more};
 ghost use Rattle.wire_content.specs.Planned.{plan_of};
@@ -8,6 +8,7 @@ ghost use Rattle.wire_runs.specs.Ends.{calls_of};
 ghost use Rattle.wire_report.specs.Chain.{IsChainText};
 ghost use Rattle.wire_commands.specs.Why.{Asks, Answers, WritesAnswer, BreaksOffAnswer, StopsBeforeAnswer};
 
+use crate::form::Form;
 use crate::plain_run::read_scripts;
 use std::alloc::Global;
 use wire_content::Scripts;
@@ -38,33 +39,43 @@ fn calls_named(
     calls_asked(alloc, scripts, question)
 }
 
-/// The text of the order of two calls of a plan.
-fn text_between(alloc: Global, plan: &Plan, x: CallAt, y: CallAt) -> Result<Vec<u8>, Fault>
-    requires x_there { x.call < length (calls_of (plan_of plan.now) x.proc.number) }
-    requires y_there { y.call < length (calls_of (plan_of plan.now) y.proc.number) }
-    ensures ok { IfOk result (λ text. IsChainText plan.now x y text.items) }
+/// The text of the order of two calls of a plan, in lines or as JSON.
+fn text_between(
+    alloc: Global,
+    plan: &Plan,
+    calls: (CallAt, CallAt),
+    json: bool,
+) -> Result<Vec<u8>, Fault>
+    requires x_there { calls.0.call < length (calls_of (plan_of plan.now) calls.0.proc.number) }
+    requires y_there { calls.1.call < length (calls_of (plan_of plan.now) calls.1.proc.number) }
+    ensures ok { IfOk result (λ text. IsChainText json plan.now calls.0 calls.1 text.items) }
     ensures err { IfErr result (λ e. e ≡ Memory) }
 {
     let marks = Marks::of(alloc, plan)?;
-    chain_text(alloc, plan, &marks, x, y)
+    chain_text(alloc, plan, &marks, calls, json)
 }
 
 /// The text of the answer to a question about a plan.
-fn answer_of(alloc: Global, plan: &Plan, words: [&str; 4]) -> Result<Vec<u8>, Fault>
-    ensures ok { IfOk result (λ text. Answers plan.now (map (λ w. w.now) words.entry) text.items) }
+fn answer_of(alloc: Global, plan: &Plan, words: [&str; 4], json: bool) -> Result<Vec<u8>, Fault>
+    ensures ok { IfOk result (λ text. Answers json plan.now (map (λ w. w.now) words.entry) text.items) }
     ensures err { IfErr result (λ e. (e ≡ Memory) ⊎ Asks plan.now (map (λ w. w.now) words.entry) (Err e)) }
 {
-    let (x, y) = calls_named(alloc, plan.scripts(), words)?;
-    text_between(alloc, plan, x, y)
+    let calls = calls_named(alloc, plan.scripts(), words)?;
+    text_between(alloc, plan, calls, json)
 }
 
 /// The text of the answer to a question about scripts.
-fn answer_text(alloc: Global, scripts: Scripts, words: [&str; 4]) -> Result<Vec<u8>, Fault>
-    ensures ok { IfOk result (λ text. Answers scripts (map (λ w. w.now) words.entry) text.items) }
+fn answer_text(
+    alloc: Global,
+    scripts: Scripts,
+    words: [&str; 4],
+    json: bool,
+) -> Result<Vec<u8>, Fault>
+    ensures ok { IfOk result (λ text. Answers json scripts (map (λ w. w.now) words.entry) text.items) }
     ensures err { IfErr result (λ e. (e ≡ Memory) ⊎ Asks scripts (map (λ w. w.now) words.entry) (Err e)) }
 {
     let plan = Plan::build(alloc, scripts)?;
-    let text = answer_of(alloc, &plan, words);
+    let text = answer_of(alloc, &plan, words, json);
     drop(plan);
     text
 }
@@ -85,12 +96,12 @@ pub fn why<R: Source, W: Sink>(
     writer: &mut W,
     words: [&str; 4],
 ) -> Result<(), Fault>
-    ensures ok { OnOk result (WritesAnswer Size.OfVersion (R.coming reader.old) (map (λ w. w.now) words.entry) (W.written writer.old) (W.written writer.new)) }
+    ensures ok { OnOk result (WritesAnswer Size.OfVersion false (R.coming reader.old) (map (λ w. w.now) words.entry) (W.written writer.old) (W.written writer.new)) }
     ensures quiet { OnOk result ((R.failures reader.new ≡ R.failures reader.old) × (W.failures writer.new ≡ W.failures writer.old)) }
 
     // Either nothing was written, or the front of the answer that the fault counts.
     ensures err { IfErr result (λ e. (StopsBeforeAnswer Size.OfVersion (R.coming reader.old) (map (λ w. w.now) words.entry) e × (writer.new ≡ writer.old))
-        ⊎ (BreaksOffAnswer Size.OfVersion (R.coming reader.old) (map (λ w. w.now) words.entry) (W.written writer.old) (W.written writer.new) e
+        ⊎ (BreaksOffAnswer Size.OfVersion false (R.coming reader.old) (map (λ w. w.now) words.entry) (W.written writer.old) (W.written writer.new) e
         × (W.failures writer.new ≡ one_more (W.failures writer.old)))) }
 
     // A failed read is answered only where the reader failed.
@@ -108,19 +119,43 @@ pub fn why_sized<R: Source, W: Sink>(
     writer: &mut W,
     words: [&str; 4],
 ) -> Result<(), Fault>
-    ensures ok { OnOk result (WritesAnswer size (R.coming reader.old) (map (λ w. w.now) words.entry) (W.written writer.old) (W.written writer.new)) }
+    ensures ok { OnOk result (WritesAnswer size false (R.coming reader.old) (map (λ w. w.now) words.entry) (W.written writer.old) (W.written writer.new)) }
     ensures quiet { OnOk result ((R.failures reader.new ≡ R.failures reader.old) × (W.failures writer.new ≡ W.failures writer.old)) }
 
     // Either nothing was written, or the front of the answer that the fault counts.
     ensures err { IfErr result (λ e. (StopsBeforeAnswer size (R.coming reader.old) (map (λ w. w.now) words.entry) e × (writer.new ≡ writer.old))
-        ⊎ (BreaksOffAnswer size (R.coming reader.old) (map (λ w. w.now) words.entry) (W.written writer.old) (W.written writer.new) e
+        ⊎ (BreaksOffAnswer size false (R.coming reader.old) (map (λ w. w.now) words.entry) (W.written writer.old) (W.written writer.new) e
         × (W.failures writer.new ≡ one_more (W.failures writer.old)))) }
 
     // A failed read is answered only where the reader failed.
     ensures read_failed { result ≡ Err Read → R.failures reader.new ≡ one_more (R.failures reader.old) }
     ensures unfailed { IfErr result (λ e. e ≢ Memory → e ≢ Read → R.failures reader.new ≡ R.failures reader.old) }
 {
-    let scripts = read_scripts(alloc, size, reader)?;
-    let text = answer_text(alloc, scripts, words)?;
+    why_in_form(alloc, Form { size, json: false }, reader, writer, words)
+}
+
+/// Answers a question about two calls as `why` does, within the limits of this form's size, and writes the answer in
+/// this form: in lines, or as JSON.
+pub fn why_in_form<R: Source, W: Sink>(
+    alloc: Global,
+    form: Form,
+    reader: &mut R,
+    writer: &mut W,
+    words: [&str; 4],
+) -> Result<(), Fault>
+    ensures ok { OnOk result (WritesAnswer form.size form.json (R.coming reader.old) (map (λ w. w.now) words.entry) (W.written writer.old) (W.written writer.new)) }
+    ensures quiet { OnOk result ((R.failures reader.new ≡ R.failures reader.old) × (W.failures writer.new ≡ W.failures writer.old)) }
+
+    // Either nothing was written, or the front of the answer that the fault counts.
+    ensures err { IfErr result (λ e. (StopsBeforeAnswer form.size (R.coming reader.old) (map (λ w. w.now) words.entry) e × (writer.new ≡ writer.old))
+        ⊎ (BreaksOffAnswer form.size form.json (R.coming reader.old) (map (λ w. w.now) words.entry) (W.written writer.old) (W.written writer.new) e
+        × (W.failures writer.new ≡ one_more (W.failures writer.old)))) }
+
+    // A failed read is answered only where the reader failed.
+    ensures read_failed { result ≡ Err Read → R.failures reader.new ≡ one_more (R.failures reader.old) }
+    ensures unfailed { IfErr result (λ e. e ≢ Memory → e ≢ Read → R.failures reader.new ≡ R.failures reader.old) }
+{
+    let scripts = read_scripts(alloc, form.size, reader)?;
+    let text = answer_text(alloc, scripts, words, form.json)?;
     write_text(writer, text.as_slice())
 }

@@ -1,6 +1,6 @@
 //! The findings of a file of scripts.
 
-ghost use Rattle.std.specs.Prelude.{List, length, ◌≡◌, ◌≢◌, ◌⊎◌, ℕ, Ok, Err, OnOk, IfOk, IfErr};
+ghost use Rattle.std.specs.Prelude.{List, length, ◌≡◌, ◌≢◌, ◌⊎◌, ℕ, false, Ok, Err, OnOk, IfOk, IfErr};
 ghost use Rattle.wire_types.specs.declared.Fault.TheVariants.{Memory, Read};
 ghost use Rattle.wire_types.specs.Counting.{one_more};
 ghost use Rattle.wire_races.specs.declared.finding.Finding.{Finding as Told};
@@ -8,6 +8,7 @@ ghost use Rattle.wire_commands.specs.declared.checking.Ended.TheVariants.{Clean}
 ghost use Rattle.wire_commands.specs.Check as spec;
 ghost use Rattle.wire_commands.specs.Check.{WritesVerdict, BreaksOffVerdict, WritesFindings, EndsInOneState, BreaksOffFindings, StopsBeforeFindings};
 
+use crate::form::Form;
 use crate::plain_run::read_scripts;
 use std::alloc::Global;
 use std::thread::Threads;
@@ -61,18 +62,19 @@ fn check_plan<W: Sink>(
     rt: &(impl Threads + Sync),
     alloc: Global,
     plan: &Plan,
+    json: bool,
     writer: &mut W,
 ) -> Result<Ended, Fault>
-    ensures ok { IfOk result (λ ended. WritesVerdict plan.now ended (W.written writer.old) (W.written writer.new)) }
+    ensures ok { IfOk result (λ ended. WritesVerdict json plan.now ended (W.written writer.old) (W.written writer.new)) }
     ensures quiet { OnOk result (W.failures writer.new ≡ W.failures writer.old) }
     ensures err { IfErr result (λ e. ((e ≡ Memory) × (writer.new ≡ writer.old))
-        ⊎ (BreaksOffVerdict plan.now (W.written writer.old) (W.written writer.new) e × (W.failures writer.new ≡ one_more (W.failures writer.old)))) }
+        ⊎ (BreaksOffVerdict json plan.now (W.written writer.old) (W.written writer.new) e × (W.failures writer.new ≡ one_more (W.failures writer.old)))) }
 {
     let marks = Marks::of(alloc, plan)?;
     let found = finding_list(rt, alloc, plan, &marks)?;
     settled_exactly();
     let ended = Ended::of_count(found.len());
-    write_findings(alloc, plan.scripts(), &found, false, writer)?;
+    write_findings(alloc, plan.scripts(), &found, json, writer)?;
     Ok(ended)
 }
 
@@ -81,15 +83,16 @@ fn check_scripts<W: Sink>(
     rt: &(impl Threads + Sync),
     alloc: Global,
     scripts: Scripts,
+    json: bool,
     writer: &mut W,
 ) -> Result<Ended, Fault>
-    ensures ok { IfOk result (λ ended. WritesVerdict scripts ended (W.written writer.old) (W.written writer.new)) }
+    ensures ok { IfOk result (λ ended. WritesVerdict json scripts ended (W.written writer.old) (W.written writer.new)) }
     ensures quiet { OnOk result (W.failures writer.new ≡ W.failures writer.old) }
     ensures err { IfErr result (λ e. ((e ≡ Memory) × (writer.new ≡ writer.old))
-        ⊎ (BreaksOffVerdict scripts (W.written writer.old) (W.written writer.new) e × (W.failures writer.new ≡ one_more (W.failures writer.old)))) }
+        ⊎ (BreaksOffVerdict json scripts (W.written writer.old) (W.written writer.new) e × (W.failures writer.new ≡ one_more (W.failures writer.old)))) }
 {
     let plan = Plan::build(alloc, scripts)?;
-    let ended = check_plan(rt, alloc, &plan, writer);
+    let ended = check_plan(rt, alloc, &plan, json, writer);
     drop(plan);
     ended
 }
@@ -109,7 +112,7 @@ pub fn check<R: Source, W: Sink>(
     reader: &mut R,
     writer: &mut W,
 ) -> Result<Ended, Fault>
-    ensures ok { IfOk result (λ ended. WritesFindings Size.OfVersion (R.coming reader.old) ended (W.written writer.old) (W.written writer.new)) }
+    ensures ok { IfOk result (λ ended. WritesFindings Size.OfVersion false (R.coming reader.old) ended (W.written writer.old) (W.written writer.new)) }
     ensures quiet { OnOk result ((R.failures reader.new ≡ R.failures reader.old) × (W.failures writer.new ≡ W.failures writer.old)) }
 
     // The headline: where it finds nothing, every interleaving that can't go on ends in one state, the plain run's.
@@ -117,7 +120,7 @@ pub fn check<R: Source, W: Sink>(
 
     // Either nothing was written, or the front of the findings that the fault counts.
     ensures err { IfErr result (λ e. (StopsBeforeFindings Size.OfVersion (R.coming reader.old) e × (writer.new ≡ writer.old))
-        ⊎ (BreaksOffFindings Size.OfVersion (R.coming reader.old) (W.written writer.old) (W.written writer.new) e
+        ⊎ (BreaksOffFindings Size.OfVersion false (R.coming reader.old) (W.written writer.old) (W.written writer.new) e
         × (W.failures writer.new ≡ one_more (W.failures writer.old)))) }
 
     // A failed read is answered only where the reader failed.
@@ -135,7 +138,7 @@ pub fn check_sized<R: Source, W: Sink>(
     reader: &mut R,
     writer: &mut W,
 ) -> Result<Ended, Fault>
-    ensures ok { IfOk result (λ ended. WritesFindings size (R.coming reader.old) ended (W.written writer.old) (W.written writer.new)) }
+    ensures ok { IfOk result (λ ended. WritesFindings size false (R.coming reader.old) ended (W.written writer.old) (W.written writer.new)) }
     ensures quiet { OnOk result ((R.failures reader.new ≡ R.failures reader.old) × (W.failures writer.new ≡ W.failures writer.old)) }
 
     // The headline: where it finds nothing, every interleaving that can't go on ends in one state, the plain run's.
@@ -143,13 +146,40 @@ pub fn check_sized<R: Source, W: Sink>(
 
     // Either nothing was written, or the front of the findings that the fault counts.
     ensures err { IfErr result (λ e. (StopsBeforeFindings size (R.coming reader.old) e × (writer.new ≡ writer.old))
-        ⊎ (BreaksOffFindings size (R.coming reader.old) (W.written writer.old) (W.written writer.new) e
+        ⊎ (BreaksOffFindings size false (R.coming reader.old) (W.written writer.old) (W.written writer.new) e
         × (W.failures writer.new ≡ one_more (W.failures writer.old)))) }
 
     // A failed read is answered only where the reader failed.
     ensures read_failed { result ≡ Err Read → R.failures reader.new ≡ one_more (R.failures reader.old) }
     ensures unfailed { IfErr result (λ e. e ≢ Memory → e ≢ Read → R.failures reader.new ≡ R.failures reader.old) }
 {
-    let scripts = read_scripts(alloc, size, reader)?;
-    check_scripts(rt, alloc, scripts, writer)
+    check_in_form(rt, alloc, Form { size, json: false }, reader, writer)
+}
+
+/// Checks a file of scripts as `check` does, within the limits of this form's size, and writes the findings in this
+/// form: in lines, or as JSON.
+pub fn check_in_form<R: Source, W: Sink>(
+    rt: &(impl Threads + Sync),
+    alloc: Global,
+    form: Form,
+    reader: &mut R,
+    writer: &mut W,
+) -> Result<Ended, Fault>
+    ensures ok { IfOk result (λ ended. WritesFindings form.size form.json (R.coming reader.old) ended (W.written writer.old) (W.written writer.new)) }
+    ensures quiet { OnOk result ((R.failures reader.new ≡ R.failures reader.old) × (W.failures writer.new ≡ W.failures writer.old)) }
+
+    // The headline: where it finds nothing, every interleaving that can't go on ends in one state, the plain run's.
+    ensures one_end { result ≡ Ok Clean → EndsInOneState form.size (R.coming reader.old) }
+
+    // Either nothing was written, or the front of the findings that the fault counts.
+    ensures err { IfErr result (λ e. (StopsBeforeFindings form.size (R.coming reader.old) e × (writer.new ≡ writer.old))
+        ⊎ (BreaksOffFindings form.size form.json (R.coming reader.old) (W.written writer.old) (W.written writer.new) e
+        × (W.failures writer.new ≡ one_more (W.failures writer.old)))) }
+
+    // A failed read is answered only where the reader failed.
+    ensures read_failed { result ≡ Err Read → R.failures reader.new ≡ one_more (R.failures reader.old) }
+    ensures unfailed { IfErr result (λ e. e ≢ Memory → e ≢ Read → R.failures reader.new ≡ R.failures reader.old) }
+{
+    let scripts = read_scripts(alloc, form.size, reader)?;
+    check_scripts(rt, alloc, scripts, form.json, writer)
 }

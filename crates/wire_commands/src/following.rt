@@ -1,6 +1,6 @@
 //! A run of a file of scripts that takes the steps of an order.
 
-ghost use Rattle.std.specs.Prelude.{◌≡◌, ◌≢◌, ◌⊎◌, ℕ, Ok, Err, map, OnOk, IfOk, IfErr};
+ghost use Rattle.std.specs.Prelude.{◌≡◌, ◌≢◌, ◌⊎◌, ℕ, false, Ok, Err, map, OnOk, IfOk, IfErr};
 ghost use Rattle.wire_types.specs.declared.Fault.TheVariants.{Memory, Read, Write};
 ghost use Rattle.wire_types.specs.Counting.{one_more};
 ghost use Rattle.wire_types.specs.Outcome.{ends_of};
@@ -12,6 +12,7 @@ ghost use Rattle.wire_runs.specs.Ends.{outcome};
 ghost use Rattle.wire_commands.specs.Plain.{ReadAs};
 ghost use Rattle.wire_commands.specs.Follow.{WritesFollowed, BreaksOffFollowed, StopsBefore, OrdersAs, RefusesSteps, StopsAfter, report_after};
 
+use crate::form::Form;
 use crate::plain_run::read_scripts;
 use crate::reading::read_up_to;
 use std::alloc::Global;
@@ -52,24 +53,29 @@ fn outcome_after(alloc: Global, plan: &Plan, order: &[Proc]) -> Result<Outcome, 
     core.outcome(alloc)
 }
 
-/// The report of the state after these steps of a plan.
-fn report_of(alloc: Global, plan: &Plan, order: &[Proc]) -> Result<Vec<u8>, Fault>
+/// The report of the state after these steps of a plan, in lines or as JSON.
+fn report_of(alloc: Global, plan: &Plan, order: &[Proc], json: bool) -> Result<Vec<u8>, Fault>
     ensures ok { IfOk result (λ text. IsInterleaving (plan_of plan.now) start (numbers_of order.now)
-        × (text.items ≡ report_after plan.now (numbers_of order.now))) }
+        × (text.items ≡ report_after json plan.now (numbers_of order.now))) }
     ensures err { IfErr result (λ e. (e ≡ Memory) ⊎ StopsAfter plan.now (numbers_of order.now) e) }
 {
     let outcome = outcome_after(alloc, plan, order)?;
-    report_text(alloc, plan.scripts(), &outcome, false)
+    report_text(alloc, plan.scripts(), &outcome, json)
 }
 
 /// The report of the state after these steps of scripts.
-fn followed_text(alloc: Global, scripts: Scripts, order: &[Proc]) -> Result<Vec<u8>, Fault>
+fn followed_text(
+    alloc: Global,
+    scripts: Scripts,
+    order: &[Proc],
+    json: bool,
+) -> Result<Vec<u8>, Fault>
     ensures ok { IfOk result (λ text. IsInterleaving (plan_of scripts) start (numbers_of order.now)
-        × (text.items ≡ report_after scripts (numbers_of order.now))) }
+        × (text.items ≡ report_after json scripts (numbers_of order.now))) }
     ensures err { IfErr result (λ e. (e ≡ Memory) ⊎ StopsAfter scripts (numbers_of order.now) e) }
 {
     let plan = Plan::build(alloc, scripts)?;
-    let text = report_of(alloc, &plan, order);
+    let text = report_of(alloc, &plan, order, json);
     drop(plan);
     text
 }
@@ -88,13 +94,13 @@ pub fn follow<R: Source, O: Source, W: Sink>(
     order_reader: &mut O,
     writer: &mut W,
 ) -> Result<(), Fault>
-    ensures ok { OnOk result (WritesFollowed Size.OfVersion (R.coming reader.old) (O.coming order_reader.old) (W.written writer.old) (W.written writer.new)) }
+    ensures ok { OnOk result (WritesFollowed Size.OfVersion false (R.coming reader.old) (O.coming order_reader.old) (W.written writer.old) (W.written writer.new)) }
     ensures quiet { OnOk result ((R.failures reader.new ≡ R.failures reader.old) × (O.failures order_reader.new ≡ O.failures order_reader.old)
         × (W.failures writer.new ≡ W.failures writer.old)) }
 
     // Either nothing was written, or the front of the report that the fault counts.
     ensures err { IfErr result (λ e. (StopsBefore Size.OfVersion (R.coming reader.old) (O.coming order_reader.old) e × (writer.new ≡ writer.old))
-        ⊎ (BreaksOffFollowed Size.OfVersion (R.coming reader.old) (O.coming order_reader.old) (W.written writer.old) (W.written writer.new) e
+        ⊎ (BreaksOffFollowed Size.OfVersion false (R.coming reader.old) (O.coming order_reader.old) (W.written writer.old) (W.written writer.new) e
         × (W.failures writer.new ≡ one_more (W.failures writer.old)))) }
 
     // A failed read is answered only where a reader failed, that of the order only where the file reads.
@@ -114,13 +120,13 @@ pub fn follow_sized<R: Source, O: Source, W: Sink>(
     order_reader: &mut O,
     writer: &mut W,
 ) -> Result<(), Fault>
-    ensures ok { OnOk result (WritesFollowed size (R.coming reader.old) (O.coming order_reader.old) (W.written writer.old) (W.written writer.new)) }
+    ensures ok { OnOk result (WritesFollowed size false (R.coming reader.old) (O.coming order_reader.old) (W.written writer.old) (W.written writer.new)) }
     ensures quiet { OnOk result ((R.failures reader.new ≡ R.failures reader.old) × (O.failures order_reader.new ≡ O.failures order_reader.old)
         × (W.failures writer.new ≡ W.failures writer.old)) }
 
     // Either nothing was written, or the front of the report that the fault counts.
     ensures err { IfErr result (λ e. (StopsBefore size (R.coming reader.old) (O.coming order_reader.old) e × (writer.new ≡ writer.old))
-        ⊎ (BreaksOffFollowed size (R.coming reader.old) (O.coming order_reader.old) (W.written writer.old) (W.written writer.new) e
+        ⊎ (BreaksOffFollowed size false (R.coming reader.old) (O.coming order_reader.old) (W.written writer.old) (W.written writer.new) e
         × (W.failures writer.new ≡ one_more (W.failures writer.old)))) }
 
     // A failed read is answered only where a reader failed, that of the order only where the file reads.
@@ -129,14 +135,42 @@ pub fn follow_sized<R: Source, O: Source, W: Sink>(
     ensures unfailed { IfErr result (λ e. e ≢ Memory → e ≢ Read → (R.failures reader.new ≡ R.failures reader.old)
         × (O.failures order_reader.new ≡ O.failures order_reader.old)) }
 {
-    let scripts = read_scripts(alloc, size, reader)?;
-    let order = match read_steps(alloc, size, &scripts, order_reader) {
+    let form = Form { size, json: false };
+    follow_in_form(alloc, form, reader, order_reader, writer)
+}
+
+/// Runs the steps of an order as `follow` does, within the limits of this form's size, and writes the report in this
+/// form: in lines, or as JSON.
+pub fn follow_in_form<R: Source, O: Source, W: Sink>(
+    alloc: Global,
+    form: Form,
+    reader: &mut R,
+    order_reader: &mut O,
+    writer: &mut W,
+) -> Result<(), Fault>
+    ensures ok { OnOk result (WritesFollowed form.size form.json (R.coming reader.old) (O.coming order_reader.old) (W.written writer.old) (W.written writer.new)) }
+    ensures quiet { OnOk result ((R.failures reader.new ≡ R.failures reader.old) × (O.failures order_reader.new ≡ O.failures order_reader.old)
+        × (W.failures writer.new ≡ W.failures writer.old)) }
+
+    // Either nothing was written, or the front of the report that the fault counts.
+    ensures err { IfErr result (λ e. (StopsBefore form.size (R.coming reader.old) (O.coming order_reader.old) e × (writer.new ≡ writer.old))
+        ⊎ (BreaksOffFollowed form.size form.json (R.coming reader.old) (O.coming order_reader.old) (W.written writer.old) (W.written writer.new) e
+        × (W.failures writer.new ≡ one_more (W.failures writer.old)))) }
+
+    // A failed read is answered only where a reader failed, that of the order only where the file reads.
+    ensures read_failed { result ≡ Err Read → (R.failures reader.new ≡ one_more (R.failures reader.old))
+        ⊎ ((O.failures order_reader.new ≡ one_more (O.failures order_reader.old)) × (scripts : Scripts) × ReadAs form.size (R.coming reader.old) scripts) }
+    ensures unfailed { IfErr result (λ e. e ≢ Memory → e ≢ Read → (R.failures reader.new ≡ R.failures reader.old)
+        × (O.failures order_reader.new ≡ O.failures order_reader.old)) }
+{
+    let scripts = read_scripts(alloc, form.size, reader)?;
+    let order = match read_steps(alloc, form.size, &scripts, order_reader) {
         Ok(order) => order,
         Err(fault) => {
             drop(scripts);
             return Err(fault);
         }
     };
-    let text = followed_text(alloc, scripts, order.as_slice())?;
+    let text = followed_text(alloc, scripts, order.as_slice(), form.json)?;
     write_text(writer, text.as_slice())
 }

@@ -5,12 +5,14 @@
 mod asking;
 mod checking;
 mod following;
+mod form;
 mod migrating;
 mod plain_run;
 mod reading;
 
-pub use asking::{why, why_sized};
-pub use checking::{Ended, check, check_sized};
-pub use following::{follow, follow_sized};
+pub use asking::{why, why_in_form, why_sized};
+pub use checking::{Ended, check, check_in_form, check_sized};
+pub use following::{follow, follow_in_form, follow_sized};
+pub use form::Form;
 pub use migrating::{migrate, migrate_sized};
 pub use plain_run::{plain, read_scripts};

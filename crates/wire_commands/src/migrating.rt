@@ -27,8 +27,8 @@ fn migrated_text(alloc: Global, scripts: Scripts) -> Result<Vec<u8>, Fault>
 /// Puts a file of scripts under version 2 of the format: reads it to its end, and writes the canonical text
 /// of the same nodes, jobs and calls under version 2. A file of version 2 is written as its canonical text.
 ///
-/// The text reads as the same scripts under version 2, where it is within the limit of a file. They are the
-/// same plan, so they have the same findings and outcomes.
+/// The text reads as the same scripts under version 2, where it is within the limit of a file. They mean the
+/// same as a plan, so they have the same findings and outcomes.
 ///
 /// The fault of a file is the first that it has. After the fault `Write` the front of the text that it
 /// counts is written, after any other fault nothing. `Memory` may come in place of any other answer. What is

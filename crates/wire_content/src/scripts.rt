@@ -72,7 +72,8 @@ impl Scripts {
         }
     }
 
-    /// The same nodes, jobs and calls under version 2 of the format: they are the same plan. Takes no memory.
+    /// The same nodes, jobs and calls under version 2 of the format. What they mean as a plan doesn't change.
+    /// Takes no memory.
     pub fn into_version_2(self) -> Scripts
         ensures scripts { result ≡ under_version_2 self }
         ensures plan { plan_of result ≡ plan_of self }

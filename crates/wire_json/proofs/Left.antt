@@ -1,10 +1,12 @@
--- Nothing is left of calls without ends, nor of processes without rows.
-use Rattle.std.proofs.Common.{◌≡◌, ◌∙◌, ap, sym, refl, List, [], ◌∷◌, ◌++◌, append-nil, map, ◌⊎◌, inl, inr}
+-- Nothing is left of calls without ends, of processes without rows, nor of races without what shows them.
+use Rattle.std.proofs.Common.{◌≡◌, ◌∙◌, ap, sym, refl, ℕ, List, [], ◌∷◌, ◌++◌, append-nil, map, ◌⊎◌, inl, inr, Option}
 use Rattle.serde_json.specs.Data.{Data}
 use Rattle.wire_types.specs.declared.Call.{Call}
 use Rattle.wire_types.specs.declared.CallEnd.{CallEnd}
 use Rattle.wire_content.specs.Scripts.{Scripts, Process}
+use Rattle.wire_types.specs.declared.CallAt.{CallAt}
 use Rattle.wire_json.specs.Trees.{calls_data, ranks_data}
+use Rattle.wire_json.specs.WitnessTrees.{tried_data}
 
 all_made : (out left all : List Data) → left ≡ [] → out ++ left ≡ all → out ≡ all
 all_made out left all none before = sym (append-nil out) ∙ ap (λ t. out ++ t) (sym none) ∙ before
@@ -27,3 +29,13 @@ pub no_rank : {R : Type 0} (s : Scripts) (processes : List Process) (f : R → L
 no_rank s processes f rows out all none =
     all_made out (ranks_data s processes (map f rows)) all
     (elim none [ inl e ↦ ap (λ t. ranks_data s t (map f rows)) e | inr e ↦ ap (λ t. ranks_data s processes (map f t)) e ∙ ranks_after s processes ])
+
+tried_after : (s : Scripts) (findings : List (List ℕ)) → tried_data s findings [] ≡ []
+tried_after s [] = refl
+tried_after s (words ∷ findings) = refl
+
+pub no_tried : {R : Type 0} (s : Scripts) (f : R → List ℕ) (findings : List R) (shown : List (Option CallAt)) (out all : List Data) → (findings ≡ []) ⊎ (shown ≡ []) → out
+    ++ tried_data s (map f findings) shown ≡ all → out ≡ all
+no_tried s f findings shown out all none =
+    all_made out (tried_data s (map f findings) shown) all
+    (elim none [ inl e ↦ ap (λ t. tried_data s (map f t) shown) e | inr e ↦ ap (λ t. tried_data s (map f findings) t) e ∙ tried_after s (map f findings) ])

@@ -1,4 +1,6 @@
 pub mod Escapes
 pub mod Texts
+pub mod ChainTexts
+pub mod WitnessTexts
 pub mod Left
 pub mod Rows

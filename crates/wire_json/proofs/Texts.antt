@@ -2,7 +2,7 @@
 use Rattle.std.proofs.Common.{◌≡◌, ◌∙◌, sym, refl, ap, ap₂, ℕ, List, [], ◌∷◌, ◌++◌, map, codes, append_assoc, true, false}
 use Rattle.std.specs.Prelude.{◌||◌, decimal}
 use Rattle.std.specs.List.{join_with_byte}
-use Rattle.json.specs.Print.{escape, escape_byte}
+use Rattle.json.specs.Print.{escape}
 use Rattle.serde_json.specs.Data.{Data}
 use Rattle.serde_json.specs.View.{items_of}
 use Rattle.serde_json.specs.Written.{compact_text, items_text, has_float, items_have_float}
@@ -20,7 +20,7 @@ use Rattle.wire_json.specs.Json.{quoted, bracketed, printed}
 use Rattle.wire_json.specs.Trees.{text_data, strings_data, list_data, bare_data, valued_data, reply_data, call_data, calls_data, rank_data, ranks_data, report_data, findings_data, unsettled_data}
 use Rattle.wire_json.proofs.Escapes.{same_escapes, plain_end, plain_verb}
 
-text_is : (text : List ℕ) → compact_text (text_data text) ≡ quoted text
+pub text_is : (text : List ℕ) → compact_text (text_data text) ≡ quoted text
 text_is text = ap (λ t. 34 ∷ (t ++ 34 ∷ [])) (same_escapes text)
 
 pub strings_are : (texts : List (List ℕ)) → map compact_text (strings_data texts) ≡ map quoted texts
@@ -28,7 +28,7 @@ strings_are [] = refl
 strings_are (t ∷ ts) = ap₂ (λ x y. x ∷ y) (text_is t) (strings_are ts)
 
 -- the names of steps
-steps_are : (s : Scripts) (order : List ℕ) → map compact_text (strings_data (map (name_of s) order)) ≡ map (λ p. quoted (name_of s p)) order
+pub steps_are : (s : Scripts) (order : List ℕ) → map compact_text (strings_data (map (name_of s) order)) ≡ map (λ p. quoted (name_of s p)) order
 steps_are s [] = refl
 steps_are s (p ∷ order) = ap₂ (λ x y. x ∷ y) (text_is (name_of s p)) (steps_are s order)
 
@@ -37,7 +37,7 @@ items_are : (d : Data) (ds : List Data) → compact_text d ++ items_text true (i
 items_are d [] = refl
 items_are d (e ∷ ds) = ap (λ t. compact_text d ++ 44 ∷ t) (items_are e ds) ∙ sym (append_assoc (compact_text d) (44 ∷ join_with_byte 44 (compact_text e ∷ map compact_text ds)) (93 ∷ []))
 
-list_is : (ds : List Data) → compact_text (list_data ds) ≡ bracketed (map compact_text ds)
+pub list_is : (ds : List Data) → compact_text (list_data ds) ≡ bracketed (map compact_text ds)
 list_is [] = refl
 list_is (d ∷ ds) = ap (λ t. 91 ∷ t) (items_are d ds)
 
@@ -134,7 +134,7 @@ unsettled_is s ends order =
     (codes ",\"unsettled\":true,") (codes "\"waiting\":") (decimal ends.waiting) (codes "}") (codes "\n")
 
 -- no tree has a float
-strings_plain : (texts : List (List ℕ)) → items_have_float (items_of (strings_data texts)) ≡ false
+pub strings_plain : (texts : List (List ℕ)) → items_have_float (items_of (strings_data texts)) ≡ false
 strings_plain [] = refl
 strings_plain (t ∷ ts) = strings_plain ts
 

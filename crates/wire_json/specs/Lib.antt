@@ -1,2 +1,6 @@
 pub mod Json
 pub mod Trees
+pub mod Chains
+pub mod ChainTrees
+pub mod Witnesses
+pub mod WitnessTrees

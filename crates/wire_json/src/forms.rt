@@ -54,7 +54,11 @@ pub fn unsettled_json(
 }
 
 /// The names of these processes.
-fn names_of(alloc: Global, scripts: &Scripts, order: &[Proc]) -> Result<Vec<Vec<u8>>, AllocError>
+pub(crate) fn names_of(
+    alloc: Global,
+    scripts: &Scripts,
+    order: &[Proc],
+) -> Result<Vec<Vec<u8>>, AllocError>
     ensures { IfOk result (λ names. map (λ name. name.items) names.items
         ≡ map (name_of scripts.now) (numbers_of order.now)) }
 {
@@ -95,7 +99,7 @@ fn unsettled_tree(
 }
 
 /// The compact text of a tree without floats, and a line feed.
-fn line(alloc: Global, tree: Value) -> Result<Vec<u8>, AllocError>
+pub(crate) fn line(alloc: Global, tree: Value) -> Result<Vec<u8>, AllocError>
     ensures { IfOk result (λ text. has_float (view tree) ≡ false
         → text.items ≡ compact_text (view tree) ++ codes "\n") }
 {

@@ -56,7 +56,7 @@ pub record IsStanding (plan : Plan) (y : Event) (name : ℕ) (found : Option Eve
   pub history : IsNameHistory plan y name calls
   pub left : found ≡ left_by plan name calls
 
--- the events of these publishes and unpublishes
+-- the events of these calls that can change a name
 abbrev pub events_in : List Update → List Event
 events_in updates = map (λ u. event_of u.event) updates
 

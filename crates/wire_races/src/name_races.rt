@@ -326,7 +326,8 @@ fn add_all_swept(
     Ok(())
 }
 
-// The races on a name between calls of these processes that take away all their names.
+// The races on a name between calls of these processes that take away all their names. Where only one process
+// does, none of its calls is looked at: there may be as many as the names that it publishes.
 fn add_sweeps(
     marked: &MarkedPlan<'_>,
     found: &mut Found,
@@ -337,6 +338,9 @@ fn add_sweeps(
     requires procs { AreSweepers (plan_of marked.now) name (numbers_of procs.now) }
     ensures { OnOk result (Adds (plan_of marked.now) found.old found.new (IsSweptBy (plan_of marked.now) name (numbers_of procs.now) (numbers_of procs.now))) }
 {
+    if procs.len() < 2 {
+        return Ok(());
+    }
     let plan = marked.plan();
     for proc in procs {
         add_all_swept(marked, found, name, plan.sweeps(*proc), procs)?;
@@ -430,7 +434,7 @@ fn pieces(
 }
 
 /// Adds the races on names: for each name the pairs of live calls of different processes on it, one
-/// of them a publish or an unpublish, that no chain orders (PMIx Standard 5.0, PMIx_Publish,
+/// of which can change it, that no chain orders (PMIx Standard 5.0, PMIx_Publish,
 /// PMIx_Lookup, PMIx_Unpublish). The only error is that memory ran out.
 ///
 /// Each call on a name is compared with those of higher processes, which are cut into stretches of one

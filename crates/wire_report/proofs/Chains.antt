@@ -1,5 +1,5 @@
 -- The events of a shown chain are the plan's, and two calls have one text.
-use Rattle.std.proofs.Common.{◌≡◌, ◌∙◌, ap, sym, refl, subst, ℕ, zero, suc, ◌<◌, List, [], ◌∷◌, ◌++◌, map, Option, Some, None, Result, Ok, Err, append_assoc, ◌⊎◌, inl, inr, arith, codes}
+use Rattle.std.proofs.Common.{◌≡◌, ◌∙◌, ap, sym, refl, subst, Bool, true, false, ℕ, zero, suc, ◌<◌, List, [], ◌∷◌, ◌++◌, map, Option, Some, None, Result, Ok, Err, append_assoc, ◌⊎◌, inl, inr, arith}
 use Rattle.std.specs.Prelude.{slice_get, option_map, IfOk, OnOk, IfErr, MatchOption}
 use Rattle.std.proofs.lemmas.Option.{slice_get-map, slice_get_within, same_Some}
 use Rattle.wire_runs.specs.Plan.{Plan, Event, event_of, event_count}
@@ -14,7 +14,7 @@ use Rattle.wire_runs.proofs.Histories.{before_live}
 use Rattle.wire_marks.specs.Clocks.{LeadsTo}
 use Rattle.wire_marks.specs.Chain.{IsShown, begins, goes_on, OneShown}
 use Rattle.wire_runs.specs.Ends.{first_event}
-use Rattle.wire_report.specs.Chain.{event_lines, IsCallBefore, IsDeadLine, Dead, Alive, AreDeadLines, OfOne, OfTwo, IsCallChain, IsChainText, TellsBefore, TellsAfter, TellsUnordered, OneChainText}
+use Rattle.wire_report.specs.Chain.{chain_form, unordered_form, IsCallBefore, IsDeadPart, Dead, Alive, AreDead, OfOne, OfTwo, IsCallChain, IsChainText, TellsBefore, TellsAfter, TellsUnordered, OneChainText}
 use Rattle.wire_report.specs.There.{AreThere}
 
 -- the last of a chain, or one before it
@@ -51,13 +51,13 @@ shown_there plan x y chain s b k e is =
     live_there plan (event_of e)
     (all_live s (before_live b) (live_end b) k (event_of e) (slice_get-map event_of chain k ∙ ap (option_map event_of) is))
 
-dead_once : {s : Scripts} {x : CallAt} {a b : List ℕ} → IsDeadLine s x a → IsDeadLine s x b → a ≡ b
+dead_once : {plan : Plan} {x : CallAt} {a b : List CallAt} → IsDeadPart plan x a → IsDeadPart plan x b → a ≡ b
 dead_once (Dead n e) (Dead m f) = e ∙ sym f
 dead_once (Dead n e) (Alive l f) = absurd (n l)
 dead_once (Alive l e) (Dead n f) = absurd (n l)
 dead_once (Alive l e) (Alive m f) = e ∙ sym f
 
-deads_once : {s : Scripts} {x y : CallAt} {a b : List ℕ} → AreDeadLines s x y a → AreDeadLines s x y b → a ≡ b
+deads_once : {plan : Plan} {x y : CallAt} {a b : List CallAt} → AreDead plan x y a → AreDead plan x y b → a ≡ b
 deads_once (OfOne e d) (OfOne f c) = dead_once d c
 deads_once (OfOne e d) (OfTwo n c1 c2 h i is) = absurd (n e)
 deads_once (OfTwo n d1 d2 h i is) (OfOne e d) = absurd (n e)
@@ -67,18 +67,18 @@ chain_once : {plan : Plan} {x y : CallAt} {a b : List Event} → OneShown → Is
 chain_once once h k = once _ _ _ _ _ h.before h.shown k.shown
 
 pub text_once : OneShown → OneChainText
-text_once once s x y a b first second = go first second
+text_once once json s x y a b first second = go first second
   where
-    go : IsChainText s x y a → IsChainText s x y b → a ≡ b
-    go (TellsBefore c h e) (TellsBefore d k f) = e ∙ ap (λ l. codes "before\n" ++ event_lines s l) (chain_once once h k) ∙ sym f
+    go : IsChainText json s x y a → IsChainText json s x y b → a ≡ b
+    go (TellsBefore c h e) (TellsBefore d k f) = e ∙ ap (chain_form json true s) (chain_once once h k) ∙ sym f
     go (TellsBefore c h e) (TellsAfter d n k f) = absurd (n h.before)
     go (TellsBefore c h e) (TellsUnordered d n m k f) = absurd (n h.before)
     go (TellsAfter c n h e) (TellsBefore d k f) = absurd (n k.before)
-    go (TellsAfter c n h e) (TellsAfter d m k f) = e ∙ ap (λ l. codes "after\n" ++ event_lines s l) (chain_once once h k) ∙ sym f
+    go (TellsAfter c n h e) (TellsAfter d m k f) = e ∙ ap (chain_form json false s) (chain_once once h k) ∙ sym f
     go (TellsAfter c n h e) (TellsUnordered d m o k f) = absurd (o h.before)
     go (TellsUnordered c n m h e) (TellsBefore d k f) = absurd (n k.before)
     go (TellsUnordered c n m h e) (TellsAfter d o k f) = absurd (m k.before)
-    go (TellsUnordered c n m h e) (TellsUnordered d o p k f) = e ∙ ap (λ l. codes "unordered\n" ++ l) (deads_once h k) ∙ sym f
+    go (TellsUnordered c n m h e) (TellsUnordered d o p k f) = e ∙ ap (unordered_form json s) (deads_once h k) ∙ sym f
 
 -- what the chains between the two events tell
 module _ (s : Scripts) (x y : CallAt) (from to : Event) (is_from : from ≡ first_event (plan_of s) x) (is_to : to ≡ first_event (plan_of s) y) where
@@ -91,22 +91,22 @@ module _ (s : Scripts) (x y : CallAt) (from to : Event) (is_from : from ≡ firs
   is_not : (Before (plan_of s) from to → ⊥) → IsCallBefore (plan_of s) x y → ⊥
   is_not n before = n (subst (λ v. Before (plan_of s) v to) (sym is_from) (subst (λ w. Before (plan_of s) (first_event (plan_of s) x) w) (sym is_to) before))
 
-pub tells_before : (s : Scripts) (x y : CallAt) (from to : Event) (chain : List Event) (text : List ℕ) → from ≡ first_event (plan_of s) x → to ≡ first_event (plan_of s) y
-    → IsShown (plan_of s) from to chain → Before (plan_of s) from to → text ≡ codes "before\n" ++ event_lines s chain → IsChainText s x y text
-tells_before s x y from to chain text f t shown before e = TellsBefore chain (is_chain s x y from to f t chain shown before) e
+pub tells_before : (json : Bool) (s : Scripts) (x y : CallAt) (from to : Event) (chain : List Event) (text : List ℕ) → from ≡ first_event (plan_of s) x → to ≡ first_event (plan_of s) y
+    → IsShown (plan_of s) from to chain → Before (plan_of s) from to → text ≡ chain_form json true s chain → IsChainText json s x y text
+tells_before json s x y from to chain text f t shown before e = TellsBefore chain (is_chain s x y from to f t chain shown before) e
 
-pub tells_after : (s : Scripts) (x y : CallAt) (from to : Event) (chain : List Event) (text : List ℕ) → from ≡ first_event (plan_of s) x → to ≡ first_event (plan_of s) y
-    → (Before (plan_of s) from to → ⊥) → IsShown (plan_of s) to from chain → Before (plan_of s) to from → text ≡ codes "after\n" ++ event_lines s chain → IsChainText s x y text
-tells_after s x y from to chain text f t n shown before e = TellsAfter chain (is_not s x y from to f t n) (is_chain s y x to from t f chain shown before) e
+pub tells_after : (json : Bool) (s : Scripts) (x y : CallAt) (from to : Event) (chain : List Event) (text : List ℕ) → from ≡ first_event (plan_of s) x → to ≡ first_event (plan_of s) y
+    → (Before (plan_of s) from to → ⊥) → IsShown (plan_of s) to from chain → Before (plan_of s) to from → text ≡ chain_form json false s chain → IsChainText json s x y text
+tells_after json s x y from to chain text f t n shown before e = TellsAfter chain (is_not s x y from to f t n) (is_chain s y x to from t f chain shown before) e
 
-pub tells_unordered : (s : Scripts) (x y : CallAt) (from to : Event) (lines text : List ℕ) → from ≡ first_event (plan_of s) x → to ≡ first_event (plan_of s) y
-    → (Before (plan_of s) from to → ⊥) → (Before (plan_of s) to from → ⊥) → AreDeadLines s x y lines → text ≡ codes "unordered\n" ++ lines → IsChainText s x y text
-tells_unordered s x y from to lines text f t n m dead e = TellsUnordered lines (is_not s x y from to f t n) (is_not s y x to from t f m) dead e
+pub tells_unordered : (json : Bool) (s : Scripts) (x y : CallAt) (from to : Event) (calls : List CallAt) (text : List ℕ) → from ≡ first_event (plan_of s) x → to ≡ first_event (plan_of s) y
+    → (Before (plan_of s) from to → ⊥) → (Before (plan_of s) to from → ⊥) → AreDead (plan_of s) x y calls → text ≡ unordered_form json s calls → IsChainText json s x y text
+tells_unordered json s x y from to calls text f t n m dead e = TellsUnordered calls (is_not s x y from to f t n) (is_not s y x to from t f m) dead e
 
--- the lines of two calls, the second after the first
-pub two_dead : (s : Scripts) (x y : CallAt) (old mid new first second : List ℕ) → (x ≡ y → ⊥) → IsDeadLine s x first → mid ≡ old ++ first → IsDeadLine s y second → new ≡ mid ++ second
-    → (lines : List ℕ) × AreDeadLines s x y lines × (new ≡ old ++ lines)
-two_dead s x y old mid new first second apart d is_mid e is_new =
+-- the dead of two calls, the second after the first
+pub two_dead : (plan : Plan) (x y : CallAt) (old mid new first second : List CallAt) → (x ≡ y → ⊥) → IsDeadPart plan x first → mid ≡ old ++ first → IsDeadPart plan y second → new ≡ mid ++ second
+    → (dead : List CallAt) × AreDead plan x y dead × (new ≡ old ++ dead)
+two_dead plan x y old mid new first second apart d is_mid e is_new =
     (first ++ second, OfTwo apart first second d e refl, is_new ∙ ap (λ t. t ++ second) is_mid ∙ append_assoc old first second)
 
 -- what holds of a result whose value, or whose fault, is known

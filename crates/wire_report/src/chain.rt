@@ -1,6 +1,6 @@
 //! Whether one call is before another, and the chain that shows it.
 
-ghost use Rattle.std.specs.Prelude.{◌≡◌, ◌≢◌, ◌<◌, ◌⊎◌, ℕ, List, length, Err, IfOk, OnOk, IfErr};
+ghost use Rattle.std.specs.Prelude.{◌≡◌, ◌≢◌, ◌<◌, ◌⊎◌, ℕ, List, false, length, Err, IfOk, OnOk, IfErr};
 ghost use Rattle.std.specs.Io.KnownBytes.{Appends};
 ghost use Rattle.wire_types.specs.declared.Fault.TheVariants.{Memory};
 ghost use Rattle.wire_types.specs.Counting.{one_more};
@@ -17,34 +17,34 @@ use wire_marks::Marks;
 use wire_plan::Plan;
 use wire_types::{CallAt, Fault, Sink};
 
-/// Whether a chain of events leads from call x to call y: `before` and the events of the chain that is
-/// shown, else `after` and those of the chain from y to x, else `unordered` and which of the two calls
-/// isn't live. A fence counts by the arrival at it. The one fault is `Fault::Memory`.
+/// Whether a chain of events leads from the first call to the second: `before` and the events of the chain that
+/// is shown, else `after` and those of the chain the other way round, else `unordered` and which of the two calls
+/// isn't live; or the same as JSON. A fence counts by the arrival at it. The one fault is `Fault::Memory`.
 pub fn chain_text(
     alloc: Global,
     plan: &Plan,
     marks: &Marks,
-    x: CallAt,
-    y: CallAt,
+    calls: (CallAt, CallAt),
+    json: bool,
 ) -> Result<Vec<u8>, Fault>
     requires marks { AreMarks (plan_of plan.now) marks.now }
-    requires x_there { x.call < length (calls_of (plan_of plan.now) x.proc.number) }
-    requires y_there { y.call < length (calls_of (plan_of plan.now) y.proc.number) }
-    ensures ok { IfOk result (λ text. IsChainText plan.now x y text.items) }
+    requires x_there { calls.0.call < length (calls_of (plan_of plan.now) calls.0.proc.number) }
+    requires y_there { calls.1.call < length (calls_of (plan_of plan.now) calls.1.proc.number) }
+    ensures ok { IfOk result (λ text. IsChainText json plan.now calls.0 calls.1 text.items) }
     ensures err { IfErr result (λ e. e ≡ Memory) }
 {
-    let from = plan.first_event(x);
-    let to = plan.first_event(y);
+    let from = plan.first_event(calls.0);
+    let to = plan.first_event(calls.1);
     if let Some(chain) = marks.chain(alloc, plan, from, to)? {
-        return ordered_text(alloc, plan, b"before\n".as_slice(), chain.as_slice());
+        return ordered_text(alloc, plan, true, chain.as_slice(), json);
     }
     if let Some(chain) = marks.chain(alloc, plan, to, from)? {
-        return ordered_text(alloc, plan, b"after\n".as_slice(), chain.as_slice());
+        return ordered_text(alloc, plan, false, chain.as_slice(), json);
     }
-    unordered_text(alloc, plan, marks, x, y)
+    unordered_text(alloc, plan, marks, calls, json)
 }
 
-/// Writes the text of the chain to the sink, once all of it is made: where memory runs out, nothing is
+/// Writes the lines of the chain to the sink, once all of it is made: where memory runs out, nothing is
 /// written.
 pub fn write_chain<S: Sink>(
     alloc: Global,
@@ -57,18 +57,18 @@ pub fn write_chain<S: Sink>(
     requires marks { AreMarks (plan_of plan.now) marks.now }
     requires x_there { x.call < length (calls_of (plan_of plan.now) x.proc.number) }
     requires y_there { y.call < length (calls_of (plan_of plan.now) y.proc.number) }
-    ensures ok { OnOk result ((text : List ℕ) × IsChainText plan.now x y text × Appends (S.written sink.old) (S.written sink.new) text) }
+    ensures ok { OnOk result ((text : List ℕ) × IsChainText false plan.now x y text × Appends (S.written sink.old) (S.written sink.new) text) }
     ensures quiet { OnOk result (S.failures sink.new ≡ S.failures sink.old) }
     ensures memory { result ≡ Err Memory → sink.new ≡ sink.old }
-    ensures err { IfErr result (λ e. (e ≡ Memory) ⊎ ((text : List ℕ) × IsChainText plan.now x y text
+    ensures err { IfErr result (λ e. (e ≡ Memory) ⊎ ((text : List ℕ) × IsChainText false plan.now x y text
         × WritesFront (S.written sink.old) (S.written sink.new) text e)) }
     ensures failed { IfErr result (λ e. e ≢ Memory → S.failures sink.new ≡ one_more (S.failures sink.old)) }
 {
-    let text = chain_text(alloc, plan, marks, x, y)?;
+    let text = chain_text(alloc, plan, marks, (x, y), false)?;
     write_text(sink, text.as_slice())
 }
 
-/// For two calls of a plan there is one text.
+/// For two calls of a plan there is one text in each form.
 pub fn one_chain_text()
     ensures { OneChainText }
 {

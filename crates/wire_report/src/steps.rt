@@ -1,9 +1,10 @@
 //! The parts of the text of a chain.
 
-ghost use Rattle.std.specs.Prelude.{◌≡◌, ◌<◌, ◌↔◌, ◌++◌, ℕ, List, Some, codes, length, map, IsTrue, IfOk, OnOk, IfErr};
+ghost use Rattle.std.specs.Prelude.{◌≡◌, ◌<◌, ◌↔◌, ◌++◌, ◌∷◌, [], ℕ, List, true, Some, length, map, IsTrue, IfOk, OnOk, IfErr};
+ghost use Rattle.std.specs.List.{flat_map};
+ghost use Rattle.wire_types.specs.declared.CallAt.{CallAt as CallPlace};
 ghost use Rattle.wire_types.specs.declared.Fault.TheVariants.{Memory};
 ghost use Rattle.wire_runs.specs.Plan.{event_count, event_of};
-ghost use Rattle.wire_content.specs.Scripts.{call_at};
 ghost use Rattle.wire_content.specs.Planned.{plan_of};
 ghost use Rattle.wire_runs.specs.Ends.{calls_of};
 ghost use Rattle.wire_plan.specs.Kinds.{kind_of};
@@ -13,49 +14,158 @@ ghost use Rattle.wire_report.specs.There.{AreThere};
 
 use std::alloc::{AllocError, Global};
 use wire_content::Scripts;
+use wire_json::{ChainStep, Half, chain_json, unordered_json};
 use wire_marks::Marks;
 use wire_plan::{Kind, Plan};
 use wire_types::{CallAt, Event, Fault};
-use wire_words::{find_call, push_call, verb};
+use wire_words::{push_call, verb_at};
 
-/// A first line, and the lines of these events of the plan.
+/// The text of a chain of events of the plan that leads from the first of two calls to the second, or the other way
+/// round: in lines, or as JSON.
 pub fn ordered_text(
     alloc: Global,
     plan: &Plan,
-    first_line: &[u8],
+    first: bool,
     chain: &[Event],
+    json: bool,
 ) -> Result<Vec<u8>, Fault>
     requires { AreThere (plan_of plan.now) chain.now }
-    ensures ok { IfOk result (λ text. text.items ≡ first_line.now ++ spec.event_lines plan.now (map event_of chain.now)) }
+    ensures ok { IfOk result (λ text. text.items ≡ spec.chain_form json first plan.now (map event_of chain.now)) }
     ensures err { IfErr result (λ e. e ≡ Memory) }
 {
-    let mut text = Vec::from_slice(alloc, first_line)?;
+    if json {
+        return Ok(ordered_json(alloc, plan, first, chain)?);
+    }
+    let mut text = Vec::from_slice(alloc, order_line(first))?;
     push_events(&mut text, plan, chain)?;
     Ok(text)
 }
 
-/// The line of unordered calls, and the lines of those whose event isn't live.
+/// The first line of the text of a chain.
+fn order_line(first: bool) -> &'static [u8]
+    ensures { result.now ≡ spec.order_line first }
+{
+    if first {
+        return b"before\n".as_slice();
+    }
+    b"after\n".as_slice()
+}
+
+/// A chain as JSON.
+fn ordered_json(
+    alloc: Global,
+    plan: &Plan,
+    first: bool,
+    chain: &[Event],
+) -> Result<Vec<u8>, AllocError>
+    requires { AreThere (plan_of plan.now) chain.now }
+    ensures { IfOk result (λ text. text.items ≡ spec.chain_form true first plan.now (map event_of chain.now)) }
+{
+    let steps = chain_steps(alloc, plan, chain)?;
+    chain_json(alloc, plan.scripts(), first, steps.as_slice())
+}
+
+/// The events of a chain as its steps.
+fn chain_steps(alloc: Global, plan: &Plan, chain: &[Event]) -> Result<Vec<ChainStep>, AllocError>
+    requires { AreThere (plan_of plan.now) chain.now }
+    ensures { IfOk result (λ steps. steps.items ≡ map (spec.step_of plan.now) (map event_of chain.now)) }
+{
+    let mut steps = Vec::new(alloc);
+    for event in chain {
+        steps.push(step_of(plan, *event))?;
+    }
+    Ok(steps)
+}
+
+/// An event of the plan as a step of a chain.
+fn step_of(plan: &Plan, event: Event) -> ChainStep
+    requires { event.at < event_count (plan_of plan.now) event.proc.number }
+    ensures { result ≡ spec.step_of plan.now (event_of event) }
+{
+    ChainStep {
+        call: plan.call_of(event),
+        half: half_of(plan.kind(event)),
+    }
+}
+
+/// Which part of a call an event is.
+fn half_of(kind: Kind) -> Half
+    ensures { (sets : List (List ℕ)) → result ≡ spec.half_of (Some (kind_of sets kind)) }
+{
+    match kind {
+        Kind::Arrive { .. } => Half::Arrive,
+        Kind::Leave { .. } => Half::Leave,
+        _ => Half::Whole,
+    }
+}
+
+/// The text of two calls that no chain orders, and which of them are dead: in lines, or as JSON.
 pub fn unordered_text(
     alloc: Global,
     plan: &Plan,
     marks: &Marks,
-    x: CallAt,
-    y: CallAt,
+    calls: (CallAt, CallAt),
+    json: bool,
 ) -> Result<Vec<u8>, Fault>
     requires marks { AreMarks (plan_of plan.now) marks.now }
-    requires x_there { x.call < length (calls_of (plan_of plan.now) x.proc.number) }
-    requires y_there { y.call < length (calls_of (plan_of plan.now) y.proc.number) }
-    ensures ok { IfOk result (λ text. (lines : List ℕ) × spec.AreDeadLines plan.now x y lines × (text.items ≡ codes "unordered\n" ++ lines)) }
+    requires x_there { calls.0.call < length (calls_of (plan_of plan.now) calls.0.proc.number) }
+    requires y_there { calls.1.call < length (calls_of (plan_of plan.now) calls.1.proc.number) }
+    ensures ok { IfOk result (λ text. (dead : List CallPlace) × spec.AreDead (plan_of plan.now) calls.0 calls.1 dead
+        × (text.items ≡ spec.unordered_form json plan.now dead)) }
     ensures err { IfErr result (λ e. e ≡ Memory) }
 {
-    let mut text = Vec::from_slice(alloc, b"unordered\n".as_slice())?;
-    push_both_dead(&mut text, plan, marks, x, y)?;
+    let dead = dead_calls(alloc, plan, marks, calls)?;
+    let text = dead_text(alloc, plan.scripts(), dead.as_slice(), json)?;
     Ok(text)
 }
 
-/// Appends the lines of those of two calls whose event isn't live, once where they are one.
+/// Those of two calls whose event isn't live, once where they are one.
+fn dead_calls(
+    alloc: Global,
+    plan: &Plan,
+    marks: &Marks,
+    calls: (CallAt, CallAt),
+) -> Result<Vec<CallAt>, AllocError>
+    requires marks { AreMarks (plan_of plan.now) marks.now }
+    requires x_there { calls.0.call < length (calls_of (plan_of plan.now) calls.0.proc.number) }
+    requires y_there { calls.1.call < length (calls_of (plan_of plan.now) calls.1.proc.number) }
+    ensures { IfOk result (λ dead. spec.AreDead (plan_of plan.now) calls.0 calls.1 dead.items) }
+{
+    let mut dead = Vec::new(alloc);
+    push_both_dead(&mut dead, plan, marks, calls.0, calls.1)?;
+    Ok(dead)
+}
+
+/// The text of calls that no chain orders, of which these are dead.
+fn dead_text(
+    alloc: Global,
+    scripts: &Scripts,
+    dead: &[CallAt],
+    json: bool,
+) -> Result<Vec<u8>, AllocError>
+    ensures { IfOk result (λ text. text.items ≡ spec.unordered_form json scripts.now dead.now) }
+{
+    if json {
+        return unordered_json(alloc, scripts, dead);
+    }
+    let mut text = Vec::from_slice(alloc, b"unordered\n".as_slice())?;
+    push_dead_lines(&mut text, scripts, dead)?;
+    Ok(text)
+}
+
+/// Appends the lines of calls that are dead.
+fn push_dead_lines(out: &mut Vec<u8>, scripts: &Scripts, dead: &[CallAt]) -> Result<(), AllocError>
+    ensures { OnOk result (out.new.items ≡ out.old.items ++ flat_map (spec.dead_line scripts.now) dead.now) }
+{
+    for call in dead {
+        push_dead_line(out, scripts, *call)?;
+    }
+    Ok(())
+}
+
+/// Appends those of two calls whose event isn't live, once where they are one.
 fn push_both_dead(
-    out: &mut Vec<u8>,
+    out: &mut Vec<CallAt>,
     plan: &Plan,
     marks: &Marks,
     x: CallAt,
@@ -64,7 +174,7 @@ fn push_both_dead(
     requires marks { AreMarks (plan_of plan.now) marks.now }
     requires x_there { x.call < length (calls_of (plan_of plan.now) x.proc.number) }
     requires y_there { y.call < length (calls_of (plan_of plan.now) y.proc.number) }
-    ensures { OnOk result ((lines : List ℕ) × spec.AreDeadLines plan.now x y lines × (out.new.items ≡ out.old.items ++ lines)) }
+    ensures { OnOk result ((dead : List CallPlace) × spec.AreDead (plan_of plan.now) x y dead × (out.new.items ≡ out.old.items ++ dead)) }
 {
     push_dead(out, plan, marks, x)?;
     if is_same(x, y) {
@@ -81,16 +191,29 @@ fn is_same(x: CallAt, y: CallAt) -> bool
     x.proc.number == y.proc.number && x.call == y.call
 }
 
-/// Appends the line of a call whose event isn't live; nothing where it is.
-fn push_dead(out: &mut Vec<u8>, plan: &Plan, marks: &Marks, call: CallAt) -> Result<(), AllocError>
+/// Appends a call whose event isn't live; nothing where it is.
+fn push_dead(
+    out: &mut Vec<CallAt>,
+    plan: &Plan,
+    marks: &Marks,
+    call: CallAt,
+) -> Result<(), AllocError>
     requires marks { AreMarks (plan_of plan.now) marks.now }
     requires there { call.call < length (calls_of (plan_of plan.now) call.proc.number) }
-    ensures { OnOk result ((line : List ℕ) × spec.IsDeadLine plan.now call line × (out.new.items ≡ out.old.items ++ line)) }
+    ensures { OnOk result ((dead : List CallPlace) × spec.IsDeadPart (plan_of plan.now) call dead × (out.new.items ≡ out.old.items ++ dead)) }
 {
     if marks.live(plan.first_event(call)) {
         return Ok(());
     }
-    push_dead_line(out, plan.scripts(), call)
+    push_call_at(out, call)
+}
+
+/// Appends a call.
+fn push_call_at(out: &mut Vec<CallAt>, call: CallAt) -> Result<(), AllocError>
+    ensures { OnOk result (out.new.items ≡ out.old.items ++ call ∷ []) }
+{
+    out.push(call)?;
+    Ok(())
 }
 
 /// Appends the line of a call that is dead.
@@ -136,16 +259,6 @@ fn push_line(
     out.extend_from_slice(verb_at(scripts, call).as_bytes())?;
     out.extend_from_slice(half.as_bytes())?;
     out.extend_from_slice(b"\n")
-}
-
-/// What the call at a place is called, empty where there is none.
-pub fn verb_at(scripts: &Scripts, place: CallAt) -> &'static str
-    ensures { result.now ≡ spec.verb_text_in (call_at scripts.now.processes place.proc.number place.call) }
-{
-    match find_call(scripts, place) {
-        Some(call) => verb(call),
-        None => "",
-    }
 }
 
 /// Which half of a fence an event is, after a space.

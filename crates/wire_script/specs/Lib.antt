@@ -5,6 +5,7 @@ pub mod FirstPass
 pub mod Within
 pub mod Drafted
 pub mod Reads
+pub mod Located
 pub mod Tabled
 pub mod Targets
 pub mod Back

@@ -5,6 +5,7 @@ mod draft;
 mod first_pass;
 mod limits;
 mod lines;
+mod located;
 mod members;
 mod noted;
 mod numbers;
@@ -13,5 +14,6 @@ mod second_pass;
 
 pub use limits::{Limits, Size};
 pub use lines::{Cursor, Statement};
+pub use located::read_located;
 pub use reader::{migrated_reads_back, one_canonical, read, read_sized, reads_back, reads_once};
 pub use wire_content::{Process, Scripts, Sets, Texts, Version};

@@ -1,5 +1,5 @@
 -- From what the parts of the commands answer to what they answer.
-use Rattle.std.proofs.Common.{◌≡◌, ◌≢◌, ◌∙◌, ap, subst, sym, refl, ℕ, List, ◌⊎◌, inl, inr, Option, Result, Ok, Err, IfOk, IfErr, OnOk}
+use Rattle.std.proofs.Common.{◌≡◌, ◌≢◌, ◌∙◌, ap, subst, sym, refl, ℕ, Bool, List, ◌⊎◌, inl, inr, Option, Result, Ok, Err, IfOk, IfErr, OnOk}
 use Rattle.std.specs.Io.KnownBytes.{Appends}
 use Rattle.wire_types.specs.declared.Fault.{Fault}
 use Rattle.wire_types.specs.declared.Fault.TheVariants.{Memory, Read, Write}
@@ -30,15 +30,15 @@ pair_err coming words part old new s text ended kept failed (Err e) read answers
     inr (record { scripts = s; read = read; text = text; ended = ended; answers = answers; wrote = front }, count)
 
 -- and so of all races
-pub tried_ok : (coming : Option (List ℕ)) (most : ℕ) (old new : Option (List ℕ)) (s : Scripts) (text : List ℕ) (ended : Ended) (r : Result Ended Fault) → ReadAs OfVersion coming s →
-    IsTriedText s most text ended → IfOk r (λ e. (e ≡ ended) × Appends old new text) → IfOk r (λ e. WritesTried coming most e old new)
-tried_ok coming most old new s text ended (Ok e) read tells wrote =
-    record { scripts = s; read = read; text = text; tells = subst (IsTriedText s most text) (sym wrote.0) tells; wrote = wrote.1 }
-tried_ok coming most old new s text ended (Err e) read tells wrote = tt
+pub tried_ok : {json : Bool} (coming : Option (List ℕ)) (most : ℕ) (old new : Option (List ℕ)) (s : Scripts) (text : List ℕ) (ended : Ended) (r : Result Ended Fault) → ReadAs OfVersion coming s →
+    IsTriedText json s most text ended → IfOk r (λ e. (e ≡ ended) × Appends old new text) → IfOk r (λ e. WritesTried json coming most e old new)
+tried_ok {json} coming most old new s text ended (Ok e) read tells wrote =
+    record { scripts = s; read = read; text = text; tells = subst (IsTriedText json s most text) (sym wrote.0) tells; wrote = wrote.1 }
+tried_ok {json} coming most old new s text ended (Err e) read tells wrote = tt
 
-pub tried_err : (coming : Option (List ℕ)) (most : ℕ) (old new : Option (List ℕ)) (s : Scripts) (text : List ℕ) (ended : Ended) (kept failed : Type 0) (r : Result Ended Fault) → ReadAs OfVersion coming s →
-    IsTriedText s most text ended → IfErr r (WritesFront old new text) → IfErr r (λ _. failed) →
-    IfErr r (λ e. (StopsBeforeFindings OfVersion coming e × kept) ⊎ (BreaksOffTried coming most old new e × failed))
+pub tried_err : {json : Bool} (coming : Option (List ℕ)) (most : ℕ) (old new : Option (List ℕ)) (s : Scripts) (text : List ℕ) (ended : Ended) (kept failed : Type 0) (r : Result Ended Fault) → ReadAs OfVersion coming s →
+    IsTriedText json s most text ended → IfErr r (WritesFront old new text) → IfErr r (λ _. failed) →
+    IfErr r (λ e. (StopsBeforeFindings OfVersion coming e × kept) ⊎ (BreaksOffTried json coming most old new e × failed))
 tried_err coming most old new s text ended kept failed (Ok e) read tells front count = tt
 tried_err coming most old new s text ended kept failed (Err e) read tells front count =
     inr (record { scripts = s; read = read; text = text; ended = ended; tells = tells; wrote = front }, count)

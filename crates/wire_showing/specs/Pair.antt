@@ -23,13 +23,13 @@ use Rattle.wire_showing.specs.Texts.{witness_text, not_shown_text, no_race_text}
 pub data IsSearched (scripts : Scripts) (x y : CallAt) (part : Part) (text : List ℕ) (ended : Ended) : Type 0 where
   TellsWitness : (witness : Witness) → IsWitness (plan_of scripts) x y witness → text ≡ witness_text part scripts witness → ended ≡ Found 1 →
       IsSearched scripts x y part text ended
-  TellsNone : text ≡ not_shown_text → ended ≡ Clean → IsSearched scripts x y part text ended
+  TellsNone : text ≡ not_shown_text part → ended ≡ Clean → IsSearched scripts x y part text ended
 
 -- of two calls: what is written of their race, where it is among the findings, else that no race is reported
 pub data IsPairText (scripts : Scripts) (x y : CallAt) (part : Part) (text : List ℕ) (ended : Ended) : Type 0 where
   Reported : (found : List Finding) → AreFindings scripts found → IsReported found x y → IsSearched scripts x y part text ended →
       IsPairText scripts x y part text ended
-  Unreported : (found : List Finding) → AreFindings scripts found → (IsReported found x y → ⊥) → text ≡ no_race_text → ended ≡ Clean →
+  Unreported : (found : List Finding) → AreFindings scripts found → (IsReported found x y → ⊥) → text ≡ no_race_text part → ended ≡ Clean →
       IsPairText scripts x y part text ended
 
 -- the words name two calls of the scripts, and the text tells of them

@@ -1,15 +1,15 @@
 -- The text of a witness, as bytes.
-use Rattle.std.specs.Prelude.{ℕ, List, ◌++◌, codes}
+use Rattle.std.specs.Prelude.{ℕ, true, false, List, ◌++◌, codes}
 use Rattle.std.specs.List.{flat_map}
 use Rattle.wire_types.specs.declared.CallAt.{CallAt}
 use Rattle.wire_types.specs.declared.CallEnd.{CallEnd}
 use Rattle.wire_content.specs.Scripts.{Scripts, call_at, numbers_of}
-use Rattle.wire_words.specs.Words.{call_text, end_text}
-use Rattle.wire_report.specs.Chain.{verb_text_in}
+use Rattle.wire_words.specs.Words.{call_text, end_text, verb_text_in}
+use Rattle.wire_json.specs.Witnesses.{json_run, json_witness, json_unshown}
 use Rattle.wire_report.specs.Unsettled.{step_line, order_text}
 use Rattle.wire_witness.specs.declared.witness.Witness.{Witness}
 use Rattle.wire_showing.specs.declared.part.Part.{Part}
-use Rattle.wire_showing.specs.declared.part.Part.TheVariants.{Whole, FirstOrder, SecondOrder}
+use Rattle.wire_showing.specs.declared.part.Part.TheVariants.{Whole, FirstOrder, SecondOrder, Json}
 
 -- the call that ends differently
 abbrev pub shown_line : Scripts → CallAt → List ℕ
@@ -34,16 +34,25 @@ whole_text scripts witness =
 abbrev pub steps_text : Scripts → List ℕ → List ℕ
 steps_text scripts steps = flat_map (step_line scripts) steps
 
--- what is written of a witness: all of it, or one of its orders
+-- all of a witness as JSON
+abbrev pub whole_json : Scripts → Witness → List ℕ
+whole_json scripts witness =
+    json_witness scripts witness.call (json_run scripts witness.first_end (numbers_of witness.first.items))
+    (json_run scripts witness.second_end (numbers_of witness.second.items))
+
+-- what is written of a witness: all of it, in lines or as JSON, or one of its orders
 abbrev pub witness_text : Part → Scripts → Witness → List ℕ
 witness_text Whole scripts witness = whole_text scripts witness
 witness_text FirstOrder scripts witness = steps_text scripts (numbers_of witness.first.items)
 witness_text SecondOrder scripts witness = steps_text scripts (numbers_of witness.second.items)
+witness_text Json scripts witness = whole_json scripts witness
 
 -- what is written of two calls of which no race is reported
-abbrev pub no_race_text : List ℕ
-no_race_text = codes "no race\n`check` reports no race of these two calls. `why` tells whether a chain orders them.\n"
+abbrev pub no_race_text : Part → List ℕ
+no_race_text Json = json_unshown false
+no_race_text _ = codes "no race\n`check` reports no race of these two calls. `why` tells whether a chain orders them.\n"
 
 -- what is written of a race of which no witness was found
-abbrev pub not_shown_text : List ℕ
-not_shown_text = codes "not shown\nNo run that was tried shows this race. Another run may show it all the same.\n"
+abbrev pub not_shown_text : Part → List ℕ
+not_shown_text Json = json_unshown true
+not_shown_text _ = codes "not shown\nNo run that was tried shows this race. Another run may show it all the same.\n"

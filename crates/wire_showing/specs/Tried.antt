@@ -1,11 +1,13 @@
 -- Races that were tried: whether a witness was found of each, and the text that tells it.
-use Rattle.std.specs.Prelude.{◌≡◌, ℕ, ◌-◌, List, [], ◌∷◌, ◌++◌, ⊤, Option, Some, None, is_some, IfSome, codes, count_by, decimal, length}
+use Rattle.std.specs.Prelude.{◌≡◌, ℕ, ◌-◌, Bool, true, false, List, [], ◌∷◌, ◌++◌, ⊤, Option, Some, None, is_some, IfSome, codes, count_by, decimal, length, map}
 use Rattle.std.specs.List.{flat_map}
 use Rattle.wire_types.specs.declared.CallAt.{CallAt}
 use Rattle.wire_content.specs.Scripts.{Scripts}
 use Rattle.wire_runs.specs.Plan.{Plan}
 use Rattle.wire_words.specs.Words.{call_text}
-use Rattle.wire_report.specs.Findings.{finding_line}
+use Rattle.wire_json.specs.declared.witnesses.RaceCounts.{RaceCounts}
+use Rattle.wire_json.specs.Witnesses.{json_races}
+use Rattle.wire_report.specs.Findings.{finding_words, finding_line}
 use Rattle.wire_witness.specs.Witness.{IsWitness}
 use Rattle.wire_witness.specs.declared.witness.Witness.{Witness}
 use Rattle.wire_showing.specs.Races.{race_calls}
@@ -58,3 +60,21 @@ counts_line tried count = count_text (codes "races ") count ++ judged_text tried
 -- a line for each race that was tried, and the last line
 abbrev pub tried_text : Scripts → List TriedRace → ℕ → List ℕ
 tried_text scripts tried count = flat_map (tried_line scripts) tried ++ counts_line tried count
+
+-- how many races there are in all, and how many of them are shown, not shown and not tried
+abbrev pub counts_of : List TriedRace → ℕ → RaceCounts
+counts_of tried count = record {
+  races = count;
+  shown = count_shown tried;
+  not_shown = length tried - count_shown tried;
+  not_tried = count - length tried;
+}
+
+-- the words of what `check` writes of these races
+abbrev pub words_of : Scripts → List TriedRace → List (List ℕ)
+words_of scripts tried = map (λ one. finding_words scripts one.race) tried
+
+-- the same in lines, or as JSON
+abbrev pub tried_form : Bool → Scripts → List TriedRace → ℕ → List ℕ
+tried_form false scripts tried count = tried_text scripts tried count
+tried_form true scripts tried count = json_races scripts (words_of scripts tried) (map (λ one. one.shown) tried) (counts_of tried count)

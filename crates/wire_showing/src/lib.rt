@@ -9,6 +9,6 @@ mod races;
 mod texts;
 mod tried;
 
-pub use all::witnesses;
+pub use all::{Tries, witnesses, witnesses_in_form};
 pub use pair::witness;
 pub use part::Part;

@@ -38,12 +38,12 @@ fn shown(alloc: Global, scripts: &Scripts, witness: &Witness, part: Part) -> Res
 }
 
 /// The answer where no run shows the race.
-fn unshown(alloc: Global) -> Result<Answer, Fault>
-    ensures text { IfOk result (λ answer. answer.text.items ≡ spec.not_shown_text) }
+fn unshown(alloc: Global, part: Part) -> Result<Answer, Fault>
+    ensures text { IfOk result (λ answer. answer.text.items ≡ spec.not_shown_text part) }
     ensures ended { IfOk result (λ answer. answer.ended ≡ Clean) }
     ensures err { IfErr result (λ e. e ≡ Memory) }
 {
-    let text = not_shown(alloc)?;
+    let text = not_shown(alloc, part)?;
     Ok(Answer {
         text,
         ended: Ended::Clean,
@@ -51,12 +51,12 @@ fn unshown(alloc: Global) -> Result<Answer, Fault>
 }
 
 /// The answer where the calls are no race.
-fn unreported(alloc: Global) -> Result<Answer, Fault>
-    ensures text { IfOk result (λ answer. answer.text.items ≡ spec.no_race_text) }
+fn unreported(alloc: Global, part: Part) -> Result<Answer, Fault>
+    ensures text { IfOk result (λ answer. answer.text.items ≡ spec.no_race_text part) }
     ensures ended { IfOk result (λ answer. answer.ended ≡ Clean) }
     ensures err { IfErr result (λ e. e ≡ Memory) }
 {
-    let text = no_race(alloc)?;
+    let text = no_race(alloc, part)?;
     Ok(Answer {
         text,
         ended: Ended::Clean,
@@ -79,7 +79,7 @@ fn searched(
             Ok(answer)
         }
         None => {
-            let answer = unshown(alloc)?;
+            let answer = unshown(alloc, part)?;
             Ok(answer)
         }
     }
@@ -99,7 +99,7 @@ fn pair_answer(
     let marks = Marks::of(alloc, plan)?;
     let found = finding_list(rt, alloc, plan, &marks)?;
     if !is_reported(&found, calls.0, calls.1) {
-        let answer = unreported(alloc)?;
+        let answer = unreported(alloc, part)?;
         return Ok(answer);
     }
     let marked = marks.with(plan);
@@ -160,8 +160,8 @@ fn scripts_answer(
 
 /// Shows the race of two calls of a file of scripts: reads the file to its end, looks whether a race of the two
 /// calls is among the findings, and if so for two runs in which the calls come in different orders and one of
-/// them ends differently. It writes that call, how it ends in each run, and the orders of both runs, or one of
-/// these orders alone. Where no such runs are found, it says so, and nothing of other runs.
+/// them ends differently. It writes that call, how it ends in each run, and the orders of both runs, in lines or as
+/// JSON, or one of these orders alone. Where no such runs are found, it says so, and nothing of other runs.
 ///
 /// It answers `Found(1)` where it shows the race, else `Clean`. The words and the faults are those of
 /// [`wire_commands::why`]. After the fault `Write` the front of the text that it counts is written, after any

@@ -9,4 +9,6 @@ pub enum Part {
     FirstOrder,
     /// The order of the run in which the second call comes first, as `follow` takes it.
     SecondOrder,
+    /// All that `Whole` has, as JSON.
+    Json,
 }

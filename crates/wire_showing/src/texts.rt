@@ -7,29 +7,36 @@ ghost use Rattle.wire_showing.specs.Texts as spec;
 use crate::part::Part;
 use std::alloc::{AllocError, Global};
 use wire_content::Scripts;
-use wire_report::{push_order, push_steps, verb_at};
-use wire_types::{CallAt, CallEnd};
+use wire_json::{RunTold, unshown_json, witness_json};
+use wire_report::{push_order, push_steps};
+use wire_types::{CallAt, CallEnd, Proc};
 use wire_witness::Witness;
-use wire_words::{push_call, push_end};
+use wire_words::{push_call, push_end, verb_at};
 
 /// What is written of two calls of which no race is reported.
-pub(crate) fn no_race(alloc: Global) -> Result<Vec<u8>, AllocError>
-    ensures { IfOk result (λ text. text.items ≡ spec.no_race_text) }
+pub(crate) fn no_race(alloc: Global, part: Part) -> Result<Vec<u8>, AllocError>
+    ensures { IfOk result (λ text. text.items ≡ spec.no_race_text part) }
 {
-    Vec::from_slice(
-        alloc,
-        b"no race\n`check` reports no race of these two calls. `why` tells whether a chain orders them.\n".as_slice(),
-    )
+    match part {
+        Part::Json => unshown_json(alloc, false),
+        Part::Whole | Part::FirstOrder | Part::SecondOrder => Vec::from_slice(
+            alloc,
+            b"no race\n`check` reports no race of these two calls. `why` tells whether a chain orders them.\n".as_slice(),
+        ),
+    }
 }
 
 /// What is written of a race of which no witness was found.
-pub(crate) fn not_shown(alloc: Global) -> Result<Vec<u8>, AllocError>
-    ensures { IfOk result (λ text. text.items ≡ spec.not_shown_text) }
+pub(crate) fn not_shown(alloc: Global, part: Part) -> Result<Vec<u8>, AllocError>
+    ensures { IfOk result (λ text. text.items ≡ spec.not_shown_text part) }
 {
-    Vec::from_slice(
-        alloc,
-        b"not shown\nNo run that was tried shows this race. Another run may show it all the same.\n".as_slice(),
-    )
+    match part {
+        Part::Json => unshown_json(alloc, true),
+        Part::Whole | Part::FirstOrder | Part::SecondOrder => Vec::from_slice(
+            alloc,
+            b"not shown\nNo run that was tried shows this race. Another run may show it all the same.\n".as_slice(),
+        ),
+    }
 }
 
 /// The text of a witness, or of one of its orders.
@@ -41,25 +48,45 @@ pub(crate) fn witness_text(
 ) -> Result<Vec<u8>, AllocError>
     ensures { IfOk result (λ text. text.items ≡ spec.witness_text part scripts.now witness.now) }
 {
+    match part {
+        Part::Whole => whole_text(alloc, scripts, witness),
+        Part::FirstOrder => steps_text(alloc, scripts, witness.first.as_slice()),
+        Part::SecondOrder => steps_text(alloc, scripts, witness.second.as_slice()),
+        Part::Json => whole_json(alloc, scripts, witness),
+    }
+}
+
+/// The lines of a witness.
+fn whole_text(alloc: Global, scripts: &Scripts, witness: &Witness) -> Result<Vec<u8>, AllocError>
+    ensures { IfOk result (λ text. text.items ≡ spec.whole_text scripts.now witness.now) }
+{
     let mut text = Vec::new(alloc);
-    push_witness(&mut text, scripts, witness, part)?;
+    push_whole(&mut text, scripts, witness)?;
     Ok(text)
 }
 
-/// Appends what is to be written of a witness.
-fn push_witness(
-    out: &mut Vec<u8>,
-    scripts: &Scripts,
-    witness: &Witness,
-    part: Part,
-) -> Result<(), AllocError>
-    ensures { OnOk result (out.new.items ≡ out.old.items ++ spec.witness_text part scripts.now witness.now) }
+/// The lines of an order.
+fn steps_text(alloc: Global, scripts: &Scripts, steps: &[Proc]) -> Result<Vec<u8>, AllocError>
+    ensures { IfOk result (λ text. text.items ≡ spec.steps_text scripts.now (numbers_of steps.now)) }
 {
-    match part {
-        Part::Whole => push_whole(out, scripts, witness),
-        Part::FirstOrder => push_steps(out, scripts, witness.first.as_slice()),
-        Part::SecondOrder => push_steps(out, scripts, witness.second.as_slice()),
-    }
+    let mut text = Vec::new(alloc);
+    push_steps(&mut text, scripts, steps)?;
+    Ok(text)
+}
+
+/// A witness as JSON.
+fn whole_json(alloc: Global, scripts: &Scripts, witness: &Witness) -> Result<Vec<u8>, AllocError>
+    ensures { IfOk result (λ text. text.items ≡ spec.whole_json scripts.now witness.now) }
+{
+    let first = RunTold {
+        end: &witness.first_end,
+        order: witness.first.as_slice(),
+    };
+    let second = RunTold {
+        end: &witness.second_end,
+        order: witness.second.as_slice(),
+    };
+    witness_json(alloc, scripts, witness.call, first, second)
 }
 
 /// Appends all of a witness.

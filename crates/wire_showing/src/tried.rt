@@ -1,6 +1,6 @@
 //! Races that were tried: whether a witness was found of each, and the text that tells it.
 
-ghost use Rattle.std.specs.Prelude.{◌≡◌, ◌++◌, ◌∷◌, [], map, IfOk, IfErr, OnOk};
+ghost use Rattle.std.specs.Prelude.{◌≡◌, ◌++◌, ◌∷◌, [], true, map, IfOk, IfErr, OnOk};
 ghost use Rattle.std.specs.List.{flat_map};
 ghost use Rattle.wire_types.specs.declared.Fault.TheVariants.{Memory};
 ghost use Rattle.wire_content.specs.Planned.{plan_of};
@@ -10,6 +10,7 @@ ghost use Rattle.wire_showing.specs.Tried.{AreTried, IsTried};
 use crate::races::race_calls;
 use std::alloc::{AllocError, Global};
 use wire_content::Scripts;
+use wire_json::{RaceCounts, races_json};
 use wire_marks::MarkedPlan;
 use wire_races::Finding;
 use wire_report::push_finding;
@@ -76,8 +77,80 @@ pub(crate) fn count_shown(tried: &[TriedRace]) -> usize
     tried.iter().filter(|one| one.shown.is_some()).count()
 }
 
-/// The text of these races, of so many in all.
-pub(crate) fn tried_text(
+/// The text of these races, of so many in all: in lines, or as JSON.
+pub(crate) fn tried_form(
+    alloc: Global,
+    scripts: &Scripts,
+    tried: &[TriedRace],
+    count: usize,
+    json: bool,
+) -> Result<Vec<u8>, AllocError>
+    ensures { IfOk result (λ text. text.items ≡ spec.tried_form json scripts.now tried.now count) }
+{
+    if json {
+        return tried_json(alloc, scripts, tried, count);
+    }
+    tried_text(alloc, scripts, tried, count)
+}
+
+/// These races as JSON.
+fn tried_json(
+    alloc: Global,
+    scripts: &Scripts,
+    tried: &[TriedRace],
+    count: usize,
+) -> Result<Vec<u8>, AllocError>
+    ensures { IfOk result (λ text. text.items ≡ spec.tried_form true scripts.now tried.now count) }
+{
+    let words = words_of(alloc, scripts, tried)?;
+    let shown = shown_of(alloc, tried)?;
+    let counts = counts_of(tried, count);
+    races_json(alloc, scripts, words.as_slice(), shown.as_slice(), counts)
+}
+
+/// The words of what `check` writes of these races.
+fn words_of(
+    alloc: Global,
+    scripts: &Scripts,
+    tried: &[TriedRace],
+) -> Result<Vec<Vec<u8>>, AllocError>
+    ensures { IfOk result (λ lines. map (λ line. line.items) lines.items ≡ spec.words_of scripts.now tried.now) }
+{
+    let mut lines = Vec::new(alloc);
+    for one in tried {
+        let mut line = Vec::new(alloc);
+        push_finding(&mut line, scripts, one.race)?;
+        lines.push(line)?;
+    }
+    Ok(lines)
+}
+
+/// The calls that show these races.
+fn shown_of(alloc: Global, tried: &[TriedRace]) -> Result<Vec<Option<CallAt>>, AllocError>
+    ensures { IfOk result (λ calls. calls.items ≡ map (λ one. one.shown) tried.now) }
+{
+    let mut calls = Vec::new(alloc);
+    for one in tried {
+        calls.push(one.shown)?;
+    }
+    Ok(calls)
+}
+
+/// How many races there are in all, and how many of them are shown, not shown and not tried.
+fn counts_of(tried: &[TriedRace], count: usize) -> RaceCounts
+    ensures { result ≡ spec.counts_of tried.now count }
+{
+    let shown = count_shown(tried);
+    RaceCounts {
+        races: count as u64,
+        shown: shown as u64,
+        not_shown: tried.len().saturating_sub(shown) as u64,
+        not_tried: count.saturating_sub(tried.len()) as u64,
+    }
+}
+
+/// The lines of these races, of so many in all.
+fn tried_text(
     alloc: Global,
     scripts: &Scripts,
     tried: &[TriedRace],

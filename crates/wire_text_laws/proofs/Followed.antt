@@ -1,5 +1,5 @@
 -- Following the lines of a run's steps writes the report of this run.
-use Rattle.std.proofs.Common.{◌≡◌, ◌∙◌, ap, ap₂, sym, subst, ℕ, zero, suc, List, [], ◌∷◌, true, true≢false, take, Option, Some, Result, Ok, Err, ◌⊎◌, refl, inl, inr}
+use Rattle.std.proofs.Common.{◌≡◌, ◌∙◌, ap, ap₂, sym, subst, Bool, ℕ, zero, suc, List, [], ◌∷◌, true, true≢false, take, Option, Some, Result, Ok, Err, ◌⊎◌, refl, inl, inr}
 use Rattle.std.specs.Prelude.{slice_get}
 use Rattle.std.specs.Io.KnownBytes.{Appends}
 use Rattle.wire_types.specs.declared.Fault.{Fault}
@@ -36,11 +36,11 @@ module _ (size : Size) (bytes : List ℕ) (s : Scripts) (steps : List ℕ) (read
   same_order : (t : Scripts) (others : List ℕ) → s ≡ t → OrdersAs size (Some (steps_text s steps)) t others → others ≡ steps
   same_order t others e o = back.only others (ap (λ x. order_read size x (steps_text s steps)) e ∙ ap (order_read size t) o.came ∙ o.reads)
 
-  writes : (old new : Option (List ℕ)) → WritesFollowed size (Some bytes) (Some (steps_text s steps)) old new → Appends old new (report_after s steps)
-  writes old new w =
+  writes : (json : Bool) (old new : Option (List ℕ)) → WritesFollowed size json (Some bytes) (Some (steps_text s steps)) old new → Appends old new (report_after json s steps)
+  writes json old new w =
       let e = same_scripts w.scripts w.ordered.read in
       let f = same_order w.scripts w.steps e w.ordered.order in
-      subst (λ x. Appends old new x) (ap₂ report_after (sym e) f) w.wrote
+      subst (λ x. Appends old new x) (ap₂ (report_after json) (sym e) f) w.wrote
 
   no_refusal : (fault : Fault) → Refuses size (Some bytes) fault → ⊥
   no_refusal fault r = let is : Ok s ≡ Err fault = reads_once size bytes (Ok s) (Err fault) read (subst (λ b. Reads size b (Err fault)) (sym r.came) r.reads) in cc

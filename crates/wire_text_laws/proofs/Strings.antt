@@ -2,7 +2,7 @@
 use Rattle.std.proofs.Common.{sym, subst, refl, ℕ, ◌+◌, List, [], ◌∷◌, ◌++◌, Option, Some, None, codes, decimal}
 use Rattle.std.specs.Prelude.{slice_get}
 use Rattle.wire_types.specs.declared.Call.{Call}
-use Rattle.wire_types.specs.declared.Call.TheVariants.{Put, Publish}
+use Rattle.wire_types.specs.declared.Call.TheVariants.{Put, Commit, Fence, Get, GetNow, Publish, Lookup, LookupWait, Unpublish, UnpublishAll}
 use Rattle.wire_types.specs.declared.CallAt.{CallAt}
 use Rattle.wire_types.specs.declared.Value.{Value}
 use Rattle.wire_types.specs.declared.Value.TheVariants as value
@@ -10,7 +10,7 @@ use Rattle.wire_content.specs.Scripts.{Scripts, Process, text_at, call_at}
 use Rattle.wire_content.specs.Canonical.{process_text}
 use Rattle.wire_races.specs.declared.finding.Finding.{Finding}
 use Rattle.wire_races.specs.declared.finding.Finding.TheVariants.{Rewrite, KeyRace, NameRace}
-use Rattle.wire_words.specs.Words.{name_of, text_of_process, given_text, value_text, call_text}
+use Rattle.wire_words.specs.Words.{name_of, text_of_process, given_text, value_text, call_text, verb_text_in}
 use Rattle.wire_report.specs.Findings.{put_key_text, rewrite_text, pair_text, finding_words}
 use Rattle.wire_text_laws.specs.Kept.{IsKept, AreKept, NothingReplaced}
 use Rattle.wire_text_laws.proofs.Source.{declared_by}
@@ -19,6 +19,19 @@ use Rattle.wire_text_laws.proofs.Printable.{both_kept, decimal_kept, TextsAreKep
 -- two texts with one between them
 parted : (xs between ys : List ℕ) → IsKept xs → IsKept between → IsKept ys → IsKept (xs ++ between ++ ys)
 parted xs between ys h b k = both_kept (xs ++ between) ys (both_kept xs between h b) k
+
+verb_kept : (call : Option Call) → IsKept (verb_text_in call)
+verb_kept None = refl
+verb_kept (Some (Put scope key value)) = refl
+verb_kept (Some Commit) = refl
+verb_kept (Some (Get owner key)) = refl
+verb_kept (Some (GetNow owner key)) = refl
+verb_kept (Some (Fence set collect)) = refl
+verb_kept (Some (Publish name value)) = refl
+verb_kept (Some (Lookup name)) = refl
+verb_kept (Some (LookupWait name)) = refl
+verb_kept (Some (Unpublish name)) = refl
+verb_kept (Some UnpublishAll) = refl
 
 module _ (s : Scripts) (h : TextsAreKept s) where
   process_kept : (p : Process) → IsKept (process_text s p)
@@ -71,7 +84,7 @@ module _ (s : Scripts) (h : TextsAreKept s) where
   finding_kept (NameRace lower higher name) = parted (codes "race " ++ pair_text s lower higher) (codes " name ") (text_at s.names name) (race_kept lower higher) refl (h.names name)
 
   all_kept : AreKept s
-  all_kept = record { processes = process_kept; steps = name_kept; values = value_kept; findings = finding_kept }
+  all_kept = record { processes = process_kept; steps = name_kept; values = value_kept; findings = finding_kept; verbs = verb_kept }
 
 pub nothing_replaced : NothingReplaced
 nothing_replaced size bytes s read =

@@ -1,12 +1,13 @@
 -- What the strings of the JSON forms say of scripts that were read.
-use Rattle.std.specs.Prelude.{◌≡◌, ℕ, List, Ok, map}
+use Rattle.std.specs.Prelude.{◌≡◌, ℕ, List, Option, Ok, map}
+use Rattle.wire_types.specs.declared.Call.{Call}
 use Rattle.wire_types.specs.declared.Value.{Value}
 use Rattle.wire_content.specs.Scripts.{Scripts, Process}
 use Rattle.wire_content.specs.Canonical.{process_text}
 use Rattle.wire_script.specs.declared.Size.{Size}
 use Rattle.wire_script.specs.Reads.{Reads}
 use Rattle.wire_races.specs.declared.finding.Finding.{Finding}
-use Rattle.wire_words.specs.Words.{name_of, value_text}
+use Rattle.wire_words.specs.Words.{name_of, value_text, verb_text_in}
 use Rattle.wire_json.specs.Json.{printed}
 use Rattle.wire_report.specs.Findings.{finding_words}
 
@@ -14,12 +15,13 @@ use Rattle.wire_report.specs.Findings.{finding_words}
 abbrev pub IsKept : List ℕ → Type 0
 IsKept text = map printed text ≡ text
 
--- each text that a JSON form has in a string: a process, a step, what a reply brings, and a finding
+-- each text that a JSON form has in a string: a process, a step, what a reply brings, a finding, and what a call is called
 pub record AreKept (s : Scripts) : Type 0 where
   pub processes : (process : Process) → IsKept (process_text s process)
   pub steps : (p : ℕ) → IsKept (name_of s p)
   pub values : (value : Value) → IsKept (value_text s value)
   pub findings : (finding : Finding) → IsKept (finding_words s finding)
+  pub verbs : (call : Option Call) → IsKept (verb_text_in call)
 
 -- of scripts that were read no byte is replaced
 abbrev pub NothingReplaced : Type 0

@@ -8,8 +8,7 @@ use Rattle.wire_types.specs.declared.CallEnd.TheVariants.{Replied, Unreached}
 use Rattle.wire_types.specs.declared.Status.{Status}
 use Rattle.wire_types.specs.declared.Status.TheVariants.{Success}
 use Rattle.wire_content.specs.Scripts.{Scripts, call_at, calls_in}
-use Rattle.wire_words.specs.Words.{call_text, end_text}
-use Rattle.wire_report.specs.Chain.{verb_text_in}
+use Rattle.wire_words.specs.Words.{call_text, end_text, verb_text_in}
 use Rattle.wire_core.specs.EndsAfter.{plain_ends}
 use Rattle.wire_collect.specs.Collect.{IsCompleteRun}
 use Rattle.wire_script.specs.declared.Size.{Size}

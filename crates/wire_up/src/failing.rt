@@ -8,9 +8,8 @@ ghost use Rattle.wire_up.specs.Complete.{EverySucceeds, IsFirstFailure, TellsFai
 
 use std::alloc::{AllocError, Global};
 use wire_content::Scripts;
-use wire_report::verb_at;
 use wire_types::{CallAt, CallEnd, Outcome, Proc, Status};
-use wire_words::{push_call, push_end};
+use wire_words::{push_call, push_end, verb_at};
 
 /// Whether a call was answered `PMIX_SUCCESS`.
 fn succeeds(end: CallEnd) -> bool

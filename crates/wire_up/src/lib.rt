@@ -9,7 +9,8 @@ pub use wire_command_line::{
     Asked, CallWords, Orders, Refusal, Request, asked, read_request, workers_of,
 };
 pub use wire_commands::{
-    Ended, check, check_sized, follow, follow_sized, migrate, migrate_sized, plain, why, why_sized,
+    Ended, Form, check, check_in_form, check_sized, follow, follow_in_form, follow_sized, migrate,
+    migrate_sized, plain, why, why_in_form, why_sized,
 };
 pub use wire_script::Size;
-pub use wire_showing::{Part, witness, witnesses};
+pub use wire_showing::{Part, Tries, witness, witnesses, witnesses_in_form};

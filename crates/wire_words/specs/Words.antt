@@ -40,6 +40,11 @@ verb_of UnpublishAll = verb.Unpublish
 abbrev pub verb_text : Call → List ℕ
 verb_text call = text_of_verb (verb_of call)
 
+-- the verb of a call, empty where there is none
+abbrev pub verb_text_in : Option Call → List ℕ
+verb_text_in None = []
+verb_text_in (Some call) = verb_text call
+
 -- the text of the value that a call gives, empty where it gives none
 abbrev pub given_text : Scripts → Option Call → List ℕ
 given_text scripts (Some (Put scope key value)) = text_at scripts.values value

@@ -79,6 +79,16 @@ pub fn verb(call: &Call) -> &'static str
     }
 }
 
+/// What the call at a place is called, empty where there is none.
+pub fn verb_at(scripts: &Scripts, place: CallAt) -> &'static str
+    ensures { result.now ≡ spec.verb_text_in (call_at scripts.now.processes place.proc.number place.call) }
+{
+    match find_call(scripts, place) {
+        Some(call) => verb(call),
+        None => "",
+    }
+}
+
 /// The call at a place, where there is one.
 pub fn find_call(scripts: &Scripts, place: CallAt) -> Option<&Call>
     ensures { option_copied result ≡ call_at scripts.now.processes place.proc.number place.call }

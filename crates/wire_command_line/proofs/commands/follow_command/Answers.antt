@@ -1,20 +1,23 @@
-use Rattle.std.proofs.Common.{rules, ap, ◌∙◌, codes}
+use Rattle.std.proofs.Common.{ap, ◌∙◌, codes}
 use Rattle.std.proofs.lemmas.Result.{IfOk-weaker}
 use Rattle.clap.specs.Simple.{app_of_fields}
 use Rattle.clap.specs.Words.{new_app}
-use Rattle.wire_command_line.proofs.Lines.{IsLine, with_argument}
+use Rattle.wire_command_line.specs.CommandLine as spec
+use Rattle.wire_command_line.proofs.Lines.{IsLine, grown_by, with_argument}
 use Rattle.wire_command_line.proofs.commands.follow_command.Goals as goal
 
 pub returns-clause-app : goal.returns-clause-app
 returns-clause-app c =
-    let alone : IsLine c.about.result (new_app (codes "follow")) = record { is = ap app_of_fields c.about.ensures ∙ c.new.ensures.app; local = search rules } in
+    let alone : IsLine c.about.result (new_app (codes "follow")) =
+    record { is = ap app_of_fields c.about.ensures ∙ c.new.ensures.app; local = (λ i. (c.about.ensures i).has_globals) ∙ c.new.ensures.local } in
     let one = with_argument _ _ _ _ _ c.in_ok-arg.ensures alone c.needed_argument.ensures.rule c.needed_argument.ensures.local in
-    let two = with_argument _ _ _ _ _ c.in_ok-arg-2.ensures one c.large_flag.ensures.rule c.large_flag.ensures.local in
-    IfOk-weaker c.arg-3.result _ _ (λ new adds. (with_argument _ new _ _ _ adds two c.file_argument.ensures.rule c.file_argument.ensures.local).is) c.arg-3.ensures
+    let two = with_argument _ _ _ _ _ c.in_ok-line.ensures one c.flag.ensures.rule c.flag.ensures.local in
+    IfOk-weaker c.with_large.result _ _ (λ new grows. (grown_by _ new _ spec.with_large grows two).is) c.with_large.ensures
 
 pub returns-clause-local : goal.returns-clause-local
 returns-clause-local c =
-    let alone : IsLine c.about.result (new_app (codes "follow")) = record { is = ap app_of_fields c.about.ensures ∙ c.new.ensures.app; local = search rules } in
+    let alone : IsLine c.about.result (new_app (codes "follow")) =
+    record { is = ap app_of_fields c.about.ensures ∙ c.new.ensures.app; local = (λ i. (c.about.ensures i).has_globals) ∙ c.new.ensures.local } in
     let one = with_argument _ _ _ _ _ c.in_ok-arg.ensures alone c.needed_argument.ensures.rule c.needed_argument.ensures.local in
-    let two = with_argument _ _ _ _ _ c.in_ok-arg-2.ensures one c.large_flag.ensures.rule c.large_flag.ensures.local in
-    IfOk-weaker c.arg-3.result _ _ (λ new adds. (with_argument _ new _ _ _ adds two c.file_argument.ensures.rule c.file_argument.ensures.local).local) c.arg-3.ensures
+    let two = with_argument _ _ _ _ _ c.in_ok-line.ensures one c.flag.ensures.rule c.flag.ensures.local in
+    IfOk-weaker c.with_large.result _ _ (λ new grows. (grown_by _ new _ spec.with_large grows two).local) c.with_large.ensures

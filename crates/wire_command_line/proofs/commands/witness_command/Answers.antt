@@ -2,7 +2,8 @@ use Rattle.std.proofs.Common.{ap, ◌∙◌, codes}
 use Rattle.std.proofs.lemmas.Result.{IfOk-weaker}
 use Rattle.clap.specs.Simple.{app_of_fields}
 use Rattle.clap.specs.Words.{new_app}
-use Rattle.wire_command_line.proofs.Lines.{IsLine, with_argument}
+use Rattle.wire_command_line.specs.CommandLine as spec
+use Rattle.wire_command_line.proofs.Lines.{IsLine, grown_by, with_argument}
 use Rattle.wire_command_line.proofs.commands.witness_command.Goals as goal
 
 pub returns-clause-app : goal.returns-clause-app
@@ -12,11 +13,12 @@ returns-clause-app c =
     let one = with_argument _ _ _ _ _ c.in_ok-arg.ensures alone c.flag.ensures.rule c.flag.ensures.local in
     let two = with_argument _ _ _ _ _ c.in_ok-arg-2.ensures one c.flag-2.ensures.rule c.flag-2.ensures.local in
     let three = with_argument _ _ _ _ _ c.in_ok-arg-3.ensures two c.most_argument.ensures.rule c.most_argument.ensures.local in
-    let four = with_argument _ _ _ _ _ c.in_ok-arg-4.ensures three c.optional_argument.ensures.rule c.optional_argument.ensures.local in
-    let five = with_argument _ _ _ _ _ c.in_ok-arg-5.ensures four c.optional_argument-2.ensures.rule c.optional_argument-2.ensures.local in
-    let six = with_argument _ _ _ _ _ c.in_ok-arg-6.ensures five c.optional_argument-3.ensures.rule c.optional_argument-3.ensures.local in
-    let seven = with_argument _ _ _ _ _ c.in_ok-arg-7.ensures six c.optional_argument-4.ensures.rule c.optional_argument-4.ensures.local in
-    IfOk-weaker c.arg-8.result _ _ (λ new adds. (with_argument _ new _ _ _ adds seven c.file_argument.ensures.rule c.file_argument.ensures.local).is) c.arg-8.ensures
+    let four = with_argument _ _ _ _ _ c.in_ok-arg-4.ensures three c.flag-3.ensures.rule c.flag-3.ensures.local in
+    let five = with_argument _ _ _ _ _ c.in_ok-arg-5.ensures four c.optional_argument.ensures.rule c.optional_argument.ensures.local in
+    let six = with_argument _ _ _ _ _ c.in_ok-arg-6.ensures five c.optional_argument-2.ensures.rule c.optional_argument-2.ensures.local in
+    let seven = with_argument _ _ _ _ _ c.in_ok-arg-7.ensures six c.optional_argument-3.ensures.rule c.optional_argument-3.ensures.local in
+    let eight = with_argument _ _ _ _ _ c.in_ok-line.ensures seven c.optional_argument-4.ensures.rule c.optional_argument-4.ensures.local in
+    IfOk-weaker c.with_plan.result _ _ (λ new grows. (grown_by _ new _ spec.with_plan grows eight).is) c.with_plan.ensures
 
 pub returns-clause-local : goal.returns-clause-local
 returns-clause-local c =
@@ -25,8 +27,9 @@ returns-clause-local c =
     let one = with_argument _ _ _ _ _ c.in_ok-arg.ensures alone c.flag.ensures.rule c.flag.ensures.local in
     let two = with_argument _ _ _ _ _ c.in_ok-arg-2.ensures one c.flag-2.ensures.rule c.flag-2.ensures.local in
     let three = with_argument _ _ _ _ _ c.in_ok-arg-3.ensures two c.most_argument.ensures.rule c.most_argument.ensures.local in
-    let four = with_argument _ _ _ _ _ c.in_ok-arg-4.ensures three c.optional_argument.ensures.rule c.optional_argument.ensures.local in
-    let five = with_argument _ _ _ _ _ c.in_ok-arg-5.ensures four c.optional_argument-2.ensures.rule c.optional_argument-2.ensures.local in
-    let six = with_argument _ _ _ _ _ c.in_ok-arg-6.ensures five c.optional_argument-3.ensures.rule c.optional_argument-3.ensures.local in
-    let seven = with_argument _ _ _ _ _ c.in_ok-arg-7.ensures six c.optional_argument-4.ensures.rule c.optional_argument-4.ensures.local in
-    IfOk-weaker c.arg-8.result _ _ (λ new adds. (with_argument _ new _ _ _ adds seven c.file_argument.ensures.rule c.file_argument.ensures.local).local) c.arg-8.ensures
+    let four = with_argument _ _ _ _ _ c.in_ok-arg-4.ensures three c.flag-3.ensures.rule c.flag-3.ensures.local in
+    let five = with_argument _ _ _ _ _ c.in_ok-arg-5.ensures four c.optional_argument.ensures.rule c.optional_argument.ensures.local in
+    let six = with_argument _ _ _ _ _ c.in_ok-arg-6.ensures five c.optional_argument-2.ensures.rule c.optional_argument-2.ensures.local in
+    let seven = with_argument _ _ _ _ _ c.in_ok-arg-7.ensures six c.optional_argument-3.ensures.rule c.optional_argument-3.ensures.local in
+    let eight = with_argument _ _ _ _ _ c.in_ok-line.ensures seven c.optional_argument-4.ensures.rule c.optional_argument-4.ensures.local in
+    IfOk-weaker c.with_plan.result _ _ (λ new grows. (grown_by _ new _ spec.with_plan grows eight).local) c.with_plan.ensures

@@ -12,7 +12,7 @@ returns-in_err-plan-clause-err c = handed_on c.from_residual.result c.in_err-pla
 
 pub returns-clause-ok : goal.returns-clause-ok
 returns-clause-ok c =
-    answers_too c.args.scripts c.in_ok-plan.plan (map (λ w. w.now) c.args.words) c.answer_of-text.result c.in_ok-plan.ensures.ok c.answer_of-text.ensures.ok
+    answers_too c.args.json c.args.scripts c.in_ok-plan.plan (map (λ w. w.now) c.args.words) c.answer_of-text.result c.in_ok-plan.ensures.ok c.answer_of-text.ensures.ok
 
 pub returns-clause-err : goal.returns-clause-err
 returns-clause-err c =

@@ -1,9 +1,8 @@
-use Rattle.std.proofs.Common.{◌∙◌, [], ◌++◌, ap, sym, refl, subst}
+use Rattle.std.proofs.Common.{[], ◌∷◌, sym, refl, subst}
 use Rattle.std.proofs.lemmas.List.{append-nil}
 use Rattle.wire_runs.specs.Order.{Live}
-use Rattle.wire_content.specs.Scripts.{Scripts}
 use Rattle.wire_content.specs.Planned.{plan_of}
-use Rattle.wire_report.specs.Chain.{dead_line, Dead, Alive}
+use Rattle.wire_report.specs.Chain.{Dead, Alive}
 use Rattle.wire_report.proofs.Chains.{on_ok}
 use Rattle.wire_report.proofs.steps.push_dead.Goals as goal
 
@@ -14,12 +13,11 @@ returns-then-live c =
 
 pub returns : goal.returns
 returns c =
-    on_ok c.push_dead_line.result
+    on_ok c.push_call_at.result
     (λ e. (
-      dead_line c.args.plan.now c.args.call,
+      c.args.call ∷ [],
       Dead (λ l. cc
           (c.if-live.false, (c.live.ensures (plan_of c.args.plan.now) c.requires.marks).1 (subst (Live (plan_of c.args.plan.now)) (sym c.first_event.ensures) l))) refl,
-      e
-          ∙ ap (λ (s : Scripts). c.args.out.now.items ++ dead_line s c.args.call) c.scripts.ensures.scripts,
+      e,
     ))
-    c.push_dead_line.ensures
+    c.push_call_at.ensures

@@ -5,4 +5,4 @@ use Rattle.wire_showing.proofs.all.scripts_answer.Goals as goal
 
 pub returns-clause-ok : goal.returns-clause-ok
 returns-clause-ok g c =
-    subst (λ s. IfOk c.plan_answer-answer.result (λ a. IsTriedText s c.args.most a.text.items a.ended)) c.in_ok-plan.ensures.ok c.plan_answer-answer.ensures.ok
+    subst (λ s. IfOk c.plan_answer-answer.result (λ a. IsTriedText c.args.tries.json s c.args.tries.most a.text.items a.ended)) c.in_ok-plan.ensures.ok c.plan_answer-answer.ensures.ok

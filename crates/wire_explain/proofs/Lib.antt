@@ -1,0 +1,4 @@
+pub mod Edits
+pub mod Pages
+pub mod Tables
+pub mod Tamed

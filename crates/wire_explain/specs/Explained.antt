@@ -1,0 +1,81 @@
+-- What is told of the fault of a plan.
+use Rattle.std.specs.Prelude.{◌≡◌, ℕ, List, [], ◌∷◌, ◌++◌, map, unwrap_or, Option, Some, None, codes, if◌then◌else◌}
+use Rattle.std.specs.Str.{bytes_eq}
+use Rattle.wire_types.specs.declared.Fault.{Fault}
+use Rattle.wire_types.specs.declared.Fault.TheVariants.{Memory, TooLong, BadHeader, BadLine, UnknownName, Twice, NotMember, TooMany, Workers, Read, Write, NotReady, BadOrder}
+use Rattle.wire_explain.specs.Near.{IsHint}
+use Rattle.wire_explain.specs.Format.{usage_of, format_words}
+use Rattle.wire_explain.specs.Quote.{tame, quoted, labelled}
+use Rattle.wire_explain.specs.Place.{first_in, words_at, place_of}
+use Rattle.wire_explain.specs.declared.place.Place.{Place}
+use Rattle.wire_explain.specs.declared.place.Place.TheVariants.{Opening, InJob, InRank}
+
+-- the line of a plan that a fault names
+abbrev pub plan_line : Fault → Option ℕ
+plan_line (TooLong line) = Some line
+plan_line (BadHeader line) = Some line
+plan_line (BadLine line) = Some line
+plan_line (UnknownName line) = Some line
+plan_line (Twice line) = Some line
+plan_line (NotMember line) = Some line
+plan_line (TooMany line) = Some line
+plan_line _ = None
+
+-- what may stand at a place
+abbrev pub expected_at : Place → List ℕ
+expected_at Opening = codes "'node NAME' or 'job NAME', or 'keep' right below 'rehearsal 2'"
+expected_at InJob = codes "'rank NODE' or 'job NAME'"
+expected_at InRank = codes "a call of this rank, 'rank NODE' or 'job NAME'"
+
+-- what was expected of a line that isn't one of the format, or stands in the wrong place: the line of its first word, or what
+-- may stand there
+abbrev pub expected_line : List ℕ → ℕ → List ℕ
+expected_line bytes line = unwrap_or (usage_of (first_in (words_at bytes line))) (expected_at (place_of bytes line))
+
+-- what was expected, where a plan has this fault
+abbrev pub expected : List ℕ → Fault → List ℕ
+expected bytes Memory = codes "more memory"
+expected bytes (TooLong line) = codes "names and keys of at most 63 bytes, values of at most 255, and a file within its limit"
+expected bytes (BadHeader line) = codes "'rehearsal 1' or 'rehearsal 2', before all other lines"
+expected bytes (BadLine line) = expected_line bytes line
+expected bytes (UnknownName line) = codes "a node, a job or a rank that the file declares"
+expected bytes (Twice line) = codes "a name that no line of this kind above has"
+expected bytes (NotMember line) = codes "a set with the rank that calls the fence"
+expected bytes (TooMany line) = codes "no more nodes, jobs, ranks or calls than the limits; --large has larger ones"
+expected bytes Workers = codes "1 to 64 workers"
+expected bytes Read = codes "a file that can be opened and read"
+expected bytes (Write count) = codes "an output that can be written"
+expected bytes (NotReady step) = codes "a rank that can take its next step"
+expected bytes (BadOrder place) = codes "a rank of the plan, such as app:0"
+
+-- a word that may be misspelt, and the words that may be meant
+abbrev pub doubt_of_word : List ℕ → Option (List ℕ) → List ℕ × List (List ℕ)
+doubt_of_word word None = (word, format_words)
+doubt_of_word word (Some usage) = ([], [])
+
+-- the first word of a header is in doubt where it isn't the right one
+abbrev pub doubt_of_header : List ℕ → List ℕ × List (List ℕ)
+doubt_of_header word = if bytes_eq word (codes "rehearsal") then ([], []) else (word, codes "rehearsal" ∷ [])
+
+abbrev pub doubt : List ℕ → Fault → List ℕ × List (List ℕ)
+doubt bytes (BadHeader line) = doubt_of_header (first_in (words_at bytes line))
+doubt bytes (BadLine line) = doubt_of_word (first_in (words_at bytes line)) (usage_of (first_in (words_at bytes line)))
+doubt bytes _ = ([], [])
+
+-- the lines: the line at fault, what was expected, and the nearest word
+abbrev pub line_part : List ℕ → Option ℕ → List ℕ
+line_part bytes (Some line) = quoted bytes line
+line_part bytes None = []
+
+abbrev pub hint_part : Option (List ℕ) → List ℕ
+hint_part (Some word) = labelled (codes "  nearest word: ") word
+hint_part None = []
+
+abbrev pub page : List ℕ → Fault → Option (List ℕ) → List ℕ
+page bytes fault hint = line_part bytes (plan_line fault) ++ labelled (codes "  expected: ") (expected bytes fault) ++ hint_part hint
+
+-- a text explains the fault of a plan, with the nearest of the words that may be meant; each byte is shown
+pub record Explains (bytes : List ℕ) (fault : Fault) (text : List ℕ) : Type 0 where
+  pub hint : Option (List ℕ)
+  pub nearest : IsHint (doubt bytes fault).0 (doubt bytes fault).1 hint
+  pub is : text ≡ map tame (page bytes fault hint)

@@ -1,0 +1,34 @@
+-- The lines of the format by their first words, and how each is written.
+use Rattle.std.specs.Prelude.{ℕ, List, [], ◌∷◌, map, Option, Some, None, codes, if◌then◌else◌}
+use Rattle.std.specs.Str.{bytes_eq}
+
+-- the first words, each with how its line is written and where it stands
+abbrev pub usages : List (List ℕ × List ℕ)
+usages =
+    (codes "rehearsal", codes "'rehearsal 1' or 'rehearsal 2', once, before all other lines")
+    ∷ (codes "keep", codes "'keep' alone, once, right after 'rehearsal 2'")
+    ∷ (codes "node", codes "'node NAME', before the first job; a name is without ':', ',', '#' and '*'")
+    ∷ (codes "job", codes "'job NAME'; a name is without ':', ',', '#' and '*'")
+    ∷ (codes "rank", codes "'rank NODE', below a line 'job'")
+    ∷ (codes "put", codes "'put SCOPE KEY VALUE', below a line 'rank'; SCOPE is local, remote or global")
+    ∷ (codes "commit", codes "'commit' alone, below a line 'rank'")
+    ∷ (codes "fence", codes "'fence all' or 'fence JOB:RANK,JOB:*', then nothing or 'collect', below a line 'rank'")
+    ∷ (codes "get", codes "'get JOB:RANK KEY', below a line 'rank'")
+    ∷ (codes "get-now", codes "'get-now JOB:RANK KEY', below a line 'rank'")
+    ∷ (codes "publish", codes "'publish NAME VALUE', below a line 'rank'")
+    ∷ (codes "lookup", codes "'lookup NAME', below a line 'rank'")
+    ∷ (codes "lookup-wait", codes "'lookup-wait NAME', below a line 'rank'")
+    ∷ (codes "unpublish", codes "'unpublish NAME', or 'unpublish *' in version 2, below a line 'rank'")
+    ∷ []
+
+-- these first words
+abbrev pub format_words : List (List ℕ)
+format_words = map (λ usage. usage.0) usages
+
+-- how the line of a first word is written, in a table
+abbrev pub usage_in : List (List ℕ × List ℕ) → List ℕ → Option (List ℕ)
+usage_in [] word = None
+usage_in (usage ∷ others) word = if bytes_eq usage.0 word then Some usage.1 else usage_in others word
+
+abbrev pub usage_of : List ℕ → Option (List ℕ)
+usage_of word = usage_in usages word

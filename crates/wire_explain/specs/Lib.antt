@@ -1,0 +1,6 @@
+pub mod Near
+pub mod Format
+pub mod Quote
+pub mod Place
+pub mod Explained
+pub mod Order

@@ -1,0 +1,25 @@
+-- What is told of the fault of an order, and of the words of a question.
+use Rattle.std.specs.Prelude.{ℕ, ◌==◌, ◌||◌, List, ◌++◌, codes, decimal, if◌then◌else◌}
+use Rattle.wire_explain.specs.Quote.{shown_bytes, front_of, quoted, labelled}
+
+-- a line of an order: it, and what was expected there
+abbrev pub order_page : List ℕ → ℕ → List ℕ
+order_page bytes line =
+    quoted bytes line ++ labelled (codes "  expected: ") (codes "a rank of the plan, such as app:0, alone, in an order within its limit")
+
+-- a byte of a word, as it is shown on one line
+abbrev pub in_line : ℕ → ℕ
+in_line byte = if byte == 10 then 63 else byte
+
+-- a word of a question by its number, from 1
+abbrev pub word_line : ℕ → List ℕ → List ℕ
+word_line number word = codes "  word " ++ decimal number ++ codes " | " ++ front_of shown_bytes word ++ codes "\n"
+
+-- what is expected there: the words are a rank and a number, twice
+abbrev pub expected_word : ℕ → List ℕ
+expected_word number =
+    if (number == 1) || (number == 3) then codes "a rank of the plan, such as app:0" else codes "the number of a call of this rank, from 1"
+
+-- the word, and what was expected there
+abbrev pub word_page : ℕ → List ℕ → List ℕ
+word_page number word = word_line number word ++ labelled (codes "  expected: ") (expected_word number)

@@ -1,0 +1,86 @@
+//! The lines of the format, by their first words.
+
+ghost use Rattle.std.specs.Prelude.{◌≡◌, map, option_map, OnOk, IfOk};
+ghost use Rattle.wire_explain.specs.Format as spec;
+
+use std::alloc::{AllocError, Global};
+
+/// The first words, each with how its line is written and where it stands.
+static USAGES: [(&str, &str); 14] = [
+    (
+        "rehearsal",
+        "'rehearsal 1' or 'rehearsal 2', once, before all other lines",
+    ),
+    ("keep", "'keep' alone, once, right after 'rehearsal 2'"),
+    (
+        "node",
+        "'node NAME', before the first job; a name is without ':', ',', '#' and '*'",
+    ),
+    ("job", "'job NAME'; a name is without ':', ',', '#' and '*'"),
+    ("rank", "'rank NODE', below a line 'job'"),
+    (
+        "put",
+        "'put SCOPE KEY VALUE', below a line 'rank'; SCOPE is local, remote or global",
+    ),
+    ("commit", "'commit' alone, below a line 'rank'"),
+    (
+        "fence",
+        "'fence all' or 'fence JOB:RANK,JOB:*', then nothing or 'collect', below a line 'rank'",
+    ),
+    ("get", "'get JOB:RANK KEY', below a line 'rank'"),
+    ("get-now", "'get-now JOB:RANK KEY', below a line 'rank'"),
+    ("publish", "'publish NAME VALUE', below a line 'rank'"),
+    ("lookup", "'lookup NAME', below a line 'rank'"),
+    ("lookup-wait", "'lookup-wait NAME', below a line 'rank'"),
+    (
+        "unpublish",
+        "'unpublish NAME', or 'unpublish *' in version 2, below a line 'rank'",
+    ),
+];
+
+/// The table of the format.
+fn usages() -> &'static [(&'static str, &'static str)]
+    ensures { map (λ u. (u.0.now, u.1.now)) result.now ≡ spec.usages }
+{
+    &USAGES
+}
+
+/// How the line of a first word is written, in a table.
+fn find_usage(word: &[u8], table: &[(&'static str, &'static str)]) -> Option<&'static str>
+    ensures { option_map (λ u. u.now) result ≡ spec.usage_in (map (λ u. (u.0.now, u.1.now)) table.now) word.now }
+{
+    for usage in table {
+        if usage.0.as_bytes() == word {
+            return Some(usage.1);
+        }
+    }
+    None
+}
+
+/// How the line of a first word is written.
+pub(crate) fn usage_of(word: &[u8]) -> Option<&'static str>
+    ensures { option_map (λ u. u.now) result ≡ spec.usage_of word.now }
+{
+    find_usage(word, usages())
+}
+
+/// The first words of a table.
+fn first_words(
+    alloc: Global,
+    table: &[(&'static str, &'static str)],
+) -> Result<Vec<&'static [u8]>, AllocError>
+    ensures { IfOk result (λ words. map (λ w. w.now) words.items ≡ map (λ u. u.0.now) table.now) }
+{
+    let mut words = Vec::new(alloc);
+    for usage in table {
+        words.push(usage.0.as_bytes())?;
+    }
+    Ok(words)
+}
+
+/// The first words of the format.
+pub(crate) fn format_words(alloc: Global) -> Result<Vec<&'static [u8]>, AllocError>
+    ensures { IfOk result (λ words. map (λ w. w.now) words.items ≡ spec.format_words) }
+{
+    first_words(alloc, usages())
+}

@@ -1,0 +1,14 @@
+//! Explanations of faults: the line that is at fault, what was expected there, and the nearest word.
+#![tactic(auto)]
+
+mod format;
+mod near;
+mod order;
+pub mod place;
+mod plan;
+mod quote;
+
+pub use near::{is_within, nearest};
+pub use order::{explain_order, explain_word};
+pub use place::Place;
+pub use plan::explain_plan;

@@ -1,0 +1,164 @@
+//! The explanation of the fault of a plan.
+
+ghost use Rattle.std.specs.Prelude.{◌≡◌, ◌++◌, ◌∷◌, [], true, codes, option_map, IfOk, OnOk};
+ghost use Rattle.wire_explain.specs.Near.{IsHint};
+ghost use Rattle.wire_explain.specs.Quote.{is_tame_text};
+ghost use Rattle.wire_explain.specs.Format.{usage_of as usage_said};
+ghost use Rattle.wire_explain.specs.Place as there;
+ghost use Rattle.wire_explain.specs.Explained as spec;
+ghost use Rattle.wire_explain.specs.Explained.{Explains};
+
+use crate::format::{format_words, usage_of};
+use crate::near::nearest;
+use crate::place::{Place, first_in, place_of, words_at};
+use crate::quote::{push_labelled, push_quoted, tame_text};
+use std::alloc::{AllocError, Global};
+use wire_types::Fault;
+
+/// The line of a plan that a fault names.
+fn plan_line(fault: Fault) -> Option<u64>
+    ensures { result ≡ spec.plan_line fault }
+{
+    match fault {
+        Fault::TooLong(line)
+        | Fault::BadHeader(line)
+        | Fault::BadLine(line)
+        | Fault::UnknownName(line)
+        | Fault::Twice(line)
+        | Fault::NotMember(line)
+        | Fault::TooMany(line) => Some(line),
+        _ => None,
+    }
+}
+
+/// What may stand at a place.
+fn expected_at(place: Place) -> &'static str
+    ensures { result.now ≡ spec.expected_at place }
+{
+    match place {
+        Place::Opening => "'node NAME' or 'job NAME', or 'keep' right below 'rehearsal 2'",
+        Place::InJob => "'rank NODE' or 'job NAME'",
+        Place::InRank => "a call of this rank, 'rank NODE' or 'job NAME'",
+    }
+}
+
+/// What was expected of a line that isn't one of the format, or stands in the wrong place.
+fn expected_line(alloc: Global, bytes: &[u8], line: u64) -> Result<&'static str, AllocError>
+    ensures { IfOk result (λ text. text.now ≡ spec.expected_line bytes.now line) }
+{
+    let words = words_at(alloc, bytes, line)?;
+    if let Some(usage) = usage_of(first_in(words.as_slice())) {
+        return Ok(usage);
+    }
+    Ok(expected_at(place_of(alloc, bytes, line)?))
+}
+
+/// What was expected, where a plan has this fault.
+fn expected(alloc: Global, bytes: &[u8], fault: Fault) -> Result<&'static str, AllocError>
+    ensures { IfOk result (λ text. text.now ≡ spec.expected bytes.now fault) }
+{
+    Ok(match fault {
+        Fault::BadLine(line) => return expected_line(alloc, bytes, line),
+        Fault::Memory => "more memory",
+        Fault::TooLong(_) =>
+            "names and keys of at most 63 bytes, values of at most 255, and a file within its limit",
+        Fault::BadHeader(_) => "'rehearsal 1' or 'rehearsal 2', before all other lines",
+        Fault::UnknownName(_) => "a node, a job or a rank that the file declares",
+        Fault::Twice(_) => "a name that no line of this kind above has",
+        Fault::NotMember(_) => "a set with the rank that calls the fence",
+        Fault::TooMany(_) =>
+            "no more nodes, jobs, ranks or calls than the limits; --large has larger ones",
+        Fault::Workers => "1 to 64 workers",
+        Fault::Read => "a file that can be opened and read",
+        Fault::Write(_) => "an output that can be written",
+        Fault::NotReady(_) => "a rank that can take its next step",
+        Fault::BadOrder(_) => "a rank of the plan, such as app:0",
+    })
+}
+
+/// The nearest of the format's words, where the first word of a line isn't one of them.
+fn hint_of_line(alloc: Global, word: &[u8]) -> Result<Option<&'static [u8]>, AllocError>
+    ensures { IfOk result (λ hint. IsHint (spec.doubt_of_word word.now (usage_said word.now)).0
+        (spec.doubt_of_word word.now (usage_said word.now)).1 (option_map (λ w. w.now) hint)) }
+{
+    if usage_of(word).is_some() {
+        return Ok(nearest(b"", &[]));
+    }
+    let words = format_words(alloc)?;
+    Ok(nearest(word, words.as_slice()))
+}
+
+/// The first word of a header, where that of a line is near it and isn't the same.
+fn hint_of_header(word: &[u8]) -> Option<&'static [u8]>
+    ensures { IsHint (spec.doubt_of_header word.now).0 (spec.doubt_of_header word.now).1 (option_map (λ w. w.now) result) }
+{
+    if word == b"rehearsal".as_slice() {
+        return nearest(b"", &[]);
+    }
+    nearest(word, &[b"rehearsal".as_slice()])
+}
+
+/// The nearest of the words that may be meant.
+fn hint_of(alloc: Global, bytes: &[u8], fault: Fault) -> Result<Option<&'static [u8]>, AllocError>
+    ensures { IfOk result (λ hint. IsHint (spec.doubt bytes.now fault).0 (spec.doubt bytes.now fault).1 (option_map (λ w. w.now) hint)) }
+{
+    match fault {
+        Fault::BadHeader(line) => {
+            let words = words_at(alloc, bytes, line)?;
+            Ok(hint_of_header(first_in(words.as_slice())))
+        }
+        Fault::BadLine(line) => {
+            let words = words_at(alloc, bytes, line)?;
+            hint_of_line(alloc, first_in(words.as_slice()))
+        }
+        _ => Ok(nearest(b"", &[])),
+    }
+}
+
+/// Appends the line of a plan that a fault names.
+fn push_line(out: &mut Vec<u8>, bytes: &[u8], fault: Fault) -> Result<(), AllocError>
+    ensures { OnOk result (out.new.items ≡ out.old.items ++ spec.line_part bytes.now (spec.plan_line fault)) }
+{
+    match plan_line(fault) {
+        Some(line) => push_quoted(out, bytes, line),
+        None => Ok(()),
+    }
+}
+
+/// Appends the nearest word, where there is one.
+fn push_hint(out: &mut Vec<u8>, hint: Option<&[u8]>) -> Result<(), AllocError>
+    ensures { OnOk result (out.new.items ≡ out.old.items ++ spec.hint_part (option_map (λ w. w.now) hint.entry)) }
+{
+    match hint {
+        Some(word) => push_labelled(out, b"  nearest word: ", word),
+        None => Ok(()),
+    }
+}
+
+/// The lines about the fault of a plan, with this nearest word, as its bytes stand there.
+fn page_of(
+    alloc: Global,
+    bytes: &[u8],
+    fault: Fault,
+    hint: Option<&[u8]>,
+) -> Result<Vec<u8>, AllocError>
+    ensures { IfOk result (λ page. page.items ≡ spec.page bytes.now fault (option_map (λ w. w.now) hint.entry)) }
+{
+    let text = expected(alloc, bytes, fault)?;
+    let mut page = Vec::new(alloc);
+    push_line(&mut page, bytes, fault)?;
+    push_labelled(&mut page, b"  expected: ", text.as_bytes())?;
+    push_hint(&mut page, hint)?;
+    Ok(page)
+}
+
+/// The explanation of the fault of a plan: the line that it names, what was expected there, and the nearest word, where one is
+/// near. Only printable ASCII and line feeds are in it.
+pub fn explain_plan(alloc: Global, bytes: &[u8], fault: Fault) -> Result<Vec<u8>, AllocError>
+    ensures explains { IfOk result (λ text. Explains bytes.now fault text.items) }
+    ensures tame { IfOk result (λ text. is_tame_text text.items ≡ true) }
+{
+    let hint = hint_of(alloc, bytes, fault)?;
+    let page = page_of(alloc, bytes, fault, hint)?;
+    tame_text(alloc, page.as_slice())
+}

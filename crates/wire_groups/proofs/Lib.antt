@@ -1,0 +1,4 @@
+mod Distinct
+mod Groups
+mod Noted
+mod Order

@@ -1,0 +1,11 @@
+-- What is counted so far, for the contracts of private functions.
+use Rattle.std.specs.Prelude.{◌≡◌, Bool, List, map, length, sum_by}
+use Rattle.wire_groups.specs.declared.Group.{Group}
+use Rattle.wire_groups.specs.declared.Tally.{Tally}
+use Rattle.wire_groups.specs.Groups.{distinct, group_of}
+
+-- these labels are counted, each in the group of its own
+pub record IsTally {K : Type 0} (same : K → K → Bool) (labels : List K) (tally : Tally K) : Type 0 where
+  pub keys : tally.labels.keys ≡ distinct same labels
+  pub groups : tally.groups.items ≡ map (group_of same labels) (distinct same labels)
+  pub whole : sum_by (λ (g : Group). g.count) tally.groups.items ≡ length labels

@@ -1,0 +1,3 @@
+mod Grouped
+mod Labels
+mod Same

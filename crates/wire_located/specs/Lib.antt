@@ -1,0 +1,4 @@
+pub mod Label
+pub mod Grouped
+pub mod Place
+pub mod Text
