@@ -55,7 +55,8 @@ judged_told json s shown found seen counted ended text law those same is count t
     record { found = found; judged = judged_so s found counted ended law those count ends; tells = told ∙ all }
 
 -- all of it went out
-pub told : (json : Bool) (s shown : Scripts) (found seen counted : List Finding) (ended : Ended) (old new : Option (List ℕ)) → ((found ≡ []) ↔ IsSettled (plan_of s)) → AreFindings s found → shown ≡ s →
+pub told : (json : Bool) (s shown : Scripts) (found seen counted : List Finding) (ended : Ended) (old new : Option (List ℕ)) →
+    ((found ≡ []) ↔ IsSettled (plan_of s)) → AreFindings s found → shown ≡ s →
     seen ≡ found → counted ≡ found
     → ended ≡ ended_with counted → Appends old new (findings_form json shown seen) → WritesVerdict json s ended old new
 told json s shown found seen counted ended old new law those same is count ends wrote =
@@ -66,7 +67,13 @@ pub told_front : (json : Bool) (s shown : Scripts) (found seen counted : List Fi
     AreFindings s found → shown ≡ s → seen ≡ found → counted ≡ found
     → ended ≡ ended_with counted → WritesFront old new (findings_form json shown seen) e → BreaksOffVerdict json s old new e
 told_front json s shown found seen counted ended old new e law those same is count ends wrote =
-    record { ended = ended; text = findings_form json shown seen; verdict = judged_told json s shown found seen counted ended (findings_form json shown seen) law those same is count refl ends; wrote = wrote }
+    record {
+      ended = ended;
+      text = findings_form json shown seen;
+      verdict = judged_told json s shown found seen counted ended
+          (findings_form json shown seen) law those same is count refl ends;
+      wrote = wrote;
+    }
 
 -- a fault of the writing is Memory, or it counts what went out
 pub front_or_none : (e : Fault) (old new : Option (List ℕ)) (text : List ℕ) (A B C : Type 0) → (e ≡ Memory) ⊎ WritesFront old new text e → (e ≡ Memory → A) → (e ≢ Memory → B) →
@@ -79,7 +86,8 @@ abbrev pub Ends : Bool → Scripts → Option (List ℕ) → Option (List ℕ) �
 Ends json s old new A B e = ((e ≡ Memory) × A) ⊎ (BreaksOffVerdict json s old new e × B)
 
 -- what went out of the findings of scripts that were read
-pub writes_findings : {size : Size} (json : Bool) (coming old new : Option (List ℕ)) (s : Scripts) (r : Result Ended Fault) → ReadAs size coming s → IfOk r (λ ended. WritesVerdict json s ended old new) →
+pub writes_findings : {size : Size} (json : Bool) (coming old new : Option (List ℕ)) (s : Scripts) (r : Result Ended Fault) →
+    ReadAs size coming s → IfOk r (λ ended. WritesVerdict json s ended old new) →
     IfOk r (λ ended. WritesFindings size json coming ended old new)
 writes_findings json coming old new s (Ok ended) read wrote = record { scripts = s; read = read; wrote = wrote }
 writes_findings json coming old new s (Err e) read wrote = tt
@@ -109,6 +117,7 @@ ended_of (Ok ended) = ended
 ended_of (Err fault) = Clean
 
 -- a check that is clean tells that every run that can't go on has one end
-pub clean_one_end : {size : Size} (json : Bool) (coming old new : Option (List ℕ)) (s : Scripts) (r : Result Ended Fault) → ReadAs size coming s → IfOk r (λ ended. WritesVerdict json s ended old new) → r ≡ Ok Clean → EndsInOneState size coming
+pub clean_one_end : {size : Size} (json : Bool) (coming old new : Option (List ℕ)) (s : Scripts) (r : Result Ended Fault) → ReadAs size coming s →
+    IfOk r (λ ended. WritesVerdict json s ended old new) → r ≡ Ok Clean → EndsInOneState size coming
 clean_one_end json coming old new s (Ok ended) read wrote clean = let is : ended ≡ Clean = cc in record { scripts = s; read = read; one_end = wrote.verdict.judged.one_end is }
 clean_one_end json coming old new s (Err e) read wrote clean = let bad : Err e ≡ Ok Clean = clean in absurd (cc)

@@ -21,13 +21,15 @@ use Rattle.wire_commands.proofs.Texts.{LeadsTo}
 use Rattle.wire_commands.specs.Follow.{OrdersAs, RefusesSteps, StopsAfter, StopsBefore, OrderedAs, WritesFollowed, BreaksOffFollowed}
 
 -- what came of an order, all that was to come reads as
-pub orders_as : {size : Size} (coming : Option (List ℕ)) (bytes shown : List ℕ) (s : Scripts) (steps : List ℕ) → shown ≡ bytes → IfSome coming (λ all. bytes ≡ take (order_bytes size + 1) all) → order_read size s shown ≡ Ok steps →
+pub orders_as : {size : Size} (coming : Option (List ℕ)) (bytes shown : List ℕ) (s : Scripts) (steps : List ℕ) → shown ≡ bytes →
+    IfSome coming (λ all. bytes ≡ take (order_bytes size + 1) all) → order_read size s shown ≡ Ok steps →
     OrdersAs size coming s steps
 orders_as None bytes shown s steps same front reads = record { bytes = shown; came = tt; reads = reads }
 orders_as {size} (Some all) bytes shown s steps same front reads =
     record { bytes = all; came = refl; reads = sym (order_limited size s all) ∙ ap (order_read size s) (sym (same ∙ front)) ∙ reads }
 
-pub refuses_steps : {size : Size} (coming : Option (List ℕ)) (bytes shown : List ℕ) (s : Scripts) (e : Fault) → shown ≡ bytes → IfSome coming (λ all. bytes ≡ take (order_bytes size + 1) all) → order_read size s shown ≡ Err e →
+pub refuses_steps : {size : Size} (coming : Option (List ℕ)) (bytes shown : List ℕ) (s : Scripts) (e : Fault) → shown ≡ bytes →
+    IfSome coming (λ all. bytes ≡ take (order_bytes size + 1) all) → order_read size s shown ≡ Err e →
     RefusesSteps size coming s e
 refuses_steps None bytes shown s e same front reads = record { bytes = shown; came = tt; reads = reads }
 refuses_steps {size} (Some all) bytes shown s e same front reads =
@@ -42,18 +44,21 @@ err_too (Ok x) P Q f p = tt
 err_too (Err e) P Q f p = f e p
 
 -- a read of the order failed, or the order is refused
-pub order_fault : {size : Size} (coming : Option (List ℕ)) (s : Scripts) (e : Fault) (bytes shown : List ℕ) → shown ≡ bytes → IfSome coming (λ all. bytes ≡ take (order_bytes size + 1) all) → (e ≡ Memory)
+pub order_fault : {size : Size} (coming : Option (List ℕ)) (s : Scripts) (e : Fault) (bytes shown : List ℕ) → shown ≡ bytes →
+    IfSome coming (λ all. bytes ≡ take (order_bytes size + 1) all) → (e ≡ Memory)
     ⊎ (order_read size s shown ≡ Err e) → (e ≡ Memory) ⊎ ((e ≡ Read) ⊎ RefusesSteps size coming s e)
 order_fault coming s e bytes shown same front (inl memory) = inl memory
 order_fault coming s e bytes shown same front (inr reads) = inr (inr (refuses_steps coming bytes shown s e same front reads))
 
 -- of an order that is read, and of one that isn't
-pub steps_ok : (size : Size) (coming : Option (List ℕ)) (bytes shown : List ℕ) (s : Scripts) (r : Result (Vec Proc Global) Fault) → shown ≡ bytes → IfSome coming (λ all. bytes ≡ take (order_bytes size + 1) all) →
+pub steps_ok : (size : Size) (coming : Option (List ℕ)) (bytes shown : List ℕ) (s : Scripts) (r : Result (Vec Proc Global) Fault) →
+    shown ≡ bytes → IfSome coming (λ all. bytes ≡ take (order_bytes size + 1) all) →
     IfOk r (λ order. order_read size s shown ≡ Ok (numbers_of order.items)) → IfOk r (λ order. OrdersAs size coming s (numbers_of order.items))
 steps_ok size coming bytes shown s (Ok order) same front reads = orders_as coming bytes shown s (numbers_of order.items) same front reads
 steps_ok size coming bytes shown s (Err e) same front reads = tt
 
-pub steps_err : (size : Size) (coming : Option (List ℕ)) (bytes shown : List ℕ) (s : Scripts) (r : Result (Vec Proc Global) Fault) → shown ≡ bytes → IfSome coming (λ all. bytes ≡ take (order_bytes size + 1) all) →
+pub steps_err : (size : Size) (coming : Option (List ℕ)) (bytes shown : List ℕ) (s : Scripts) (r : Result (Vec Proc Global) Fault) →
+    shown ≡ bytes → IfSome coming (λ all. bytes ≡ take (order_bytes size + 1) all) →
     IfErr r (λ e. (e ≡ Memory) ⊎ (order_read size s shown ≡ Err e)) → IfErr r (λ e. (e ≡ Memory) ⊎ ((e ≡ Read) ⊎ RefusesSteps size coming s e))
 steps_err size coming bytes shown s (Ok order) same front reads = tt
 steps_err size coming bytes shown s (Err e) same front reads = order_fault coming s e bytes shown same front reads
@@ -69,7 +74,8 @@ of_file coming order_coming e (inr (inl read)) = inr (inl read)
 of_file coming order_coming e (inr (inr refuses)) = inr (inr (inl refuses))
 
 -- of the order
-pub of_order : {size : Size} (coming order_coming : Option (List ℕ)) (s : Scripts) (e : Fault) → ReadAs size coming s → (e ≡ Memory) ⊎ ((e ≡ Read) ⊎ RefusesSteps size order_coming s e) → StopsBefore size coming order_coming e
+pub of_order : {size : Size} (coming order_coming : Option (List ℕ)) (s : Scripts) (e : Fault) → ReadAs size coming s → (e ≡ Memory)
+    ⊎ ((e ≡ Read) ⊎ RefusesSteps size order_coming s e) → StopsBefore size coming order_coming e
 of_order coming order_coming s e read (inl memory) = inl memory
 of_order coming order_coming s e read (inr (inl failed)) = inr (inl failed)
 of_order coming order_coming s e read (inr (inr refuses)) = inr (inr (inr (inl (record { scripts = s; read = read; refuses = refuses }))))
@@ -81,7 +87,8 @@ ordered_as {size} coming order_coming s order shown same read orders =
     record { read = read; order = subst (λ ps. OrdersAs size order_coming s (numbers_of ps)) (sym same) orders }
 
 -- and of the steps
-pub of_steps : {size : Size} (coming order_coming : Option (List ℕ)) (s : Scripts) (order shown : List Proc) (e : Fault) → shown ≡ order → ReadAs size coming s → OrdersAs size order_coming s (numbers_of order) → (e ≡ Memory)
+pub of_steps : {size : Size} (coming order_coming : Option (List ℕ)) (s : Scripts) (order shown : List Proc) (e : Fault) → shown ≡ order →
+    ReadAs size coming s → OrdersAs size order_coming s (numbers_of order) → (e ≡ Memory)
     ⊎ StopsAfter s (numbers_of shown) e → StopsBefore size coming order_coming e
 of_steps coming order_coming s order shown e same read orders (inl memory) = inl memory
 of_steps coming order_coming s order shown e same read orders (inr stops) =
@@ -92,7 +99,8 @@ pub no_read_of_steps : (s : Scripts) (steps : List ℕ) (e : Fault) → (e ≡ M
 no_read_of_steps s steps e (inl memory) is = let bad : Memory ≡ Read = sym memory ∙ is in cc
 no_read_of_steps s steps e (inr stops) is = let bad : NotReady (suc stops.n) ≡ Read = sym stops.is ∙ is in cc
 
-pub followed_ok : {size : Size} (json : Bool) (coming order_coming old new : Option (List ℕ)) (s : Scripts) (order shown : List Proc) (text out : List ℕ) (r : Result (Unit {0}) Fault) → shown ≡ order → ReadAs size coming s →
+pub followed_ok : {size : Size} (json : Bool) (coming order_coming old new : Option (List ℕ)) (s : Scripts) (order shown : List Proc) (text out : List ℕ) (r : Result (Unit {0}) Fault) →
+    shown ≡ order → ReadAs size coming s →
     OrdersAs size order_coming s (numbers_of order) → LeadsTo json s (numbers_of shown) text → out ≡ text → OnOk r (Appends old new out) → OnOk r (WritesFollowed size json coming order_coming old new)
 followed_ok json coming order_coming old new s order shown text out (Ok x) same read orders (enabled, is) at wrote =
     record {
@@ -104,7 +112,8 @@ followed_ok json coming order_coming old new s order shown text out (Ok x) same 
     }
 followed_ok json coming order_coming old new s order shown text out (Err e) same read orders leads at wrote = tt
 
-pub followed_err : {size : Size} (json : Bool) (coming order_coming old new : Option (List ℕ)) (s : Scripts) (order shown : List Proc) (text out : List ℕ) (kept failed : Type 0) (r : Result (Unit {0}) Fault) → shown ≡ order →
+pub followed_err : {size : Size} (json : Bool) (coming order_coming old new : Option (List ℕ)) (s : Scripts) (order shown : List Proc)
+    (text out : List ℕ) (kept failed : Type 0) (r : Result (Unit {0}) Fault) → shown ≡ order →
     ReadAs size coming s → OrdersAs size order_coming s (numbers_of order) → LeadsTo json s (numbers_of shown) text → out ≡ text → IfErr r (WritesFront old new out) → IfErr r (λ _. failed)
     → IfErr r (λ e. (StopsBefore size coming order_coming e × kept) ⊎ (BreaksOffFollowed size json coming order_coming old new e × failed))
 followed_err json coming order_coming old new s order shown text out kept failed (Ok x) same read orders leads at front count = tt

@@ -65,7 +65,8 @@ asked_too shown s words calls is asks = subst (λ t. Asks t words (Ok calls)) is
 pub refused_too : (shown s : Scripts) (words : List (List ℕ)) (e : Fault) → shown ≡ s → (e ≡ Memory) ⊎ Asks shown words (Err e) → (e ≡ Memory) ⊎ Asks s words (Err e)
 refused_too shown s words e is refuses = subst (λ t. (e ≡ Memory) ⊎ Asks t words (Err e)) is refuses
 
-pub answers_too : (json : Bool) (s plan : Scripts) (words : List (List ℕ)) (r : Result (Vec ℕ Global) Fault) → plan ≡ s → IfOk r (λ text. Answers json plan words text.items) → IfOk r (λ text. Answers json s words text.items)
+pub answers_too : (json : Bool) (s plan : Scripts) (words : List (List ℕ)) (r : Result (Vec ℕ Global) Fault) → plan ≡ s →
+    IfOk r (λ text. Answers json plan words text.items) → IfOk r (λ text. Answers json s words text.items)
 answers_too json s plan words r is answers = subst (λ t. IfOk r (λ text. Answers json t words text.items)) is answers
 
 pub refuses_too : (s plan : Scripts) (words : List (List ℕ)) (r : Result (Vec ℕ Global) Fault) → plan ≡ s → IfErr r (λ e. (e ≡ Memory) ⊎ Asks plan words (Err e)) →
@@ -73,14 +74,16 @@ pub refuses_too : (s plan : Scripts) (words : List (List ℕ)) (r : Result (Vec 
 refuses_too s plan words r is refuses = subst (λ t. IfErr r (λ e. (e ≡ Memory) ⊎ Asks t words (Err e))) is refuses
 
 -- all of the answer goes out
-pub answer_ok : {size : Size} {json : Bool} (coming : Option (List ℕ)) (words : List (List ℕ)) (old new : Option (List ℕ)) (s : Scripts) (text out : List ℕ) (r : Result (Unit {0}) Fault) → ReadAs size coming s →
+pub answer_ok : {size : Size} {json : Bool} (coming : Option (List ℕ)) (words : List (List ℕ)) (old new : Option (List ℕ)) (s : Scripts) (text out : List ℕ) (r : Result (Unit {0}) Fault) →
+    ReadAs size coming s →
     Answers json s words text → out ≡ text → OnOk r (Appends old new out) → OnOk r (WritesAnswer size json coming words old new)
 answer_ok coming words old new s text out (Ok u) read answers at wrote =
     record { scripts = s; read = read; text = text; answers = answers; wrote = subst (λ t. Appends old new t) at wrote }
 answer_ok coming words old new s text out (Err e) read answers at wrote = tt
 
 -- or the front of it that the fault counts
-pub answer_err : {size : Size} {json : Bool} (coming : Option (List ℕ)) (words : List (List ℕ)) (old new : Option (List ℕ)) (s : Scripts) (text out : List ℕ) (kept failed : Type 0) (r : Result (Unit {0}) Fault) →
+pub answer_err : {size : Size} {json : Bool} (coming : Option (List ℕ)) (words : List (List ℕ)) (old new : Option (List ℕ))
+    (s : Scripts) (text out : List ℕ) (kept failed : Type 0) (r : Result (Unit {0}) Fault) →
     ReadAs size coming s → Answers json s words text → out ≡ text → IfErr r (WritesFront old new out) → IfErr r (λ _. failed)
     → IfErr r (λ e. (StopsBeforeAnswer size coming words e × kept) ⊎ (BreaksOffAnswer size json coming words old new e × failed))
 answer_err coming words old new s text out kept failed (Ok u) read answers at front count = tt
@@ -94,7 +97,8 @@ file_stops coming words e (inr (inl read)) = inr (inl read)
 file_stops coming words e (inr (inr refuses)) = inr (inr (inl refuses))
 
 -- and so does a wrong word
-pub word_stops : {size : Size} (coming : Option (List ℕ)) (words : List (List ℕ)) (s : Scripts) (e : Fault) → ReadAs size coming s → (e ≡ Memory) ⊎ Asks s words (Err e) → StopsBeforeAnswer size coming words e
+pub word_stops : {size : Size} (coming : Option (List ℕ)) (words : List (List ℕ)) (s : Scripts) (e : Fault) → ReadAs size coming s →
+    (e ≡ Memory) ⊎ Asks s words (Err e) → StopsBeforeAnswer size coming words e
 word_stops coming words s e read (inl memory) = inl memory
 word_stops coming words s e read (inr refuses) = inr (inr (inr (record { scripts = s; read = read; refuses = refuses })))
 

@@ -52,13 +52,15 @@ pub memory_no_write : (r : Result (Unit {0}) Fault) (e : Fault) (n : ℕ) → Is
 memory_no_write r e n is memory at = let bad : Memory ≡ Write n = sym memory ∙ same_error r e (Write n) is at in cc
 
 -- the writing of the report of what was read
-pub writes_report : {size : Size} (coming old new : Option (List ℕ)) (s : Scripts) (text : List ℕ) (r : Result (Unit {0}) Fault) → ReadAs size coming s → text ≡ plain_report s → OnOk r (Appends old new text) →
+pub writes_report : {size : Size} (coming old new : Option (List ℕ)) (s : Scripts) (text : List ℕ) (r : Result (Unit {0}) Fault) →
+    ReadAs size coming s → text ≡ plain_report s → OnOk r (Appends old new text) →
     OnOk r (WritesReport size coming old new)
 writes_report coming old new s text (Ok x) read is wrote = record { scripts = s; read = read; wrote = subst (λ t. Appends old new t) is wrote }
 writes_report coming old new s text (Err e) read is wrote = tt
 
 -- a fault of the writing counts what went out
-pub breaks_off : {size : Size} (coming old new : Option (List ℕ)) (s : Scripts) (text : List ℕ) (r : Result (Unit {0}) Fault) (n : ℕ) → ReadAs size coming s → text ≡ plain_report s → IfErr r (WritesFront old new text) →
+pub breaks_off : {size : Size} (coming old new : Option (List ℕ)) (s : Scripts) (text : List ℕ) (r : Result (Unit {0}) Fault) (n : ℕ) →
+    ReadAs size coming s → text ≡ plain_report s → IfErr r (WritesFront old new text) →
     r ≡ Err (Write n) → BreaksOff size coming old new n
 breaks_off coming old new s text (Ok x) n read is front at = let bad : Ok x ≡ Err (Write n) = at in cc
 breaks_off coming old new s text (Err e) n read is (m, carries, (short, front)) at =

@@ -35,7 +35,8 @@ followed_told json plan shown steps ends (Ok text) same (enabled, at) told =
     let step : report_form json shown ends ≡ report_after json plan steps = λ i. report_form json (same i) (at i) in (enabled, told ∙ step)
 followed_told json plan shown steps ends (Err e) same leads told = tt
 
-pub leads_too : (json : Bool) (s plan : Scripts) (steps : List ℕ) (r : Result (Vec ℕ Global) Fault) → plan ≡ s → IfOk r (λ text. LeadsTo json plan steps text.items) → IfOk r (λ text. LeadsTo json s steps text.items)
+pub leads_too : (json : Bool) (s plan : Scripts) (steps : List ℕ) (r : Result (Vec ℕ Global) Fault) → plan ≡ s →
+    IfOk r (λ text. LeadsTo json plan steps text.items) → IfOk r (λ text. LeadsTo json s steps text.items)
 leads_too json s plan steps r is told = subst (λ t. IfOk r (λ text. LeadsTo json t steps text.items)) is told
 
 -- a step that isn't enabled

@@ -23,7 +23,8 @@ writes_migrated size coming old new s text out (Ok u) read is at wrote =
 writes_migrated size coming old new s text out (Err e) read is at wrote = tt
 
 -- or the front of it that the fault counts
-pub migrated_err : (size : Size) (coming old new : Option (List ℕ)) (s : Scripts) (text out : List ℕ) (kept failed : Type 0) (r : Result (Unit {0}) Fault) → ReadAs size coming s → text ≡ migrated_text s →
+pub migrated_err : (size : Size) (coming old new : Option (List ℕ)) (s : Scripts) (text out : List ℕ) (kept failed : Type 0) (r : Result (Unit {0}) Fault) →
+    ReadAs size coming s → text ≡ migrated_text s →
     out ≡ text → IfErr r (WritesFront old new out) → IfErr r (λ _. failed) → IfErr r (λ e. (StopsBeforeMigrated size coming e × kept) ⊎ (BreaksOffMigrated size coming old new e × failed))
 migrated_err size coming old new s text out kept failed (Ok u) read is at front count = tt
 migrated_err size coming old new s text out kept failed (Err e) read is at front count =

@@ -76,4 +76,5 @@ pub record StopsInOrder (size : Size) (coming order_coming : Option (List ℕ)) 
 -- why nothing is written: memory ran out, a read failed, the file is refused, or the order is, or a step isn't enabled
 abbrev pub StopsBefore : Size → Option (List ℕ) → Option (List ℕ) → Fault → Type 0
 StopsBefore size coming order_coming fault =
-    (fault ≡ Memory) ⊎ ((fault ≡ Read) ⊎ (Refuses size coming fault ⊎ (RefusesOrder size coming order_coming fault ⊎ StopsInOrder size coming order_coming fault)))
+    (fault ≡ Memory) ⊎ ((fault ≡ Read) ⊎ (Refuses size coming fault
+    ⊎ (RefusesOrder size coming order_coming fault ⊎ StopsInOrder size coming order_coming fault)))

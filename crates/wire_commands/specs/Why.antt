@@ -34,7 +34,8 @@ pub record WritesAnswer (size : Size) (json : Bool) (coming : Option (List ℕ))
   pub wrote : Appends old new text
 
 -- exactly as many bytes of the answer went out as the fault says, which aren't all of it
-pub record BreaksOffAnswer (size : Size) (json : Bool) (coming : Option (List ℕ)) (words : List (List ℕ)) (old new : Option (List ℕ)) (fault : Fault) : Type 0 where
+pub record BreaksOffAnswer (size : Size) (json : Bool) (coming : Option (List ℕ)) (words : List (List ℕ))
+    (old new : Option (List ℕ)) (fault : Fault) : Type 0 where
   pub scripts : Scripts
   pub read : ReadAs size coming scripts
   pub text : List ℕ

@@ -96,7 +96,8 @@ pub fn why<R: Source, W: Sink>(
     writer: &mut W,
     words: [&str; 4],
 ) -> Result<(), Fault>
-    ensures ok { OnOk result (WritesAnswer Size.OfVersion false (R.coming reader.old) (map (λ w. w.now) words.entry) (W.written writer.old) (W.written writer.new)) }
+    ensures ok { OnOk result (WritesAnswer Size.OfVersion false (R.coming reader.old)
+        (map (λ w. w.now) words.entry) (W.written writer.old) (W.written writer.new)) }
     ensures quiet { OnOk result ((R.failures reader.new ≡ R.failures reader.old) × (W.failures writer.new ≡ W.failures writer.old)) }
 
     // Either nothing was written, or the front of the answer that the fault counts.
@@ -143,7 +144,8 @@ pub fn why_in_form<R: Source, W: Sink>(
     writer: &mut W,
     words: [&str; 4],
 ) -> Result<(), Fault>
-    ensures ok { OnOk result (WritesAnswer form.size form.json (R.coming reader.old) (map (λ w. w.now) words.entry) (W.written writer.old) (W.written writer.new)) }
+    ensures ok { OnOk result (WritesAnswer form.size form.json (R.coming reader.old)
+        (map (λ w. w.now) words.entry) (W.written writer.old) (W.written writer.new)) }
     ensures quiet { OnOk result ((R.failures reader.new ≡ R.failures reader.old) × (W.failures writer.new ≡ W.failures writer.old)) }
 
     // Either nothing was written, or the front of the answer that the fault counts.

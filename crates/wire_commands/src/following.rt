@@ -94,7 +94,8 @@ pub fn follow<R: Source, O: Source, W: Sink>(
     order_reader: &mut O,
     writer: &mut W,
 ) -> Result<(), Fault>
-    ensures ok { OnOk result (WritesFollowed Size.OfVersion false (R.coming reader.old) (O.coming order_reader.old) (W.written writer.old) (W.written writer.new)) }
+    ensures ok { OnOk result (WritesFollowed Size.OfVersion false (R.coming reader.old)
+        (O.coming order_reader.old) (W.written writer.old) (W.written writer.new)) }
     ensures quiet { OnOk result ((R.failures reader.new ≡ R.failures reader.old) × (O.failures order_reader.new ≡ O.failures order_reader.old)
         × (W.failures writer.new ≡ W.failures writer.old)) }
 
@@ -148,7 +149,8 @@ pub fn follow_in_form<R: Source, O: Source, W: Sink>(
     order_reader: &mut O,
     writer: &mut W,
 ) -> Result<(), Fault>
-    ensures ok { OnOk result (WritesFollowed form.size form.json (R.coming reader.old) (O.coming order_reader.old) (W.written writer.old) (W.written writer.new)) }
+    ensures ok { OnOk result (WritesFollowed form.size form.json (R.coming reader.old)
+        (O.coming order_reader.old) (W.written writer.old) (W.written writer.new)) }
     ensures quiet { OnOk result ((R.failures reader.new ≡ R.failures reader.old) × (O.failures order_reader.new ≡ O.failures order_reader.old)
         × (W.failures writer.new ≡ W.failures writer.old)) }
 

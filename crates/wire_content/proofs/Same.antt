@@ -30,7 +30,8 @@ versions_decide Two Two = alike refl
 pub scripts_decide : (a b : Scripts) → Decides (same_scripts a b) (a ≡ b)
 scripts_decide a b =
     through (same_scripts a b)
-    (both _ _ (versions_decide a.version b.version) (both _ _ (texts_decide a.nodes b.nodes) (both _ _ (texts_decide a.jobs b.jobs) (both _ _ (texts_decide a.keys b.keys) (both _ _ (texts_decide a.names b.names)
+    (both _ _ (versions_decide a.version b.version) (both _ _ (texts_decide a.nodes b.nodes)
+    (both _ _ (texts_decide a.jobs b.jobs) (both _ _ (texts_decide a.keys b.keys) (both _ _ (texts_decide a.names b.names)
     (both _ _ (texts_decide a.values b.values) (both _ _ (texts_decide a.sets b.sets)
     (both _ _ (pointwise_decides processes_decide a.processes b.processes) (booleans_Decides a.keeps b.keeps)))))))))
     (λ h i. record {

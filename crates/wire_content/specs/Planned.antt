@@ -1,6 +1,7 @@
 -- The plan that scripts are: a process on a node, with its calls. A call of a reserved key has a fixed reply.
 use Rattle.std.specs.Prelude.{List, ℕ, map, length, nat_lt, if◌then◌else◌}
-use Rattle.wire_runs.specs.Plan.{Plan, CallPut, CallCommit, CallFence, CallGet, CallGetNow, CallPublish, CallLookup, CallLookupWait, CallUnpublish, CallUnpublishAll, CallFixed}
+use Rattle.wire_runs.specs.Plan.{Plan, CallPut, CallCommit, CallFence, CallGet, CallGetNow, CallPublish}
+use Rattle.wire_runs.specs.Plan.{CallLookup, CallLookupWait, CallUnpublish, CallUnpublishAll, CallFixed}
 use Rattle.wire_runs.specs.Plan as plan
 use Rattle.wire_types.specs.Replies.{bare}
 use Rattle.wire_types.specs.declared.Call.{Call}

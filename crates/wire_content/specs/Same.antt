@@ -54,4 +54,5 @@ scripts_alike =
     (and_per (on_per (λ (s : Scripts). s.names) texts_alike)
     (and_per (on_per (λ (s : Scripts). s.values) texts_alike)
     (and_per (on_per (λ (s : Scripts). s.sets) texts_alike)
-    (and_per (on_per (λ (s : Scripts). s.processes) (lists_per processes_alike)) (on_per (λ (s : Scripts). s.keeps) (partial_equiv_from_equiv bool_eq_equiv)))))))))
+    (and_per (on_per (λ (s : Scripts). s.processes) (lists_per processes_alike))
+    (on_per (λ (s : Scripts). s.keeps) (partial_equiv_from_equiv bool_eq_equiv)))))))))

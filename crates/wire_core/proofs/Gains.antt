@@ -1,5 +1,6 @@
 -- What a step brings to a node.
-use Rattle.std.proofs.Common.{◌≡◌, ◌≢◌, ◌∙◌, ap, sym, refl, subst, ℕ, zero, suc, ◌+◌, ◌<◌, ◌≤◌, List, [], ◌∷◌, ◌++◌, length, Bool, true, false, cond, ◌&&◌, nat_eq, nat_lt, Option, Some, None, is_some, arith, inl, inr}
+use Rattle.std.proofs.Common.{◌≡◌, ◌≢◌, ◌∙◌, ap, sym, refl, subst, ℕ, zero, suc, ◌+◌, ◌<◌, ◌≤◌, List, [], ◌∷◌, ◌++◌, length}
+use Rattle.std.proofs.Common.{Bool, true, false, cond, ◌&&◌, nat_eq, nat_lt, Option, Some, None, is_some, arith, inl, inr}
 use Rattle.std.proofs.Common.{eq-eqb, ne_eqb, eqb-true}
 use Rattle.std.specs.Prelude.{slice_get, IfSome}
 use Rattle.std.specs.HashMap.{spare}
@@ -165,7 +166,8 @@ module _ (plan : Plan) (s : State) (q steps : ℕ) (old new : Keeping) (found : 
     others : (p key node : ℕ) → is_same (gain.owner.number, gain.key, gain.node) (p, key, node) ≡ false → kept plan (step plan s q) p key node ≡ kept plan s p key node
     others p key node f = same_kept p key node (elim (cases_eq (node_of plan q) node) [
       | inr ne ↦ cond-false _ _ _ (ne_eqb _ _ ne)
-      | inl e ↦ gained_none p key node (got_now p key ∙ other_gives p key gain.owner.number gain.key g.put (λ a b. not_same (gain.owner.number, gain.key, gain.node) (p, key, node) f a b (g.there ∙ e)))
+      | inl e ↦ gained_none p key node (got_now p key ∙ other_gives p key gain.owner.number gain.key g.put
+          (λ a b. not_same (gain.owner.number, gain.key, gain.node) (p, key, node) f a b (g.there ∙ e)))
     ])
 
     module _ (away : node_of plan gain.owner.number ≢ gain.node) where

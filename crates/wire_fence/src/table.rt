@@ -1,12 +1,14 @@
 //! The fences of scripts.
 
-ghost use Rattle.std.specs.Prelude.{◌≡◌, ◌<◌, ◌||◌, ◌&&◌, ◌==◌, ℕ, Some, false, is_some, true, [], length, map as map_list, slice_index_or, IfOk, OnOk, IsOkUnless};
+ghost use Rattle.std.specs.Prelude.{◌≡◌, ◌<◌, ◌||◌, ◌&&◌, ◌==◌, ℕ, Some, false, is_some, true, [], length};
+ghost use Rattle.std.specs.Prelude.{map as map_list, slice_index_or, IfOk, OnOk, IsOkUnless};
 ghost use Rattle.std.specs.List.{list_all};
 ghost use Rattle.wire_runs.specs.Fences.{has_node};
 ghost use Rattle.wire_content.specs.Scripts.{Scripts as TheScripts, numbers_of, set_at};
 ghost use Rattle.wire_content.specs.Planned.{plan_of};
 ghost use Rattle.wire_procmap.specs.Map.{map_of, row_count};
-ghost use Rattle.wire_fence.specs.FenceTable.{FenceInfo, AreFencesOf, fence_at, members_in, full_in, collects_in, reaches_in, is_noted, fence_number as the_fence_number};
+ghost use Rattle.wire_fence.specs.FenceTable.{FenceInfo, AreFencesOf, fence_at, members_in, full_in, collects_in};
+ghost use Rattle.wire_fence.specs.FenceTable.{reaches_in, is_noted, fence_number as the_fence_number};
 
 use crate::register::{FenceDraft, Register, members_of};
 use indexmap::IndexSet;
@@ -67,7 +69,8 @@ fn note_nodes(
 ) -> Result<(), AllocError>
     requires { (k : ℕ) → k < length members.now → slice_index_or (numbers_of members.now) k 0 < row_count map.now }
     ensures { OnOk result ((s : TheScripts) (other node : ℕ) → map.now ≡ map_of s
-        → is_noted reached.new.keys other node ≡ (is_noted reached.old.keys other node || ((other == set) && has_node (plan_of s) (numbers_of members.now) node))) }
+        → is_noted reached.new.keys other node ≡ (is_noted reached.old.keys other node ||
+        ((other == set) && has_node (plan_of s) (numbers_of members.now) node))) }
 {
     for member in members {
         reached.insert_full((set, map.node_of(*member)))?;

@@ -62,7 +62,8 @@ module _ {K : Type 0} (same : K → K → Bool) (laws : IsEquivalence same) (lab
   -- the group of another label stays
   group_of_other : (k : K) → same k x ≡ false → list_any (same k) labels ≡ true → group_of same labels k ≡ group_of same after k
   group_of_other k other there =
-      let count : count_by (same k) labels ≡ count_by (same k) after = sym (count_push (same k) labels x ∙ ap (λ b. count_by (same k) labels + cond b 1 0) other ∙ plus_none (count_by (same k) labels)) in
+      let count : count_by (same k) labels ≡ count_by (same k) after =
+      sym (count_push (same k) labels x ∙ ap (λ b. count_by (same k) labels + cond b 1 0) other ∙ plus_none (count_by (same k) labels)) in
       λ i. record { first = sym (position_push (same k) labels x there) i; count = count i }
     where
       plus_none : (n : ℕ) → n + 0 ≡ n
@@ -103,7 +104,8 @@ module _ {K : Type 0} (same : K → K → Bool) (laws : IsEquivalence same) (lab
   groups_again (k ∷ ks) g any (apart_first, apart) (among_first, among) is = go (λ left is_left. groups_again ks g left apart among is_left) (same x k) refl
     where
       go : (list_any (same x) ks ≡ true → g ≡ get_or (map (group_of same labels) ks) (position_or_len (same x) ks) g →
-          set (map (group_of same labels) ks) (position_or_len (same x) ks) (more g) ≡ map (group_of same after) ks) → (b : Bool) → same x k ≡ b → set (map (group_of same labels) (k ∷ ks)) (position_or_len (same x) (k ∷ ks)) (more g) ≡ map (group_of same after) (k ∷ ks)
+          set (map (group_of same labels) ks) (position_or_len (same x) ks) (more g) ≡ map (group_of same after) ks) → (b : Bool) → same x k ≡ b →
+          set (map (group_of same labels) (k ∷ ks)) (position_or_len (same x) (k ∷ ks)) (more g) ≡ map (group_of same after) (k ∷ ks)
       go later true e =
           let none : list_any (same x) ks ≡ false = alike ks ∙ apart_first in
           let place : position_or_len (same x) (k ∷ ks) ≡ 0 = ap (λ b. cond (not b) (1 + position_or_len (same x) ks) 0) e in

@@ -58,7 +58,8 @@ fn next_member(arrivals: &[Event], proc: Proc) -> Option<Event>
 /// These sources. Where they are those of the end of a fence, the arrival of the member after this process stands in front of
 /// the other arrivals too: where ranks are served in order, that one is likely to be missing.
 pub(crate) fn next_member_first<'a>(sources: Sources<'a>, proc: Proc) -> Sources<'a>
-    ensures { SameEvents (source_list sources.entry.previous sources.entry.awaited sources.entry.arrivals.now) (source_list result.previous result.awaited result.arrivals.now) }
+    ensures { SameEvents (source_list sources.entry.previous sources.entry.awaited sources.entry.arrivals.now)
+        (source_list result.previous result.awaited result.arrivals.now) }
 {
     match sources.awaited {
         Some(_) => sources,

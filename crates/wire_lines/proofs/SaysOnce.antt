@@ -3,8 +3,10 @@ use Rattle.std.proofs.Common.{◌≡◌, ◌∙◌, ap, sym, refl, subst, true�
 use Rattle.std.specs.Str.{bytes_eq}
 use Rattle.std.proofs.lemmas.Fmt.{decimal_injective}
 use Rattle.std.specs.List.{slice_split}
-use Rattle.wire_lines.specs.Said.{Item, One, Every, Set, Own, Listed, Call, Put, Commit, Fence, Get, GetNow, Publish, Lookup, LookupWait, Unpublish, UnpublishAll, Said, Header, Keep, Node, Job, Rank, Calls}
-use Rattle.wire_lines.specs.Said.{IsLawful, IsLawfulCall, IsLawfulSet, IsLawfulItem, AreLawful, first_word, other_words, first_of_call, others_of_call, collect_words, spelled_proc, spelled_scope, spelled_version}
+use Rattle.wire_lines.specs.Said.{Item, One, Every, Set, Own, Listed, Call, Put, Commit, Fence, Get, GetNow, Publish, Lookup}
+use Rattle.wire_lines.specs.Said.{LookupWait, Unpublish, UnpublishAll, Said, Header, Keep, Node, Job, Rank, Calls}
+use Rattle.wire_lines.specs.Said.{IsLawful, IsLawfulCall, IsLawfulSet, IsLawfulItem, AreLawful, first_word, other_words, first_of_call}
+use Rattle.wire_lines.specs.Said.{others_of_call, collect_words, spelled_proc, spelled_scope, spelled_version}
 use Rattle.wire_lines.specs.Said.{spelled_item, spelled_set, is_name, is_key}
 use Rattle.wire_types.specs.declared.Scope.{Scope}
 use Rattle.wire_types.specs.declared.Scope.TheVariants.{Local, Remote, Global}
@@ -36,7 +38,8 @@ kind_of_call (Unpublish name) = 8
 kind_of_call UnpublishAll = 8
 
 abbrev shown : List ℕ → ℕ
-shown w = if bytes_eq w (codes "rehearsal") then 0 else if bytes_eq w (codes "node") then 1 else if bytes_eq w (codes "job") then 2 else if bytes_eq w (codes "rank") then 3 else if bytes_eq w (codes "keep") then 5 else 4
+shown w = if bytes_eq w (codes "rehearsal") then 0 else if bytes_eq w (codes "node") then 1 else if bytes_eq w (codes "job") then 2
+    else if bytes_eq w (codes "rank") then 3 else if bytes_eq w (codes "keep") then 5 else 4
 
 abbrev shown_of_call : List ℕ → ℕ
 shown_of_call w =

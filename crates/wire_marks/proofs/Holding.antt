@@ -1,5 +1,6 @@
 -- Lists of names: what is added to one of them, and that they have each name under which something stands.
-use Rattle.std.proofs.Common.{◌≡◌, ◌∙◌, ap, refl, sym, subst, ℕ, zero, suc, ◌<◌, List, [], ◌∷◌, ◌++◌, ◌-◌, ◌⊎◌, ⊎_elim, true, Option, Some, None, length, length-append, arith, inl, inr, map, get_or, eqb-true}
+use Rattle.std.proofs.Common.{◌≡◌, ◌∙◌, ap, refl, sym, subst, ℕ, zero, suc, ◌<◌, List, [], ◌∷◌, ◌++◌, ◌-◌, ◌⊎◌, ⊎_elim}
+use Rattle.std.proofs.Common.{true, Option, Some, None, length, length-append, arith, inl, inr, map, get_or, eqb-true}
 use Rattle.std.specs.Prelude.{slice_get, slice_set, option_map, is_some, ◌≢◌, Vec, Result, Ok, Err, OnOk, OnErr}
 use Rattle.std.specs.declared.alloc.Global.{Global}
 use Rattle.std.proofs.lemmas.Bool.{cases_Bool, cases_eq, true≢false, cond_both}

@@ -1,5 +1,6 @@
 -- How the lists of publishes and unpublishes grow.
-use Rattle.std.proofs.Common.{◌≡◌, ◌∙◌, ◌⊎◌, ap, refl, sym, subst, ℕ, zero, suc, ◌<◌, ◌≤◌, ◌-◌, List, [], ◌∷◌, ◌++◌, true, false, Option, Some, None, length, length-append, arith, inl, inr, ⊎_elim, map, get_or, eq-eqb, eqb-true, ne_eqb}
+use Rattle.std.proofs.Common.{◌≡◌, ◌∙◌, ◌⊎◌, ap, refl, sym, subst, ℕ, zero, suc, ◌<◌, ◌≤◌, ◌-◌, List, [], ◌∷◌, ◌++◌, true, false, Option}
+use Rattle.std.proofs.Common.{Some, None, length, length-append, arith, inl, inr, ⊎_elim, map, get_or, eq-eqb, eqb-true, ne_eqb}
 use Rattle.std.specs.Prelude.{slice_get, slice_set, option_map, if◌then◌else◌, ◌==◌, ◌≢◌, Vec}
 use Rattle.std.specs.declared.alloc.Global.{Global}
 use Rattle.std.proofs.lemmas.Bool.{cases_Bool, cases_eq, true≢false, cond-true, cond-false}
@@ -65,7 +66,8 @@ publisher_there p (Some x) h = (x, refl, eqb-true x.proc p h)
 publisher_there p None h = absurd (true≢false (sym h))
 
 -- a call that takes away a publish of its process can change the name
-sweep_writes : (plan : Plan) (name : ℕ) (z : Event) (calls : List Event) → kind plan z ≡ Some UnpublishAll → is_publisher z.proc (left_by plan name calls) ≡ true → writes_name plan name z (kind plan z) ≡ true
+sweep_writes : (plan : Plan) (name : ℕ) (z : Event) (calls : List Event) → kind plan z ≡ Some UnpublishAll →
+    is_publisher z.proc (left_by plan name calls) ≡ true → writes_name plan name z (kind plan z) ≡ true
 sweep_writes plan name z calls is by =
     let w = publisher_there z.proc (left_by plan name calls) by in
     ap (writes_name plan name z) is ∙ ap (λ p. publishes plan p name (event_count plan p)) (sym w.2) ∙ publisher plan w.0 name (left_publish plan name calls w.0 w.1)
@@ -175,7 +177,8 @@ pub nothing_noted : (plan : Plan) (z : Event) (lists : ℕ → List Update) → 
 nothing_noted plan z lists never m = inl (refl, never m (standing_in (lists m)))
 
 -- which are these
-pub stays : (plan : Plan) (z : Event) (sets : List (List ℕ)) (k : CodeKind) → kind plan z ≡ Some (kind_of sets k) → ((name : ℕ) → k ≡ code.Publish name → ⊥) → ((name : ℕ) → k ≡ code.Unpublish name → ⊥) →
+pub stays : (plan : Plan) (z : Event) (sets : List (List ℕ)) (k : CodeKind) → kind plan z ≡ Some (kind_of sets k) →
+    ((name : ℕ) → k ≡ code.Publish name → ⊥) → ((name : ℕ) → k ≡ code.Unpublish name → ⊥) →
     (k ≡ code.UnpublishAll → ⊥) → (m : ℕ) (o : Option Event) → name_after o z (kind plan z) m ≡ o
 stays plan z sets k is no_publish no_unpublish no_sweep m o = ap (λ e. name_after o z e m) is ∙ of_kind k no_publish no_unpublish no_sweep
   where

@@ -1,5 +1,6 @@
 -- The live calls that can change a name, in an order that chains allow, and what stands under the name after each.
-use Rattle.std.specs.Prelude.{◌≡◌, ◌≢◌, ◌⊎◌, ◌↔◌, ℕ, ◌-◌, List, [], ◌∷◌, ◌++◌, true, false, Option, Some, None, is_some, if◌then◌else◌, length, option_map, slice_get, slice_index_or}
+use Rattle.std.specs.Prelude.{◌≡◌, ◌≢◌, ◌⊎◌, ◌↔◌, ℕ, ◌-◌, List, [], ◌∷◌, ◌++◌, true, false, Option, Some, None}
+use Rattle.std.specs.Prelude.{is_some, if◌then◌else◌, length, option_map, slice_get, slice_index_or}
 use Rattle.wire_runs.specs.Plan.{Plan, Event, UnpublishAll, kind, event_of}
 use Rattle.wire_runs.specs.Names.{writes_name}
 use Rattle.wire_runs.specs.Step.{name_after, is_publisher}
@@ -30,7 +31,8 @@ abbrev pub AreChanges : Plan → ℕ → List Event → List Update → Type 0
 AreChanges plan name [] updates = updates ≡ []
 AreChanges plan name (x ∷ xs) updates =
     ((left_by plan name (x ∷ xs) ≡ left_by plan name xs) × AreChanges plan name xs updates)
-    ⊎ ((u : Update) × (others : List Update) × (updates ≡ others ++ u ∷ []) × (event_of u.event ≡ x) × (option_map event_of u.standing ≡ left_by plan name (x ∷ xs))
+    ⊎ ((u : Update) × (others : List Update) × (updates ≡ others ++ u ∷ []) × (event_of u.event ≡ x)
+    × (option_map event_of u.standing ≡ left_by plan name (x ∷ xs))
     × AreChanges plan name xs others)
 
 -- the calls of which it holds and that can change the name have an order that chains allow, and in this order the updates have those that

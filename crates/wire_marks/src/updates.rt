@@ -204,7 +204,8 @@ impl Updates {
 
     // Notes a publish of a name.
     fn note_publish(&mut self, alloc: Global, name: u32, event: Event) -> Result<(), AllocError>
-        ensures { OnOk result (IsAppended (event_of event) name (spec.after_publish (event_of event) (standing_in (updates_at self.old name))) self.old self.new) }
+        ensures { OnOk result (IsAppended (event_of event) name
+            (spec.after_publish (event_of event) (standing_in (updates_at self.old name))) self.old self.new) }
     {
         let standing = after_publish(self.lists.standing(name), event);
         self.held.add(alloc, event.proc, name)?;
@@ -213,7 +214,8 @@ impl Updates {
 
     // Notes an unpublish of a name.
     fn note_unpublish(&mut self, alloc: Global, name: u32, event: Event) -> Result<(), AllocError>
-        ensures { OnOk result (IsAppended (event_of event) name (spec.after_unpublish event.proc.number (standing_in (updates_at self.old name))) self.old self.new) }
+        ensures { OnOk result (IsAppended (event_of event) name
+            (spec.after_unpublish event.proc.number (standing_in (updates_at self.old name))) self.old self.new) }
     {
         let standing = after_unpublish(self.lists.standing(name), event.proc);
         self.lists.add(alloc, name, Update { event, standing })

@@ -1,5 +1,6 @@
 -- What is looked up in a plan: the sources of an event, the puts of a key, the calls on a name, and the fences and gets that bring a key to a node.
-use Rattle.std.specs.Prelude.{◌≡◌, ◌≢◌, ◌==◌, ℕ, zero, suc, ◌<◌, ◌≤◌, List, ◌++◌, Bool, true, false, Option, Some, None, map, option_map, option_to_list, slice_get, MatchOption}
+use Rattle.std.specs.Prelude.{◌≡◌, ◌≢◌, ◌==◌, ℕ, zero, suc, ◌<◌, ◌≤◌, List, ◌++◌, Bool, true, false, Option}
+use Rattle.std.specs.Prelude.{Some, None, map, option_map, option_to_list, slice_get, MatchOption}
 use Rattle.wire_runs.specs.Plan.{Plan, Event, Kind, Put, Get, Publish, Lookup, LookupWait, Unpublish, UnpublishAll, kind, event_of}
 use Rattle.wire_types.specs.declared.Event.{Event as CodeEvent}
 use Rattle.wire_types.specs.declared.Scope.{Scope}

@@ -14,7 +14,8 @@ ghost use Rattle.wire_runs.specs.Ends.{call_of, calls_of, first_event};
 ghost use Rattle.wire_runs.specs.Plan.{event_total};
 ghost use Rattle.wire_runs.specs.Order.{may_come, Stores, PublishesOnce};
 ghost use Rattle.wire_runs.specs.Races.{IsPutOnce};
-ghost use Rattle.wire_plan.specs.Index.{AreSources, AreArrivals, AreNameCalls, ArePublishes, AreSweeps, AreGetDeliveries, IsAwaited, IsFirstPut, IsNextDelivery, source_list, previous_of};
+ghost use Rattle.wire_plan.specs.Index.{AreSources, AreArrivals, AreNameCalls, ArePublishes, AreSweeps, AreGetDeliveries};
+ghost use Rattle.wire_plan.specs.Index.{IsAwaited, IsFirstPut, IsNextDelivery, source_list, previous_of};
 ghost use Rattle.wire_plan.specs.Indexed.{IsIndexed};
 ghost use Rattle.wire_plan.specs.Meetings.{is_of_fence, IsMet};
 

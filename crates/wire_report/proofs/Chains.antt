@@ -14,7 +14,8 @@ use Rattle.wire_runs.proofs.Histories.{before_live}
 use Rattle.wire_marks.specs.Clocks.{LeadsTo}
 use Rattle.wire_marks.specs.Chain.{IsShown, begins, goes_on, OneShown}
 use Rattle.wire_runs.specs.Ends.{first_event}
-use Rattle.wire_report.specs.Chain.{chain_form, unordered_form, IsCallBefore, IsDeadPart, Dead, Alive, AreDead, OfOne, OfTwo, IsCallChain, IsChainText, TellsBefore, TellsAfter, TellsUnordered, OneChainText}
+use Rattle.wire_report.specs.Chain.{chain_form, unordered_form, IsCallBefore, IsDeadPart, Dead, Alive, AreDead, OfOne, OfTwo}
+use Rattle.wire_report.specs.Chain.{IsCallChain, IsChainText, TellsBefore, TellsAfter, TellsUnordered, OneChainText}
 use Rattle.wire_report.specs.There.{AreThere}
 
 -- the last of a chain, or one before it

@@ -88,9 +88,11 @@ pub data AreDead (plan : Plan) (x y : CallAt) (dead : List CallAt) : Type 0 wher
 -- the text tells whether call x is before call y, else whether y is before x, and else which of them isn't live
 pub data IsChainText (json : Bool) (scripts : Scripts) (x y : CallAt) (text : List ℕ) : Type 0 where
   TellsBefore : (chain : List Event) → IsCallChain (plan_of scripts) x y chain → text ≡ chain_form json true scripts chain → IsChainText json scripts x y text
-  TellsAfter : (chain : List Event) → (IsCallBefore (plan_of scripts) x y → ⊥) → IsCallChain (plan_of scripts) y x chain → text ≡ chain_form json false scripts chain →
+  TellsAfter : (chain : List Event) → (IsCallBefore (plan_of scripts) x y → ⊥) → IsCallChain (plan_of scripts) y x chain →
+      text ≡ chain_form json false scripts chain →
       IsChainText json scripts x y text
-  TellsUnordered : (dead : List CallAt) → (IsCallBefore (plan_of scripts) x y → ⊥) → (IsCallBefore (plan_of scripts) y x → ⊥) → AreDead (plan_of scripts) x y dead →
+  TellsUnordered : (dead : List CallAt) → (IsCallBefore (plan_of scripts) x y → ⊥) →
+      (IsCallBefore (plan_of scripts) y x → ⊥) → AreDead (plan_of scripts) x y dead →
       text ≡ unordered_form json scripts dead → IsChainText json scripts x y text
 
 -- two calls have one text in each form

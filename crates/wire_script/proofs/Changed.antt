@@ -11,7 +11,8 @@ use Rattle.wire_lines.specs.Said.{Call, Said, Header, Keep, Node, Job, Rank, Cal
 use Rattle.wire_lines.specs.declared.Version.{Version}
 use Rattle.wire_script.specs.declared.limits.Size.{Size}
 use Rattle.wire_script.specs.Statements.{Statement}
-use Rattle.wire_script.specs.FirstPass.{Started, Declared, number_or_count, after, judged, is_in_place, is_short, is_short_call, is_known, is_again, has_room, has_call, with_call, nothing, Judges, JudgesAll}
+use Rattle.wire_script.specs.FirstPass.{Started, Declared, number_or_count, after, judged, is_in_place, is_short, is_short_call}
+use Rattle.wire_script.specs.FirstPass.{is_known, is_again, has_room, has_call, with_call, nothing, Judges, JudgesAll}
 use Rattle.wire_script.specs.FirstPass.{FirstPass}
 use Rattle.wire_script.proofs.Recut.{numbered_lines}
 

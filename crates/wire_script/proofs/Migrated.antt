@@ -9,7 +9,8 @@ use Rattle.wire_types.specs.declared.Call.TheVariants as call
 use Rattle.wire_lines.specs.declared.Version.{Version}
 use Rattle.wire_lines.specs.declared.Version.TheVariants as version
 use Rattle.wire_lines.specs.Text.{lines_of}
-use Rattle.wire_lines.specs.Said.{Item, One, Every, Set, Own, Listed, Call, Put, Commit, Fence, Get, GetNow, Publish, Lookup, LookupWait, Unpublish, UnpublishAll, Said, Header, Keep, Node, Job, Rank, Calls}
+use Rattle.wire_lines.specs.Said.{Item, One, Every, Set, Own, Listed, Call, Put, Commit, Fence, Get, GetNow, Publish, Lookup}
+use Rattle.wire_lines.specs.Said.{LookupWait, Unpublish, UnpublishAll, Said, Header, Keep, Node, Job, Rank, Calls}
 use Rattle.wire_content.specs.Scripts.{Scripts, under_version_2}
 use Rattle.wire_content.specs.Canonical.{canonical}
 use Rattle.wire_script.specs.declared.limits.Limits.{Limits}

@@ -28,5 +28,6 @@ FitsOrder Large scripts steps = length (steps_text scripts steps) ≤ order_byte
 
 -- of scripts that were read: the lines of the steps of an interleaving read as an order of these steps
 abbrev pub OrderReadsBack : Type 0
-OrderReadsBack = (size : Size) (bytes : List ℕ) (s : Scripts) (steps : List ℕ) → Reads size bytes (Ok s) → IsInterleaving (plan_of s) start steps → FitsOrder size s steps →
+OrderReadsBack = (size : Size) (bytes : List ℕ) (s : Scripts) (steps : List ℕ) → Reads size bytes (Ok s) →
+    IsInterleaving (plan_of s) start steps → FitsOrder size s steps →
     ReadsAsOrder size s (steps_text s steps) steps

@@ -27,4 +27,5 @@ pub record AreOrdersOf (bytes : List ℕ) (s : Scripts) (witness : Witness) : Ty
 -- of scripts that were read: the orders of each witness of two calls are followed to the reports of its runs
 abbrev pub WitnessIsFollowed : Type 0
 WitnessIsFollowed =
-    (bytes : List ℕ) (s : Scripts) (x y : CallAt) (witness : Witness) → Reads OfVersion bytes (Ok s) → IsWitness (plan_of s) x y witness → AreOrdersOf bytes s witness
+    (bytes : List ℕ) (s : Scripts) (x y : CallAt) (witness : Witness) → Reads OfVersion bytes (Ok s) →
+    IsWitness (plan_of s) x y witness → AreOrdersOf bytes s witness

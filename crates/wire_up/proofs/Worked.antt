@@ -66,7 +66,8 @@ clean_tells : (mode : Mode) (s : Scripts) (found : List Finding) (ended : Ended)
 clean_tells mode s [] ended text ends tells clean = tells
 clean_tells mode s (f ∷ fs) ended text ends tells clean = let bad : Found (length (f ∷ fs)) ≡ Clean = sym ends ∙ clean in absurd (cc)
 
-pub clean_writes : {size : Size} (mode : Mode) (coming old new : Option (List ℕ)) (s : Scripts) (ended : Ended) (text shown : List ℕ) → ReadAs size coming s → IsReplay mode s ended text → shown ≡ text →
+pub clean_writes : {size : Size} (mode : Mode) (coming old new : Option (List ℕ)) (s : Scripts) (ended : Ended) (text shown : List ℕ) →
+    ReadAs size coming s → IsReplay mode s ended text → shown ≡ text →
     Appends old new shown → ended ≡ Clean
     → WritesOneEnd size mode.json coming old new
 clean_writes mode coming old new s ended text shown read rehearsal is wrote clean =

@@ -273,12 +273,14 @@ pub fn rehearse_sized<R: Source, W: Sink, T: Threads + Wait + Sync, G: Gate + Sy
     writer: &mut W,
     manner: Manner<'_, G>,
 ) -> Result<Ended, Fault>
-    ensures ok { IfOk result (λ ended. WritesReplay manner.entry.size manner.entry.mode (R.coming reader.old) ended (W.written writer.old) (W.written writer.new)) }
+    ensures ok { IfOk result (λ ended. WritesReplay manner.entry.size manner.entry.mode
+        (R.coming reader.old) ended (W.written writer.old) (W.written writer.new)) }
     ensures quiet { OnOk result ((R.failures reader.new ≡ R.failures reader.old) × (W.failures writer.new ≡ W.failures writer.old)) }
 
     // The headline: where it finds nothing, every interleaving that can't go on ends in one state, and the report of that state
     // is what it writes, whatever the workers.
-    ensures one_end { result ≡ Ok Clean → WritesOneEnd manner.entry.size manner.entry.mode.json (R.coming reader.old) (W.written writer.old) (W.written writer.new) }
+    ensures one_end { result ≡ Ok Clean → WritesOneEnd manner.entry.size manner.entry.mode.json
+        (R.coming reader.old) (W.written writer.old) (W.written writer.new) }
 
     // Either nothing was written, or the front of the text that the fault counts.
     ensures err { IfErr result (λ e. (StopsBeforeReplay manner.entry.size manner.entry.workers (R.coming reader.old) e × (writer.new ≡ writer.old))
@@ -309,7 +311,8 @@ pub fn rehearse_complete<R: Source, W: Sink, T: Threads + Wait + Sync, G: Gate +
     writer: &mut W,
     manner: Manner<'_, G>,
 ) -> Result<Rehearsed, Fault>
-    ensures ok { IfOk result (λ r. WritesReplay manner.entry.size manner.entry.mode (R.coming reader.old) r.ended (W.written writer.old) (W.written writer.new)) }
+    ensures ok { IfOk result (λ r. WritesReplay manner.entry.size manner.entry.mode
+        (R.coming reader.old) r.ended (W.written writer.old) (W.written writer.new)) }
     ensures calls { IfOk result (λ r. JudgesCalls manner.entry.size (R.coming reader.old) r.ended (line_in r.failure)) }
     ensures quiet { OnOk result ((R.failures reader.new ≡ R.failures reader.old) × (W.failures writer.new ≡ W.failures writer.old)) }
 

@@ -23,7 +23,8 @@ text_between-requires-clause-y_there c = there_too c.scripts.result.now c.args.p
 pub returns-clause-ok : goal.returns-clause-ok
 returns-clause-ok c =
     answered c.args.json c.args.plan.now (map (λ w. w.now) c.args.words) c.in_ok-calls.calls.0 c.in_ok-calls.calls.1 c.text_between.result
-    (asked_too c.scripts.result.now c.args.plan.now (map (λ w. w.now) c.args.words) (c.in_ok-calls.calls.0, c.in_ok-calls.calls.1) c.scripts.ensures.scripts c.in_ok-calls.ensures.ok) c.text_between.ensures.ok
+    (asked_too c.scripts.result.now c.args.plan.now (map (λ w. w.now) c.args.words) (c.in_ok-calls.calls.0, c.in_ok-calls.calls.1) c.scripts.ensures.scripts c.in_ok-calls.ensures.ok)
+    c.text_between.ensures.ok
 
 pub returns-clause-err : goal.returns-clause-err
 returns-clause-err c = err_too c.text_between.result _ _ (λ e memory. inl memory) c.text_between.ensures.err

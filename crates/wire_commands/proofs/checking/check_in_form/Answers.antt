@@ -17,7 +17,8 @@ returns-clause-err g c = breaks_off c.args.form.json _ _ _ c.in_ok-scripts.scrip
 
 pub returns-clause-read_failed : goal.returns-clause-read_failed
 returns-clause-read_failed g c is =
-    absurd (no_failed_read c.args.form.json (g.W.Sink.written c.args.writer.now) (g.W.Sink.written c.check_scripts.new.writer) c.in_ok-scripts.scripts _ _ c.check_scripts.result c.check_scripts.ensures.err is)
+    absurd (no_failed_read c.args.form.json (g.W.Sink.written c.args.writer.now)
+    (g.W.Sink.written c.check_scripts.new.writer) c.in_ok-scripts.scripts _ _ c.check_scripts.result c.check_scripts.ensures.err is)
 
 pub returns-clause-unfailed : goal.returns-clause-unfailed
 returns-clause-unfailed g c = err_always c.check_scripts.result _ (λ e memory read. c.in_ok-scripts.ensures.quiet)

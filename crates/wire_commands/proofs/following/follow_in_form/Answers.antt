@@ -64,7 +64,8 @@ returns-clause-quiet g c = on_ok_too c.write_text.result _ _ (λ quiet. (c.in_ok
 
 pub returns-clause-err : goal.returns-clause-err
 returns-clause-err g c =
-    followed_err c.args.form.json _ _ (g.W.Sink.written c.args.writer.now) (g.W.Sink.written c.write_text.new.sink) c.in_ok-scripts.scripts c.in-Ok.order.items c.as_slice.result.now c.in_ok-text.text.items
+    followed_err c.args.form.json _ _ (g.W.Sink.written c.args.writer.now)
+    (g.W.Sink.written c.write_text.new.sink) c.in_ok-scripts.scripts c.in-Ok.order.items c.as_slice.result.now c.in_ok-text.text.items
     c.as_slice-2.result.now _ _ c.write_text.result c.as_slice.ensures.value c.in_ok-scripts.ensures.ok c.in-Ok.ensures.ok c.in_ok-text.ensures.ok c.as_slice-2.ensures.value
     c.write_text.ensures.front c.write_text.ensures.failed
 

@@ -14,7 +14,8 @@ returns-in_err-outcome-clause-err c = handed_on c.from_residual.result c.in_err-
 
 pub returns-clause-ok : goal.returns-clause-ok
 returns-clause-ok c =
-    followed_told c.args.json c.args.plan.now c.scripts.result.now (numbers_of c.args.order.now) (ends_of c.in_ok-outcome.outcome) c.report_text.result c.scripts.ensures.scripts c.in_ok-outcome.ensures.ok
+    followed_told c.args.json c.args.plan.now c.scripts.result.now (numbers_of c.args.order.now)
+    (ends_of c.in_ok-outcome.outcome) c.report_text.result c.scripts.ensures.scripts c.in_ok-outcome.ensures.ok
     c.report_text.ensures.ok
 
 pub returns-clause-err : goal.returns-clause-err

@@ -10,5 +10,6 @@ returns c =
     let arrival = c.in-Some.arrival in
     let end : Event = record { proc = arrival.proc; at = c.in-Some-checked_add.at } in
     let e = c.sources-sources.ensures in
-    waits_for_more (plan_of c.args.plan.now) (event_of c.args.event) c.sources-sources.result.arrivals.now arrival end c.in-Some.ensures.0 c.in-Some.ensures.1 refl c.in-Some-checked_add.ensures.1 e.leave
+    waits_for_more (plan_of c.args.plan.now) (event_of c.args.event) c.sources-sources.result.arrivals.now arrival end
+    c.in-Some.ensures.0 c.in-Some.ensures.1 refl c.in-Some-checked_add.ensures.1 e.leave
     e.others

@@ -17,7 +17,8 @@ pub returns-in-Some-clause-ok : goal.returns-in-Some-clause-ok
 returns-in-Some-clause-ok c =
     let found = rw c.in-Some.is at c.in_ok-chain.ensures.shown in
     if_ok c.ordered_text.result
-    (λ text e. tells_before c.args.json c.args.plan.now c.args.calls.0 c.args.calls.1 (event_of c.first_event-from.result) (event_of c.first_event-to.result) (map event_of c.in-Some.chain.items) text.items
+    (λ text e. tells_before c.args.json c.args.plan.now c.args.calls.0 c.args.calls.1 (event_of c.first_event-from.result)
+    (event_of c.first_event-to.result) (map event_of c.in-Some.chain.items) text.items
     c.first_event-from.ensures c.first_event-to.ensures found.0 found.1
     (e ∙ (λ i. chain_form c.args.json true c.args.plan.now (map event_of (c.as_slice.ensures.value i)))))
     c.ordered_text.ensures.ok
@@ -33,7 +34,8 @@ returns-in-Some-2-clause-ok c =
     let not_before = none_of _ c.in_ok-chain.field-0 c.in_default.not-Some c.in_ok-chain.ensures.shown in
     let found = rw c.in-Some-2.is at c.in_ok-chain-2.ensures.shown in
     if_ok c.ordered_text-in-Some-2.result
-    (λ text e. tells_after c.args.json c.args.plan.now c.args.calls.0 c.args.calls.1 (event_of c.first_event-from.result) (event_of c.first_event-to.result) (map event_of c.in-Some-2.chain.items) text.items
+    (λ text e. tells_after c.args.json c.args.plan.now c.args.calls.0 c.args.calls.1 (event_of c.first_event-from.result)
+    (event_of c.first_event-to.result) (map event_of c.in-Some-2.chain.items) text.items
     c.first_event-from.ensures c.first_event-to.ensures not_before found.0 found.1
     (e ∙ (λ i. chain_form c.args.json false c.args.plan.now (map event_of (c.as_slice-in-Some-2.ensures.value i)))))
     c.ordered_text-in-Some-2.ensures.ok

@@ -12,5 +12,6 @@ returns-in_err-write_text-clause-err g c =
 
 pub returns-clause-one_end : goal.returns-clause-one_end
 returns-clause-one_end g c =
-    clean_writes c.args.manner.mode (g.R.Source.coming c.args.reader.now) (g.W.Sink.written c.args.writer.now) (g.W.Sink.written c.write_text.new.sink) c.in_ok-scripts.scripts c.in_ok-rehearsed.rehearsed.ended
+    clean_writes c.args.manner.mode (g.R.Source.coming c.args.reader.now) (g.W.Sink.written c.args.writer.now)
+    (g.W.Sink.written c.write_text.new.sink) c.in_ok-scripts.scripts c.in_ok-rehearsed.rehearsed.ended
     c.in_ok-rehearsed.text.items c.as_slice.result.now c.in_ok-scripts.ensures.ok c.in_ok-rehearsed.ensures.ok c.as_slice.ensures.value c.in_ok-write_text.ensures.ok

@@ -10,7 +10,8 @@ use Rattle.wire_marks.proofs.updates.Updates.note.Goals as goal
 pub returns-in-Publish : goal.returns-in-Publish
 returns-in-Publish c =
     let is = c.kind.ensures ∙ ap (λ k. Some (kind_of c.args.plan.now.sets k)) c.in-Publish.is in
-    on_ok_weaker c.note_publish.result (λ a. publish_noted (plan_of c.args.plan.now) (event_of c.args.event) c.in-Publish.name (updates_at c.args.self.now) (updates_at c.note_publish.new.self) a.update
+    on_ok_weaker c.note_publish.result (λ a. publish_noted (plan_of c.args.plan.now) (event_of c.args.event) c.in-Publish.name
+    (updates_at c.args.self.now) (updates_at c.note_publish.new.self) a.update
     a.it a.list a.others is a.left) c.note_publish.ensures
 
 pub returns-in-Unpublish : goal.returns-in-Unpublish
@@ -22,7 +23,8 @@ returns-in-Unpublish c =
 pub returns-in-UnpublishAll : goal.returns-in-UnpublishAll
 returns-in-UnpublishAll c =
     let is = c.kind.ensures ∙ ap (λ k. Some (kind_of c.args.plan.now.sets k)) c.in-UnpublishAll.is in
-    on_ok_weaker c.note_sweep.result (λ cleared. swept_noted (plan_of c.args.plan.now) (event_of c.args.event) (updates_at c.args.self.now) (updates_at c.note_sweep.new.self) is c.note_sweep.ensures.each
+    on_ok_weaker c.note_sweep.result (λ cleared. swept_noted (plan_of c.args.plan.now) (event_of c.args.event)
+    (updates_at c.args.self.now) (updates_at c.note_sweep.new.self) is c.note_sweep.ensures.each
     cleared) c.note_sweep.ensures.cleared
 
 pub returns-in_default : goal.returns-in_default
