@@ -1,6 +1,7 @@
 -- The clocks that trees of rows stand for.
 use Rattle.std.proofs.Common.{◌≡◌, ◌∙◌, ◌^◌, ◌/◌, ◌%◌, ◌-◌, ◌<◌, ◌≤◌, ℕ, zero, suc, List, Some, None, length, map, slice_index, refl, sym, ap, subst, arith, inl, inr}
-use Rattle.std.specs.Prelude.{Bool, true, false, nat_lt, ◌&&◌, slice_get, if◌then◌else◌}
+use Rattle.std.specs.Prelude.{Bool, true, false, nat_lt, ◌&&◌, slice_get, if◌then◌else◌, Result, IfOk}
+use Rattle.std.specs.declared.alloc.AllocError.{AllocError}
 use Rattle.std.specs.List.{list_all, range_with_len}
 use Rattle.std.proofs.Math.Nat.{one-le-pow}
 use Rattle.std.proofs.lemmas.Bool.{and_from, cases_lt, cond_both, ltb-true, lt-ltb, true≢false}
@@ -9,9 +10,10 @@ use Rattle.std.proofs.lemmas.List.Elements.{All-get_or, All-from_get_or}
 use Rattle.std.proofs.lemmas.List.FromFn.{get_or-map-range_with_len, length-map-range_with_len}
 use Rattle.std.proofs.lemmas.List.Sums.{AllPass-from_list_all, list_all-from_AllPass}
 use Rattle.std.proofs.lemmas.Option.{slice_get-get_or, slice_get_past}
+use Rattle.std.proofs.lemmas.Result.{IfOk-weaker}
 use Rattle.wire_clocks.specs.Rows as rows
 use Rattle.wire_clocks.specs.Rows.{entry, numbers_in, tree_says, IsTree, IsZero}
-use Rattle.wire_clocks.specs.ClockTrees.{numbers_of, is_clock, says, IsRoot, Holds, HasZeros, Keeps}
+use Rattle.wire_clocks.specs.ClockTrees.{Clocks, numbers_of, is_clock, says, IsRoot, Holds, HasZeros, Keeps}
 use Rattle.wire_clocks.specs.Trees.{is_tree, clock_of_tree, clocks_of_trees, AreTrees}
 use Rattle.wire_clocks.proofs.Growing.{says_kept, tree_kept, says_zero, says_down, tree_of_zeros, tree_there, zero_kept}
 
@@ -109,3 +111,17 @@ clocks_keep old new height are keeps =
       same = λ n root p. clock_says new height n p are'
           ∙ ap (λ v. if nat_lt p (16 ^ height) then v else 0) (says_kept old new keeps height n (tree_of_root old height n are root) p) ∙ sym (clock_says old height n p are);
     }
+
+-- where the clocks are called by another name
+pub tree_given : (rows : List (List ℕ)) (height n : ℕ) (clocks : Clocks) → AreTrees rows height → clocks_of_trees rows height ≡ clocks → IsRoot clocks n → IsTree rows height n
+tree_given rows height n clocks are view root = tree_of_root rows height n are (subst (λ these. IsRoot these n) (sym view) root)
+
+pub given_keep : (old new : List (List ℕ)) (height : ℕ) (clocks : Clocks) → AreTrees old height → clocks_of_trees old height ≡ clocks → rows.Keeps old new →
+    Keeps clocks (clocks_of_trees new height)
+given_keep old new height clocks are view keeps = subst (λ these. Keeps these (clocks_of_trees new height)) view (clocks_keep old new height are keeps)
+
+-- a tree that was made is a root
+pub root_made : (old new : List (List ℕ)) (height : ℕ) (r : Result ℕ AllocError) → AreTrees old height → rows.Keeps old new → IfOk r (λ t. IsTree new height t) →
+    IfOk r (λ t. IsRoot (clocks_of_trees new height) t)
+root_made old new height r are keeps made = IfOk-weaker r (λ t. IsTree new height t) (λ t. IsRoot (clocks_of_trees new height) t)
+    (λ t tree. root_of_tree new height t (trees_kept old new height are keeps) tree) made

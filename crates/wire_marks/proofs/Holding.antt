@@ -10,40 +10,6 @@ use Rattle.wire_marks.specs.declared.updates.Update.{Update}
 use Rattle.wire_runs.proofs.EventLists.{in_front, at_end}
 use Rattle.wire_marks.specs.Updates.{updates_at, standing_after, standing_in, after_publish, after_unpublish, names_at, IsAmong, IsAppended, IsSwept, IsCleared, AreHeld}
 
-abbrev pub names_in : Vec ℕ Global → List ℕ
-names_in list = list.items
-
--- a list more, with nothing in it
-pub reach_more : (lists : List (Vec ℕ Global)) (new : Vec ℕ Global) (n : ℕ) → new.items ≡ [] → get_or (map names_in (lists ++ new ∷ [])) n [] ≡ get_or (map names_in lists) n []
-reach_more [] new zero none_there = none_there
-reach_more [] new (suc n) none_there = refl
-reach_more (list ∷ lists) new zero none_there = refl
-reach_more (list ∷ lists) new (suc n) none_there = reach_more lists new n none_there
-
--- one of the lists has one more
-pub append_here : (lists : List (Vec ℕ Global)) (i : ℕ) (was now : Vec ℕ Global) (u : ℕ) → i < length lists → was ≡ get_or lists i was → now.items ≡ was.items ++ u ∷ [] →
-    get_or (map names_in (slice_set lists i now)) i [] ≡ get_or (map names_in lists) i [] ++ u ∷ []
-append_here [] i was now u lt is push = absurd (omega (arith, lt))
-append_here (list ∷ lists) zero was now u lt is push = push ∙ ap (λ (v : Vec ℕ Global). v.items ++ u ∷ []) is
-append_here (list ∷ lists) (suc i) was now u lt is push = append_here lists i was now u (omega (arith, lt)) is push
-
--- and where nothing was added all stay
-pub set_same : (lists : List (Vec ℕ Global)) (i : ℕ) (was now : Vec ℕ Global) → i < length lists → was ≡ get_or lists i was → now.items ≡ was.items → (n : ℕ) →
-    get_or (map names_in (slice_set lists i now)) n [] ≡ get_or (map names_in lists) n []
-set_same [] i was now lt is same n = absurd (omega (arith, lt))
-set_same (list ∷ lists) zero was now lt is same zero = same ∙ ap (λ (v : Vec ℕ Global). v.items) is
-set_same (list ∷ lists) zero was now lt is same (suc n) = refl
-set_same (list ∷ lists) (suc i) was now lt is same zero = refl
-set_same (list ∷ lists) (suc i) was now lt is same (suc n) = set_same lists i was now (omega (arith, lt)) is same n
-
--- and the others stay
-pub append_others : (lists : List (Vec ℕ Global)) (i n : ℕ) (now : Vec ℕ Global) → n ≢ i → get_or (map names_in (slice_set lists i now)) n [] ≡ get_or (map names_in lists) n []
-append_others [] i n now ne = refl
-append_others (list ∷ lists) zero zero now ne = absurd (ne refl)
-append_others (list ∷ lists) zero (suc n) now ne = refl
-append_others (list ∷ lists) (suc i) zero now ne = refl
-append_others (list ∷ lists) (suc i) (suc n) now ne = append_others lists i n now (λ e. ne (ap suc e))
-
 -- of one process names are added, or nothing
 module _ (lists : List (List Update)) (old new : List (List ℕ)) where
   pub held_same : ((p : ℕ) → names_at new p ≡ names_at old p) → AreHeld lists old → AreHeld lists new

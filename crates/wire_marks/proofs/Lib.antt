@@ -1,5 +1,6 @@
 pub mod Marking
 pub mod Tables
+pub mod Lists
 pub mod Noting
 pub mod Holding
 pub mod Growing

@@ -195,37 +195,3 @@ stays plan z sets k is no_publish no_unpublish no_sweep m o = ap (λ e. name_aft
     of_kind (code.Lookup name) a b d = refl
     of_kind (code.LookupWait name) a b d = refl
     of_kind (code.Fixed reply) a b d = refl
-
-abbrev pub noted_in : Vec Update Global → List Update
-noted_in list = list.items
-
--- a list more, with nothing in it
-pub reach_more : (lists : List (Vec Update Global)) (new : Vec Update Global) (n : ℕ) → new.items ≡ [] → get_or (map noted_in (lists ++ new ∷ [])) n [] ≡ get_or (map noted_in lists) n []
-reach_more [] new zero none_there = none_there
-reach_more [] new (suc n) none_there = refl
-reach_more (list ∷ lists) new zero none_there = refl
-reach_more (list ∷ lists) new (suc n) none_there = reach_more lists new n none_there
-
--- one of the lists has one more
-pub append_here : (lists : List (Vec Update Global)) (i : ℕ) (was now : Vec Update Global) (u : Update) → i < length lists → was ≡ get_or lists i was → now.items ≡ was.items ++ u ∷ [] →
-    get_or (map noted_in (slice_set lists i now)) i [] ≡ get_or (map noted_in lists) i [] ++ u ∷ []
-append_here [] i was now u lt is push = absurd (omega (arith, lt))
-append_here (list ∷ lists) zero was now u lt is push = push ∙ ap (λ (v : Vec Update Global). v.items ++ u ∷ []) is
-append_here (list ∷ lists) (suc i) was now u lt is push = append_here lists i was now u (omega (arith, lt)) is push
-
--- and where nothing was added all stay
-pub set_same : (lists : List (Vec Update Global)) (i : ℕ) (was now : Vec Update Global) → i < length lists → was ≡ get_or lists i was → now.items ≡ was.items → (n : ℕ) →
-    get_or (map noted_in (slice_set lists i now)) n [] ≡ get_or (map noted_in lists) n []
-set_same [] i was now lt is same n = absurd (omega (arith, lt))
-set_same (list ∷ lists) zero was now lt is same zero = same ∙ ap (λ (v : Vec Update Global). v.items) is
-set_same (list ∷ lists) zero was now lt is same (suc n) = refl
-set_same (list ∷ lists) (suc i) was now lt is same zero = refl
-set_same (list ∷ lists) (suc i) was now lt is same (suc n) = set_same lists i was now (omega (arith, lt)) is same n
-
--- and the others stay
-pub append_others : (lists : List (Vec Update Global)) (i n : ℕ) (now : Vec Update Global) → n ≢ i → get_or (map noted_in (slice_set lists i now)) n [] ≡ get_or (map noted_in lists) n []
-append_others [] i n now ne = refl
-append_others (list ∷ lists) zero zero now ne = absurd (ne refl)
-append_others (list ∷ lists) zero (suc n) now ne = refl
-append_others (list ∷ lists) (suc i) zero now ne = refl
-append_others (list ∷ lists) (suc i) (suc n) now ne = append_others lists i n now (λ e. ne (ap suc e))

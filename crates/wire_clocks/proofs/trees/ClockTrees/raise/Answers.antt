@@ -1,27 +1,24 @@
 use Rattle.std.proofs.Common.{◌≡◌, ◌==◌, ◌<◌, ◌^◌, ℕ, max, sym, subst, arith}
 use Rattle.std.proofs.lemmas.Result.{IfOk-weaker}
 use Rattle.std.specs.Prelude.{IfOk, if◌then◌else◌}
-use Rattle.wire_clocks.specs.Rows.{tree_says, IsTree}
-use Rattle.wire_clocks.specs.ClockTrees.{says, IsRoot, Keeps, Holds}
+use Rattle.wire_clocks.specs.Rows.{tree_says}
+use Rattle.wire_clocks.specs.ClockTrees.{says, Holds}
 use Rattle.wire_clocks.specs.Trees.{clocks_of_trees}
-use Rattle.wire_clocks.proofs.Standing.{tree_of_root, root_of_tree, trees_kept, clocks_keep}
+use Rattle.wire_clocks.proofs.Standing.{tree_given, trees_kept, given_keep, root_made}
 use Rattle.wire_clocks.proofs.Made.{raised_says}
 use Rattle.wire_clocks.proofs.trees.ClockTrees.raise.Goals as goal
 
 pub put-requires-clause-tree : goal.put-requires-clause-tree
 put-requires-clause-tree c =
-    tree_of_root c.self.inside.rows.items c.self.inside.levels c.args.root c.self.invariant (subst (λ clocks. IsRoot clocks c.args.root) (sym c.self.view_is) c.requires.root)
+    tree_given c.self.inside.rows.items c.self.inside.levels c.args.root c.args.self.now c.self.invariant c.self.view_is c.requires.root
 
 pub returns-clause-keeps : goal.returns-clause-keeps
-returns-clause-keeps c = subst (λ clocks. Keeps clocks (clocks_of_trees c.put.new.rows.items c.self.inside.levels)) c.self.view_is
-    (clocks_keep c.self.inside.rows.items c.put.new.rows.items c.self.inside.levels c.self.invariant c.put.ensures.keeps)
+returns-clause-keeps c =
+    given_keep c.self.inside.rows.items c.put.new.rows.items c.self.inside.levels c.args.self.now c.self.invariant c.self.view_is c.put.ensures.keeps
 
 pub returns-clause-root : goal.returns-clause-root
 returns-clause-root c =
-    let new = c.put.new.rows.items in
-    let height = c.self.inside.levels in
-    IfOk-weaker c.put.result (λ t. IsTree new height t) (λ t. IsRoot (clocks_of_trees new height) t)
-    (λ t tree. root_of_tree new height t (trees_kept c.self.inside.rows.items new height c.self.invariant c.put.ensures.keeps) tree) c.put.ensures.tree
+    root_made c.self.inside.rows.items c.put.new.rows.items c.self.inside.levels c.put.result c.self.invariant c.put.ensures.keeps c.put.ensures.tree
 
 pub returns-clause-says : goal.returns-clause-says
 returns-clause-says c =

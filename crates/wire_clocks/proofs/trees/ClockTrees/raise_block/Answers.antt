@@ -1,27 +1,24 @@
 use Rattle.std.proofs.Common.{◌≡◌, ◌==◌, ◌*◌, ◌/◌, ◌%◌, ◌<◌, ◌^◌, ℕ, slice_index, max, sym, subst}
 use Rattle.std.proofs.lemmas.Result.{IfOk-weaker}
 use Rattle.std.specs.Prelude.{IfOk, if◌then◌else◌}
-use Rattle.wire_clocks.specs.Rows.{tree_says, IsTree}
-use Rattle.wire_clocks.specs.ClockTrees.{says, IsRoot, Keeps, Holds}
+use Rattle.wire_clocks.specs.Rows.{tree_says}
+use Rattle.wire_clocks.specs.ClockTrees.{says, Holds}
 use Rattle.wire_clocks.specs.Trees.{clocks_of_trees}
-use Rattle.wire_clocks.proofs.Standing.{tree_of_root, root_of_tree, trees_kept, clocks_keep}
+use Rattle.wire_clocks.proofs.Standing.{tree_given, trees_kept, given_keep, root_made}
 use Rattle.wire_clocks.proofs.Made.{block_raised_says}
 use Rattle.wire_clocks.proofs.trees.ClockTrees.raise_block.Goals as goal
 
 pub raise_block-requires-clause-root : goal.raise_block-requires-clause-root
 raise_block-requires-clause-root c =
-    tree_of_root c.self.inside.rows.items c.self.inside.levels c.args.root c.self.invariant (subst (λ clocks. IsRoot clocks c.args.root) (sym c.self.view_is) c.requires.root)
+    tree_given c.self.inside.rows.items c.self.inside.levels c.args.root c.args.self.now c.self.invariant c.self.view_is c.requires.root
 
 pub returns-clause-keeps : goal.returns-clause-keeps
-returns-clause-keeps c = subst (λ clocks. Keeps clocks (clocks_of_trees c.raise_block.new.rows.items c.self.inside.levels)) c.self.view_is
-    (clocks_keep c.self.inside.rows.items c.raise_block.new.rows.items c.self.inside.levels c.self.invariant c.raise_block.ensures.keeps)
+returns-clause-keeps c =
+    given_keep c.self.inside.rows.items c.raise_block.new.rows.items c.self.inside.levels c.args.self.now c.self.invariant c.self.view_is c.raise_block.ensures.keeps
 
 pub returns-clause-root : goal.returns-clause-root
 returns-clause-root c =
-    let new = c.raise_block.new.rows.items in
-    let height = c.self.inside.levels in
-    IfOk-weaker c.raise_block.result (λ t. IsTree new height t) (λ t. IsRoot (clocks_of_trees new height) t)
-    (λ t tree. root_of_tree new height t (trees_kept c.self.inside.rows.items new height c.self.invariant c.raise_block.ensures.keeps) tree) c.raise_block.ensures.tree
+    root_made c.self.inside.rows.items c.raise_block.new.rows.items c.self.inside.levels c.raise_block.result c.self.invariant c.raise_block.ensures.keeps c.raise_block.ensures.tree
 
 pub returns-clause-says : goal.returns-clause-says
 returns-clause-says c =

@@ -1,6 +1,6 @@
 use Rattle.std.proofs.Common.{◌∙◌, ap}
 use Rattle.wire_marks.specs.Updates.{names_at}
-use Rattle.wire_marks.proofs.Holding.{append_others}
+use Rattle.wire_marks.proofs.Lists.{append_others}
 use Rattle.wire_marks.proofs.held.Held.clear.Goals as goal
 
 pub returns-then-is_there : goal.returns-then-is_there

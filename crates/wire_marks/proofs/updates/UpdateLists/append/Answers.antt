@@ -1,14 +1,14 @@
 use Rattle.std.proofs.Common.{◌<◌, ◌∙◌, ◌++◌, ◌∷◌, [], length, ap, arith}
 use Rattle.std.proofs.lemmas.List.{length-map}
 use Rattle.wire_marks.specs.Updates.{updates_at}
-use Rattle.wire_marks.proofs.Noting.{noted_in, append_here, set_same, append_others}
+use Rattle.wire_marks.proofs.Lists.{items_in, append_here, set_same, append_others}
 use Rattle.wire_marks.proofs.Holding.{err_anyway}
 use Rattle.wire_marks.proofs.updates.UpdateLists.append.Goals as goal
 
 pub returns-clause-here : goal.returns-clause-here
 returns-clause-here c =
     let lists = c.self.inside.by_name.items in
-    let len = length-map lists noted_in in
+    let len = length-map lists items_in in
     let view = ap length c.self.view_is in
     let there = c.requires in
     let low : c.args.name < length lists = omega (arith, len, view, there) in
@@ -21,7 +21,7 @@ returns-clause-others c = λ n ne. append_others c.self.inside.by_name.items c.a
 pub returns-in_err-push-clause-err : goal.returns-in_err-push-clause-err
 returns-in_err-push-clause-err c =
     let lists = c.self.inside.by_name.items in
-    let len = length-map lists noted_in in
+    let len = length-map lists items_in in
     let view = ap length c.self.view_is in
     let there = c.requires in
     let low : c.args.name < length lists = omega (arith, len, view, there) in

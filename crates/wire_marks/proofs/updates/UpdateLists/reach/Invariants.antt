@@ -1,10 +1,10 @@
 use Rattle.std.proofs.Common.{◌≡◌, ℕ, [], length, map, get_or}
 use Rattle.wire_marks.specs.Updates.{updates_at}
-use Rattle.wire_marks.proofs.Noting.{noted_in}
+use Rattle.wire_marks.proofs.Lists.{items_in}
 use Rattle.wire_marks.proofs.updates.UpdateLists.reach.Given as goal
 
 abbrev pub invariant-loop : goal.invariant-loop
 invariant-loop l = record {
-  same : (n : ℕ) → get_or (map noted_in l.self-inside.by_name.items) n [] ≡ updates_at l.fn.self n;
+  same : (n : ℕ) → get_or (map items_in l.self-inside.by_name.items) n [] ≡ updates_at l.fn.self n;
   count : length l.self-inside.by_name.items ≡ l.counter;
 }
