@@ -8,7 +8,7 @@ use Rattle.wire_types.specs.declared.place.Event.{Event as CodeEvent}
 use Rattle.wire_runs.specs.Names.{writes_name}
 use Rattle.wire_runs.specs.Order.{Live, Before}
 use Rattle.wire_runs.specs.Races.{IsSettled}
-use Rattle.wire_runs.specs.Fate.{IsIn, IsInOrder, IsNameHistory, left_by}
+use Rattle.wire_runs.specs.Fate.{IsIn, IsInOrder, left_by}
 use Rattle.wire_runs.proofs.Due.{named_after}
 use Rattle.wire_runs.proofs.Diamond.{writes_calls, writes_no_lookup}
 use Rattle.wire_runs.proofs.Histories.{before_live, joined, same_process}
