@@ -14,9 +14,10 @@ loop-name-preserved c =
     let plan = plan_of c.args.plan.now in
     let names = c.args.names.now in
     let n = c.loop-name.name-index in
+    let procs = numbers_of c.in_ok-procs.procs.items in
     subst (λ l. AreShares plan c.args.proc.number l c.add_shares.new.shares.items) (sym (take_more names n _ c.loop-name-test.true))
-    (name_shared plan c.args.proc.number (take n names) _ (numbers_of c.in_ok-procs.procs.items) c.loop-name.shares.items c.add_shares.new.shares.items c.in_ok-procs.ensures (rw c.as_slice.ensures.value at c.in_ok-add_shares.ensures)
-    c.loop-name.invariant)
+    (name_shared plan c.args.proc.number (take n names) _ procs c.loop-name.shares.items c.add_shares.new.shares.items c.in_ok-procs.ensures
+    (rw c.as_slice.ensures.value at c.in_ok-add_shares.ensures) c.loop-name.invariant)
 
 pub returns : goal.returns
 returns c =

@@ -32,5 +32,6 @@ returns c =
     let publishes = c.publishes-publishes.result.now in
     let size = length-map publishes event_of in
     let end = c.loop-publish-test.false in
-    sweepers_all (plan_of c.args.plan.now) c.args.name (map event_of publishes) c.publishes-publishes.ensures c.loop-publish.publish-index (numbers_of c.loop-publish.procs.items) (omega (arith, size, end))
+    let procs = numbers_of c.loop-publish.procs.items in
+    sweepers_all (plan_of c.args.plan.now) c.args.name (map event_of publishes) c.publishes-publishes.ensures c.loop-publish.publish-index procs (omega (arith, size, end))
     c.loop-publish.invariant
