@@ -76,8 +76,8 @@ get_says : (plan : Plan) → IsSettled plan → (z : Event) (fate : Fate) → Li
 get_says plan settled z fate l t key is other (dead no_ e) = absurd (no_ l)
 get_says plan settled z fate l t key is other (told m fate_of all past is_past e) =
     let closed = past_closed plan settled z m fate_of past is_past in
-    let ready = get_ready plan settled past.done past.done z (λ n. omega arith) (past_known plan settled z m fate_of past is_past) closed (past_not_yet plan settled z m fate_of past is_past) m t key is
-    other in
+    let ready = get_ready plan settled past.done past.done z (λ n. omega arith) (past_known plan settled z m fate_of past is_past) closed
+    (past_not_yet plan settled z m fate_of past is_past) m t key is other in
     let may : may_do plan past z (kind plan z) ≡ true =
     ap (may_do plan past z) is ∙ ap is_seen (cond-false _ _ _ (ne_eqb z.proc t other)) ∙ served_is_seen plan t (same_node plan t z.proc) (stored plan t key (past.done t)) ready in
     e ∙ cond-true _ _ _ may ∙ ap Says (get_answer plan settled past closed.within z t key is other may)

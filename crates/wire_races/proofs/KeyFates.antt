@@ -273,7 +273,9 @@ module _ (plan : Plan) (y : Event) (owner key : ℕ) (reply : Reply) where
     pub now_never : put_count plan owner key (event_count plan owner) ≡ 0 → GivesSight plan owner Nothing reply → GivesGetNow plan y owner key reply
     now_never never g = elim (cases_Bool (same_node plan owner y.proc)) [
       | inl node ↦ now_node node (λ s cut. subst (λ o. GivesSight plan owner (served plan owner true o) reply) (sym (never_put_stored plan owner key (s.done owner) never)) g)
-      | inr node ↦ now_away node (λ s cut got. subst (λ o. GivesSight plan owner (held o) reply) (sym (none_brought plan s got owner key (node_of plan y.proc) (λ e. true≢false (sym (eq-eqb _ _ e) ∙ node)) never)) g)
+      | inr node ↦
+          now_away node (λ s cut got. subst (λ o. GivesSight plan owner (held o) reply) (sym (none_brought plan s got owner key (node_of plan y.proc)
+          (λ e. true≢false (sym (eq-eqb _ _ e) ∙ node)) never)) g)
     ]
 
   module _ (live : Live plan y) (is : kind plan y ≡ Some (Get owner key)) where

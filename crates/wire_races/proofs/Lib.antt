@@ -16,6 +16,7 @@ pub mod Lists
 pub mod Names
 pub mod NameRaces
 mod Swept
+mod SweepRaces
 pub mod Rivals
 pub mod OneList
 pub mod Marked

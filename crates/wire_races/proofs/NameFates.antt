@@ -8,7 +8,7 @@ use Rattle.wire_types.specs.declared.place.Event.{Event as CodeEvent}
 use Rattle.wire_runs.specs.Names.{writes_name}
 use Rattle.wire_runs.specs.Order.{Live, Before}
 use Rattle.wire_runs.specs.Races.{IsSettled}
-use Rattle.wire_runs.specs.Fate.{IsIn, IsInOrder, IsNameHistory, left_by}
+use Rattle.wire_runs.specs.Fate.{IsIn, IsInOrder, left_by}
 use Rattle.wire_runs.proofs.Due.{named_after}
 use Rattle.wire_runs.proofs.Diamond.{writes_calls, writes_no_lookup}
 use Rattle.wire_runs.proofs.Histories.{before_live, joined, same_process}
@@ -125,7 +125,8 @@ module _ (plan : Plan) (settled : IsSettled plan) (clocks : Clocks) (m : AreMark
     left : stands ≡ left_by plan name part
 
   -- all of them
-  all_before : (y : Event) (calls : List Event) → IsInOrder plan calls → (stands : Option Event) → stands ≡ left_by plan name calls → ((z : Event) → IsIn z calls → Before plan z y) → IsPart y calls stands
+  all_before : (y : Event) (calls : List Event) → IsInOrder plan calls → (stands : Option Event) → stands ≡ left_by plan name calls →
+      ((z : Event) → IsIn z calls → Before plan z y) → IsPart y calls stands
   all_before y calls ordered stands left before = record { part = calls; those = λ z. ((λ i. (i, before z i)), (λ h. h.0)); in_order = ordered; left = left }
 
   -- all but the first
@@ -160,7 +161,10 @@ module _ (plan : Plan) (settled : IsSettled plan) (clocks : Clocks) (m : AreMark
   whole_part y n x xs us changes ordered within cut first =
       let before : (z : Event) → IsIn z (x ∷ xs) → Before plan z y = λ z i. ⊎_elim (λ e. subst (λ v. Before plan v y) (sym e) first) (λ j. joined (ordered.0 z j) first) i in
       let whole : n ≡ length us = elim (cases_lt n (length us)) [
-        | inl lt ↦ (let u = first_update us n lt in absurd (cut.above n (event_of u.0.event) (omega arith) (event_at us n u.0 u.1) (before (event_of u.0.event) (update_in (x ∷ xs) us n u.0 changes u.1))))
+        | inl lt ↦
+            let u = first_update us n lt in
+            let z = event_of u.0.event in
+            absurd (cut.above n z (omega arith) (event_at us n u.0 u.1) (before z (update_in (x ∷ xs) us n u.0 changes u.1)))
         | inr ge ↦ omega (arith, ge, within)
       ] in
       all_before y (x ∷ xs) ordered (standing_upto us n) (upto_all us n whole ∙ standing_all plan name (x ∷ xs) us changes) before

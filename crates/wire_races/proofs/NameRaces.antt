@@ -1,10 +1,12 @@
 -- Races on names: where the calls stand that race with one call, and how the findings grow.
-use Rattle.std.proofs.Common.{◌≡◌, ◌≢◌, ◌⊎◌, ◌↔◌, inl, inr, ⊎_elim, ℕ, ◌+◌, ◌<◌, ◌≤◌, List, [], ◌∷◌, ◌++◌, true, false, Option, Some, refl, sym, ap, ◌∙◌, subst, arith}
-use Rattle.std.specs.Prelude.{slice_get, nat_lt}
+use Rattle.std.proofs.Common.{◌≡◌, ◌≢◌, ◌⊎◌, ◌↔◌, inl, inr, ⊎_elim, ℕ, ◌+◌, ◌<◌, ◌≤◌, List, [], ◌∷◌, ◌++◌, map, length, true, Option, Some}
+use Rattle.std.proofs.Common.{refl, sym, ap, ◌∙◌, subst, arith, length-append}
+use Rattle.std.specs.Prelude.{slice_get, option_map, nat_lt}
 use borrow.Author.Tests.{ltb-true, ltb-false}
-use Rattle.std.proofs.lemmas.Option.{same_Some}
+use Rattle.std.proofs.lemmas.Option.{same_Some, slice_get_within, slice_get_cases, slice_get-map}
 use Rattle.std.proofs.lemmas.Bool.{cases_eq, cases_lt, cond_both, true≢false}
-use Rattle.wire_runs.specs.Plan.{Plan, Event, Kind, Publish, Lookup, LookupWait, Unpublish, UnpublishAll, kind, event_count}
+use Rattle.wire_runs.specs.Plan.{Plan, Event, Kind, Publish, Lookup, LookupWait, Unpublish, UnpublishAll, kind, event_count, event_of}
+use Rattle.wire_types.specs.declared.place.Event.{Event as CodeEvent}
 use Rattle.wire_runs.specs.Names.{writes_name, calls_name}
 use Rattle.wire_runs.specs.Order.{Live, edge, Announces}
 use Rattle.wire_runs.specs.EventLists.{IsLower}
@@ -17,9 +19,11 @@ use Rattle.wire_runs.proofs.Histories.{before_live, joined, same_process}
 use Rattle.wire_races.specs.Collected.{Tells, AreFound, IsAdded}
 use Rattle.wire_races.specs.FindingKinds.{IsOfName}
 use Rattle.wire_races.specs.Adding.{Adds}
-use Rattle.wire_races.specs.NameRaces.{IsRaceOn, IsPlainRaceOn, IsRaceFrom, IsRaceWith, race_between, AreCallsOn, AreOf, AreRivals, AreHigher, HasRivals, IsBelow, IsCut}
-use Rattle.wire_races.specs.declared.name_races.Border.{Border}
-use Rattle.wire_races.specs.declared.name_races.Border.TheVariants.{FirstNotBefore, FirstAfter}
+use Rattle.wire_races.specs.NameRaces.{IsRaceOn, IsPlainRaceOn, IsRaceFrom, IsRaceWith, AllRace, race_between, AreCallsOn, AreOf, AreRising}
+use Rattle.wire_races.specs.NameRaces.{AreRivals, AreHigher, HasRivals, IsBelow, IsCut, AreUnordered}
+use Rattle.wire_races.specs.SweepRaces.{IsSweepRace}
+use Rattle.wire_races.specs.declared.call_races.Border.{Border}
+use Rattle.wire_races.specs.declared.call_races.Border.TheVariants.{FirstNotBefore, FirstAfter}
 use Rattle.wire_races.proofs.Lists.{in_index, index_in, in_left, in_right, in_parts, get_left, get_right, first_calls, other_calls}
 use Rattle.wire_races.proofs.Calls.{writes_calls, starts_within, starts_named}
 use Rattle.wire_races.proofs.Growing.{adds_one, adds_both}
@@ -66,10 +70,10 @@ module _ (holds : Event → Type 0) (calls : List Event) (front : HoldsInFront h
     ];
   }
 
-pub borders : (plan : Plan) (x : Event) (border : Border) (name p : ℕ) (calls : List Event) → AreCallsOn plan name calls → AreOf p calls → HoldsInFront (IsBelow plan x border) calls
-borders plan x border name p calls are one k l y z lt e f h =
+pub borders : (plan : Plan) (x : Event) (border : Border) (p : ℕ) (calls : List Event) → AreRising calls → AreOf p calls → HoldsInFront (IsBelow plan x border) calls
+borders plan x border p calls rising one k l y z lt e f h =
     let same = one k y e ∙ sym (one l z f) in
-    below_earlier plan x border y z same (at_lower y z same (are.rising k l y z lt e f)) h
+    below_earlier plan x border y z same (at_lower y z same (rising k l y z lt e f)) h
 
 up_to : (p : ℕ) (y z : Event) → IsLower y z → z.proc ≤ p → y.proc ≤ p
 up_to p y z (inl lt) le = omega (arith, lt, le)
@@ -81,38 +85,11 @@ above_not m p lt le = omega (arith, lt, le)
 pub processes : (plan : Plan) (name p : ℕ) (calls : List Event) → AreCallsOn plan name calls → HoldsInFront (λ z. z.proc ≤ p) calls
 processes plan name p calls are k l y z lt e f le = up_to p y z (are.rising k l y z lt e f) le
 
--- the findings of x with the calls from one border to another, as far as the k-th
-pub record IsAmong (name : ℕ) (x : Event) (calls : List Event) (from to k : ℕ) (f : Finding) : Type 0 where
-  pub j : ℕ
-  pub z : Event
-  pub at : slice_get calls j ≡ Some z
-  pub above : from ≤ j
-  pub below : j < to
-  pub done : j < k
-  pub is : f ≡ race_between x z name
-
-pub among_none : (name : ℕ) (x : Event) (calls : List Event) (from to : ℕ) (f : Finding) → IsAmong name x calls from to from f → ⊥
-among_none name x calls from to f a = let ge = a.above in let lt = a.done in omega (arith, ge, lt)
-
--- the race with one call more
-pub among_more : (plan : Plan) (name : ℕ) (x : Event) (calls : List Event) (from to k : ℕ) (z : Event) (old now new : List Told)
-    → slice_get calls k ≡ Some z → from ≤ k → k < to → IsFound plan (race_between x z name) → Adds plan old now (IsAmong name x calls from to k) → IsAdded plan now new (race_between x z name) →
-    Adds plan old new (IsAmong name x calls from to (k + 1))
-among_more plan name x calls from to k z old now new at ge lt is a told =
-    adds_both plan old now new (IsAmong name x calls from to k) (λ f. f ≡ race_between x z name) (IsAmong name x calls from to (k + 1))
-    (λ f m. let done = m.done in record { j = m.j; z = m.z; at = m.at; above = m.above; below = m.below; done = omega (arith, done); is = m.is })
-    (λ f e. record { j = k; z = z; at = at; above = ge; below = lt; done = omega arith; is = e })
-    (λ f m. elim (cases_eq m.j k) [
-      | inl same ↦ inr (m.is ∙ ap (λ v. race_between x v name) (same_Some m.z z (sym m.at ∙ ap (slice_get calls) same ∙ at)))
-      | inr other ↦ inl (let done = m.done in record { j = m.j; z = m.z; at = m.at; above = m.above; below = m.below; done = omega (arith, done, other); is = m.is })
-    ])
-    a (adds_one plan now new (λ f. f ≡ race_between x z name) (race_between x z name) a.found is told refl (λ f e. e))
-
 turned : (plan : Plan) (x y : Event) → IsUnordered plan x y → IsUnordered plan y x
 turned plan x y u = record { live_x = u.live_y; live_y = u.live_x; not_before = u.not_after; not_after = u.not_before }
 
 -- the calls of a race are unordered
-race_unordered : (plan : Plan) (x y : Event) (name : ℕ) → IsFound plan (NameRace x y name) → IsUnordered plan x y
+pub race_unordered : (plan : Plan) (x y : Event) (name : ℕ) → IsFound plan (NameRace x y name) → IsUnordered plan x y
 race_unordered plan x y name (low, inl r) = r.unordered
 race_unordered plan x y name (low, inr r) = turned plan y x r.unordered
 
@@ -155,48 +132,109 @@ pub unordered_between : (plan : Plan) (x y : Event) (name : ℕ) → IsFound pla
 unordered_between plan x y name = between x y name (λ f. IsFound plan f → IsUnordered plan x y)
     (λ _ r. race_unordered plan x y name r) (λ _ r. turned plan y x (race_unordered plan y x name r))
 
--- the calls between the borders race with x, and no others
-module _ (plan : Plan) (name : ℕ) (x : Event) (calls : List Event) (from to : ℕ) (on_name : calls_name plan name x (kind plan x) ≡ true) (live : Live plan x) (rivals : AreRivals plan name x calls)
+-- two calls that race are calls on the name, of two processes
+pub between_calls : (plan : Plan) (x y : Event) (name : ℕ) → IsFound plan (race_between x y name) →
+    (calls_name plan name x (kind plan x) ≡ true) × (calls_name plan name y (kind plan y) ≡ true)
+between_calls plan x y name = between x y name (λ f. IsFound plan f → (calls_name plan name x (kind plan x) ≡ true) × (calls_name plan name y (kind plan y) ≡ true))
+    (λ _ r. (low_calls plan x y name r, high_calls plan x y name r)) (λ _ r. (high_calls plan y x name r, low_calls plan y x name r))
+
+-- where there is a call that races with x, x is a call on the name
+pub racing_calls : (plan : Plan) (name : ℕ) (x : Event) (those : List CodeEvent) (k : ℕ) → k < length those → AllRace plan name x (map event_of those) →
+    calls_name plan name x (kind plan x) ≡ true
+racing_calls plan name x those k lt races = elim (slice_get_cases those k).1 [
+  | inl at ↦ (between_calls plan x (event_of at.0) name (races k (event_of at.0) (slice_get-map event_of those k ∙ ap (option_map event_of) at.2))).0
+  | inr past ↦ let ge = past.0 in absurd (omega (arith, ge, lt))
+]
+
+pub between_others : (plan : Plan) (x y : Event) (name : ℕ) → IsFound plan (race_between x y name) → x.proc ≢ y.proc
+between_others plan x y name = between x y name (λ f. IsFound plan f → x.proc ≢ y.proc)
+    (λ _ r same. let lt = race_lower plan x y name r in omega (arith, lt, same)) (λ _ r same. let lt = race_lower plan y x name r in omega (arith, lt, same))
+
+-- no chain orders x with the calls between the borders, and with no others
+module _ (plan : Plan) (x : Event) (calls : List Event) (from to : ℕ) (live : Live plan x)
     (first : IsCut (IsBelow plan x FirstNotBefore) calls from) (last : IsCut (IsBelow plan x FirstAfter) calls to) where
-  unordered : (j : ℕ) (z : Event) → slice_get calls j ≡ Some z → from ≤ j → j < to → IsUnordered plan x z
-  unordered j z at ge lt = let h = last.below j z lt at in record { live_x = live; live_y = h.0; not_before = h.1; not_after = first.above j z ge at }
+  unordered_at : (j : ℕ) (z : Event) → slice_get calls j ≡ Some z → from ≤ j → j < to → IsUnordered plan x z
+  unordered_at j z at ge lt = let h = last.below j z lt at in record { live_x = live; live_y = h.0; not_before = h.1; not_after = first.above j z ge at }
 
-  one_of_them : (j : ℕ) (z : Event) → slice_get calls j ≡ Some z → from ≤ j → j < to → IsNameRace plan x z name ⊎ IsNameRace plan z x name
-  one_of_them j z at ge lt =
-      let u = unordered j z at ge lt in
-      elim (rivals.change j z at) [
-        | inl writes ↦ inl (record {
-          x_writes = writes;
-          y_calls = rivals.calls_on.each j z at;
-          others = rivals.others j z at;
-          not_once = λ once waits. u.not_before (edge live (Announces name waits once) u.live_y);
-          unordered = u;
-        })
-        | inr writes ↦ inr (record {
-          x_writes = writes;
-          y_calls = on_name;
-          others = λ e. rivals.others j z at (sym e);
-          not_once = λ once waits. u.not_after (edge u.live_y (Announces name waits once) live);
-          unordered = turned plan x z u;
-        })
+  past_first : (j : ℕ) (z : Event) → slice_get calls j ≡ Some z → IsUnordered plan x z → from ≤ j
+  past_first j z at u = elim (cases_lt j from) [ inl lt ↦ absurd (u.not_after (first.below j z lt at)) | inr ge ↦ ge ]
+
+  below_last : (j : ℕ) (z : Event) → slice_get calls j ≡ Some z → IsUnordered plan x z → j < to
+  below_last j z at u = elim (cases_lt j to) [ inl lt ↦ lt | inr le ↦ absurd (last.above j z le at (u.live_y, u.not_before)) ]
+
+  pub none_between : to ≤ from → AreUnordered plan x calls []
+  none_between le z = (
+    (λ i. absurd i),
+    (λ h.
+        let w = in_index calls z h.0 in
+        let ge = past_first w.0 z w.1 h.1 in
+        let lt = below_last w.0 z w.1 h.1 in
+        absurd (omega (arith, le, ge, lt))),
+  )
+
+  pub those_between : (front those rest : List Event) → calls ≡ (front ++ those) ++ rest → length front ≡ from → length those + from ≡ to → AreUnordered plan x calls those
+  those_between front those rest parts low high z = (
+    (λ i.
+        let w = in_index those z i in
+        let at = subst (λ l. slice_get l (length front + w.0) ≡ Some z) (sym parts) (get_left (front ++ those) rest (length front + w.0) z (get_right front those w.0 z w.1)) in
+        let lt = slice_get_within those w.0 z w.1 in
+        (index_in calls z (length front + w.0) at, unordered_at (length front + w.0) z at (omega (arith, low)) (omega (arith, low, high, lt)))),
+    (λ h. elim (in_parts (front ++ those) rest z (subst (IsIn z) parts h.0)) [
+      | inl near ↦ elim (in_parts front those z near) [
+        | inl early ↦
+            let w = in_index front z early in
+            let ge = past_first w.0 z (subst (λ l. slice_get l w.0 ≡ Some z) (sym parts) (get_left (front ++ those) rest w.0 z (get_left front those w.0 z w.1))) h.1 in
+            let lt = slice_get_within front w.0 z w.1 in
+            absurd (omega (arith, ge, lt, low))
+        | inr here ↦ here
       ]
+      | inr late ↦
+          let w = in_index rest z late in
+          let k = length (front ++ those) + w.0 in
+          let lt = below_last k z (subst (λ l. slice_get l k ≡ Some z) (sym parts) (get_right (front ++ those) rest w.0 z w.1)) h.1 in
+          let size = length-append front those in
+          absurd (omega (arith, lt, low, high, size))
+    ]),
+  )
 
-  pub is_race : (j : ℕ) (z : Event) → slice_get calls j ≡ Some z → from ≤ j → j < to → IsFound plan (race_between x z name)
-  is_race j z at ge lt =
-      let others = rivals.others j z at in
-      let race = one_of_them j z at ge lt in
-      between x z name (IsFound plan) (λ low. (inl low, race)) (λ le. (inl (omega (arith, le, others)), ⊎_elim (λ r. inr r) (λ r. inl r) race))
+-- those of the rivals of x that no chain orders with it race with it, and no others
+module _ (plan : Plan) (name : ℕ) (x : Event) (calls those : List Event) (are : AreUnordered plan x calls those) where
+  module _ (on_name : calls_name plan name x (kind plan x) ≡ true) (rivals : AreRivals plan name x calls) where
+    one_of_them : (j : ℕ) (z : Event) → slice_get calls j ≡ Some z → IsUnordered plan x z → IsNameRace plan x z name ⊎ IsNameRace plan z x name
+    one_of_them j z at u = elim (rivals.change j z at) [
+      | inl writes ↦ inl (record {
+        x_writes = writes;
+        y_calls = rivals.calls_on.each j z at;
+        others = rivals.others j z at;
+        not_once = λ once waits. u.not_before (edge u.live_x (Announces name waits once) u.live_y);
+        unordered = u;
+      })
+      | inr writes ↦ inr (record {
+        x_writes = writes;
+        y_calls = on_name;
+        others = λ e. rivals.others j z at (sym e);
+        not_once = λ once waits. u.not_after (edge u.live_y (Announces name waits once) u.live_x);
+        unordered = turned plan x z u;
+      })
+    ]
 
-  pub among_race : (k : ℕ) (f : Finding) → IsAmong name x calls from to k f → IsRaceWith plan name x calls f
-  among_race k f a = record { y = a.z; there = index_in calls a.z a.j a.at; is = a.is; found = subst (IsFound plan) (sym a.is) (is_race a.j a.z a.at a.above a.below) }
+    is_race : (j : ℕ) (z : Event) → slice_get calls j ≡ Some z → IsUnordered plan x z → IsFound plan (race_between x z name)
+    is_race j z at u =
+        let others = rivals.others j z at in
+        let race = one_of_them j z at u in
+        between x z name (IsFound plan) (λ low. (inl low, race)) (λ le. (inl (omega (arith, le, others)), ⊎_elim (λ r. inr r) (λ r. inl r) race))
 
-  pub race_among : (k : ℕ) → to ≤ k → (f : Finding) → IsRaceWith plan name x calls f → IsAmong name x calls from to k f
-  race_among k past f r =
-      let w = in_index calls r.y r.there in
-      let u = unordered_between plan x r.y name (subst (IsFound plan) r.is r.found) in
-      let ge : from ≤ w.0 = elim (cases_lt w.0 from) [ inl lt ↦ absurd (u.not_after (first.below w.0 r.y lt w.1)) | inr ge ↦ ge ] in
-      let lt : w.0 < to = elim (cases_lt w.0 to) [ inl lt ↦ lt | inr le ↦ absurd (last.above w.0 r.y le w.1 (u.live_y, u.not_before)) ] in
-      record { j = w.0; z = r.y; at = w.1; above = ge; below = lt; done = omega (arith, lt, past); is = r.is }
+    pub all_race : AllRace plan name x those
+    all_race k z at =
+        let h = (are z).0 (index_in those z k at) in
+        let w = in_index calls z h.0 in
+        is_race w.0 z w.1 h.1
+
+  pub with_all : (f : Finding) → IsRaceWith plan name x those f → IsRaceWith plan name x calls f
+  with_all f r = record { y = r.y; there = ((are r.y).0 r.there).0; is = r.is; found = r.found }
+
+  pub with_those : (f : Finding) → IsRaceWith plan name x calls f → IsRaceWith plan name x those f
+  with_those f r = record { y = r.y; there = (are r.y).1 (r.there, unordered_between plan x r.y name (subst (IsFound plan) r.is r.found)); is = r.is; found = r.found }
 
 -- rivals in two parts
 pub first_rivals : (plan : Plan) (name : ℕ) (x : Event) (xs ys : List Event) → AreRivals plan name x (xs ++ ys) → AreRivals plan name x xs
@@ -213,6 +251,11 @@ other_rivals plan name x xs ys are = record {
   change = λ k z e. are.change _ z (get_right xs ys k z e);
 }
 
+-- a list of one call has no other
+pub only_one : (x v : Event) → IsIn v (x ∷ []) → v ≡ x
+only_one x v (inl e) = e
+only_one x v (inr i) = absurd i
+
 -- what is found, and the races of x with these calls, is what was found before and the races of x with all rivals
 abbrev pub IsLeft : Plan → ℕ → Event → List Told → List Told → List Event → List Event → Type 0
 IsLeft plan name x old now all rest = (f : Finding) → (Tells plan now f ⊎ IsRaceWith plan name x rest f) ↔ (Tells plan old f ⊎ IsRaceWith plan name x all f)
@@ -228,6 +271,19 @@ with_either plan name x xs ys f r = elim (in_parts xs ys r.y r.there) [
   | inl i ↦ inl (record { y = r.y; there = i; is = r.is; found = r.found })
   | inr i ↦ inr (record { y = r.y; there = i; is = r.is; found = r.found })
 ]
+
+-- the race with one call more
+pub one_more_race : (plan : Plan) (name : ℕ) (x : Event) (done : List Event) (y : Event) (old now new : List Told) → Adds plan old now (IsRaceWith plan name x done) →
+    IsFound plan (race_between x y name) → IsAdded plan now new (race_between x y name) → Adds plan old new (IsRaceWith plan name x (done ++ y ∷ []))
+one_more_race plan name x done y old now new a race told =
+    adds_both plan old now new (IsRaceWith plan name x done) (λ f. f ≡ race_between x y name) (IsRaceWith plan name x (done ++ y ∷ []))
+    (with_first plan name x done (y ∷ []))
+    (λ f e. record { y = y; there = in_right done (y ∷ []) y (inl refl); is = e; found = subst (IsFound plan) (sym e) race })
+    (λ f r. elim (in_parts done (y ∷ []) r.y r.there) [
+      | inl i ↦ inl (record { y = r.y; there = i; is = r.is; found = r.found })
+      | inr i ↦ inr (r.is ∙ ap (λ v. race_between x v name) (only_one y r.y i))
+    ])
+    a (adds_one plan now new (λ f. f ≡ race_between x y name) (race_between x y name) a.found race told refl (λ f e. e))
 
 pub less_left : (plan : Plan) (name : ℕ) (x : Event) (old now new : List Told) (all xs ys : List Event) → IsLeft plan name x old now all (xs ++ ys) → Adds plan now new (IsRaceWith plan name x xs) →
     IsLeft plan name x old new all ys
@@ -296,12 +352,20 @@ caller_in plan name all are y calls = let w = are.all y calls in index_in all y 
 pub on_name : (plan : Plan) (name : ℕ) (f : Finding) → IsRaceOn plan name f → IsOfName f
 on_name plan name f r = (r.x, r.y, name, r.is)
 
-pub race_on : (plan : Plan) (f : Finding) → IsOfName f → IsFound plan f → (name : ℕ) × IsRaceOn plan name f
-race_on plan f on found = (on.2, record { x = on.0; y = on.1; is = on.3; found = found })
-
-only_one : (x v : Event) → IsIn v (x ∷ []) → v ≡ x
-only_one x v (inl e) = e
-only_one x v (inr i) = absurd i
+-- each race on a name is of one call at least on this name alone, or of two sweeps
+pub race_on : (plan : Plan) (f : Finding) → IsOfName f → IsFound plan f → ((name : ℕ) × IsRaceOn plan name f) ⊎ IsSweepRace plan f
+race_on plan f on found =
+    let x = on.0 in
+    let y = on.1 in
+    let name = on.2 in
+    let race = subst (IsFound plan) on.3 found in
+    elim (plain_or_not plan name x (kind plan x) (low_calls plan x y name race)) [
+      | inl plain ↦ inl (name, record { x = x; y = y; is = on.3; found = found; plain = inl plain })
+      | inr sweeps ↦ elim (plain_or_not plan name y (kind plan y) (high_calls plan x y name race)) [
+        | inl plain ↦ inl (name, record { x = x; y = y; is = on.3; found = found; plain = inr plain })
+        | inr too ↦ inr (x.proc, record { x = x; y = y; name = name; is = on.3; found = found; of_it = refl; sweeps_x = sweeps; sweeps_y = too })
+      ]
+    ]
 
 -- a race of one of these calls with a higher one
 abbrev pub IsRaceAmong : Plan → ℕ → List Event → Finding → Type 0

@@ -3,8 +3,8 @@ use Rattle.std.proofs.Common.{◌≡◌, inl, inr, ⊎_elim, ℕ, zero, suc, ◌
 use Rattle.std.specs.Prelude.{slice_get, option_map, if◌then◌else◌}
 use Rattle.std.proofs.lemmas.Option.{slice_get-map}
 use Rattle.std.proofs.lemmas.Bool.{true≢false, cases_lt, cond_both, eqb-true}
-use Rattle.wire_runs.specs.Plan.{Plan, Event, Kind, Call, kinds_of, set_of, kind, kind_at, kinds, event_count, process_kinds, CallPut, CallGet, CallGetNow, CallPublish, CallLookup, CallLookupWait, CallUnpublish}
-use Rattle.wire_runs.specs.Plan.{CallFixed}
+use Rattle.wire_runs.specs.Plan.{Plan, Event, Kind, Call, kinds_of, set_of, kind, kind_at, kinds, event_count, process_kinds}
+use Rattle.wire_runs.specs.Plan.{CallPut, CallGet, CallGetNow, CallPublish, CallLookup, CallLookupWait, CallUnpublish, CallFixed}
 use Rattle.wire_runs.specs.Plan as plan
 use Rattle.wire_types.specs.declared.Call.{Call as Written}
 use Rattle.wire_types.specs.declared.Call.TheVariants.{Put, Commit, Fence, Get, GetNow, Publish, Lookup, LookupWait, Unpublish, UnpublishAll}

@@ -94,7 +94,8 @@ no_entry : Packed
 no_entry = record { by = record { proc = record { number = 0 }; call = 0 }; then = record { proc = record { number = 0 }; call = 0 }; subject = 0 }
 
 -- entries that are sorted stand for findings that are
-sorted_told : (names : List (List ℕ)) (subjects : List Subject) (entries : List Packed) → order.IsSorted (entry_cmp names subjects) entries → order.IsSorted (told_cmp names) (all_told_by subjects entries)
+sorted_told : (names : List (List ℕ)) (subjects : List Subject) (entries : List Packed) → order.IsSorted (entry_cmp names subjects) entries →
+    order.IsSorted (told_cmp names) (all_told_by subjects entries)
 sorted_told names subjects entries up = λ k d low lt.
     let size = length-map entries (told_by subjects) in
     let here = get_or-map (told_by subjects) entries k no_entry d (omega (arith, lt, size)) in

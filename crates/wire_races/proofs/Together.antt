@@ -15,6 +15,7 @@ use Rattle.wire_races.specs.FindingKinds.{AllAdded, IsOfKey, IsOfName}
 use Rattle.wire_races.specs.Adding.{Adds, OfKind}
 use Rattle.wire_races.specs.KeyRaces.{IsKeyRaceOf}
 use Rattle.wire_races.specs.NameRaces.{IsRaceOn}
+use Rattle.wire_races.specs.SweepRaces.{IsSweepRace}
 use Rattle.wire_races.specs.Pieces.{IsPiece, ArePieces, IsInSome, AreAllFound}
 use Rattle.wire_runs.proofs.EventLists.{in_either, in_front, at_end}
 use Rattle.wire_races.proofs.Growing.{adds_none, adds_both, adds_same, all_added}
@@ -55,6 +56,15 @@ none_more plan found are = adds_none plan found (IsInSome plan []) are (λ f t. 
 pub all_found : (plan : Plan) (n : ℕ) (those : ℕ → Finding → Type 0) (pieces : List (List Told)) → ArePieces plan n those pieces → AreAllFound plan pieces
 all_found plan n those pieces are = λ k piece is. (are.each k piece is).found
 
+-- a finding of the piece of number k is in some piece
+in_some : (plan : Plan) (n : ℕ) (those : ℕ → Finding → Type 0) (pieces : List (List Told)) → ArePieces plan n those pieces → (k : ℕ) (f : Finding) → k < n → those k f → IsInSome plan pieces f
+in_some plan n those pieces are k f lt t =
+    let count = are.count in
+    elim (slice_get_cases pieces k).1 [
+      | inl at ↦ (k, at.0, at.2, ((are.each k at.0 at.2).told f).1 t)
+      | inr past ↦ let ge = past.0 in absurd (omega (arith, ge, lt, count))
+    ]
+
 -- the pieces tell all findings of a kind
 pub pieces_added : (plan : Plan) (n : ℕ) (those : ℕ → Finding → Type 0) (kind : Finding → Type 0) (pieces : List (List Told)) (old new : List Told)
     → ((k : ℕ) (f : Finding) → those k f → OfKind plan kind f)
@@ -64,14 +74,7 @@ pieces_added plan n those kind pieces old new there back are h =
     all_added plan kind old new
     (adds_same plan old new (IsInSome plan pieces) (OfKind plan kind)
     (λ f t. there t.0 f (((are.each t.0 t.1 t.2).told f).0 t.3))
-    (λ f o.
-    let by = back f o in
-    let count = are.count in
-    let lt = by.1 in
-    elim (slice_get_cases pieces by.0).1 [
-      | inl at ↦ (by.0, at.0, at.2, ((are.each by.0 at.0 at.2).told f).1 by.2)
-      | inr past ↦ let ge = past.0 in absurd (omega (arith, ge, lt, count))
-    ])
+    (λ f o. let by = back f o in in_some plan n those pieces are by.0 f by.1 by.2)
     h)
 
 -- the pieces of the processes tell all races on keys
@@ -84,16 +87,22 @@ key_pieces_added plan pieces old new =
     let by = race_by plan f o in
     (by.0.proc, race_below plan by.0 f by.1, (by.0, by.1, refl, race_within plan by.0 f by.1)))
 
--- the pieces of the names tell all races on names
-pub name_pieces_added : (s : Scripts) → IsSound s → (pieces : List (List Told)) (old new : List Told) → ArePieces (plan_of s) (length s.names) (IsRaceOn (plan_of s)) pieces →
-    Adds (plan_of s) old new (IsInSome (plan_of s) pieces) → AllAdded (plan_of s) IsOfName old new
-name_pieces_added s sound pieces old new =
+-- the pieces of the names, and then the races between sweeps, tell all races on names
+pub names_and_sweeps : (s : Scripts) → IsSound s → (pieces : List (List Told)) (old now new : List Told) → ArePieces (plan_of s) (length s.names) (IsRaceOn (plan_of s)) pieces →
+    Adds (plan_of s) old now (IsInSome (plan_of s) pieces) → Adds (plan_of s) now new (IsSweepRace (plan_of s)) → AllAdded (plan_of s) IsOfName old new
+names_and_sweeps s sound pieces old now new are first more =
     let plan = plan_of s in
-    pieces_added plan (length s.names) (IsRaceOn plan) IsOfName pieces old new
-    (λ k f r. (on_name plan k f r, r.found))
-    (λ f o.
-    let w = race_on plan f o.0 o.1 in
-    (w.0, named_within s w.0 w.1.x sound (low_calls plan w.1.x w.1.y w.0 (subst (IsFound plan) w.1.is w.1.found)), w.1))
+    all_added plan IsOfName old new
+    (adds_both plan old now new (IsInSome plan pieces) (IsSweepRace plan) (OfKind plan IsOfName)
+    (λ f t. let r = ((are.each t.0 t.1 t.2).told f).0 t.3 in (on_name plan t.0 f r, r.found))
+    (λ f r. ((r.1.x, r.1.y, r.1.name, r.1.is), r.1.found))
+    (λ f o. elim (race_on plan f o.0 o.1) [
+      | inl w ↦ (
+          let lt = named_within s w.0 w.1.x sound (low_calls plan w.1.x w.1.y w.0 (subst (IsFound plan) w.1.is w.1.found)) in
+          inl (in_some plan (length s.names) (IsRaceOn plan) pieces are w.0 f lt w.1))
+      | inr r ↦ inr r
+    ])
+    first more)
 
 module _ (plan : Plan) (n : ℕ) (those : ℕ → Finding → Type 0) where
   as_pieces : (r : Result (Vec (List Told) Global) AllocError)

@@ -83,7 +83,8 @@ never_both plan v w x y p k n e a b =
     cc one
 
 -- races on names whose texts are the same are on one name
-same_name : (plan : Plan) (names : List (List ℕ)) → AreNamesOf plan names → (x y v w : Event) (m n : ℕ) → IsFound plan (NameRace x y m) → IsFound plan (NameRace v w n) → text_at names m ≡ text_at names n → m ≡ n
+same_name : (plan : Plan) (names : List (List ℕ)) → AreNamesOf plan names → (x y v w : Event) (m n : ℕ) → IsFound plan (NameRace x y m) → IsFound plan (NameRace v w n) →
+    text_at names m ≡ text_at names n → m ≡ n
 same_name plan names of x y v w m n a b e = of.apart m n (of.within x y m a) (of.within v w n b) e
 
 -- a standing has one finding, or one for each name

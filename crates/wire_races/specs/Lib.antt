@@ -8,6 +8,7 @@ pub mod Rewriting
 pub mod KeyRaces
 pub mod GetRaces
 pub mod NameRaces
+pub mod SweepRaces
 pub mod Pieces
 pub mod Fates
 pub mod Pasts

@@ -1,21 +1,23 @@
 -- The findings on names, and where the calls stand that race with one call: for the contracts of private functions.
-use Rattle.std.specs.Prelude.{◌≡◌, ◌≢◌, ◌⊎◌, ◌<◌, ◌≤◌, ℕ, List, ◌++◌, Option, Some, true, nat_lt, slice_get, if◌then◌else◌}
-use Rattle.wire_runs.specs.Plan.{Plan, Event, Kind, UnpublishAll, kind, event_count}
+use Rattle.std.specs.Prelude.{◌≡◌, ◌≢◌, ◌⊎◌, ◌↔◌, ◌<◌, ◌≤◌, ℕ, List, ◌++◌, Some, true, nat_lt, slice_get, if◌then◌else◌}
+use Rattle.wire_runs.specs.Plan.{Plan, Event, UnpublishAll, kind, event_count}
 use Rattle.wire_runs.specs.Names.{publishes, writes_name, calls_name}
 use Rattle.wire_runs.specs.Order.{Live, Before}
 use Rattle.wire_runs.specs.EventLists.{IsLower, AreAll}
 use Rattle.wire_plan.specs.Index.{is_plain_call}
 use Rattle.wire_runs.specs.Fate.{IsIn}
+use Rattle.wire_runs.specs.Races.{IsUnordered}
 use Rattle.wire_runs.specs.Findings.{Finding, NameRace, IsFound}
-use Rattle.wire_races.specs.declared.name_races.Border.{Border}
-use Rattle.wire_races.specs.declared.name_races.Border.TheVariants.{FirstNotBefore, FirstAfter}
+use Rattle.wire_races.specs.declared.call_races.Border.{Border}
+use Rattle.wire_races.specs.declared.call_races.Border.TheVariants.{FirstNotBefore, FirstAfter}
 
--- a race on the name, the lower call first
+-- a race on the name, the lower call first: one of the two at least is on this name alone
 pub record IsRaceOn (plan : Plan) (name : ℕ) (f : Finding) : Type 0 where
   pub x : Event
   pub y : Event
   pub is : f ≡ NameRace x y name
   pub found : IsFound plan f
+  pub plain : (is_plain_call name (kind plan x) ≡ true) ⊎ (is_plain_call name (kind plan y) ≡ true)
 
 -- the same of calls on this name alone
 pub record IsPlainRaceOn (plan : Plan) (name : ℕ) (f : Finding) : Type 0 where
@@ -44,10 +46,18 @@ pub record IsRaceWith (plan : Plan) (name : ℕ) (x : Event) (calls : List Event
   pub is : f ≡ race_between x y name
   pub found : IsFound plan f
 
+-- each of these calls races with x on the name
+abbrev pub AllRace : Plan → ℕ → Event → List Event → Type 0
+AllRace plan name x calls = (k : ℕ) (z : Event) → slice_get calls k ≡ Some z → IsFound plan (race_between x z name)
+
+-- the lower ones come first
+abbrev pub AreRising : List Event → Type 0
+AreRising calls = (k l : ℕ) (y z : Event) → k < l → slice_get calls k ≡ Some y → slice_get calls l ≡ Some z → IsLower y z
+
 -- calls on the name, the lower first
 pub record AreCallsOn (plan : Plan) (name : ℕ) (calls : List Event) : Type 0 where
   pub each : (k : ℕ) (z : Event) → slice_get calls k ≡ Some z → calls_name plan name z (kind plan z) ≡ true
-  pub rising : (k l : ℕ) (y z : Event) → k < l → slice_get calls k ≡ Some y → slice_get calls l ≡ Some z → IsLower y z
+  pub rising : AreRising calls
 
 -- all are of the process
 abbrev pub AreOf : ℕ → List Event → Type 0
@@ -93,18 +103,13 @@ pub record IsCut (holds : Event → Type 0) (calls : List Event) (n : ℕ) : Typ
   pub below : (k : ℕ) (z : Event) → k < n → slice_get calls k ≡ Some z → holds z
   pub above : (k : ℕ) (z : Event) → n ≤ k → slice_get calls k ≡ Some z → holds z → ⊥
 
--- whether x is looked at beside a call z that takes away all names of its process: x is a call of another process, and where x takes away
--- all names too, of a lower one
-abbrev pub FacesBy : Option Kind → Event → Event → Type 0
-FacesBy (Some UnpublishAll) x z = x.proc < z.proc
-FacesBy _ x z = x.proc ≢ z.proc
+-- those of the calls that no chain orders with x
+abbrev pub AreUnordered : Plan → Event → List Event → List Event → Type 0
+AreUnordered plan x calls those = (z : Event) → IsIn z those ↔ (IsIn z calls × IsUnordered plan x z)
 
-abbrev pub Faces : Plan → Event → Event → Type 0
-Faces plan x z = FacesBy (kind plan x) x z
-
--- the calls of a process that take away all its names, as far as x is looked at beside them
+-- the calls of another process than that of x that take away all its names
 abbrev pub AreFacing : Plan → Event → ℕ → List Event → Type 0
-AreFacing plan x p places = AreAll (λ z. (z.proc ≡ p) × (kind plan z ≡ Some UnpublishAll) × Faces plan x z) places
+AreFacing plan x p places = AreAll (λ z. (z.proc ≡ p) × (kind plan z ≡ Some UnpublishAll) × (x.proc ≢ z.proc)) places
 
 -- it is one of these
 abbrev pub IsOneOf : ℕ → List ℕ → Type 0
@@ -120,7 +125,6 @@ pub record IsSweptRace (plan : Plan) (name : ℕ) (x : Event) (ps : List ℕ) (f
   pub y : Event
   pub sweeps : kind plan y ≡ Some UnpublishAll
   pub there : IsOneOf y.proc ps
-  pub faces : Faces plan x y
   pub is : f ≡ race_between x y name
   pub found : IsFound plan f
 
@@ -128,18 +132,11 @@ pub record IsSweptRace (plan : Plan) (name : ℕ) (x : Event) (ps : List ℕ) (f
 abbrev pub IsSweptAmong : Plan → ℕ → List Event → List ℕ → Finding → Type 0
 IsSweptAmong plan name calls ps f = (x : Event) × IsIn x calls × IsSweptRace plan name x ps f
 
--- the same of a call that takes away all names of one of the processes `qs`
-abbrev pub IsSweptBy : Plan → ℕ → List ℕ → List ℕ → Finding → Type 0
-IsSweptBy plan name qs ps f = (x : Event) × (kind plan x ≡ Some UnpublishAll) × IsOneOf x.proc qs × IsSweptRace plan name x ps f
-
--- all are calls on the name
-abbrev pub AreOn : Plan → ℕ → List Event → Type 0
-AreOn plan name calls = (k : ℕ) (z : Event) → slice_get calls k ≡ Some z → calls_name plan name z (kind plan z) ≡ true
-
--- a race on the name in which a call takes away all names of its process
+-- a race of two calls, the lower first: one is on this name alone, and the other takes away all names of its process
 pub record IsSweptRaceOn (plan : Plan) (name : ℕ) (f : Finding) : Type 0 where
   pub x : Event
   pub y : Event
   pub is : f ≡ NameRace x y name
   pub found : IsFound plan f
-  pub sweeps : (kind plan x ≡ Some UnpublishAll) ⊎ (kind plan y ≡ Some UnpublishAll)
+  pub sorts : ((is_plain_call name (kind plan x) ≡ true) × (kind plan y ≡ Some UnpublishAll))
+      ⊎ ((kind plan x ≡ Some UnpublishAll) × (is_plain_call name (kind plan y) ≡ true))

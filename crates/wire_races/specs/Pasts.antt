@@ -21,7 +21,8 @@ AreGot plan s =
 
 -- it tells what y does in the state of its past
 abbrev pub IsFateInPast : Plan → Event → Told → Type 0
-IsFateInPast plan y found = (fate_of : Event → Fate) (past : State) → IsPast plan y fate_of past → AreGot plan past → found ≡ fate_told plan (fate_in plan past y)
+IsFateInPast plan y found = (fate_of : Event → Fate) (past : State) → IsPast plan y fate_of past → AreGot plan past →
+    found ≡ fate_told plan (fate_in plan past y)
 
 -- the events done in the state are those before y
 abbrev pub HasBefore : Plan → Event → State → Type 0
@@ -48,7 +49,8 @@ GivesServed plan y owner key reply = (s : State) → HasBefore plan y s →
 
 -- the reply gives what fences and gets have brought to the node of y in its past
 abbrev pub GivesBrought : Plan → Event → ℕ → ℕ → Reply → Type 0
-GivesBrought plan y owner key reply = (s : State) → HasBefore plan y s → AreGot plan s → GivesSight plan owner (held (brought plan s owner key (node_of plan y.proc))) reply
+GivesBrought plan y owner key reply = (s : State) → HasBefore plan y s → AreGot plan s →
+    GivesSight plan owner (held (brought plan s owner key (node_of plan y.proc))) reply
 
 -- what stands under the name after the calls before y
 pub record IsStanding (plan : Plan) (y : Event) (name : ℕ) (found : Option Event) : Type 0 where

@@ -15,8 +15,8 @@ ghost use Rattle.wire_races.specs.Collected.{AreFound};
 ghost use Rattle.wire_races.specs.FindingKinds.{IsOfKey, AllAdded};
 ghost use Rattle.wire_races.specs.Adding.{Adds, ToldIn};
 ghost use Rattle.wire_races.specs.Pieces.{IsPiece, ArePieces};
-ghost use Rattle.wire_races.specs.KeyRaces.{IsRaceOf, IsKeyRaceBy, IsKeyRaceOf, IsOpen, Arrives, IsBehindOwn, IsSure, IsSureByFence, MayBeLate, IsLate, IsLateBy};
-ghost use Rattle.wire_races.specs.KeyRaces.{AreLateBelow, AllLive, NoneAfter, IsFirstLate, IsUnsure, IsNextArrival};
+ghost use Rattle.wire_races.specs.KeyRaces.{IsRaceOf, IsKeyRaceBy, IsKeyRaceOf, IsOpen, Arrives, IsBehindOwn, IsSure, IsSureByFence, MayBeLate, IsLate};
+ghost use Rattle.wire_races.specs.KeyRaces.{IsLateBy, AreLateBelow, AllLive, NoneAfter, IsFirstLate, IsUnsure, IsNextArrival};
 
 use crate::finding::Finding;
 use crate::found::Found;

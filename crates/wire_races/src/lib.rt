@@ -1,6 +1,7 @@
 //! What the checker finds in a plan, and plans in which it finds nothing.
 #![tactic(auto)]
 
+mod call_races;
 mod compact;
 mod fate;
 mod finding;
@@ -16,6 +17,7 @@ mod packed;
 mod pieces;
 mod rewrites;
 mod settled;
+mod sweep_races;
 
 pub use compact::FindingList;
 pub use fate::Fate;

@@ -14,34 +14,21 @@ ghost use Rattle.wire_races.specs.FindingKinds.{IsOfName, AllAdded};
 ghost use Rattle.wire_races.specs.Collected.{AreFound};
 ghost use Rattle.wire_races.specs.Adding.{Adds};
 ghost use Rattle.wire_races.specs.Pieces.{IsPiece, ArePieces};
-ghost use Rattle.wire_races.specs.NameRaces.{IsRaceOn, IsPlainRaceOn, IsRaceFrom, IsRaceWith, race_between, AreCallsOn, AreOf, IsStretch, AreRivals, AreHigher, HasRivals, AreWriters};
-ghost use Rattle.wire_races.specs.NameRaces.{IsAbove, IsBelow, IsCut, Faces, AreFacing, IsOneOf, AreSweepers, IsSweptRace, IsSweptAmong, IsSweptBy, AreOn, IsSweptRaceOn};
+ghost use Rattle.wire_races.specs.NameRaces.{IsRaceOn, IsPlainRaceOn, IsRaceFrom, IsRaceWith, AllRace, race_between, AreCallsOn, AreOf, AreRising};
+ghost use Rattle.wire_races.specs.NameRaces.{IsStretch, AreRivals, AreHigher, HasRivals, AreWriters, IsAbove, IsBelow, IsCut, AreUnordered};
+ghost use Rattle.wire_races.specs.NameRaces.{AreFacing, IsOneOf, AreSweepers, IsSweptRace, IsSweptRaceOn};
 ghost use Rattle.wire_content.specs.Scripts.{numbers_of};
 
-use crate::finding::Finding;
+use crate::call_races::{NameCall, add_races, unordered_with};
 use crate::found::Found;
 use crate::pieces::add_pieces;
+use crate::sweep_races::{add_sweep_races, sweepers_of};
 use rayon::prelude::*;
 use std::alloc::{AllocError, Global};
 use std::thread::Threads;
 use wire_marks::{MarkedPlan, Marks};
 use wire_plan::{Kind, Plan};
 use wire_types::{Event, Proc};
-
-// The calls of one process that race with a call of another stand between two borders: the first
-// that isn't before the call, and the first that is after it, or that isn't live.
-#[derive(Clone, Copy)]
-enum Border {
-    FirstNotBefore,
-    FirstAfter,
-}
-
-// A call on a name.
-#[derive(Clone, Copy)]
-struct NameCall {
-    name: u32,
-    event: Event,
-}
 
 // Whether a call on a name alone can change what stands there.
 fn is_write(plan: &Plan, x: NameCall) -> bool
@@ -56,51 +43,9 @@ fn is_write(plan: &Plan, x: NameCall) -> bool
     }
 }
 
-// The race of a call with one of another process on the same name.
-fn race_of(plan: &Plan, x: NameCall, y: Event) -> Finding
-    requires x { calls_name (plan_of plan.now) x.name (event_of x.event) (kind (plan_of plan.now) (event_of x.event)) ≡ true }
-    requires y { calls_name (plan_of plan.now) x.name (event_of y) (kind (plan_of plan.now) (event_of y)) ≡ true }
-    ensures { shown (plan_of plan.now) result ≡ race_between (event_of x.event) (event_of y) x.name }
-{
-    let is_lower = x.event.proc.number < y.proc.number;
-    if is_lower {
-        Finding::NameRace(plan.call_of(x.event), plan.call_of(y), x.name)
-    } else {
-        Finding::NameRace(plan.call_of(y), plan.call_of(x.event), x.name)
-    }
-}
-
-// Whether a call stands below a border of the calls that may race with x.
-fn is_below(marked: &MarkedPlan<'_>, x: Event, border: Border, y: Event) -> bool
-    ensures { IsTrue result ↔ IsBelow (plan_of marked.now) (event_of x) border (event_of y) }
-{
-    match border {
-        Border::FirstNotBefore => marked.before(y, x),
-        Border::FirstAfter => marked.live(y) && !marked.before(x, y),
-    }
-}
-
-// How many of these calls of one process stand below the border, by bisection.
-fn count_below(marked: &MarkedPlan<'_>, x: Event, border: Border, run: &[Event]) -> usize
-    ensures within { result ≤ length run.now }
-    ensures cut { (name p : ℕ) → AreCallsOn (plan_of marked.now) name (map event_of run.now) → AreOf p (map event_of run.now)
-        → IsCut (IsBelow (plan_of marked.now) (event_of x) border) (map event_of run.now) result }
-{
-    let mut low = 0;
-    let mut high = run.len();
-    'bisection: while low < high {
-        let middle = low + (high - low) / 2;
-        if is_below(marked, x, border, run[middle]) {
-            low = middle + 1;
-        } else {
-            high = middle;
-        }
-    }
-    low
-}
-
 // Adds the races of a live call with calls of another process. The one publish of a name and a
-// lookup that waits for it are in order where both are live, so they aren't between the borders.
+// lookup that waits for it are in order where both are live, so the one isn't among those that no chain
+// orders with the other.
 fn add_between(
     marked: &MarkedPlan<'_>,
     found: &mut Found,
@@ -114,13 +59,8 @@ fn add_between(
     requires run { IsStretch (map event_of run.now) }
     ensures { OnOk result (Adds (plan_of marked.now) found.old found.new (IsRaceWith (plan_of marked.now) x.name (event_of x.event) (map event_of run.now))) }
 {
-    let plan = marked.plan();
-    let from = count_below(marked, x.event, Border::FirstNotBefore, run);
-    let to = count_below(marked, x.event, Border::FirstAfter, run);
-    for k in from..to {
-        found.add(race_of(plan, x, run[k]))?;
-    }
-    Ok(())
+    let those = unordered_with(marked, x.event, run);
+    add_races(marked.plan(), found, x, those)
 }
 
 // How many of these calls in process order are of processes up to this one, by bisection.
@@ -260,31 +200,18 @@ fn add_races_on(
     Ok(())
 }
 
-// Whether a call is looked at beside those of a process that take away all its names: it is a call of another
-// process on one name, or it takes away all names itself and its process is lower.
-fn faces(plan: &Plan, x: Event, proc: Proc) -> bool
-    requires { x.at < event_count (plan_of plan.now) x.proc.number }
-    ensures { (z : runs.Event) → z.proc ≡ proc.number → (IsTrue result ↔ Faces (plan_of plan.now) (event_of x) z) }
-{
-    match plan.kind(x) {
-        Kind::UnpublishAll => x.proc.number < proc.number,
-        _ => x.proc.number != proc.number,
-    }
-}
-
-// The calls of a process that take away all its names, as far as this call is looked at beside them.
+// The calls of a process that take away all its names, none where it is that of the other call.
 fn facing<'a>(plan: &'a Plan, x: Event, proc: Proc) -> &'a [Event]
-    requires { x.at < event_count (plan_of plan.now) x.proc.number }
     ensures { AreFacing (plan_of plan.now) (event_of x) proc.number (map event_of result.now) }
 {
-    if faces(plan, x, proc) {
+    if x.proc.number != proc.number {
         plan.sweeps(proc)
     } else {
         &[]
     }
 }
 
-// Adds the races of a call with those calls of these processes that take away all their names.
+// Adds the races of a call on one name with those calls of these processes that take away all their names.
 fn add_swept(
     marked: &MarkedPlan<'_>,
     found: &mut Found,
@@ -306,83 +233,7 @@ fn add_swept(
     Ok(())
 }
 
-// The same of each of these calls.
-fn add_all_swept(
-    marked: &MarkedPlan<'_>,
-    found: &mut Found,
-    name: u32,
-    calls: &[Event],
-    procs: &[Proc],
-) -> Result<(), AllocError>
-    requires found { AreFound (plan_of marked.now) found.old }
-    requires calls { AreOn (plan_of marked.now) name (map event_of calls.now) }
-    requires procs { AreSweepers (plan_of marked.now) name (numbers_of procs.now) }
-    ensures { OnOk result (Adds (plan_of marked.now) found.old found.new (IsSweptAmong (plan_of marked.now) name (map event_of calls.now) (numbers_of procs.now))) }
-{
-    for event in calls {
-        let event = *event;
-        add_swept(marked, found, NameCall { name, event }, procs)?;
-    }
-    Ok(())
-}
-
-// The races on a name between calls of these processes that take away all their names. Where only one process
-// does, none of its calls is looked at: there may be as many as the names that it publishes.
-fn add_sweeps(
-    marked: &MarkedPlan<'_>,
-    found: &mut Found,
-    name: u32,
-    procs: &[Proc],
-) -> Result<(), AllocError>
-    requires found { AreFound (plan_of marked.now) found.old }
-    requires procs { AreSweepers (plan_of marked.now) name (numbers_of procs.now) }
-    ensures { OnOk result (Adds (plan_of marked.now) found.old found.new (IsSweptBy (plan_of marked.now) name (numbers_of procs.now) (numbers_of procs.now))) }
-{
-    if procs.len() < 2 {
-        return Ok(());
-    }
-    let plan = marked.plan();
-    for proc in procs {
-        add_all_swept(marked, found, name, plan.sweeps(*proc), procs)?;
-    }
-    Ok(())
-}
-
-// Whether this process is the last of these.
-fn is_last(procs: &[Proc], proc: Proc) -> bool
-    ensures { IsTrue result → IsOneOf proc.number (numbers_of procs.now) }
-{
-    match procs.last() {
-        Some(last) => last.number == proc.number,
-        None => false,
-    }
-}
-
-// Whether a process can take away all its names, and isn't the last of these.
-fn is_new(plan: &Plan, procs: &[Proc], proc: Proc) -> bool
-    ensures { result ≡ false → (z : runs.Event) → z.proc ≡ proc.number → kind (plan_of plan.now) z ≡ Some runs.UnpublishAll → IsOneOf proc.number (numbers_of procs.now) }
-{
-    if plan.sweeps(proc).is_empty() {
-        return false;
-    }
-    !is_last(procs, proc)
-}
-
-// The processes that publish a name and can take away all their names.
-fn sweepers_of(alloc: Global, plan: &Plan, name: u32) -> Result<Vec<Proc>, AllocError>
-    ensures { IfOk result (λ procs. AreSweepers (plan_of plan.now) name (numbers_of procs.items)) }
-{
-    let publishes = plan.publishes(name);
-    let mut procs = Vec::new(alloc);
-    for publish in publishes {
-        if is_new(plan, procs.as_slice(), publish.proc) {
-            procs.push(publish.proc)?;
-        }
-    }
-    Ok(procs)
-}
-
-// Adds the races on a name in which a call of one of these processes takes away all its names.
+// Adds the races on a name of the calls on it alone with those calls of these processes that take away all their names.
 fn add_races_swept(
     marked: &MarkedPlan<'_>,
     found: &mut Found,
@@ -393,12 +244,18 @@ fn add_races_swept(
     requires procs { AreSweepers (plan_of marked.now) name (numbers_of procs.now) }
     ensures { OnOk result (Adds (plan_of marked.now) found.old found.new (IsSweptRaceOn (plan_of marked.now) name)) }
 {
-    let plan = marked.plan();
-    add_all_swept(marked, found, name, plan.name_calls(name), procs)?;
-    add_sweeps(marked, found, name, procs)
+    let calls = marked.plan().name_calls(name);
+    for event in calls {
+        let x = NameCall {
+            name,
+            event: *event,
+        };
+        add_swept(marked, found, x, procs)?;
+    }
+    Ok(())
 }
 
-// The races on a name: a piece of the search.
+// The races on a name in which one call at least is on this name alone: a piece of the search.
 fn piece(alloc: Global, marked: &MarkedPlan<'_>, name: u32) -> Result<Found, AllocError>
     ensures { IfOk result (IsPiece (plan_of marked.now) (IsRaceOn (plan_of marked.now) name)) }
 {
@@ -441,6 +298,7 @@ fn pieces(
 /// process each. Those of a stretch that race with a call stand between two borders, which are found by
 /// bisection. So the races on a name are found in their order. The calls of a process that take away all its
 /// names are such a stretch too, on each name that the process publishes; no list has them name by name.
+/// With one another they are compared once, and not once for each name.
 pub(crate) fn add_name_races(
     rt: &(impl Threads + Sync),
     alloc: Global,
@@ -455,5 +313,6 @@ pub(crate) fn add_name_races(
     let plan = marked.plan();
     let _ = plan.scripts();
     let pieces = pieces(rt, alloc, plan, marked.marks())?;
-    add_pieces(found, pieces)
+    add_pieces(found, pieces)?;
+    add_sweep_races(alloc, marked, found)
 }

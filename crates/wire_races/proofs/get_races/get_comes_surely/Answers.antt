@@ -27,7 +27,8 @@ returns-then-before c =
     let gets = c.gets_to-gets.result.now in
     let n = c.processes.place in
     let at = place_at gets n _ c.processes-test.true in (
-      (λ t. sure_found plan get c.args.asked.owner.number c.args.asked.key c.args.node (map event_of gets) (c.gets_to-gets.ensures c.requires.once) n _ at ((c.if-before.ensures plan c.requires.marks).0 refl)),
+      (λ t. sure_found plan get c.args.asked.owner.number c.args.asked.key c.args.node (map event_of gets) (c.gets_to-gets.ensures c.requires.once) n _ at
+          ((c.if-before.ensures plan c.requires.marks).0 refl)),
       (λ s. refl),
     )
 
@@ -40,7 +41,8 @@ returns c =
     let count = length-map gets event_of in
     let end : length (map event_of gets) ≤ c.processes.place = omega (arith, over, count) in (
       (λ t. absurd (true≢false (sym t))),
-      (λ s. absurd (none_sure plan get c.args.asked.owner.number c.args.asked.key c.args.node (map event_of gets) (c.gets_to-gets.ensures c.requires.once) c.processes.place end c.processes.invariant s)),
+      (λ s. absurd (none_sure plan get c.args.asked.owner.number c.args.asked.key c.args.node (map event_of gets) (c.gets_to-gets.ensures c.requires.once) c.processes.place end
+          c.processes.invariant s)),
     )
 
 pub returns-then-own_is_before : goal.returns-then-own_is_before

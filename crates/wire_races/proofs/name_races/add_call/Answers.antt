@@ -14,8 +14,8 @@ returns-then-live c =
     let name = c.args.x.name in
     let x = event_of c.args.x.event in
     let rivals = map event_of c.args.rivals.now in
-    on_ok_weaker c.add_rivals.result (λ h. adds_same plan c.args.found.now c.add_rivals.new.found (IsRaceWith plan name x rivals) (IsRaceFrom plan name x) (from_with plan name x rivals c.requires.higher)
-    (with_from plan name x rivals c.requires.all) h) c.add_rivals.ensures
+    on_ok_weaker c.add_rivals.result (λ h. adds_same plan c.args.found.now c.add_rivals.new.found (IsRaceWith plan name x rivals) (IsRaceFrom plan name x)
+    (from_with plan name x rivals c.requires.higher) (with_from plan name x rivals c.requires.all) h) c.add_rivals.ensures
 
 pub returns-else-live : goal.returns-else-live
 returns-else-live c =

@@ -25,8 +25,9 @@ returns c =
     let plan = plan_of c.args.marked.now in
     let calls = c.name_calls-calls.result.now in
     let all : take c.loop-event.event-index calls ≡ calls = take_all c.loop-event.event-index calls (omega arith) in
+    let are = (rw c.plan-plan.ensures at c.name_calls-calls.ensures) in
     adds_same plan c.args.found.now c.loop-event.found (IsRaceAmong plan c.args.name (map event_of calls)) (IsPlainRaceOn plan c.args.name)
-    (among_on plan c.args.name (map event_of calls) (rw c.plan-plan.ensures at c.name_calls-calls.ensures)) (on_among plan c.args.name (map event_of calls) (rw c.plan-plan.ensures at c.name_calls-calls.ensures))
+    (among_on plan c.args.name (map event_of calls) are) (on_among plan c.args.name (map event_of calls) are)
     (subst (λ l. Adds plan c.args.found.now c.loop-event.found (IsRaceAmong plan c.args.name (map event_of l))) all c.loop-event.invariant)
 
 pub rivals_of-requires-clause-x : goal.rivals_of-requires-clause-x

@@ -1,4 +1,4 @@
-use Rattle.std.proofs.Common.{◌∙◌, ap, sym, refl, map, subst, option_copied}
+use Rattle.std.proofs.Common.{◌∙◌, ap, sym, refl, map, subst, option_copied, arith}
 use Rattle.wire_runs.specs.Plan.{event_of}
 use Rattle.wire_content.specs.Planned.{plan_of}
 use Rattle.wire_races.specs.NameRaces.{AreOf, AreRivals}
@@ -31,6 +31,13 @@ stretches-preserved c =
       left = less_left plan name x c.args.found.now c.stretches.found c.add_between.new.found all run others
           (subst (λ l. IsLeft plan name x c.args.found.now c.stretches.found all l) parts c.stretches.invariant.left) c.in_ok-add_between.ensures;
     }
+
+pub stretches-smaller : goal.stretches-smaller
+stretches-smaller c =
+    let more = c.stretch_length.ensures.more (plan_of c.args.marked.now) c.args.x.name c.in-Some.first.now c.stretches.invariant.rivals.calls_on
+    (sym c.first.ensures.value ∙ ap option_copied c.in-Some.is) refl in
+    let size = c.split_at.ensures.back_len in
+    omega (arith, more, size)
 
 pub returns : goal.returns
 returns c =

@@ -1,4 +1,4 @@
-use Rattle.std.proofs.Common.{◌≡◌, ◌∙◌, ap, map, take, sym, subst, arith}
+use Rattle.std.proofs.Common.{◌≡◌, ◌∙◌, map, take, sym, subst, arith}
 use Rattle.std.proofs.lemmas.Bool.{true≢false}
 use Rattle.std.proofs.lemmas.List.{map_more, take_all}
 use Rattle.wire_runs.specs.Plan.{event_of}
@@ -8,7 +8,6 @@ use Rattle.wire_content.specs.Scripts.{numbers_of}
 use Rattle.wire_races.specs.Adding.{Adds}
 use Rattle.wire_races.specs.NameRaces.{IsSweptRace}
 use Rattle.wire_races.proofs.Growing.{adds_none}
-use Rattle.wire_races.proofs.Calls.{starts_within, starts_named}
 use Rattle.wire_races.proofs.Lists.{number_at}
 use Rattle.wire_races.proofs.Swept.{none_swept, swept_live, swept_more, facing_rivals, facing_stretch}
 use Rattle.wire_races.proofs.name_races.add_swept.Goals as goal
@@ -21,10 +20,6 @@ returns-then-not-live c =
 
 pub loop-proc-init : goal.loop-proc-init
 loop-proc-init c = adds_none (plan_of c.args.marked.now) c.args.found.now _ c.requires.found (none_swept (plan_of c.args.marked.now) c.args.x.name (event_of c.args.x.event))
-
-pub facing-requires : goal.facing-requires
-facing-requires c =
-    rw c.plan-plan.ensures (starts_within (plan_of c.args.marked.now) (event_of c.args.x.event) (starts_named (plan_of c.args.marked.now) c.args.x.name (event_of c.args.x.event) c.requires.x))
 
 pub add_between-requires-clause-rivals : goal.add_between-requires-clause-rivals
 add_between-requires-clause-rivals c =
