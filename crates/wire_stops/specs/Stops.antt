@@ -1,5 +1,6 @@
 -- Where a rank stands that can't take its next step, and what it waits for, in words.
-use Rattle.std.specs.Prelude.{ℕ, Bool, zero, suc, ◌-◌, ◌==◌, List, [], ◌∷◌, ◌++◌, not, nat_le, filter, take, length, Option, Some, None, codes, decimal, slice_get, if◌then◌else◌}
+use Rattle.std.specs.Prelude.{ℕ, Bool, zero, suc, ◌-◌, ◌==◌, List, [], ◌∷◌, ◌++◌, not, nat_le, filter, take, length, Option, Some, None, codes, decimal}
+use Rattle.std.specs.Prelude.{slice_get, if◌then◌else◌}
 use Rattle.wire_runs.specs.Plan.{Plan, Kind, Get, Leave, LookupWait}
 use Rattle.wire_runs.specs.Fences.{arrivals}
 use Rattle.wire_runs.specs.State.{State, next_event, next_kind}

@@ -113,7 +113,8 @@ pub(crate) fn explanation_of(
     step: u64,
     proc: Proc,
 ) -> Result<Vec<u8>, AllocError>
-    ensures explanation { IfOk result (λ text. text.items ≡ map shown_byte (spec.explanation order_bytes.now core.now.scripts (state_of core.now) step proc.number)) }
+    ensures explanation { IfOk result (λ text. text.items
+        ≡ map shown_byte (spec.explanation order_bytes.now core.now.scripts (state_of core.now) step proc.number)) }
     ensures printable { IfOk result (λ text. is_printable_text text.items ≡ true) }
 {
     let mut explanation = Vec::new(alloc);

@@ -13,4 +13,6 @@ returns-else-at-event_count c =
     let past : event_count (plan_in c.args.core.now) c.args.proc.number ≤ (state_of c.args.core.now).done c.args.proc.number =
     omega (arith, count, c.done_of-at.ensures.done, c.if-at-event_count.false) in
     subst (λ o. OnOk c.extend_from_slice.result (c.extend_from_slice.new.self.items ≡ c.args.out.now.items ++ standing_text c.args.core.now.scripts (state_of c.args.core.now) c.args.proc.number o))
-    (sym (event_past (plan_in c.args.core.now) c.args.proc.number ((state_of c.args.core.now).done c.args.proc.number) past)) (on_ok c.extend_from_slice.result c.args.out.now.items c.extend_from_slice.new.self.items (codes "  stands at: its end, with no call left\n") c.extend_from_slice.ensures.items)
+    (sym (event_past (plan_in c.args.core.now) c.args.proc.number ((state_of c.args.core.now).done c.args.proc.number) past))
+    (on_ok c.extend_from_slice.result c.args.out.now.items c.extend_from_slice.new.self.items
+    (codes "  stands at: its end, with no call left\n") c.extend_from_slice.ensures.items)
