@@ -475,11 +475,13 @@ EXPLAINED = (
     ("a word that is near none", b"rehearsal 1\nnode n0\njob app\nbarrier\n", b"fault 4 BadLine 4\n  4 | barrier\n  expected: 'rank NODE' or 'job NAME'\n"),
     ("a word before the first job", b"rehearsal 2\nkeep\nnod n0\n", b"fault 4 BadLine 3\n  3 | nod n0\n  expected: 'node NAME' or 'job NAME', or 'keep' right below 'rehearsal 2'\n  nearest word: node\n"),
     ("as near as another", b"rehearsal 1\njob app\npet\n", b"fault 4 BadLine 3\n  3 | pet\n  expected: 'rank NODE' or 'job NAME'\n  nearest word: put\n"),
-    ("a line that is cut", b"rehearsal 1\nnode n0\njob app\nrank n0\nget app:0", b"fault 4 BadLine 5\n  5 | get app:0\n  expected: 'get JOB:RANK KEY', below a line 'rank'\n"),
+    ("a line that is cut", b"rehearsal 1\nnode n0\njob app\nrank n0\nget app:0", b"fault 4 BadLine 5\n  5 | get app:0\n  expected: 'get JOB:RANK KEY', below a line 'rank'; RANK is 0 or doesn't begin with 0, KEY isn't '*'\n"),
+    ("a key that is none", b"rehearsal 1\nnode n0\njob app\nrank n0\nput global * v\n", b"fault 4 BadLine 5\n  5 | put global * v\n  expected: 'put SCOPE KEY VALUE', below a line 'rank'; SCOPE is local, remote or global, KEY isn't '*'\n"),
+    ("a byte that no word has", b"rehearsal 1\nnode n0\njob app\nrank n0\nput global k v\x80\n", b"fault 4 BadLine 5\n  5 | put global k v?\n  expected: words of printable ASCII alone\n"),
     ("a node after a job", b"rehearsal 1\njob app\nnode n0\n", b"fault 4 BadLine 3\n  3 | node n0\n  expected: 'node NAME', before the first job; a name is without ':', ',', '#' and '*'\n"),
     ("an empty file", b"", b"fault 3 BadHeader 1\n  1 | (the file ends here)\n  expected: 'rehearsal 1' or 'rehearsal 2', before all other lines\n"),
     ("a header misspelt", b"# mine\nrehersal 1\r\n", b"fault 3 BadHeader 2\n  2 | rehersal 1\n  expected: 'rehearsal 1' or 'rehearsal 2', before all other lines\n  nearest word: rehearsal\n"),
-    ("bytes of a terminal", b"rehearsal 1\n\x1b[2J\x07\x7f\xc3\xa4\tcommit\n", b"fault 4 BadLine 2\n  2 | ?[2J?????commit\n  expected: 'node NAME' or 'job NAME', or 'keep' right below 'rehearsal 2'\n"),
+    ("bytes of a terminal", b"rehearsal 1\n\x1b[2J\x07\x7f\xc3\xa4\tcommit\n", b"fault 4 BadLine 2\n  2 | ?[2J?????commit\n  expected: words of printable ASCII alone\n"),
     ("a long line", b"rehearsal 1\n" + b"x" * 121 + b"\n", b"fault 4 BadLine 2\n  2 | " + b"x" * 120 + b"..\n  expected: 'node NAME' or 'job NAME', or 'keep' right below 'rehearsal 2'\n"),
     ("a line just short enough", b"rehearsal 1\n" + b"x" * 120 + b"\n", b"fault 4 BadLine 2\n  2 | " + b"x" * 120 + b"\n  expected: 'node NAME' or 'job NAME', or 'keep' right below 'rehearsal 2'\n"),
     ("an unknown node", b"rehearsal 1\nnode n0\njob app\nrank n1\n", b"fault 5 UnknownName 4\n  4 | rank n1\n  expected: a node, a job or a rank that the file declares\n"),
@@ -495,6 +497,19 @@ ASKED = (
     ("99", b"  word 2 | 99\n  expected: the number of a call of this rank, from 1\n"),
     ("app", b"  word 3 | app\n  expected: a rank of the plan, such as app:0\n"),
     ("0", b"  word 4 | 0\n  expected: the number of a call of this rank, from 1\n"),
+)
+
+# Plans, each with an order of which a step can't be taken, and with what explains that.
+FENCED = b"rehearsal 1\nnode n0\njob app\nrank n0\nfence all\nget app:0 k\nrank n0\nfence all\nlookup-wait svc\n"
+WIDE = b"rehearsal 1\nnode n0\njob app\n" + b"rank n0\nfence all\n" * 12
+STOPPED = (
+    ("a get before a commit", text_of("examples/standstill.plan"), b"app:0\n", b"fault 12 NotReady 1\n  1 | app:0\n  stands at: app:0 1 get\n  waits for: app:1 to commit the key b\n"),
+    ("a fence that one hasn't come to", FENCED, b"app:0\n# skipped\n\n\tapp:0 \r\n", b"fault 12 NotReady 2\n  4 | ?app:0 \n  stands at: app:0 1 fence\n  waits for: app:1 to arrive\n"),
+    ("a fence that many haven't come to", WIDE, b"app:3\napp:3\n", b"fault 12 NotReady 2\n  2 | app:3\n  stands at: app:3 1 fence\n  waits for: app:0 app:1 app:2 app:4 app:5 app:6 app:7 app:8 and 3 more to arrive\n"),
+    ("a fence that eight haven't come to", WIDE, b"app:3\napp:9\napp:10\napp:11\napp:9\n", b"fault 12 NotReady 5\n  5 | app:9\n  stands at: app:9 1 fence\n  waits for: app:0 app:1 app:2 app:4 app:5 app:6 app:7 app:8 to arrive\n"),
+    ("an own key", FENCED, b"app:0\napp:1\napp:0\napp:0\n", b"fault 12 NotReady 4\n  4 | app:0\n  stands at: app:0 2 get\n  waits for: its own key k, which it hasn't put\n"),
+    ("a name", FENCED, b"app:1\napp:0\napp:1\napp:1\n", b"fault 12 NotReady 4\n  4 | app:1\n  stands at: app:1 2 lookup-wait\n  waits for: the name svc to be published\n"),
+    ("a rank at its end", RACY, b"app:1\napp:1\n", b"fault 12 NotReady 2\n  2 | app:1\n  stands at: its end, with no call left\n"),
 )
 
 
@@ -520,10 +535,11 @@ def explanations(room):
             said = b"wire_up: fault 13 BadOrder %d\n" % n
             yield Run(f"the wrong word {n}, explained by {' '.join(words)}", [*words, "--explain", *asked, racy], status=2, said=said + told)
             yield Run(f"the wrong word {n}, by {' '.join(words)}", [*words, *asked, racy], status=2, said=said)
-    early = written(room, "explained-early.order", b"app:1\napp:1\n")
-    said = b"wire_up: fault 12 NotReady 2\n"
-    yield Run("a step explained that can't be taken", ["follow", "--explain", early, racy], status=2, said=said + b"  expected: a rank that can take its next step\n")
-    yield Run("a step not explained that can't be taken", ["follow", early, racy], status=2, said=said)
+    for name, plan, steps, said in STOPPED:
+        order, first = written(room, f"{name}.order", steps), b"wire_up: " + said.split(b"\n")[0] + b"\n"
+        yield Run(f"{name}, which stops an order, explained", ["follow", "--explain", order], given=plan, status=2, said=b"wire_up: " + said)
+        yield Run(f"{name}, which stops an order, explained, large, as JSON", ["follow", "--explain", "--large", "--json", order], given=plan, status=2, said=b"wire_up: " + said)
+        yield Run(f"{name}, which stops an order", ["follow", order], given=plan, status=2, said=first)
     yield Run("nothing to explain", ["check", "--explain", cards], wrote=NOTHING)
     yield Run("a report and nothing to explain", ["replay", "--explain", cards], wrote=CARDS_REPORT)
     yield Run("a race and nothing to explain", ["check", "--explain", racy], status=1, wrote=(b"findings 1\n",))

@@ -23,6 +23,7 @@ use terminal_line::{NotedReader, NotedWriter, Progress, Streams, start_line};
 use wire_explain::{explain_order, explain_plan, explain_word};
 use wire_placing::{PlanFile, check_located};
 use wire_sched::OpenGate;
+use wire_stops::explain_stop;
 use wire_types::{Fault, FromRead, ToWrite, write_out};
 use wire_up::{
     CallWords, Form, Manner, Mode, Orders, Part, Refusal, Request, Size, Tries, check_in_form,
@@ -186,11 +187,20 @@ fn word_at<'a>(question: Question<'a>, place: u64) -> Option<&'a str> {
     }
 }
 
+/// Within which limits a plan and its order are read, where a command has an order.
+fn order_size(request: &Request<'_>) -> Size {
+    match request {
+        Request::Follow { large, .. } => size_of(*large),
+        _ => Size::OfVersion,
+    }
+}
+
 /// What a command notes while it works: how far it is, and what it was given and has read.
 #[derive(Drop)]
 struct Watch<'p, 'w> {
     progress: &'p Progress,
     question: Option<Question<'w>>,
+    size: Size,
     plan: Kept,
     order: Kept,
 }
@@ -213,23 +223,47 @@ fn explain_place(
     }
 }
 
-/// What explains a fault, where a copy of the plan was kept.
+/// What explains a step of an order that can't be taken, where copies of the plan and of the order were kept.
+fn explain_step(alloc: Global, watch: &Watch<'_, '_>) -> Option<Vec<u8>> {
+    let Some(plan) = &watch.plan.bytes else {
+        return None;
+    };
+    let Some(order) = &watch.order.bytes else {
+        return None;
+    };
+    match explain_stop(alloc, watch.size, plan.as_slice(), order.as_slice()) {
+        Ok(text) => Some(text),
+        Err(_) => None,
+    }
+}
+
+/// What explains the fault of a file, where a copy of the plan was kept.
+fn explain_file(
+    alloc: Global,
+    fault: Fault,
+    watch: &Watch<'_, '_>,
+) -> Result<Option<Vec<u8>>, AllocError> {
+    match &watch.plan.bytes {
+        Some(bytes) => Ok(Some(explain_plan(alloc, bytes.as_slice(), fault)?)),
+        None => Ok(None),
+    }
+}
+
+/// What explains a fault, where there is something to tell.
 fn explain(
     alloc: Global,
     fault: Fault,
     watch: &Watch<'_, '_>,
 ) -> Result<Option<Vec<u8>>, AllocError> {
-    let Some(bytes) = &watch.plan.bytes else {
-        return Ok(None);
-    };
     match fault {
         Fault::Memory => Ok(None),
         Fault::BadOrder(place) => explain_place(alloc, place, watch),
-        _ => Ok(Some(explain_plan(alloc, bytes.as_slice(), fault)?)),
+        Fault::NotReady(_) => Ok(explain_step(alloc, watch)),
+        _ => explain_file(alloc, fault, watch),
     }
 }
 
-/// A fault, with what explains it, where that is wanted and memory serves.
+/// A fault, with what explains it, where memory serves.
 fn explained(alloc: Global, fault: Fault, watch: &Watch<'_, '_>) -> Failure {
     match explain(alloc, fault, watch) {
         Ok(Some(text)) => Failure::Explained(fault, text),
@@ -270,12 +304,19 @@ fn serve_explained(
     let mut watch = Watch {
         progress,
         question: question_of(&request),
+        size: order_size(&request),
         plan: Kept::new(rt.alloc(), wanted),
         order: Kept::new(rt.alloc(), wanted),
     };
     match serve(rt, request, &mut watch) {
         Ok(status) => Ok(status),
-        Err(fault) => Err(explained(rt.alloc(), fault, &watch)),
+        Err(fault) => {
+            if wanted {
+                Err(explained(rt.alloc(), fault, &watch))
+            } else {
+                Err(fault.into())
+            }
+        }
     }
 }
 

@@ -1,4 +1,5 @@
 pub mod Edits
-pub mod Pages
+pub mod Explanations
 pub mod Tables
-pub mod Tamed
+pub mod Shown
+pub mod Usages

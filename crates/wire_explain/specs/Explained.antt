@@ -1,11 +1,13 @@
 -- What is told of the fault of a plan.
-use Rattle.std.specs.Prelude.{◌≡◌, ℕ, List, [], ◌∷◌, ◌++◌, map, unwrap_or, Option, Some, None, codes, if◌then◌else◌}
+use Rattle.std.specs.Prelude.{◌≡◌, ℕ, Bool, List, [], ◌∷◌, ◌++◌, map, unwrap_or, Option, Some, None, codes, if◌then◌else◌}
+use Rattle.std.specs.List.{list_all}
 use Rattle.std.specs.Str.{bytes_eq}
 use Rattle.wire_types.specs.declared.Fault.{Fault}
 use Rattle.wire_types.specs.declared.Fault.TheVariants.{Memory, TooLong, BadHeader, BadLine, UnknownName, Twice, NotMember, TooMany, Workers, Read, Write, NotReady, BadOrder}
+use Rattle.wire_lines.specs.Said.{is_word_byte}
 use Rattle.wire_explain.specs.Near.{IsHint}
 use Rattle.wire_explain.specs.Format.{usage_of, format_words}
-use Rattle.wire_explain.specs.Quote.{tame, quoted, labelled}
+use Rattle.wire_explain.specs.Quote.{shown_byte, quoted, labelled}
 use Rattle.wire_explain.specs.Place.{first_in, words_at, place_of}
 use Rattle.wire_explain.specs.declared.place.Place.{Place}
 use Rattle.wire_explain.specs.declared.place.Place.TheVariants.{Opening, InJob, InRank}
@@ -27,15 +29,21 @@ expected_at Opening = codes "'node NAME' or 'job NAME', or 'keep' right below 'r
 expected_at InJob = codes "'rank NODE' or 'job NAME'"
 expected_at InRank = codes "a call of this rank, 'rank NODE' or 'job NAME'"
 
--- what was expected of a line that isn't one of the format, or stands in the wrong place: the line of its first word, or what
--- may stand there
+-- whether each byte of these words may stand in a word
+abbrev pub are_ascii : List (List ℕ) → Bool
+are_ascii words = list_all (λ word. list_all is_word_byte word) words
+
+-- what was expected of a line that isn't one of the format, or stands in the wrong place: other bytes, the line of its first
+-- word, or what may stand there
 abbrev pub expected_line : List ℕ → ℕ → List ℕ
-expected_line bytes line = unwrap_or (usage_of (first_in (words_at bytes line))) (expected_at (place_of bytes line))
+expected_line bytes line =
+    if are_ascii (words_at bytes line) then unwrap_or (usage_of (first_in (words_at bytes line))) (expected_at (place_of bytes line))
+    else codes "words of printable ASCII alone"
 
 -- what was expected, where a plan has this fault
 abbrev pub expected : List ℕ → Fault → List ℕ
 expected bytes Memory = codes "more memory"
-expected bytes (TooLong line) = codes "names and keys of at most 63 bytes, values of at most 255, and a file within its limit"
+expected bytes (TooLong line) = codes "names and keys of at most 63 bytes, values of at most 255, and a file within the limit of its bytes"
 expected bytes (BadHeader line) = codes "'rehearsal 1' or 'rehearsal 2', before all other lines"
 expected bytes (BadLine line) = expected_line bytes line
 expected bytes (UnknownName line) = codes "a node, a job or a rank that the file declares"
@@ -49,18 +57,18 @@ expected bytes (NotReady step) = codes "a rank that can take its next step"
 expected bytes (BadOrder place) = codes "a rank of the plan, such as app:0"
 
 -- a word that may be misspelt, and the words that may be meant
-abbrev pub doubt_of_word : List ℕ → Option (List ℕ) → List ℕ × List (List ℕ)
-doubt_of_word word None = (word, format_words)
-doubt_of_word word (Some usage) = ([], [])
+abbrev pub candidates_of_word : List ℕ → Option (List ℕ) → List ℕ × List (List ℕ)
+candidates_of_word word None = (word, format_words)
+candidates_of_word word (Some usage) = ([], [])
 
--- the first word of a header is in doubt where it isn't the right one
-abbrev pub doubt_of_header : List ℕ → List ℕ × List (List ℕ)
-doubt_of_header word = if bytes_eq word (codes "rehearsal") then ([], []) else (word, codes "rehearsal" ∷ [])
+-- the first word of a header has a candidate where it isn't the right one
+abbrev pub candidates_of_header : List ℕ → List ℕ × List (List ℕ)
+candidates_of_header word = if bytes_eq word (codes "rehearsal") then ([], []) else (word, codes "rehearsal" ∷ [])
 
-abbrev pub doubt : List ℕ → Fault → List ℕ × List (List ℕ)
-doubt bytes (BadHeader line) = doubt_of_header (first_in (words_at bytes line))
-doubt bytes (BadLine line) = doubt_of_word (first_in (words_at bytes line)) (usage_of (first_in (words_at bytes line)))
-doubt bytes _ = ([], [])
+abbrev pub candidates : List ℕ → Fault → List ℕ × List (List ℕ)
+candidates bytes (BadHeader line) = candidates_of_header (first_in (words_at bytes line))
+candidates bytes (BadLine line) = candidates_of_word (first_in (words_at bytes line)) (usage_of (first_in (words_at bytes line)))
+candidates bytes _ = ([], [])
 
 -- the lines: the line at fault, what was expected, and the nearest word
 abbrev pub line_part : List ℕ → Option ℕ → List ℕ
@@ -71,11 +79,11 @@ abbrev pub hint_part : Option (List ℕ) → List ℕ
 hint_part (Some word) = labelled (codes "  nearest word: ") word
 hint_part None = []
 
-abbrev pub page : List ℕ → Fault → Option (List ℕ) → List ℕ
-page bytes fault hint = line_part bytes (plan_line fault) ++ labelled (codes "  expected: ") (expected bytes fault) ++ hint_part hint
+abbrev pub explanation : List ℕ → Fault → Option (List ℕ) → List ℕ
+explanation bytes fault hint = line_part bytes (plan_line fault) ++ labelled (codes "  expected: ") (expected bytes fault) ++ hint_part hint
 
 -- a text explains the fault of a plan, with the nearest of the words that may be meant; each byte is shown
 pub record Explains (bytes : List ℕ) (fault : Fault) (text : List ℕ) : Type 0 where
   pub hint : Option (List ℕ)
-  pub nearest : IsHint (doubt bytes fault).0 (doubt bytes fault).1 hint
-  pub is : text ≡ map tame (page bytes fault hint)
+  pub nearest : IsHint (candidates bytes fault).0 (candidates bytes fault).1 hint
+  pub is : text ≡ map shown_byte (explanation bytes fault hint)

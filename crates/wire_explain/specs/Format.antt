@@ -1,6 +1,7 @@
 -- The lines of the format by their first words, and how each is written.
-use Rattle.std.specs.Prelude.{ℕ, List, [], ◌∷◌, map, Option, Some, None, codes, if◌then◌else◌}
+use Rattle.std.specs.Prelude.{◌≡◌, ℕ, Bool, true, false, List, [], ◌∷◌, map, Option, Some, None, codes, if◌then◌else◌}
 use Rattle.std.specs.Str.{bytes_eq}
+use Rattle.wire_lines.specs.Said.{Said, first_word, begins_with}
 
 -- the first words, each with how its line is written and where it stands
 abbrev pub usages : List (List ℕ × List ℕ)
@@ -10,14 +11,14 @@ usages =
     ∷ (codes "node", codes "'node NAME', before the first job; a name is without ':', ',', '#' and '*'")
     ∷ (codes "job", codes "'job NAME'; a name is without ':', ',', '#' and '*'")
     ∷ (codes "rank", codes "'rank NODE', below a line 'job'")
-    ∷ (codes "put", codes "'put SCOPE KEY VALUE', below a line 'rank'; SCOPE is local, remote or global")
+    ∷ (codes "put", codes "'put SCOPE KEY VALUE', below a line 'rank'; SCOPE is local, remote or global, KEY isn't '*'")
     ∷ (codes "commit", codes "'commit' alone, below a line 'rank'")
-    ∷ (codes "fence", codes "'fence all' or 'fence JOB:RANK,JOB:*', then nothing or 'collect', below a line 'rank'")
-    ∷ (codes "get", codes "'get JOB:RANK KEY', below a line 'rank'")
-    ∷ (codes "get-now", codes "'get-now JOB:RANK KEY', below a line 'rank'")
-    ∷ (codes "publish", codes "'publish NAME VALUE', below a line 'rank'")
-    ∷ (codes "lookup", codes "'lookup NAME', below a line 'rank'")
-    ∷ (codes "lookup-wait", codes "'lookup-wait NAME', below a line 'rank'")
+    ∷ (codes "fence", codes "'fence all' or 'fence JOB:RANK,JOB:*', then nothing or 'collect', below a line 'rank'; RANK is 0 or doesn't begin with 0")
+    ∷ (codes "get", codes "'get JOB:RANK KEY', below a line 'rank'; RANK is 0 or doesn't begin with 0, KEY isn't '*'")
+    ∷ (codes "get-now", codes "'get-now JOB:RANK KEY', below a line 'rank'; RANK is 0 or doesn't begin with 0, KEY isn't '*'")
+    ∷ (codes "publish", codes "'publish NAME VALUE', below a line 'rank'; NAME isn't '*'")
+    ∷ (codes "lookup", codes "'lookup NAME', below a line 'rank'; NAME isn't '*'")
+    ∷ (codes "lookup-wait", codes "'lookup-wait NAME', below a line 'rank'; NAME isn't '*'")
     ∷ (codes "unpublish", codes "'unpublish NAME', or 'unpublish *' in version 2, below a line 'rank'")
     ∷ []
 
@@ -32,3 +33,12 @@ usage_in (usage ∷ others) word = if bytes_eq usage.0 word then Some usage.1 el
 
 abbrev pub usage_of : List ℕ → Option (List ℕ)
 usage_of word = usage_in usages word
+
+-- whether there is a usage, which begins with a quote and the word
+abbrev pub begins_as : List ℕ → Option (List ℕ) → Bool
+begins_as word None = false
+begins_as word (Some usage) = begins_with (39 ∷ word) usage
+
+-- each line of the format has a usage, which begins with the first word of the line
+abbrev pub LinesHaveUsages : Type 0
+LinesHaveUsages = (said : Said) → begins_as (first_word said) (usage_of (first_word said)) ≡ true

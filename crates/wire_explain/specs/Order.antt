@@ -3,8 +3,8 @@ use Rattle.std.specs.Prelude.{ℕ, ◌==◌, ◌||◌, List, ◌++◌, codes, de
 use Rattle.wire_explain.specs.Quote.{shown_bytes, front_of, quoted, labelled}
 
 -- a line of an order: it, and what was expected there
-abbrev pub order_page : List ℕ → ℕ → List ℕ
-order_page bytes line =
+abbrev pub order_explanation : List ℕ → ℕ → List ℕ
+order_explanation bytes line =
     quoted bytes line ++ labelled (codes "  expected: ") (codes "a rank of the plan, such as app:0, alone, in an order within its limit")
 
 -- a byte of a word, as it is shown on one line
@@ -21,5 +21,5 @@ expected_word number =
     if (number == 1) || (number == 3) then codes "a rank of the plan, such as app:0" else codes "the number of a call of this rank, from 1"
 
 -- the word, and what was expected there
-abbrev pub word_page : ℕ → List ℕ → List ℕ
-word_page number word = word_line number word ++ labelled (codes "  expected: ") (expected_word number)
+abbrev pub word_explanation : ℕ → List ℕ → List ℕ
+word_explanation number word = word_line number word ++ labelled (codes "  expected: ") (expected_word number)

@@ -7,14 +7,10 @@ use Rattle.wire_explain.specs.Quote.{line_at}
 use Rattle.wire_explain.specs.declared.place.Place.{Place}
 use Rattle.wire_explain.specs.declared.place.Place.TheVariants.{Opening, InJob, InRank}
 
--- the first of some words, and the second; empty where there is none
+-- the first of some words, empty where there is none
 abbrev pub first_in : List (List ℕ) → List ℕ
 first_in [] = []
 first_in (word ∷ words) = word
-
-abbrev pub second_in : List (List ℕ) → List ℕ
-second_in [] = []
-second_in (word ∷ words) = first_in words
 
 -- the words of a line, where there is one
 abbrev pub words_in : Option (List ℕ) → List (List ℕ)

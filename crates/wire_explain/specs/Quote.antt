@@ -4,16 +4,16 @@ use Rattle.std.specs.List.{list_all}
 use Rattle.wire_lines.specs.Text.{lines_of}
 
 -- a byte that a terminal shows as it is, or a line feed
-abbrev pub is_tame : ℕ → Bool
-is_tame byte = (byte == 10) || (nat_le 32 byte && nat_le byte 126)
+abbrev pub is_printable : ℕ → Bool
+is_printable byte = (byte == 10) || (nat_le 32 byte && nat_le byte 126)
 
 -- any other is shown as `?`
-abbrev pub tame : ℕ → ℕ
-tame byte = if is_tame byte then byte else 63
+abbrev pub shown_byte : ℕ → ℕ
+shown_byte byte = if is_printable byte then byte else 63
 
 -- the text has only such bytes
-abbrev pub is_tame_text : List ℕ → Bool
-is_tame_text text = list_all is_tame text
+abbrev pub is_printable_text : List ℕ → Bool
+is_printable_text text = list_all is_printable text
 
 -- how many bytes of a line are shown
 abbrev pub shown_bytes : ℕ

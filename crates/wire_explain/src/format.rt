@@ -20,18 +20,33 @@ static USAGES: [(&str, &str); 14] = [
     ("rank", "'rank NODE', below a line 'job'"),
     (
         "put",
-        "'put SCOPE KEY VALUE', below a line 'rank'; SCOPE is local, remote or global",
+        "'put SCOPE KEY VALUE', below a line 'rank'; SCOPE is local, remote or global, KEY isn't '*'",
     ),
     ("commit", "'commit' alone, below a line 'rank'"),
     (
         "fence",
-        "'fence all' or 'fence JOB:RANK,JOB:*', then nothing or 'collect', below a line 'rank'",
+        "'fence all' or 'fence JOB:RANK,JOB:*', then nothing or 'collect', below a line 'rank'; RANK is 0 or doesn't begin with 0",
     ),
-    ("get", "'get JOB:RANK KEY', below a line 'rank'"),
-    ("get-now", "'get-now JOB:RANK KEY', below a line 'rank'"),
-    ("publish", "'publish NAME VALUE', below a line 'rank'"),
-    ("lookup", "'lookup NAME', below a line 'rank'"),
-    ("lookup-wait", "'lookup-wait NAME', below a line 'rank'"),
+    (
+        "get",
+        "'get JOB:RANK KEY', below a line 'rank'; RANK is 0 or doesn't begin with 0, KEY isn't '*'",
+    ),
+    (
+        "get-now",
+        "'get-now JOB:RANK KEY', below a line 'rank'; RANK is 0 or doesn't begin with 0, KEY isn't '*'",
+    ),
+    (
+        "publish",
+        "'publish NAME VALUE', below a line 'rank'; NAME isn't '*'",
+    ),
+    (
+        "lookup",
+        "'lookup NAME', below a line 'rank'; NAME isn't '*'",
+    ),
+    (
+        "lookup-wait",
+        "'lookup-wait NAME', below a line 'rank'; NAME isn't '*'",
+    ),
     (
         "unpublish",
         "'unpublish NAME', or 'unpublish *' in version 2, below a line 'rank'",

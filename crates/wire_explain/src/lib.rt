@@ -2,13 +2,16 @@
 #![tactic(auto)]
 
 mod format;
+mod law;
 mod near;
 mod order;
 pub mod place;
 mod plan;
 mod quote;
 
+pub use law::lines_have_usages;
 pub use near::{is_within, nearest};
 pub use order::{explain_order, explain_word};
 pub use place::Place;
 pub use plan::explain_plan;
+pub use quote::{push_quoted, shown_text};

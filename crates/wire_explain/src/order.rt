@@ -1,35 +1,35 @@
 //! Explanations of the faults of an order, and of the words of a question.
 
 ghost use Rattle.std.specs.Prelude.{◌≡◌, ◌++◌, true, map, IfOk, OnOk};
-ghost use Rattle.wire_explain.specs.Quote.{tame, is_tame_text};
+ghost use Rattle.wire_explain.specs.Quote.{shown_byte, is_printable_text};
 ghost use Rattle.wire_explain.specs.Order as spec;
 
-use crate::quote::{SHOWN_BYTES, push_front, push_labelled, push_quoted, tame_text};
+use crate::quote::{SHOWN_BYTES, push_front, push_labelled, push_quoted, shown_text};
 use itoa::Buffer;
 use std::alloc::{AllocError, Global};
 
 /// The lines about a line of an order, as its bytes stand there.
-fn order_page(alloc: Global, bytes: &[u8], line: u64) -> Result<Vec<u8>, AllocError>
-    ensures { IfOk result (λ page. page.items ≡ spec.order_page bytes.now line) }
+fn order_explanation(alloc: Global, bytes: &[u8], line: u64) -> Result<Vec<u8>, AllocError>
+    ensures { IfOk result (λ explanation. explanation.items ≡ spec.order_explanation bytes.now line) }
 {
-    let mut page = Vec::new(alloc);
-    push_quoted(&mut page, bytes, line)?;
+    let mut explanation = Vec::new(alloc);
+    push_quoted(&mut explanation, bytes, line)?;
     push_labelled(
-        &mut page,
+        &mut explanation,
         b"  expected: ",
         b"a rank of the plan, such as app:0, alone, in an order within its limit",
     )?;
-    Ok(page)
+    Ok(explanation)
 }
 
 /// The explanation of the fault of an order: the line that it names, and what was expected there. Only printable
 /// ASCII and line feeds are in it.
 pub fn explain_order(alloc: Global, bytes: &[u8], line: u64) -> Result<Vec<u8>, AllocError>
-    ensures explains { IfOk result (λ text. text.items ≡ map tame (spec.order_page bytes.now line)) }
-    ensures tame { IfOk result (λ text. is_tame_text text.items ≡ true) }
+    ensures explains { IfOk result (λ text. text.items ≡ map shown_byte (spec.order_explanation bytes.now line)) }
+    ensures printable { IfOk result (λ text. is_printable_text text.items ≡ true) }
 {
-    let page = order_page(alloc, bytes, line)?;
-    tame_text(alloc, page.as_slice())
+    let explanation = order_explanation(alloc, bytes, line)?;
+    shown_text(alloc, explanation.as_slice())
 }
 
 /// What was expected of a word of a question.
@@ -56,13 +56,17 @@ fn push_word(out: &mut Vec<u8>, number: u64, word: &[u8]) -> Result<(), AllocErr
 }
 
 /// The lines about a word of a question, as its bytes stand there.
-fn word_page(alloc: Global, number: u64, word: &[u8]) -> Result<Vec<u8>, AllocError>
-    ensures { IfOk result (λ page. page.items ≡ spec.word_page number word.now) }
+fn word_explanation(alloc: Global, number: u64, word: &[u8]) -> Result<Vec<u8>, AllocError>
+    ensures { IfOk result (λ explanation. explanation.items ≡ spec.word_explanation number word.now) }
 {
-    let mut page = Vec::new(alloc);
-    push_word(&mut page, number, word)?;
-    push_labelled(&mut page, b"  expected: ", expected_word(number).as_bytes())?;
-    Ok(page)
+    let mut explanation = Vec::new(alloc);
+    push_word(&mut explanation, number, word)?;
+    push_labelled(
+        &mut explanation,
+        b"  expected: ",
+        expected_word(number).as_bytes(),
+    )?;
+    Ok(explanation)
 }
 
 /// The byte of a word as it is shown on one line: `?` for a line feed.
@@ -86,10 +90,10 @@ fn flat_word(alloc: Global, word: &[u8]) -> Result<Vec<u8>, AllocError>
 /// The explanation of the fault of a question: its word of this number, from 1, and what was expected there. Only
 /// printable ASCII and line feeds are in it, and a line feed of the word is shown as `?`.
 pub fn explain_word(alloc: Global, number: u64, word: &str) -> Result<Vec<u8>, AllocError>
-    ensures explains { IfOk result (λ text. text.items ≡ map tame (spec.word_page number (map spec.in_line word.now))) }
-    ensures tame { IfOk result (λ text. is_tame_text text.items ≡ true) }
+    ensures explains { IfOk result (λ text. text.items ≡ map shown_byte (spec.word_explanation number (map spec.in_line word.now))) }
+    ensures printable { IfOk result (λ text. is_printable_text text.items ≡ true) }
 {
     let flat = flat_word(alloc, word.as_bytes())?;
-    let page = word_page(alloc, number, flat.as_slice())?;
-    tame_text(alloc, page.as_slice())
+    let explanation = word_explanation(alloc, number, flat.as_slice())?;
+    shown_text(alloc, explanation.as_slice())
 }

@@ -30,16 +30,6 @@ pub(crate) fn first_in<'a>(words: &[&'a [u8]]) -> &'a [u8]
     }
 }
 
-/// The second of some words, empty where there is none.
-pub(crate) fn second_in<'a>(words: &[&'a [u8]]) -> &'a [u8]
-    ensures { result.now ≡ spec.second_in (map (λ w. w.now) words.now) }
-{
-    match words {
-        [_, second, ..] => second,
-        _ => b"".as_slice(),
-    }
-}
-
 /// The words of a line.
 fn words_in<'a>(alloc: Global, line: &'a [u8]) -> Result<Vec<&'a [u8]>, AllocError>
     ensures { IfOk result (λ words. map (λ w. w.now) words.items ≡ words_of line.entry.now) }

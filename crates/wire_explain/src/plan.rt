@@ -1,8 +1,10 @@
 //! The explanation of the fault of a plan.
 
-ghost use Rattle.std.specs.Prelude.{◌≡◌, ◌++◌, ◌∷◌, [], true, codes, option_map, IfOk, OnOk};
+ghost use Rattle.std.specs.Prelude.{◌≡◌, ◌++◌, ◌∷◌, [], true, codes, map, option_map, IfOk, OnOk};
+ghost use Rattle.std.specs.List.{list_all};
+ghost use Rattle.wire_lines.specs.Said as said;
 ghost use Rattle.wire_explain.specs.Near.{IsHint};
-ghost use Rattle.wire_explain.specs.Quote.{is_tame_text};
+ghost use Rattle.wire_explain.specs.Quote.{is_printable_text};
 ghost use Rattle.wire_explain.specs.Format.{usage_of as usage_said};
 ghost use Rattle.wire_explain.specs.Place as there;
 ghost use Rattle.wire_explain.specs.Explained as spec;
@@ -11,7 +13,7 @@ ghost use Rattle.wire_explain.specs.Explained.{Explains};
 use crate::format::{format_words, usage_of};
 use crate::near::nearest;
 use crate::place::{Place, first_in, place_of, words_at};
-use crate::quote::{push_labelled, push_quoted, tame_text};
+use crate::quote::{push_labelled, push_quoted, shown_text};
 use std::alloc::{AllocError, Global};
 use wire_types::Fault;
 
@@ -42,11 +44,40 @@ fn expected_at(place: Place) -> &'static str
     }
 }
 
+/// Whether a byte may stand in a word.
+fn is_word_byte(byte: u8) -> bool
+    ensures { result ≡ said.is_word_byte byte }
+{
+    33 <= byte && byte <= 126
+}
+
+/// Whether each byte of a word may stand there.
+fn is_ascii(word: &[u8]) -> bool
+    ensures { result ≡ list_all said.is_word_byte word.now }
+{
+    word.iter().all(|byte| is_word_byte(*byte))
+}
+
+/// Whether each byte of these words may stand in a word.
+fn are_ascii(words: &[&[u8]]) -> bool
+    ensures { result ≡ spec.are_ascii (map (λ w. w.now) words.now) }
+{
+    for word in words {
+        if !is_ascii(word) {
+            return false;
+        }
+    }
+    true
+}
+
 /// What was expected of a line that isn't one of the format, or stands in the wrong place.
 fn expected_line(alloc: Global, bytes: &[u8], line: u64) -> Result<&'static str, AllocError>
     ensures { IfOk result (λ text. text.now ≡ spec.expected_line bytes.now line) }
 {
     let words = words_at(alloc, bytes, line)?;
+    if !are_ascii(words.as_slice()) {
+        return Ok("words of printable ASCII alone");
+    }
     if let Some(usage) = usage_of(first_in(words.as_slice())) {
         return Ok(usage);
     }
@@ -61,7 +92,7 @@ fn expected(alloc: Global, bytes: &[u8], fault: Fault) -> Result<&'static str, A
         Fault::BadLine(line) => return expected_line(alloc, bytes, line),
         Fault::Memory => "more memory",
         Fault::TooLong(_) =>
-            "names and keys of at most 63 bytes, values of at most 255, and a file within its limit",
+            "names and keys of at most 63 bytes, values of at most 255, and a file within the limit of its bytes",
         Fault::BadHeader(_) => "'rehearsal 1' or 'rehearsal 2', before all other lines",
         Fault::UnknownName(_) => "a node, a job or a rank that the file declares",
         Fault::Twice(_) => "a name that no line of this kind above has",
@@ -78,8 +109,8 @@ fn expected(alloc: Global, bytes: &[u8], fault: Fault) -> Result<&'static str, A
 
 /// The nearest of the format's words, where the first word of a line isn't one of them.
 fn hint_of_line(alloc: Global, word: &[u8]) -> Result<Option<&'static [u8]>, AllocError>
-    ensures { IfOk result (λ hint. IsHint (spec.doubt_of_word word.now (usage_said word.now)).0
-        (spec.doubt_of_word word.now (usage_said word.now)).1 (option_map (λ w. w.now) hint)) }
+    ensures { IfOk result (λ hint. IsHint (spec.candidates_of_word word.now (usage_said word.now)).0
+        (spec.candidates_of_word word.now (usage_said word.now)).1 (option_map (λ w. w.now) hint)) }
 {
     if usage_of(word).is_some() {
         return Ok(nearest(b"", &[]));
@@ -90,7 +121,7 @@ fn hint_of_line(alloc: Global, word: &[u8]) -> Result<Option<&'static [u8]>, All
 
 /// The first word of a header, where that of a line is near it and isn't the same.
 fn hint_of_header(word: &[u8]) -> Option<&'static [u8]>
-    ensures { IsHint (spec.doubt_of_header word.now).0 (spec.doubt_of_header word.now).1 (option_map (λ w. w.now) result) }
+    ensures { IsHint (spec.candidates_of_header word.now).0 (spec.candidates_of_header word.now).1 (option_map (λ w. w.now) result) }
 {
     if word == b"rehearsal".as_slice() {
         return nearest(b"", &[]);
@@ -100,7 +131,7 @@ fn hint_of_header(word: &[u8]) -> Option<&'static [u8]>
 
 /// The nearest of the words that may be meant.
 fn hint_of(alloc: Global, bytes: &[u8], fault: Fault) -> Result<Option<&'static [u8]>, AllocError>
-    ensures { IfOk result (λ hint. IsHint (spec.doubt bytes.now fault).0 (spec.doubt bytes.now fault).1 (option_map (λ w. w.now) hint)) }
+    ensures { IfOk result (λ hint. IsHint (spec.candidates bytes.now fault).0 (spec.candidates bytes.now fault).1 (option_map (λ w. w.now) hint)) }
 {
     match fault {
         Fault::BadHeader(line) => {
@@ -136,29 +167,29 @@ fn push_hint(out: &mut Vec<u8>, hint: Option<&[u8]>) -> Result<(), AllocError>
 }
 
 /// The lines about the fault of a plan, with this nearest word, as its bytes stand there.
-fn page_of(
+fn explanation_of(
     alloc: Global,
     bytes: &[u8],
     fault: Fault,
     hint: Option<&[u8]>,
 ) -> Result<Vec<u8>, AllocError>
-    ensures { IfOk result (λ page. page.items ≡ spec.page bytes.now fault (option_map (λ w. w.now) hint.entry)) }
+    ensures { IfOk result (λ explanation. explanation.items ≡ spec.explanation bytes.now fault (option_map (λ w. w.now) hint.entry)) }
 {
     let text = expected(alloc, bytes, fault)?;
-    let mut page = Vec::new(alloc);
-    push_line(&mut page, bytes, fault)?;
-    push_labelled(&mut page, b"  expected: ", text.as_bytes())?;
-    push_hint(&mut page, hint)?;
-    Ok(page)
+    let mut explanation = Vec::new(alloc);
+    push_line(&mut explanation, bytes, fault)?;
+    push_labelled(&mut explanation, b"  expected: ", text.as_bytes())?;
+    push_hint(&mut explanation, hint)?;
+    Ok(explanation)
 }
 
 /// The explanation of the fault of a plan: the line that it names, what was expected there, and the nearest word, where one is
 /// near. Only printable ASCII and line feeds are in it.
 pub fn explain_plan(alloc: Global, bytes: &[u8], fault: Fault) -> Result<Vec<u8>, AllocError>
     ensures explains { IfOk result (λ text. Explains bytes.now fault text.items) }
-    ensures tame { IfOk result (λ text. is_tame_text text.items ≡ true) }
+    ensures printable { IfOk result (λ text. is_printable_text text.items ≡ true) }
 {
     let hint = hint_of(alloc, bytes, fault)?;
-    let page = page_of(alloc, bytes, fault, hint)?;
-    tame_text(alloc, page.as_slice())
+    let explanation = explanation_of(alloc, bytes, fault, hint)?;
+    shown_text(alloc, explanation.as_slice())
 }

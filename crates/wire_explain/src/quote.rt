@@ -11,8 +11,8 @@ use wire_lines::{cut_piece, trim_return};
 pub(crate) const SHOWN_BYTES: usize = 120;
 
 /// The byte as it is shown: `?` for one that a terminal doesn't show as it is.
-fn tame(byte: u8) -> u8
-    ensures { result ≡ spec.tame byte }
+fn shown_byte(byte: u8) -> u8
+    ensures { result ≡ spec.shown_byte byte }
 {
     if byte == b'\n' || (b' '..=b'~').contains(&byte) {
         byte
@@ -22,16 +22,16 @@ fn tame(byte: u8) -> u8
 }
 
 /// A text of which each byte is shown: only printable ASCII and line feeds.
-#[tactic(auto, using(crate::proofs::Tamed::tamed_text))]
-pub(crate) fn tame_text(alloc: Global, text: &[u8]) -> Result<Vec<u8>, AllocError>
-    ensures text { IfOk result (λ tamed. tamed.items ≡ map spec.tame text.now) }
-    ensures tame { IfOk result (λ tamed. spec.is_tame_text tamed.items ≡ true) }
+#[tactic(auto, using(crate::proofs::Shown::shown_is_printable))]
+pub fn shown_text(alloc: Global, text: &[u8]) -> Result<Vec<u8>, AllocError>
+    ensures text { IfOk result (λ shown. shown.items ≡ map spec.shown_byte text.now) }
+    ensures printable { IfOk result (λ shown. spec.is_printable_text shown.items ≡ true) }
 {
-    let mut tamed = Vec::with_capacity(alloc, text.len())?;
+    let mut shown = Vec::with_capacity(alloc, text.len())?;
     for byte in text {
-        tamed.push(tame(*byte))?;
+        shown.push(shown_byte(*byte))?;
     }
-    Ok(tamed)
+    Ok(shown)
 }
 
 /// The line of this number, counted from 1.
@@ -64,7 +64,7 @@ pub(crate) fn push_front(out: &mut Vec<u8>, line: &[u8], most: usize) -> Result<
 }
 
 /// Appends the line of this number, with its number before it.
-pub(crate) fn push_quoted(out: &mut Vec<u8>, bytes: &[u8], number: u64) -> Result<(), AllocError>
+pub fn push_quoted(out: &mut Vec<u8>, bytes: &[u8], number: u64) -> Result<(), AllocError>
     ensures { OnOk result (out.new.items ≡ out.old.items ++ spec.quoted bytes.now number) }
 {
     let mut digits = Buffer::new();

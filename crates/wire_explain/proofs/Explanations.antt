@@ -2,26 +2,26 @@
 use Rattle.std.proofs.Common.{◌≡◌, ◌∙◌, ap, map, ℕ, List, [], ◌++◌, Option, codes}
 use Rattle.wire_types.specs.declared.Fault.{Fault}
 use Rattle.wire_explain.specs.Near.{IsHint}
-use Rattle.wire_explain.specs.Quote.{tame, labelled}
-use Rattle.wire_explain.specs.Explained.{Explains, doubt, page, line_part, plan_line, expected, hint_part}
-use Rattle.wire_explain.specs.Order.{word_line, expected_word, word_page}
+use Rattle.wire_explain.specs.Quote.{shown_byte, labelled}
+use Rattle.wire_explain.specs.Explained.{Explains, candidates, explanation, line_part, plan_line, expected, hint_part}
+use Rattle.wire_explain.specs.Order.{word_line, expected_word, word_explanation}
 
 pub built : (first second second' third zero one two three : List ℕ) → zero ≡ [] → one ≡ zero ++ first → two ≡ one ++ second' → second' ≡ second → three ≡ two ++ third
     → three ≡ (first ++ second) ++ third
 built first second second' third zero one two three none a b same c =
     c ∙ ap (λ t. t ++ third) (b ∙ ap (λ t. one ++ t) same ∙ ap (λ t. t ++ second) (a ∙ ap (λ t. t ++ first) none))
 
-pub explained : (bytes : List ℕ) (fault : Fault) (hint : Option (List ℕ)) (raw text : List ℕ) → IsHint (doubt bytes fault).0 (doubt bytes fault).1 hint → raw ≡ page bytes fault hint
-    → text ≡ map tame raw → Explains bytes fault text
-explained bytes fault hint raw text near is at = record { hint = hint; nearest = near; is = at ∙ ap (map tame) is }
+pub explained : (bytes : List ℕ) (fault : Fault) (hint : Option (List ℕ)) (raw text : List ℕ) → IsHint (candidates bytes fault).0 (candidates bytes fault).1 hint → raw ≡ explanation bytes fault hint
+    → text ≡ map shown_byte raw → Explains bytes fault text
+explained bytes fault hint raw text near is at = record { hint = hint; nearest = near; is = at ∙ ap (map shown_byte) is }
 
-pub paged : (bytes : List ℕ) (fault : Fault) (hint : Option (List ℕ)) (text zero one two three : List ℕ) → zero ≡ [] → one ≡ zero ++ line_part bytes (plan_line fault)
-    → two ≡ one ++ labelled (codes "  expected: ") text → text ≡ expected bytes fault → three ≡ two ++ hint_part hint → three ≡ page bytes fault hint
-paged bytes fault hint text zero one two three none a b same c =
+pub laid_out : (bytes : List ℕ) (fault : Fault) (hint : Option (List ℕ)) (text zero one two three : List ℕ) → zero ≡ [] → one ≡ zero ++ line_part bytes (plan_line fault)
+    → two ≡ one ++ labelled (codes "  expected: ") text → text ≡ expected bytes fault → three ≡ two ++ hint_part hint → three ≡ explanation bytes fault hint
+laid_out bytes fault hint text zero one two three none a b same c =
     built (line_part bytes (plan_line fault)) (labelled (codes "  expected: ") (expected bytes fault)) (labelled (codes "  expected: ") text) (hint_part hint) zero one two three
     none a b (ap (labelled (codes "  expected: ")) same) c
 
 pub worded : (number : ℕ) (word text zero one two : List ℕ) → zero ≡ [] → one ≡ zero ++ word_line number word → two ≡ one ++ labelled (codes "  expected: ") text
-    → text ≡ expected_word number → two ≡ word_page number word
+    → text ≡ expected_word number → two ≡ word_explanation number word
 worded number word text zero one two none a b same =
     b ∙ ap (λ t. one ++ labelled (codes "  expected: ") t) same ∙ ap (λ t. t ++ labelled (codes "  expected: ") (expected_word number)) (a ∙ ap (λ t. t ++ word_line number word) none)
