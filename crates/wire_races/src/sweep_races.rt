@@ -74,9 +74,10 @@ fn published(plan: &Plan, event: Event) -> Option<u32>
     }
 }
 
-// The names that a process publishes, one for each publish.
-fn all_published(alloc: Global, plan: &Plan, proc: Proc) -> Result<Vec<u32>, AllocError>
-    ensures { IfOk result (λ names. ArePublished (plan_of plan.now) proc.number names.items) }
+// The names that a process publishes, each once.
+fn names_of(alloc: Global, plan: &Plan, proc: Proc) -> Result<Vec<u32>, AllocError>
+    ensures those { IfOk result (λ names. ArePublished (plan_of plan.now) proc.number names.items) }
+    ensures once { IfOk result (λ names. IsStrictlyIncreasing names.items) }
 {
     let mut names = Vec::new(alloc);
     for at in 0..plan.event_count(proc) {
@@ -84,15 +85,6 @@ fn all_published(alloc: Global, plan: &Plan, proc: Proc) -> Result<Vec<u32>, All
             names.push(name)?;
         }
     }
-    Ok(names)
-}
-
-// The names that a process publishes, each once.
-fn names_of(alloc: Global, plan: &Plan, proc: Proc) -> Result<Vec<u32>, AllocError>
-    ensures those { IfOk result (λ names. ArePublished (plan_of plan.now) proc.number names.items) }
-    ensures once { IfOk result (λ names. IsStrictlyIncreasing names.items) }
-{
-    let mut names = all_published(alloc, plan, proc)?;
     names.sort_unstable();
     names.dedup();
     Ok(names)
@@ -116,25 +108,8 @@ fn add_shares(
     Ok(())
 }
 
-// What a process shares of these names with higher ones that can take away all their names.
-fn all_shares(
-    alloc: Global,
-    plan: &Plan,
-    proc: Proc,
-    names: &[u32],
-) -> Result<Vec<Share>, AllocError>
-    ensures { IfOk result (λ shares. AreShares (plan_of plan.now) proc.number names.now shares.items) }
-{
-    let mut shares = Vec::new(alloc);
-    for name in names {
-        let name = *name;
-        let procs = sweepers_of(alloc, plan, name)?;
-        add_shares(&mut shares, proc, name, procs.as_slice())?;
-    }
-    Ok(shares)
-}
-
-// The same, with the shares of each process side by side.
+// What a process shares of these names with higher ones that can take away all their names. The shares of each
+// process stand side by side.
 fn shares_of(
     alloc: Global,
     plan: &Plan,
@@ -144,7 +119,12 @@ fn shares_of(
     ensures those { IfOk result (λ shares. AreShares (plan_of plan.now) proc.number names.now shares.items) }
     ensures sorted { IfOk result (λ shares. IsNonDecreasingBy (λ s. s.proc.number) shares.items) }
 {
-    let mut shares = all_shares(alloc, plan, proc, names)?;
+    let mut shares = Vec::new(alloc);
+    for name in names {
+        let name = *name;
+        let procs = sweepers_of(alloc, plan, name)?;
+        add_shares(&mut shares, proc, name, procs.as_slice())?;
+    }
     shares.sort_unstable_by_key(|share| share.proc.number);
     Ok(shares)
 }
@@ -271,7 +251,7 @@ fn add_process(
     add_shared(marked, found, proc, shares.as_slice())
 }
 
-/// Adds the races between sweeps. The only error is that memory ran out.
+/// Adds the races between sweeps. The one error is that memory ran out.
 ///
 /// The sweeps of two processes race on each name that both publish, where no chain orders them. So each is compared once
 /// with those of a higher process, by bisection, whatever number of names the two share.
