@@ -1,2 +1,7 @@
 mod Came
-mod Checked
+mod Chains
+mod Fits
+mod Grouped
+mod Listed
+mod Paired
+mod Written

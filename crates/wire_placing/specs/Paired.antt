@@ -23,17 +23,31 @@ use Rattle.wire_placing.specs.Lined.{json_witness}
 abbrev pub AreBoth : (x y one other : CallAt) → Type 0
 AreBoth x y one other = ((one ≡ x) × (other ≡ y)) ⊎ ((one ≡ y) × (other ≡ x))
 
--- the place and the line of the call that ends differently and then of the other, how the first ends in each run, and the orders of both runs
+-- the place and the line of the call that ends differently, and then of the other
+abbrev pub call_lines : List ℕ → List (List ℕ) → Scripts → CallAt → CallAt → List ℕ
+call_lines name rows scripts call other = place_text name rows call ++ shown_line scripts call ++ note_line name scripts rows other
+
+-- how the first ends in each run
+abbrev pub both_ends : Scripts → Witness → List ℕ
+both_ends scripts witness = end_line (codes "first ") scripts witness.first_end ++ end_line (codes "second ") scripts witness.second_end
+
+-- the orders of both runs
+abbrev pub both_orders : Scripts → Witness → List ℕ
+both_orders scripts witness = order_text scripts (numbers_of witness.first.items) ++ order_text scripts (numbers_of witness.second.items)
+
 abbrev pub placed_lines : List ℕ → List (List ℕ) → Scripts → CallAt → Witness → List ℕ
-placed_lines name rows scripts other witness =
-    place_text name rows witness.call ++ shown_line scripts witness.call ++ note_line name scripts rows other
-    ++ end_line (codes "first ") scripts witness.first_end ++ end_line (codes "second ") scripts witness.second_end
-    ++ order_text scripts (numbers_of witness.first.items) ++ order_text scripts (numbers_of witness.second.items)
+placed_lines name rows scripts other witness = call_lines name rows scripts witness.call other ++ both_ends scripts witness ++ both_orders scripts witness
 
 -- what is written of a witness: in lines, or as JSON
 abbrev pub placed_witness : (json : Bool) → List ℕ → List (List ℕ) → Scripts → CallAt → Witness → List ℕ
 placed_witness false name rows scripts other witness = placed_lines name rows scripts other witness
 placed_witness true name rows scripts other witness = json_witness rows scripts other witness
+
+-- it is written with both calls
+pub record IsPlacedWitness (json : Bool) (name : List ℕ) (rows : List (List ℕ)) (scripts : Scripts) (x y : CallAt) (witness : Witness) (text : List ℕ) : Type 0 where
+  pub other : CallAt
+  pub both : AreBoth x y witness.call other
+  pub tells : text ≡ placed_witness json name rows scripts other witness
 
 -- in which form `witness` says that nothing shows the calls
 abbrev pub part_of : (json : Bool) → Part
@@ -42,8 +56,8 @@ part_of true = Json
 
 -- of a race: a witness is written, or that none was found. It ends with one finding exactly where a witness is written
 pub data IsPlacedSearch (json : Bool) (name : List ℕ) (rows : List (List ℕ)) (scripts : Scripts) (x y : CallAt) (text : List ℕ) (ended : Ended) : Type 0 where
-  PlacesWitness : (witness : Witness) (other : CallAt) → IsWitness (plan_of scripts) x y witness → AreBoth x y witness.call other →
-      text ≡ placed_witness json name rows scripts other witness → ended ≡ Found 1 → IsPlacedSearch json name rows scripts x y text ended
+  PlacesWitness : (witness : Witness) → IsWitness (plan_of scripts) x y witness → IsPlacedWitness json name rows scripts x y witness text → ended ≡ Found 1 →
+      IsPlacedSearch json name rows scripts x y text ended
   PlacesNone : text ≡ not_shown_text (part_of json) → ended ≡ Clean → IsPlacedSearch json name rows scripts x y text ended
 
 -- of two calls: what is written of their race, where it is among the findings, else that no race is reported

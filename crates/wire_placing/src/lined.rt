@@ -11,8 +11,8 @@ use std::alloc::{AllocError, Global};
 use wire_content::Scripts;
 use wire_groups::Group;
 use wire_json::{
-    ChainStep, Half, RunTold, counts_json, lined_place, lined_step, push_list, push_quoted, run_json,
-    which_word,
+    ChainStep, Half, RunTold, counts_json, lined_place, lined_step, push_list, push_quoted,
+    run_json, which_word,
 };
 use wire_located::{line_of, pair_of};
 use wire_races::{Finding, FindingList};

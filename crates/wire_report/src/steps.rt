@@ -66,7 +66,11 @@ fn ordered_json(
 }
 
 /// The events of a chain as its steps.
-pub fn chain_steps(alloc: Global, plan: &Plan, chain: &[Event]) -> Result<Vec<ChainStep>, AllocError>
+pub fn chain_steps(
+    alloc: Global,
+    plan: &Plan,
+    chain: &[Event],
+) -> Result<Vec<ChainStep>, AllocError>
     requires { AreThere (plan_of plan.now) chain.now }
     ensures { IfOk result (λ steps. steps.items ≡ map (spec.step_of plan.now) (map event_of chain.now)) }
 {
