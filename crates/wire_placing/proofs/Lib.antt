@@ -1,7 +1,7 @@
 mod Came
-mod Chains
 mod Fits
 mod Grouped
 mod Listed
+mod Ordered
 mod Paired
 mod Written

@@ -18,14 +18,14 @@ use Rattle.wire_showing.specs.declared.tried.TriedRace.{TriedRace}
 use Rattle.wire_showing.specs.Tried.{counts_of}
 
 -- a call, or a half of a fence, with its line
-abbrev pub json_step : List (List ℕ) → Scripts → ChainStep → List ℕ
+unfoldable pub json_step : List (List ℕ) → Scripts → ChainStep → List ℕ
 json_step rows scripts step = lined_step scripts step (line_of rows step.call)
 
 abbrev pub json_call : List (List ℕ) → Scripts → CallAt → List ℕ
 json_call rows scripts call = json_step rows scripts (record { call = call; half = Whole })
 
 -- a call by its process, its number and its line alone
-abbrev pub json_place : List (List ℕ) → Scripts → CallAt → List ℕ
+unfoldable pub json_place : List (List ℕ) → Scripts → CallAt → List ℕ
 json_place rows scripts call = lined_place scripts call (line_of rows call)
 
 -- the chain that orders two calls: whether it begins at the first of them, and its steps
@@ -38,7 +38,7 @@ abbrev pub json_unordered : List (List ℕ) → Scripts → List CallAt → List
 json_unordered rows scripts dead = codes "{\"before\":null,\"dead\":" ++ bracketed (map (json_place rows scripts) dead) ++ codes "}\n"
 
 -- the first members of a finding: its two calls, and its words
-abbrev pub finding_members : List (List ℕ) → Scripts → Finding → List ℕ
+unfoldable pub finding_members : List (List ℕ) → Scripts → Finding → List ℕ
 finding_members rows scripts finding =
     codes "{\"calls\":[" ++ json_call rows scripts (pair_of finding).lower ++ codes "," ++ json_call rows scripts (pair_of finding).higher ++ codes "],\"finding\":"
     ++ quoted (finding_words scripts finding)

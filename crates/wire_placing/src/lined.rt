@@ -23,6 +23,7 @@ use wire_witness::Witness;
 use wire_words::push_number;
 
 /// A call, or a half of a fence, with its line.
+#[tactic(auto, unfolding(crate::specs::Lined::json_step))]
 fn step_json(
     alloc: Global,
     scripts: &Scripts,
@@ -62,6 +63,7 @@ fn push_call(
 }
 
 /// A call by its process, its number and its line alone.
+#[tactic(auto, unfolding(crate::specs::Lined::json_place))]
 fn place_json(
     alloc: Global,
     scripts: &Scripts,

@@ -5,7 +5,7 @@ use Rattle.wire_content.specs.Planned.{plan_of}
 use Rattle.wire_report.specs.There.{AreThere}
 use Rattle.wire_report.proofs.Chains.{shown_there, if_ok, none_of}
 use Rattle.wire_placing.specs.Chains.{chain_form}
-use Rattle.wire_placing.proofs.Chains.{places_before, places_after, places_unordered}
+use Rattle.wire_placing.proofs.Ordered.{places_before, places_after, places_unordered}
 use Rattle.wire_placing.proofs.chains.placed_chain.Goals as goal
 
 pub ordered_text-requires : goal.ordered_text-requires
