@@ -13,7 +13,7 @@ pub use matching::asked;
 pub use number::workers_of;
 pub use reading::read_request;
 pub use request::{
-    CallWords, CheckRequest, FollowRequest, MigrateRequest, Orders, PairRequest, RacesRequest, Refusal,
-    ReplayRequest, Request, WhyRequest,
+    CallWords, CheckRequest, FollowRequest, MigrateRequest, Orders, PairRequest, RacesRequest,
+    Refusal, ReplayRequest, Request, WhyRequest,
 };
 pub use wanted::Asked;

@@ -12,8 +12,8 @@ use crate::matching::{
 };
 use crate::number::{most_of, workers_of};
 use crate::request::{
-    CallWords, CheckRequest, FollowRequest, MigrateRequest, Orders, PairRequest, RacesRequest, Refusal,
-    ReplayRequest, Request, WhyRequest,
+    CallWords, CheckRequest, FollowRequest, MigrateRequest, Orders, PairRequest, RacesRequest,
+    Refusal, ReplayRequest, Request, WhyRequest,
 };
 use clap::ArgMatches;
 use std::alloc::Global;
