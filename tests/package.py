@@ -230,6 +230,8 @@ LINES = (
     ("wire_up check --l", ["--large", "--lines"]),
     ("wire_up check --e", ["--explain"]),
     ("wire_up why --j", ["--json"]),
+    ("wire_up why --l", ["--large", "--lines"]),
+    ("wire_up witness --l", ["--lines"]),
     ("wire_up migrate --l", ["--large"]),
     ("wire_up witness --m", ["--most"]),
     ("wire_up-record --st", ["--strict"]),

@@ -284,7 +284,6 @@ def grouped_checks(room, twice, fences, odd):
     yield Run("too little memory for a check with lines", [*words, fences], status=3, said=memory, set_up=with_little_memory)
     yield Run("a check with lines, and standard input closed", words, status=4, said=read, set_up=closed(0))
     yield Run("no such file to check with lines", [*words, os.path.join(room, "none")], status=4, said=read)
-    yield Run("lines of calls in JSON", [*words, "--json", racy], status=5, said=b"wire_up: usage --lines\n")
     yield Run("a check with lines, and a full device", [*words, racy], status=4, said=full, set_up=onto("/dev/full", 1))
 
 
@@ -400,6 +399,146 @@ def forms(room):
     yield Run("a wrong word, for JSON", ["why", "--json", "app:0", "9", "app:1", "1", racy], status=2, said=b"wire_up: fault 13 BadOrder 2\n")
     for words, plan in ((["check", "--json"], racy), (question, fence), (["follow", "--json", late], racy)):
         yield Run(f"{words[0]} as JSON, and a full device", [*words, plan], status=4, said=full, set_up=onto("/dev/full", 1))
+
+
+def calls_of(plan):
+    """The calls of a plan by their processes and numbers, each with its line and its verb."""
+    calls, job, ranks, count = {}, "", 0, 0
+    for number, line in enumerate(plan.decode().split("\n"), 1):
+        words = line.split()
+        if not words or words[0].startswith("#") or words[0] in ("rehearsal", "keep", "node"):
+            continue
+        if words[0] == "job":
+            job, ranks = words[1], 0
+        elif words[0] == "rank":
+            ranks, count = ranks + 1, 0
+        else:
+            count += 1
+            calls[f"{job}:{ranks - 1}", str(count)] = number, words[0]
+    return calls
+
+
+class Placed:
+    """What the commands write of an example with the places of calls, by what they write without."""
+
+    def __init__(self, name):
+        self.plan = f"examples/{name}.plan"
+        self.calls = calls_of(text_of(self.plan))
+
+    def line(self, proc, number, text):
+        """A line behind the place of a call."""
+        return f"{self.plan}:{self.calls[proc, number][0]}: {text}"
+
+    def note(self, proc, number):
+        """The line of a call that goes with the one in the line above."""
+        return self.line(proc, number, f"note: {proc} {number} {self.calls[proc, number][1]}")
+
+    def call(self, proc, number):
+        """A call as JSON."""
+        line, verb = self.calls[proc, number]
+        return {**place_of(proc, number), "line": line, "verb": verb}
+
+    def with_lines(self, form):
+        """A form in which each call has its line."""
+        if isinstance(form, list):
+            return [self.with_lines(it) for it in form]
+        if not isinstance(form, dict):
+            return form
+        form = {key: self.with_lines(it) for key, it in form.items()}
+        if {"call", "proc"} <= form.keys():
+            form["line"] = self.calls[form["proc"], str(form["call"])][0]
+        return form
+
+    def both(self, words):
+        """The two calls of a finding, by its words."""
+        first = words[1:3]
+        return (first, words[3:5]) if words[0] == "race" else (first, [first[0], words[3]])
+
+    def answer(self, text):
+        """What `why` writes."""
+        first, *lines = text.decode().splitlines()
+        calls = [line.split(" ")[first == "unordered" :][:2] for line in lines]
+        return as_lines([first, *(self.line(*call, line) for call, line in zip(calls, lines))])
+
+    def findings(self, text):
+        """What `check` writes as JSON."""
+        found, groups = [line.split(" ") for line in text.decode().splitlines()[:-1]], {}
+        for place, words in enumerate(found):
+            verbs = sorted(self.calls[tuple(call)][1] for call in self.both(words))
+            kind = [words[5], words[-1]] if words[0] == "race" else ["rewrite", words[-1]]
+            groups.setdefault((*kind, *verbs), []).append(place)
+        counted = [{"count": len(it), "first": it[0]} for it in groups.values()]
+        findings = [{"calls": [self.call(*call) for call in self.both(words)], "finding": " ".join(words)} for words in found]
+        return one_line({"findings": findings, "groups": sorted(counted, key=lambda it: (-it["count"], it["first"]))})
+
+    def tried(self, text):
+        """What `witness` writes of all races, in lines and as JSON."""
+        *lines, last = text.decode().splitlines()
+        form, placed = json.loads(tried_as_json(text)), []
+        for line, race in zip(lines, form["races"]):
+            lower, higher = self.both(race["finding"].split(" "))
+            placed += [self.line(*lower, line), self.note(*higher)]
+            race["calls"] = [self.call(*lower), self.call(*higher)]
+        return as_lines([*placed, last]), one_line(self.with_lines(form))
+
+    def witness(self, words, text):
+        """What `witness` writes of two calls, in lines and as JSON."""
+        first, *lines = text.decode().splitlines()
+        form = json.loads(witness_as_json(text))
+        if form["shown"] is None:
+            return text, one_line(form)
+        shown = first.split(" ")[1:3]
+        other = words[2:] if words[:2] == shown else words[:2]
+        form["other"] = self.call(*other)
+        return as_lines([self.line(*shown, first), self.note(*other), *lines]), one_line(self.with_lines(form))
+
+
+def placings(room):
+    """The runs of `check`, `why` and `witness` with `--lines`, and with `--json` besides."""
+    racy, odd, full = "examples/early-get.plan", written(room, "odd.plan", b"# only\n"), b"wire_up: fault 11 Write 0\n"
+    pair, usage, misfit = ["app:0", "2", "app:1", "1"], (b"Usage: wire_up",), b"wire_up: usage witness\n"
+    chain = as_lines(["before", "<stdin>:6: app:0 1 put", "<stdin>:7: app:0 2 commit", "<stdin>:9: app:1 1 get"])
+    shown = "%s:9: shown app:1 1 get-now\n%s:7: note: app:0 2 commit\nfirst PMIX_SUCCESS 10.0.0.1:7000\nsecond PMIX_ERR_NOT_FOUND\n"
+    orders = "order 3\napp:0\napp:0\napp:1\norder 3\napp:0\napp:1\napp:0\n"
+    tried = "%s:7: shown app:1 1 race app:0 2 app:1 1 key app:0 card\n%s:9: note: app:1 1 get-now\nraces 1 shown 1 not-shown 0 not-tried 0\n"
+    found = (
+        b'{"findings":[{"calls":[{"call":2,"line":7,"proc":"app:0","verb":"commit"},{"call":1,"line":9,"proc":"app:1","verb":"get-now"}],'
+        b'"finding":"race app:0 2 app:1 1 key app:0 card"}],"groups":[{"count":1,"first":0}]}\n'
+    )
+    none = b'{"counts":{"not_shown":0,"not_tried":1,"races":1,"shown":0},"races":[]}\n'
+    quoted = b'rehearsal 1\nnode n0\njob "\\\nrank n0\nput global k 1\nput global k 2\n'
+    escaped = b'"proc":"\\"\\\\:0","verb":"put"}'
+    yield Run("a question with lines", ["why", "--lines", "app:0", "1", "app:1", "1"], given=text_of(EXAMPLE), wrote=chain)
+    yield Run("a witness with lines", ["witness", "--lines", *pair, racy], status=1, wrote=(shown % (racy, racy) + orders).encode())
+    yield Run("no race, with lines", ["witness", "--lines", "app:0", "1", "app:1", "1", racy], wrote=(b"no race\n",))
+    yield Run("the races with lines", ["witness", "--lines", racy], status=1, wrote=(tried % (racy, racy)).encode())
+    yield Run("the races with lines, and none tried", ["witness", "--lines", "--most", "0", racy], wrote=b"races 1 shown 0 not-shown 0 not-tried 1\n")
+    yield Run("no race tried, as JSON with lines", ["witness", "--lines", "--json", "--most", "0", racy], wrote=none)
+    yield Run("findings as JSON with lines", ["check", "--lines", "--json", racy], status=1, wrote=found)
+    yield Run("no findings, as JSON with lines", ["check", "--json", "--lines", "--large", EXAMPLE], wrote=b'{"findings":[],"groups":[]}\n')
+    yield Run("a quote in a name, as JSON with lines", ["check", "--json", "--lines"], given=quoted, status=1, wrote=(escaped,))
+    for words in (["check"], ["why", *pair], ["witness"], ["witness", *pair]):
+        for form in ([], ["--json"]):
+            name = " ".join([*words, "--lines", *form])
+            yield Run(f"{name}: a file that is refused", [*words, "--lines", *form, odd], status=2, said=b"wire_up: fault 3 BadHeader 2\n")
+            yield Run(f"{name}: a full device", [*words, "--lines", *form, racy], status=4, said=full, set_up=onto("/dev/full", 1))
+    for words in (["why"], ["witness"]):
+        yield Run(f"a wrong word of {words[0]}, with lines", [*words, "--lines", "app:0", "9", "app:1", "1", racy], status=2, said=b"wire_up: fault 13 BadOrder 2\n")
+    for order in ("--first", "--second"):
+        yield Run(f"witness {order} with lines", ["witness", order, "--lines", *pair, racy], status=5, said=misfit)
+        yield Run(f"witness {order} with lines of the races", ["witness", order, "--lines", racy], status=5, said=misfit)
+    for words in (["replay"], ["follow", racy], ["migrate"]):
+        yield Run(f"{words[0]} with lines", [*words, "--lines", racy], status=5, said=usage)
+    for command in ("check", "why", "witness"):
+        yield Run(f"lines in the help on {command}", [command, "--help"], wrote=(b"--lines", b"--json"))
+    for it in examples(".findings"):
+        words, text = Placed(it), text_of(f"examples/{it}.findings")
+        yield Run(f"findings of {it} as JSON with lines", ["check", "--lines", "--json", words.plan], status=int(text != NOTHING), wrote=words.findings(text))
+    for it in examples(".question"):
+        asked, words, answer = text_of(f"examples/{it}.question").decode().split(), Placed(it), text_of(f"examples/{it}.answer")
+        form = one_line(words.with_lines(json.loads(answer_as_json(answer))))
+        yield Run(f"a question about {it}, with lines", ["why", "--lines", *asked, words.plan], wrote=words.answer(answer))
+        yield Run(f"a question about {it}, as JSON with lines", ["why", "--lines", "--json", *asked, words.plan], wrote=form)
 
 
 def rehearsals(room):
@@ -708,13 +847,18 @@ def witness_as_json(text):
 
 
 def shows_alike(program, name):
-    """Whether `witness` tells the same of an example's races in lines and as JSON."""
-    plan = f"examples/{name}.plan"
+    """Whether `witness` tells the same of an example's races in lines and as JSON, and with the places of calls."""
+    plan, placed = f"examples/{name}.plan", Placed(name)
     races = [line.split(" ")[1:5] for line in text_of(f"examples/{name}.findings").decode().splitlines() if line.startswith("race ")]
     for words, form in [([], tried_as_json)] + [(calls, witness_as_json) for calls in races]:
         lines, json_form = (start(program, Run(name, ["witness", *option, *words, plan]), stdout=subprocess.PIPE) for option in ([], ["--json"]))
         if (lines.returncode, form(lines.stdout), b"") != (json_form.returncode, json_form.stdout, json_form.stderr):
             return tell(f"witness --json {' '.join(words)} {plan}", f"ended with {json_form.returncode}, and wrote {json_form.stdout[:300]}")
+        wanted = placed.witness(words, lines.stdout) if words else placed.tried(lines.stdout)
+        for option, wrote in zip((["--lines"], ["--lines", "--json"]), wanted):
+            ran = start(program, Run(name, ["witness", *option, *words, plan]), stdout=subprocess.PIPE)
+            if (ran.returncode, ran.stdout, ran.stderr) != (lines.returncode, wrote, b""):
+                return tell(f"witness {' '.join([*option, *words])} {plan}", f"ended with {ran.returncode}, and wrote {ran.stdout[:300]}")
     return True
 
 
@@ -811,7 +955,7 @@ def tell(name, what):
 def all_runs(program):
     """Runs all, and answers how many went well and how many didn't."""
     with tempfile.TemporaryDirectory(prefix="wire-up-") as room:
-        parts = runs, rehearsals, completions, explanations, keepings, checks, follows, questions, forms, migrations, machines
+        parts = runs, rehearsals, completions, explanations, keepings, checks, follows, questions, forms, placings, migrations, machines
         well = [went_well(program, run) for part in parts for run in part(room)]
         well += [runs_anyway(program, room, n, form) for n in (1, 2, 7) for form in ([], ["--json"])]
         well += [shows_alike(program, name) for name in examples(".plan")]

@@ -21,12 +21,13 @@ use std::time::Clock;
 use std::{env, io, thread};
 use terminal_line::{NotedReader, NotedWriter, Progress, Streams, start_line};
 use wire_explain::{explain_order, explain_plan, explain_word};
-use wire_placing::{PlanFile, check_located};
+use wire_placing::{PlanFile, check_located, why_located, witness_located, witnesses_located};
 use wire_sched::OpenGate;
 use wire_stops::explain_stop;
 use wire_types::{Fault, FromRead, ToWrite, write_out};
 use wire_up::{
-    CallWords, Form, Manner, Mode, Orders, Part, Refusal, Request, Size, Tries, check_in_form,
+    CallWords, CheckRequest, FollowRequest, Form, Manner, MigrateRequest, Mode, Orders, PairRequest,
+    Part, RacesRequest, Refusal, ReplayRequest, Request, Size, Tries, WhyRequest, check_in_form,
     follow_in_form, migrate_sized, read_request, rehearse_complete, rehearse_sized, why_in_form,
     witness, witnesses_in_form,
 };
@@ -91,10 +92,6 @@ fn obey<'a>(
 ) -> Result<u8, Failure> {
     match read_request(rt.alloc(), words) {
         Ok(request) => {
-            if has_two_forms(&request) {
-                let _ = rt.eprintln("wire_up: usage --lines");
-                return Err(Failure::Usage);
-            }
             let progress = Progress::new(work_of(&request), streams);
             serve_with_line(rt, request, &progress)
         }
@@ -113,14 +110,6 @@ fn obey<'a>(
     }
 }
 
-/// Whether an answer is wanted both with the lines of calls and as JSON, which has none.
-fn has_two_forms(request: &Request<'_>) -> bool {
-    match request {
-        Request::Check { lines, json, .. } => *lines && *json,
-        _ => false,
-    }
-}
-
 /// The limits that hold: the large ones, or those of the plan's version.
 fn size_of(large: bool) -> Size {
     if large { Size::Large } else { Size::OfVersion }
@@ -135,24 +124,24 @@ fn form_of(large: bool, json: bool) -> Form {
 /// What a command does once it has read all, in one word.
 fn work_of(request: &Request<'_>) -> &'static str {
     match request {
-        Request::Check { .. } => "judging",
-        Request::Replay { .. } => "running",
-        Request::Follow { .. } => "following",
-        Request::Why { .. } | Request::Witness { .. } | Request::Witnesses { .. } => "searching",
-        Request::Migrate { .. } => "migrating",
+        Request::Check(_) => "judging",
+        Request::Replay(_) => "running",
+        Request::Follow(_) => "following",
+        Request::Why(_) | Request::Witness(_) | Request::Witnesses(_) => "searching",
+        Request::Migrate(_) => "migrating",
     }
 }
 
 /// Whether a fault is to be explained.
 fn is_explained(request: &Request<'_>) -> bool {
     match request {
-        Request::Check { explain, .. }
-        | Request::Replay { explain, .. }
-        | Request::Follow { explain, .. }
-        | Request::Why { explain, .. }
-        | Request::Migrate { explain, .. }
-        | Request::Witness { explain, .. }
-        | Request::Witnesses { explain, .. } => *explain,
+        Request::Check(asked) => asked.explain,
+        Request::Replay(asked) => asked.explain,
+        Request::Follow(asked) => asked.explain,
+        Request::Why(asked) => asked.explain,
+        Request::Migrate(asked) => asked.explain,
+        Request::Witness(asked) => asked.explain,
+        Request::Witnesses(asked) => asked.explain,
     }
 }
 
@@ -166,12 +155,14 @@ struct Question<'a> {
 /// The question of a command that has one.
 fn question_of<'a>(request: &Request<'a>) -> Option<Question<'a>> {
     match request {
-        Request::Why { first, second, .. } | Request::Witness { first, second, .. } => {
-            Some(Question {
-                first: *first,
-                second: *second,
-            })
-        }
+        Request::Why(asked) => Some(Question {
+            first: asked.first,
+            second: asked.second,
+        }),
+        Request::Witness(asked) => Some(Question {
+            first: asked.first,
+            second: asked.second,
+        }),
         _ => None,
     }
 }
@@ -327,76 +318,13 @@ fn serve(
     watch: &mut Watch<'_, '_>,
 ) -> Result<u8, Fault> {
     match request {
-        Request::Check {
-            plan,
-            lines,
-            json,
-            large,
-            ..
-        } => {
-            if lines {
-                check_places(rt, plan, size_of(large), watch)
-            } else {
-                check_plan(rt, plan, form_of(large, json), watch)
-            }
-        }
-        Request::Replay {
-            plan,
-            workers,
-            json,
-            anyway,
-            complete,
-            large,
-            ..
-        } => {
-            let manner = Manner {
-                size: size_of(large),
-                workers,
-                mode: Mode { json, anyway },
-                gate: &OpenGate,
-            };
-            if complete {
-                replay_completely(rt, plan, manner, watch)
-            } else {
-                replay_plan(rt, plan, manner, watch)
-            }
-        }
-        Request::Follow {
-            order,
-            plan,
-            json,
-            large,
-            ..
-        } => follow_order(rt, order, plan, form_of(large, json), watch),
-        Request::Why {
-            first,
-            second,
-            plan,
-            json,
-            large,
-            ..
-        } => {
-            let words = [first.proc, first.number, second.proc, second.number];
-            answer_question(rt, words, plan, form_of(large, json), watch)
-        }
-        Request::Migrate { plan, large, .. } => migrate_plan(rt, plan, size_of(large), watch),
-        Request::Witness {
-            first,
-            second,
-            orders,
-            plan,
-            json,
-            ..
-        } => {
-            let words = [first.proc, first.number, second.proc, second.number];
-            show_race(rt, words, part_of(orders, json), plan, watch)
-        }
-        Request::Witnesses {
-            most,
-            plan,
-            json,
-            ..
-        } => show_races(rt, Tries { most, json }, plan, watch),
+        Request::Check(asked) => check_plan(rt, asked, watch),
+        Request::Replay(asked) => replay_plan(rt, asked, watch),
+        Request::Follow(asked) => follow_order(rt, asked, watch),
+        Request::Why(asked) => answer_question(rt, asked, watch),
+        Request::Migrate(asked) => migrate_plan(rt, asked, watch),
+        Request::Witness(asked) => show_race(rt, asked, watch),
+        Request::Witnesses(asked) => show_races(rt, asked, watch),
     }
 }
 
@@ -471,19 +399,6 @@ fn length_of(file: &impl OpenFile) -> Option<u64> {
     }
 }
 
-/// Checks a plan.
-fn check_plan(
-    rt: &(impl Files + Input + Print + Eprint + AllocGlobal + Threads + Wait + Sync),
-    plan: Option<&str>,
-    form: Form,
-    watch: &mut Watch<'_, '_>,
-) -> Result<u8, Fault> {
-    let progress = watch.progress;
-    let mut reader = open_plan(rt, plan, progress, &mut watch.plan)?;
-    let mut writer = ToWrite::new(NotedWriter::new(rt, progress));
-    Ok(check_in_form(rt, rt.alloc(), form, &mut reader, &mut writer)?.status())
-}
-
 /// The name by which a plan is told of.
 fn name_of(plan: Option<&str>) -> &str {
     match plan {
@@ -492,32 +407,53 @@ fn name_of(plan: Option<&str>) -> &str {
     }
 }
 
-/// Checks a plan, and tells its findings in groups, with the lines of their calls.
-fn check_places(
+/// The file of a plan, as a command that tells the lines of calls reads and writes it.
+fn file_of<'a>(plan: Option<&'a str>, large: bool, json: bool) -> PlanFile<'a> {
+    let size = size_of(large);
+    PlanFile {
+        name: name_of(plan).as_bytes(),
+        size,
+        json,
+    }
+}
+
+/// Checks a plan.
+fn check_plan(
     rt: &(impl Files + Input + Print + Eprint + AllocGlobal + Threads + Wait + Sync),
-    plan: Option<&str>,
-    size: Size,
+    asked: CheckRequest<'_>,
     watch: &mut Watch<'_, '_>,
 ) -> Result<u8, Fault> {
     let progress = watch.progress;
-    let mut reader = open_plan(rt, plan, progress, &mut watch.plan)?;
+    let mut reader = open_plan(rt, asked.plan, progress, &mut watch.plan)?;
     let mut writer = ToWrite::new(NotedWriter::new(rt, progress));
-    let file = PlanFile {
-        name: name_of(plan).as_bytes(),
-        size,
+    let ended = if asked.lines {
+        let file = file_of(asked.plan, asked.large, asked.json);
+        check_located(rt, rt.alloc(), file, &mut reader, &mut writer)?
+    } else {
+        let form = form_of(asked.large, asked.json);
+        check_in_form(rt, rt.alloc(), form, &mut reader, &mut writer)?
     };
-    Ok(check_located(rt, rt.alloc(), file, &mut reader, &mut writer)?.status())
+    Ok(ended.status())
 }
 
 /// Replays a plan. It is opened before the number of workers is judged.
 fn replay_plan(
     rt: &(impl Files + Input + Print + Eprint + AllocGlobal + Threads + Wait + Sync),
-    plan: Option<&str>,
-    manner: Manner<'_, OpenGate>,
+    asked: ReplayRequest<'_>,
     watch: &mut Watch<'_, '_>,
 ) -> Result<u8, Fault> {
+    let (json, anyway) = (asked.json, asked.anyway);
+    let manner = Manner {
+        size: size_of(asked.large),
+        workers: asked.workers,
+        mode: Mode { json, anyway },
+        gate: &OpenGate,
+    };
+    if asked.complete {
+        return replay_completely(rt, asked.plan, manner, watch);
+    }
     let progress = watch.progress;
-    let mut reader = open_plan(rt, plan, progress, &mut watch.plan)?;
+    let mut reader = open_plan(rt, asked.plan, progress, &mut watch.plan)?;
     let mut writer = ToWrite::new(NotedWriter::new(rt, progress));
     Ok(rehearse_sized(rt, rt.alloc(), &mut reader, &mut writer, manner)?.status())
 }
@@ -551,23 +487,22 @@ fn tell_call(rt: &impl Eprint, line: &[u8]) {
 /// Follows the order of a file on a plan, which is opened first.
 fn follow_order(
     rt: &(impl Files + Input + Print + Eprint + AllocGlobal + Wait),
-    order: &str,
-    plan: Option<&str>,
-    form: Form,
+    asked: FollowRequest<'_>,
     watch: &mut Watch<'_, '_>,
 ) -> Result<u8, Fault> {
     let progress = watch.progress;
-    let mut reader = open_plan(rt, plan, progress, &mut watch.plan)?;
-    if plan.is_none() {
+    let mut reader = open_plan(rt, asked.plan, progress, &mut watch.plan)?;
+    if asked.plan.is_none() {
         // Where standard input is closed, the order would be opened in its place, and be read as the
         // plan. A read of no bytes fails there, and takes nothing anywhere else.
         judge_read(reader.inner.read(&mut [0; 0]))?;
     }
-    let order = judge_read(File::open(rt, order))?;
+    let order = judge_read(File::open(rt, asked.order))?;
     let size_of_order = length_of(&order);
     let noted = NotedReader::new(order, progress, size_of_order);
     let mut order = FromRead::new(KeptReader::new(noted, &mut watch.order));
     let mut writer = ToWrite::new(NotedWriter::new(rt, progress));
+    let form = form_of(asked.large, asked.json);
     follow_in_form(rt.alloc(), form, &mut reader, &mut order, &mut writer)?;
     Ok(DONE)
 }
@@ -575,14 +510,18 @@ fn follow_order(
 /// Answers a question about a plan.
 fn answer_question(
     rt: &(impl Files + Input + Print + Eprint + AllocGlobal + Wait),
-    words: [&str; 4],
-    plan: Option<&str>,
-    form: Form,
+    asked: WhyRequest<'_>,
     watch: &mut Watch<'_, '_>,
 ) -> Result<u8, Fault> {
     let progress = watch.progress;
-    let mut reader = open_plan(rt, plan, progress, &mut watch.plan)?;
+    let mut reader = open_plan(rt, asked.plan, progress, &mut watch.plan)?;
     let mut writer = ToWrite::new(NotedWriter::new(rt, progress));
+    let words = words_of(asked.first, asked.second);
+    if asked.lines {
+        let file = file_of(asked.plan, asked.large, asked.json);
+        return Ok(why_located(rt.alloc(), file, &mut reader, &mut writer, words)?.status());
+    }
+    let form = form_of(asked.large, asked.json);
     why_in_form(rt.alloc(), form, &mut reader, &mut writer, words)?;
     Ok(DONE)
 }
@@ -590,15 +529,19 @@ fn answer_question(
 /// Writes a plan under version 2 of the format.
 fn migrate_plan(
     rt: &(impl Files + Input + Print + Eprint + AllocGlobal + Wait),
-    plan: Option<&str>,
-    size: Size,
+    asked: MigrateRequest<'_>,
     watch: &mut Watch<'_, '_>,
 ) -> Result<u8, Fault> {
     let progress = watch.progress;
-    let mut reader = open_plan(rt, plan, progress, &mut watch.plan)?;
+    let mut reader = open_plan(rt, asked.plan, progress, &mut watch.plan)?;
     let mut writer = ToWrite::new(NotedWriter::new(rt, progress));
-    migrate_sized(rt.alloc(), size, &mut reader, &mut writer)?;
+    migrate_sized(rt.alloc(), size_of(asked.large), &mut reader, &mut writer)?;
     Ok(DONE)
+}
+
+/// The four words of a question.
+fn words_of<'a>(first: CallWords<'a>, second: CallWords<'a>) -> [&'a str; 4] {
+    [first.proc, first.number, second.proc, second.number]
 }
 
 /// What is written of a witness.
@@ -613,28 +556,40 @@ fn part_of(orders: Orders, json: bool) -> Part {
 /// Shows the race of two calls of a plan.
 fn show_race(
     rt: &(impl Files + Input + Print + Eprint + AllocGlobal + Threads + Wait + Sync),
-    words: [&str; 4],
-    part: Part,
-    plan: Option<&str>,
+    asked: PairRequest<'_>,
     watch: &mut Watch<'_, '_>,
 ) -> Result<u8, Fault> {
     let progress = watch.progress;
-    let mut reader = open_plan(rt, plan, progress, &mut watch.plan)?;
+    let mut reader = open_plan(rt, asked.plan, progress, &mut watch.plan)?;
     let mut writer = ToWrite::new(NotedWriter::new(rt, progress));
-    Ok(witness(rt, rt.alloc(), &mut reader, &mut writer, words, part)?.status())
+    let words = words_of(asked.first, asked.second);
+    let ended = if asked.lines {
+        let file = file_of(asked.plan, false, asked.json);
+        witness_located(rt, rt.alloc(), file, &mut reader, &mut writer, words)?
+    } else {
+        let part = part_of(asked.orders, asked.json);
+        witness(rt, rt.alloc(), &mut reader, &mut writer, words, part)?
+    };
+    Ok(ended.status())
 }
 
 /// Tells which races of a plan are shown, so many at most.
 fn show_races(
     rt: &(impl Files + Input + Print + Eprint + AllocGlobal + Threads + Wait + Sync),
-    tries: Tries,
-    plan: Option<&str>,
+    asked: RacesRequest<'_>,
     watch: &mut Watch<'_, '_>,
 ) -> Result<u8, Fault> {
     let progress = watch.progress;
-    let mut reader = open_plan(rt, plan, progress, &mut watch.plan)?;
+    let mut reader = open_plan(rt, asked.plan, progress, &mut watch.plan)?;
     let mut writer = ToWrite::new(NotedWriter::new(rt, progress));
-    Ok(witnesses_in_form(rt, rt.alloc(), &mut reader, &mut writer, tries)?.status())
+    let (most, json) = (asked.most, asked.json);
+    let ended = if asked.lines {
+        let file = file_of(asked.plan, false, json);
+        witnesses_located(rt, rt.alloc(), file, &mut reader, &mut writer, most)?
+    } else {
+        witnesses_in_form(rt, rt.alloc(), &mut reader, &mut writer, Tries { most, json })?
+    };
+    Ok(ended.status())
 }
 
 fn run(

@@ -55,16 +55,16 @@ follow_line = with_large (with_rule (with_rule (new_app (codes "follow")) (neede
 
 abbrev pub why_line : App
 why_line =
-    with_large (with_rule (with_rule (with_rule (with_rule (with_rule (new_app (codes "why"))
-    (needed_word (codes "P"))) (needed_word (codes "N"))) (needed_word (codes "Q"))) (needed_word (codes "M"))) (flag (codes "json")))
+    with_large (with_forms (with_rule (with_rule (with_rule (with_rule (new_app (codes "why"))
+    (needed_word (codes "P"))) (needed_word (codes "N"))) (needed_word (codes "Q"))) (needed_word (codes "M"))))
 
 abbrev pub migrate_line : App
 migrate_line = with_large (new_app (codes "migrate"))
 
 abbrev pub witness_line : App
 witness_line =
-    with_plan (with_rule (with_rule (with_rule (with_rule (with_rule (with_rule (with_rule (with_rule (new_app (codes "witness"))
-    (flag (codes "first"))) (flag (codes "second"))) (option_with_word (codes "most"))) (flag (codes "json")))
+    with_plan (with_rule (with_rule (with_rule (with_rule (with_forms (with_rule (with_rule (with_rule (new_app (codes "witness"))
+    (flag (codes "first"))) (flag (codes "second"))) (option_with_word (codes "most"))))
     (optional_word (codes "P"))) (optional_word (codes "N"))) (optional_word (codes "Q"))) (optional_word (codes "M")))
 
 -- the program: it needs one of the six, and has a version

@@ -1,5 +1,5 @@
 -- What a command line requests: a command with all that it needs.
-use Rattle.std.specs.Prelude.{◌≡◌, ◌⊎◌, ◌&&◌, Bool, true, false, not, if◌then◌else◌, List, [], ◌∷◌, Option, Some, None, is_some, option_map, codes}
+use Rattle.std.specs.Prelude.{◌≡◌, ◌⊎◌, ◌&&◌, ◌||◌, Bool, true, false, not, if◌then◌else◌, List, [], ◌∷◌, Option, Some, None, is_some, option_map, codes}
 use Rattle.std.specs.Option.{option_map_or}
 use Rattle.std.specs.List.{list_any}
 use Rattle.std.specs.Str.{bytes_eq}
@@ -48,41 +48,47 @@ has_lines rows = is_set (codes "lines") rows
 abbrev pub has_json : List Row → Bool
 has_json rows = is_set (codes "json") rows
 
--- which orders two flags ask for, nothing where both are given, or where one is given and JSON is asked for
+-- or in either way, which an order alone isn't
+abbrev pub has_form : List Row → Bool
+has_form rows = has_lines rows || has_json rows
+
+-- which orders two flags ask for, nothing where both are given, or where one is given and the answer is to have a form
 abbrev pub orders_of : Bool → Bool → Bool → Option Orders
 orders_of _ false false = Some Both
-orders_of json true false = if json then None else Some OfFirst
-orders_of json false true = if json then None else Some OfSecond
+orders_of formed true false = if formed then None else Some OfFirst
+orders_of formed false true = if formed then None else Some OfSecond
 orders_of _ true true = None
 
 abbrev pub orders_said : List Row → Option Orders
-orders_said rows = orders_of (has_json rows) (is_set (codes "first") rows) (is_set (codes "second") rows)
+orders_said rows = orders_of (has_form rows) (is_set (codes "first") rows) (is_set (codes "second") rows)
 
 -- the command of this name requests this, with the words that its matches have: each word is the one that was given by its name
 abbrev pub IsRequest : Text → List Row → Request → Type 0
-IsRequest name rows (Check plan lines json large explain) =
-    (name ≡ codes "check") × (text_of plan ≡ plan_word rows) × (lines ≡ has_lines rows) × (json ≡ has_json rows) × (large ≡ is_large rows) × (explain ≡ is_explained rows)
-IsRequest name rows (Replay plan workers json anyway complete large explain) =
-    (name ≡ codes "replay") × (text_of plan ≡ plan_word rows)
-    × (Some workers ≡ workers_said (workers_word rows))
-    × (json ≡ has_json rows) × (anyway ≡ is_set (codes "anyway") rows) × (complete ≡ is_set (codes "complete") rows)
-    × (large ≡ is_large rows) × (explain ≡ is_explained rows)
-IsRequest name rows (Follow order plan json large explain) =
-    (name ≡ codes "follow") × (Some order.now ≡ first_of (codes "ORDER") rows) × (text_of plan ≡ plan_word rows)
-    × (json ≡ has_json rows) × (large ≡ is_large rows) × (explain ≡ is_explained rows)
-IsRequest name rows (Why first second plan json large explain) =
-    (name ≡ codes "why") × NamesCall (codes "P") (codes "N") rows first × NamesCall (codes "Q") (codes "M") rows second
-    × (text_of plan ≡ plan_word rows) × (json ≡ has_json rows) × (large ≡ is_large rows) × (explain ≡ is_explained rows)
-IsRequest name rows (Migrate plan large explain) =
-    (name ≡ codes "migrate") × (text_of plan ≡ plan_word rows) × (large ≡ is_large rows) × (explain ≡ is_explained rows)
-IsRequest name rows (Witness first second orders plan json explain) =
-    (name ≡ codes "witness") × NamesCall (codes "P") (codes "N") rows first × NamesCall (codes "Q") (codes "M") rows second
-    × (Some orders ≡ orders_said rows) × (first_of (codes "most") rows ≡ None) × (text_of plan ≡ plan_word rows)
-    × (json ≡ has_json rows) × (explain ≡ is_explained rows)
-IsRequest name rows (Witnesses most plan json explain) =
+IsRequest name rows (Check asked) =
+    (name ≡ codes "check") × (text_of asked.plan ≡ plan_word rows) × (asked.lines ≡ has_lines rows) × (asked.json ≡ has_json rows)
+    × (asked.large ≡ is_large rows) × (asked.explain ≡ is_explained rows)
+IsRequest name rows (Replay asked) =
+    (name ≡ codes "replay") × (text_of asked.plan ≡ plan_word rows)
+    × (Some asked.workers ≡ workers_said (workers_word rows))
+    × (asked.json ≡ has_json rows) × (asked.anyway ≡ is_set (codes "anyway") rows) × (asked.complete ≡ is_set (codes "complete") rows)
+    × (asked.large ≡ is_large rows) × (asked.explain ≡ is_explained rows)
+IsRequest name rows (Follow asked) =
+    (name ≡ codes "follow") × (Some asked.order.now ≡ first_of (codes "ORDER") rows) × (text_of asked.plan ≡ plan_word rows)
+    × (asked.json ≡ has_json rows) × (asked.large ≡ is_large rows) × (asked.explain ≡ is_explained rows)
+IsRequest name rows (Why asked) =
+    (name ≡ codes "why") × NamesCall (codes "P") (codes "N") rows asked.first × NamesCall (codes "Q") (codes "M") rows asked.second
+    × (text_of asked.plan ≡ plan_word rows) × (asked.lines ≡ has_lines rows) × (asked.json ≡ has_json rows)
+    × (asked.large ≡ is_large rows) × (asked.explain ≡ is_explained rows)
+IsRequest name rows (Migrate asked) =
+    (name ≡ codes "migrate") × (text_of asked.plan ≡ plan_word rows) × (asked.large ≡ is_large rows) × (asked.explain ≡ is_explained rows)
+IsRequest name rows (Witness asked) =
+    (name ≡ codes "witness") × NamesCall (codes "P") (codes "N") rows asked.first × NamesCall (codes "Q") (codes "M") rows asked.second
+    × (Some asked.orders ≡ orders_said rows) × (first_of (codes "most") rows ≡ None) × (text_of asked.plan ≡ plan_word rows)
+    × (asked.lines ≡ has_lines rows) × (asked.json ≡ has_json rows) × (asked.explain ≡ is_explained rows)
+IsRequest name rows (Witnesses asked) =
     (name ≡ codes "witness") × (first_of (codes "N") rows ≡ None) × (orders_said rows ≡ Some Both)
-    × (Some most ≡ most_said (most_word rows)) × (text_of plan ≡ first_of (codes "P") rows)
-    × (json ≡ has_json rows) × (explain ≡ is_explained rows)
+    × (Some asked.most ≡ most_said (most_word rows)) × (text_of asked.plan ≡ first_of (codes "P") rows)
+    × (asked.lines ≡ has_lines rows) × (asked.json ≡ has_json rows) × (asked.explain ≡ is_explained rows)
 
 -- the command that the words name requests this
 pub record IsRequestBy (command : Option (Text × List Row)) (request : Request) : Type 0 where
@@ -96,7 +102,7 @@ abbrev pub is_full : Text → List Row → Bool
 is_full name rows =
     list_any (bytes_eq name) (codes "check" ∷ codes "replay" ∷ codes "follow" ∷ codes "why" ∷ codes "migrate" ∷ codes "witness" ∷ []) && has_needed name rows
 
--- the words of `witness` are those of two calls; one order alone has no other form, and no `--most` goes with them
+-- the words of `witness` are those of two calls; one order alone has no form, and no `--most` goes with them
 abbrev pub is_of_pair : List Row → Bool
 is_of_pair rows =
     has_both (codes "P") (codes "N") rows && has_both (codes "Q") (codes "M") rows && is_some (orders_said rows) && not (is_some (first_of (codes "most") rows))

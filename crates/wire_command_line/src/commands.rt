@@ -14,7 +14,10 @@ use std::alloc::{AllocError, Global};
 const VERSION: &str = "0.1.0";
 
 /// What is said of `--json`.
-const JSON: &str = "Writes JSON instead of lines";
+const JSON: &str = "Writes JSON instead of text";
+
+/// What is said of `--lines` where an answer tells of calls one by one.
+const LINES: &str = "Tells the file and the line of each call, as editors and terminals open it";
 
 /// The file of scripts, which may be left out.
 fn file_argument<'a>(alloc: Global) -> Arg<'a>
@@ -99,7 +102,7 @@ fn with_large<'a>(alloc: Global, line: Command<'a>) -> Result<Command<'a>, Alloc
     with_plan(alloc, line)
 }
 
-/// A command with the two forms of its answer.
+/// A command with the forms of its answer: with lines of the file, as JSON, or both.
 fn with_forms<'a>(
     alloc: Global,
     line: Command<'a>,
@@ -116,7 +119,7 @@ fn check_command<'a>(alloc: Global) -> Result<Command<'a>, AllocError>
     ensures local { IfOk result (λ c. (fields_of c).has_globals ≡ false) }
 {
     let lines =
-        "Groups findings that are alike, and writes the lines of the file of one pair of each";
+        "Groups findings that are alike, and tells the file and the lines of the first two calls of each";
     let line = Command::new(alloc, "check").about(
         "Finds every race between the scripts, and every key that is put twice",
     );
@@ -164,8 +167,8 @@ fn why_command<'a>(alloc: Global) -> Result<Command<'a>, AllocError>
         .arg(needed_argument(alloc, "P", first))?
         .arg(needed_argument(alloc, "N", number))?
         .arg(needed_argument(alloc, "Q", "The process of the second call"))?
-        .arg(needed_argument(alloc, "M", "The number of that call"))?
-        .arg(flag(alloc, "json", JSON))?;
+        .arg(needed_argument(alloc, "M", "The number of that call"))?;
+    let line = with_forms(alloc, line, LINES)?;
     with_large(alloc, line)
 }
 
@@ -194,8 +197,8 @@ fn witness_command<'a>(alloc: Global) -> Result<Command<'a>, AllocError>
         .about(about)
         .arg(flag(alloc, "first", first))?
         .arg(flag(alloc, "second", second))?
-        .arg(most_argument(alloc))?
-        .arg(flag(alloc, "json", JSON))?
+        .arg(most_argument(alloc))?;
+    let line = with_forms(alloc, line, LINES)?
         .arg(optional_argument(alloc, "P", proc))?
         .arg(optional_argument(alloc, "N", "The number of that call"))?
         .arg(optional_argument(alloc, "Q", "The process of the second call"))?

@@ -12,5 +12,8 @@ pub mod wanted;
 pub use matching::asked;
 pub use number::workers_of;
 pub use reading::read_request;
-pub use request::{CallWords, Orders, Refusal, Request};
+pub use request::{
+    CallWords, CheckRequest, FollowRequest, MigrateRequest, Orders, PairRequest, RacesRequest,
+    Refusal, ReplayRequest, Request, WhyRequest,
+};
 pub use wanted::Asked;

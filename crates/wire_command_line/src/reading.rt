@@ -11,7 +11,10 @@ use crate::matching::{
     find_word, has_word, is_set, match_words, most_given, tell_missing, workers_given,
 };
 use crate::number::{most_of, workers_of};
-use crate::request::{CallWords, Orders, Refusal, Request};
+use crate::request::{
+    CallWords, CheckRequest, FollowRequest, MigrateRequest, Orders, PairRequest, RacesRequest,
+    Refusal, ReplayRequest, Request, WhyRequest,
+};
 use clap::ArgMatches;
 use std::alloc::Global;
 
@@ -44,24 +47,24 @@ fn read_call<'a>(found: &ArgMatches<'a>, proc: &str, number: &str) -> Option<Cal
 fn read_check<'a>(found: &ArgMatches<'a>) -> Request<'a>
     ensures { IsRequest (codes "check") (rows_of (found_of found.now)) result }
 {
-    Request::Check {
+    Request::Check(CheckRequest {
         plan: find_word(found, "FILE"),
         lines: is_set(found, "lines"),
         json: is_set(found, "json"),
         large: is_set(found, "large"),
         explain: is_set(found, "explain"),
-    }
+    })
 }
 
 /// What `migrate` is to do.
 fn read_migrate<'a>(found: &ArgMatches<'a>) -> Request<'a>
     ensures { IsRequest (codes "migrate") (rows_of (found_of found.now)) result }
 {
-    Request::Migrate {
+    Request::Migrate(MigrateRequest {
         plan: find_word(found, "FILE"),
         large: is_set(found, "large"),
         explain: is_set(found, "explain"),
-    }
+    })
 }
 
 /// What `replay` is to do, where the word of `--workers` is a number.
@@ -72,7 +75,7 @@ fn read_replay<'a>(found: &ArgMatches<'a>) -> Option<Request<'a>>
     let Some(workers) = workers_of(workers_given(found)) else {
         return None;
     };
-    Some(Request::Replay {
+    Some(Request::Replay(ReplayRequest {
         plan: find_word(found, "FILE"),
         workers,
         json: is_set(found, "json"),
@@ -80,7 +83,7 @@ fn read_replay<'a>(found: &ArgMatches<'a>) -> Option<Request<'a>>
         complete: is_set(found, "complete"),
         large: is_set(found, "large"),
         explain: is_set(found, "explain"),
-    })
+    }))
 }
 
 /// What `follow` is to do, where its order is given.
@@ -91,13 +94,13 @@ fn read_follow<'a>(found: &ArgMatches<'a>) -> Option<Request<'a>>
     let Some(order) = find_word(found, "ORDER") else {
         return None;
     };
-    Some(Request::Follow {
+    Some(Request::Follow(FollowRequest {
         order,
         plan: find_word(found, "FILE"),
         json: is_set(found, "json"),
         large: is_set(found, "large"),
         explain: is_set(found, "explain"),
-    })
+    }))
 }
 
 /// What `why` is to do, where its two calls are given.
@@ -111,25 +114,33 @@ fn read_why<'a>(found: &ArgMatches<'a>) -> Option<Request<'a>>
     let Some(second) = read_call(found, "Q", "M") else {
         return None;
     };
-    Some(Request::Why {
+    Some(Request::Why(WhyRequest {
         first,
         second,
         plan: find_word(found, "FILE"),
+        lines: is_set(found, "lines"),
         json: is_set(found, "json"),
         large: is_set(found, "large"),
         explain: is_set(found, "explain"),
-    })
+    }))
 }
 
-/// Which orders `witness` is to write, where not both are asked for by themselves, nor one as JSON.
+/// Whether the answer is to have a form of its own: with lines of the file, or as JSON.
+fn has_form(found: &ArgMatches<'_>) -> bool
+    ensures { result ≡ spec.has_form (rows_of (found_of found.now)) }
+{
+    is_set(found, "lines") || is_set(found, "json")
+}
+
+/// Which orders `witness` is to write, where not both are asked for by themselves, nor one in a form.
 fn read_orders(found: &ArgMatches<'_>) -> Option<Orders>
     ensures { result ≡ spec.orders_said (rows_of (found_of found.now)) }
 {
-    let json = is_set(found, "json");
+    let formed = has_form(found);
     match (is_set(found, "first"), is_set(found, "second")) {
         (false, false) => Some(Orders::Both),
-        (true, false) if !json => Some(Orders::OfFirst),
-        (false, true) if !json => Some(Orders::OfSecond),
+        (true, false) if !formed => Some(Orders::OfFirst),
+        (false, true) if !formed => Some(Orders::OfSecond),
         _ => None,
     }
 }
@@ -151,14 +162,15 @@ fn read_pair<'a>(found: &ArgMatches<'a>) -> Option<Request<'a>>
     if has_word(found, "most") {
         return None;
     }
-    Some(Request::Witness {
+    Some(Request::Witness(PairRequest {
         first,
         second,
         orders,
         plan: find_word(found, "FILE"),
+        lines: is_set(found, "lines"),
         json: is_set(found, "json"),
         explain: is_set(found, "explain"),
-    })
+    }))
 }
 
 /// What `witness` is to do about all races, where the options go with that.
@@ -173,12 +185,13 @@ fn read_all<'a>(found: &ArgMatches<'a>) -> Option<Request<'a>>
     let Some(most) = most_of(most_given(found)) else {
         return None;
     };
-    Some(Request::Witnesses {
+    Some(Request::Witnesses(RacesRequest {
         most,
         plan: find_word(found, "P"),
+        lines: is_set(found, "lines"),
         json: is_set(found, "json"),
         explain: is_set(found, "explain"),
-    })
+    }))
 }
 
 /// What `witness` is to do, where its words and options go together.

@@ -22,75 +22,102 @@ pub enum Orders {
     OfSecond,
 }
 
-/// What the program is to do. Without a plan's name, the plan comes from standard input.
+/// What `check` is to do: to find the races of a plan.
+#[derive(Clone, Copy, Debug)]
+pub struct CheckRequest<'a> {
+    /// Without a plan's name, the plan comes from standard input: so in each request.
+    pub plan: Option<&'a str>,
+    /// The line of the file is told of each call, and findings that are alike are grouped.
+    pub lines: bool,
+    /// JSON in place of text. It goes with `lines`.
+    pub json: bool,
+    /// The large limits hold, in place of those of the plan's version.
+    pub large: bool,
+    /// A fault is explained.
+    pub explain: bool,
+}
+
+/// What `replay` is to do: to run a plan.
+#[derive(Clone, Copy, Debug)]
+pub struct ReplayRequest<'a> {
+    pub plan: Option<&'a str>,
+    /// 65 for every greater number.
+    pub workers: usize,
+    pub json: bool,
+    /// Plans in which something is found are run too.
+    pub anyway: bool,
+    /// The first call that doesn't succeed is named.
+    pub complete: bool,
+    pub large: bool,
+    pub explain: bool,
+}
+
+/// What `follow` is to do: to run a plan in the order of a file.
+#[derive(Clone, Copy, Debug)]
+pub struct FollowRequest<'a> {
+    pub order: &'a str,
+    pub plan: Option<&'a str>,
+    pub json: bool,
+    pub large: bool,
+    pub explain: bool,
+}
+
+/// What `why` is to do: to tell which of two calls is before the other.
+#[derive(Clone, Copy, Debug)]
+pub struct WhyRequest<'a> {
+    pub first: CallWords<'a>,
+    pub second: CallWords<'a>,
+    pub plan: Option<&'a str>,
+    pub lines: bool,
+    pub json: bool,
+    pub large: bool,
+    pub explain: bool,
+}
+
+/// What `migrate` is to do: to write a plan under version 2 of the format.
+#[derive(Clone, Copy, Debug)]
+pub struct MigrateRequest<'a> {
+    pub plan: Option<&'a str>,
+    pub large: bool,
+    pub explain: bool,
+}
+
+/// What `witness` is to do with two calls: to show their race by two runs.
+#[derive(Clone, Copy, Debug)]
+pub struct PairRequest<'a> {
+    pub first: CallWords<'a>,
+    pub second: CallWords<'a>,
+    /// An order alone never comes with `lines` or `json`.
+    pub orders: Orders,
+    pub plan: Option<&'a str>,
+    pub lines: bool,
+    pub json: bool,
+    pub explain: bool,
+}
+
+/// What `witness` is to do without calls: to tell which races two runs show.
+#[derive(Clone, Copy, Debug)]
+pub struct RacesRequest<'a> {
+    /// How many races are tried, 1,000,000,000 for every greater number.
+    pub most: usize,
+    pub plan: Option<&'a str>,
+    pub lines: bool,
+    pub json: bool,
+    pub explain: bool,
+}
+
+/// What the program is to do.
 #[derive(Clone, Copy, Debug)]
 pub enum Request<'a> {
-    /// Finds the races of a plan.
-    Check {
-        plan: Option<&'a str>,
-        /// The line of the file is written for each call, and findings that are alike are grouped.
-        lines: bool,
-        /// JSON in place of lines of text.
-        json: bool,
-        /// The large limits hold, in place of those of the plan's version.
-        large: bool,
-        /// A fault is explained.
-        explain: bool,
-    },
-    /// Runs a plan.
-    Replay {
-        plan: Option<&'a str>,
-        /// 65 for every greater number.
-        workers: usize,
-        json: bool,
-        /// Plans in which something is found are run too.
-        anyway: bool,
-        /// The first call that doesn't succeed is named.
-        complete: bool,
-        large: bool,
-        explain: bool,
-    },
-    /// Runs a plan in the order of a file.
-    Follow {
-        order: &'a str,
-        plan: Option<&'a str>,
-        json: bool,
-        large: bool,
-        explain: bool,
-    },
-    /// Tells which of two calls is before the other.
-    Why {
-        first: CallWords<'a>,
-        second: CallWords<'a>,
-        plan: Option<&'a str>,
-        json: bool,
-        large: bool,
-        explain: bool,
-    },
-    /// Writes a plan under version 2 of the format.
-    Migrate {
-        plan: Option<&'a str>,
-        large: bool,
-        explain: bool,
-    },
-    /// Shows the race of two calls by two runs.
-    Witness {
-        first: CallWords<'a>,
-        second: CallWords<'a>,
-        /// An order alone never comes with `json`.
-        orders: Orders,
-        plan: Option<&'a str>,
-        json: bool,
-        explain: bool,
-    },
-    /// Tells which races two runs show.
-    Witnesses {
-        /// How many races are tried, 1,000,000,000 for every greater number.
-        most: usize,
-        plan: Option<&'a str>,
-        json: bool,
-        explain: bool,
-    },
+    Check(CheckRequest<'a>),
+    Replay(ReplayRequest<'a>),
+    Follow(FollowRequest<'a>),
+    Why(WhyRequest<'a>),
+    Migrate(MigrateRequest<'a>),
+    /// `witness` with two calls.
+    Witness(PairRequest<'a>),
+    /// `witness` without calls.
+    Witnesses(RacesRequest<'a>),
 }
 
 /// Why a command line requests nothing.

@@ -20,7 +20,7 @@ use wire_script::Size;
 use wire_types::{CallAt, Fault, Sink, Source};
 
 /// The two calls that the words of a question name.
-fn calls_named(
+pub fn calls_named(
     alloc: Global,
     scripts: &Scripts,
     words: [&str; 4],

@@ -47,7 +47,7 @@ impl Ended {
     }
 
     /// How a check ends that has so many findings.
-    fn of_count(count: usize) -> Ended
+    pub fn of_count(count: usize) -> Ended
         ensures { (findings : List Told) → count ≡ length findings → result ≡ spec.ended_with findings }
     {
         match count {

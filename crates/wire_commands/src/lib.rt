@@ -10,9 +10,10 @@ mod migrating;
 mod plain_run;
 mod reading;
 
-pub use asking::{why, why_in_form, why_sized};
+pub use asking::{calls_named, why, why_in_form, why_sized};
 pub use checking::{Ended, check, check_in_form, check_sized};
 pub use following::{follow, follow_in_form, follow_sized};
 pub use form::Form;
 pub use migrating::{migrate, migrate_sized};
 pub use plain_run::{plain, read_scripts};
+pub use reading::read_up_to;

@@ -155,3 +155,12 @@ module _ (tree : Data) (text : List ℕ) (told : has_float tree ≡ false → te
   races_told s findings shown counts numbers races is counted are =
       let whole : tree ≡ races_data (counts_data counts) (tried_data s findings shown) = is ∙ (λ i. races_data (counted i) (are i)) in
       told (ap has_float whole ∙ ap (λ x. x || false) (all_plain s findings shown)) ∙ ap (λ t. compact_text t ++ codes "\n") whole ∙ races_are s findings shown counts
+
+-- and of a part of one
+module _ (tree : Data) (text : List ℕ) (told : has_float tree ≡ false → text ≡ compact_text tree) where
+  pub run_told : (s : Scripts) (e : CallEnd) (order : List ℕ) → tree ≡ run_data s e order → text ≡ json.json_run s e order
+  run_told s e order is =
+      told (ap has_float is ∙ run_plain s (replied_value e) (map (name_of s) order) (end_word e)) ∙ ap compact_text is ∙ run_is s e order
+
+  pub counts_told : (counts : RaceCounts) → tree ≡ counts_data counts → text ≡ json.json_counts counts
+  counts_told counts is = told (ap has_float is) ∙ ap compact_text is ∙ counts_is counts

@@ -25,16 +25,23 @@ abbrev pub PrintableKept : Type 0
 PrintableKept = (text : List ℕ) → ArePrintable text → map printed text ≡ text
 
 -- a quote and a backslash have a backslash before them
+abbrev pub escaped_byte : ℕ → List ℕ
+escaped_byte b = if b == 34 || b == 92 then 92 ∷ b ∷ [] else b ∷ []
+
 abbrev pub escaped : List ℕ → List ℕ
-escaped = flat_map (λ b. if b == 34 || b == 92 then 92 ∷ b ∷ [] else b ∷ [])
+escaped = flat_map escaped_byte
 
 -- a text as a string
 abbrev pub quoted : List ℕ → List ℕ
 quoted text = codes "\"" ++ escaped (map printed text) ++ codes "\""
 
--- a list, its items with a comma between each two
+-- items with a comma between each two
+abbrev pub joined : List (List ℕ) → List ℕ
+joined items = join_with_byte 44 items
+
+-- a list of them
 abbrev pub bracketed : List (List ℕ) → List ℕ
-bracketed items = codes "[" ++ join_with_byte 44 items ++ codes "]"
+bracketed items = codes "[" ++ joined items ++ codes "]"
 
 -- the member of what a reply brings, none where it brings nothing
 abbrev pub value_member : Scripts → Value → List ℕ

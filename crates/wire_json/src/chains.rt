@@ -57,7 +57,7 @@ pub fn unordered_json(
 }
 
 /// Which of two calls comes before the other.
-fn which_word(first: bool) -> &'static str
+pub fn which_word(first: bool) -> &'static str
     ensures { result.now ≡ spec.which_word first }
 {
     if first { "first" } else { "second" }

@@ -103,9 +103,16 @@ pub(crate) fn line(alloc: Global, tree: Value) -> Result<Vec<u8>, AllocError>
     ensures { IfOk result (λ text. has_float (view tree) ≡ false
         → text.items ≡ compact_text (view tree) ++ codes "\n") }
 {
-    let text = tree.to_string(alloc);
-    drop(tree);
-    let mut text = text?.into_bytes();
+    let mut text = compact(alloc, tree)?;
     text.push(b'\n')?;
     Ok(text)
+}
+
+/// The compact text of a tree without floats.
+pub(crate) fn compact(alloc: Global, tree: Value) -> Result<Vec<u8>, AllocError>
+    ensures { IfOk result (λ text. has_float (view tree) ≡ false → text.items ≡ compact_text (view tree)) }
+{
+    let text = tree.to_string(alloc);
+    drop(tree);
+    Ok(text?.into_bytes())
 }

@@ -20,7 +20,7 @@ pub fn printable_text(alloc: Global, text: &[u8]) -> Result<String, AllocError>
 }
 
 /// A printable byte is itself, and any other a question mark.
-fn printable_byte(byte: u8) -> u8
+pub(crate) fn printable_byte(byte: u8) -> u8
     ensures printed { result ≡ spec.printed byte }
     ensures ascii { result < 128 }
 {

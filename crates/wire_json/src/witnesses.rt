@@ -9,7 +9,7 @@ ghost use Rattle.wire_json.specs.Witnesses as spec;
 ghost use Rattle.wire_json.specs.WitnessTrees as trees;
 
 use crate::chains::{ChainStep, Half, step_tree};
-use crate::forms::{line, names_of};
+use crate::forms::{compact, line, names_of};
 use crate::places::place_tree;
 use crate::strings::{printable_text, strings};
 use serde_json::{Value, json};
@@ -74,6 +74,22 @@ pub fn races_json(
     let races = tried_trees(alloc, scripts, findings, shown)?;
     let numbers = counts_tree(alloc, counts)?;
     line(alloc, races_tree(alloc, numbers, races)?)
+}
+
+/// A run, by the processes of its steps and how a call ends in it, as a part of a form.
+pub fn run_json(alloc: Global, scripts: &Scripts, run: RunTold<'_>) -> Result<Vec<u8>, AllocError>
+    ensures { IfOk result (λ text. text.items ≡ spec.json_run scripts.now run.entry.end.now (numbers_of run.entry.order.now)) }
+{
+    let tree = run_tree(alloc, scripts, run.end, run.order)?;
+    compact(alloc, tree)
+}
+
+/// How many races there are in all, and how many of them are shown, not shown and not tried, as a part of a form.
+pub fn counts_json(alloc: Global, counts: RaceCounts) -> Result<Vec<u8>, AllocError>
+    ensures { IfOk result (λ text. text.items ≡ spec.json_counts counts) }
+{
+    let tree = counts_tree(alloc, counts)?;
+    compact(alloc, tree)
 }
 
 /// A run: the processes of its steps, and how a call ends in it.

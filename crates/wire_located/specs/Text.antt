@@ -1,11 +1,10 @@
 -- The text of findings in groups: two lines for each group, and last how many findings and groups there are.
 use Rattle.std.specs.Prelude.{◌≡◌, ℕ, ◌==◌, List, [], ◌++◌, Option, Some, None, codes, decimal, length, slice_get, if◌then◌else◌}
 use Rattle.std.specs.List.{flat_map}
-use Rattle.wire_types.specs.declared.Call.{Call}
 use Rattle.wire_types.specs.declared.CallAt.{CallAt}
 use Rattle.wire_content.specs.Scripts.{Scripts, text_at}
 use Rattle.wire_races.specs.declared.finding.Finding.{Finding}
-use Rattle.wire_words.specs.Words.{call_text, verb_text}
+use Rattle.wire_words.specs.Words.{call_text, verb_text_in}
 use Rattle.wire_groups.specs.declared.Group.{Group}
 use Rattle.wire_located.specs.declared.label.Subject.{Subject}
 use Rattle.wire_located.specs.declared.label.Subject.TheVariants.{Rewrite, KeyRace, NameRace}
@@ -13,14 +12,9 @@ use Rattle.wire_located.specs.Place.{place_text}
 use Rattle.wire_located.specs.Label.{call_there, pair_of, subject_of}
 use Rattle.wire_located.specs.Grouped.{AreGroupsOf}
 
--- the verb of a call, nothing where there is none
-abbrev pub verb_in : Option Call → List ℕ
-verb_in None = []
-verb_in (Some call) = verb_text call
-
 -- a call: its process, its number from 1 and its verb
 abbrev pub said_call : Scripts → CallAt → List ℕ
-said_call s call = call_text s call ++ codes " " ++ verb_in (call_there s call)
+said_call s call = call_text s call ++ codes " " ++ verb_text_in (call_there s call)
 
 -- one word, or another where they are many
 abbrev pub word_for : ℕ → List ℕ → List ℕ → List ℕ
@@ -47,8 +41,12 @@ abbrev pub first_line : List ℕ → Scripts → List (List ℕ) → Finding →
 first_line name s rows finding count =
     place_text name rows (pair_of finding).lower ++ counted s count (subject_of s finding) ++ codes ": " ++ said_call s (pair_of finding).lower ++ codes "\n"
 
+-- a call that goes with the one in the line above
+abbrev pub note_line : List ℕ → Scripts → List (List ℕ) → CallAt → List ℕ
+note_line name s rows call = place_text name rows call ++ codes "note: " ++ said_call s call ++ codes "\n"
+
 abbrev pub second_line : List ℕ → Scripts → List (List ℕ) → Finding → List ℕ
-second_line name s rows finding = place_text name rows (pair_of finding).higher ++ codes "note: " ++ said_call s (pair_of finding).higher ++ codes "\n"
+second_line name s rows finding = note_line name s rows (pair_of finding).higher
 
 abbrev pub lines_of_group : List ℕ → Scripts → List (List ℕ) → Option Finding → ℕ → List ℕ
 lines_of_group name s rows None count = []

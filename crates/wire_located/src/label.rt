@@ -46,13 +46,13 @@ pub struct Label {
 
 /// The two calls of a finding, as it names them.
 #[derive(Clone, Copy, Debug, PartialEq, Eq)]
-pub(crate) struct Pair {
+pub struct Pair {
     pub lower: CallAt,
     pub higher: CallAt,
 }
 
 /// The two calls of a finding.
-pub(crate) fn pair_of(finding: Finding) -> Pair
+pub fn pair_of(finding: Finding) -> Pair
     ensures { result ≡ spec.pair_of finding }
 {
     match finding {

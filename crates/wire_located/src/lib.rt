@@ -7,6 +7,6 @@ mod place;
 mod text;
 
 pub use grouping::group_findings;
-pub use label::{Deed, Label, Subject};
-pub use place::{Places, push_place};
-pub use text::located_text;
+pub use label::{Deed, Label, Pair, Subject, pair_of};
+pub use place::{Places, line_of, push_place};
+pub use text::{located_text, push_note, push_second};

@@ -37,7 +37,7 @@ fn push_name(out: &mut Vec<u8>, name: &[u8]) -> Result<(), AllocError>
 }
 
 /// The number of a call's line, 0 where it has none.
-fn line_of(rows: &[Vec<u64>], call: CallAt) -> u64
+pub fn line_of(rows: &[Vec<u64>], call: CallAt) -> u64
     ensures { result ≡ spec.line_of (map (λ row. row.items) rows.now) call }
 {
     match rows.get(call.proc.index()) {

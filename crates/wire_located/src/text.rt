@@ -3,7 +3,6 @@
 ghost use Rattle.std.specs.Prelude.{◌≡◌, ◌++◌, codes, map, OnOk, IfOk, IfErr};
 ghost use Rattle.std.specs.List.{flat_map};
 ghost use Rattle.wire_types.specs.declared.Fault.TheVariants.{Memory};
-ghost use Rattle.wire_located.specs.Label.{call_there};
 ghost use Rattle.wire_located.specs.Text as spec;
 ghost use Rattle.wire_located.specs.Text.{IsLocatedText};
 
@@ -15,17 +14,7 @@ use wire_content::Scripts;
 use wire_groups::Group;
 use wire_races::{Finding, FindingList};
 use wire_types::{CallAt, Fault};
-use wire_words::{find_call, push_call, push_number, verb};
-
-/// What the call at a place is called, empty where there is none.
-fn verb_there(scripts: &Scripts, place: CallAt) -> &'static str
-    ensures { result.now ≡ spec.verb_in (call_there scripts.now place) }
-{
-    match find_call(scripts, place) {
-        Some(call) => verb(call),
-        None => "",
-    }
-}
+use wire_words::{push_call, push_number, verb_at};
 
 /// Appends a call with its verb, and the end of the line.
 fn push_said(out: &mut Vec<u8>, scripts: &Scripts, call: CallAt) -> Result<(), AllocError>
@@ -33,7 +22,7 @@ fn push_said(out: &mut Vec<u8>, scripts: &Scripts, call: CallAt) -> Result<(), A
 {
     push_call(out, scripts, call)?;
     out.extend_from_slice(b" ")?;
-    out.extend_from_slice(verb_there(scripts, call).as_bytes())?;
+    out.extend_from_slice(verb_at(scripts, call).as_bytes())?;
     out.extend_from_slice(b"\n")
 }
 
@@ -97,8 +86,8 @@ fn push_first(
     push_said(out, scripts, lower)
 }
 
-/// Appends the second line of a group.
-fn push_second(
+/// Appends the second line of a group: the second call of its first finding.
+pub fn push_second(
     out: &mut Vec<u8>,
     places: Places<'_>,
     scripts: &Scripts,
@@ -107,10 +96,22 @@ fn push_second(
     ensures { OnOk result (out.new.items ≡ out.old.items
         ++ spec.second_line places.entry.name.now scripts.now (map (λ row. row.items) places.entry.rows.now) finding) }
 {
-    let higher = pair_of(finding).higher;
-    push_place(out, places, higher)?;
+    push_note(out, places, scripts, pair_of(finding).higher)
+}
+
+/// Appends the line of a call that goes with the one in the line above.
+pub fn push_note(
+    out: &mut Vec<u8>,
+    places: Places<'_>,
+    scripts: &Scripts,
+    call: CallAt,
+) -> Result<(), AllocError>
+    ensures { OnOk result (out.new.items ≡ out.old.items
+        ++ spec.note_line places.entry.name.now scripts.now (map (λ row. row.items) places.entry.rows.now) call) }
+{
+    push_place(out, places, call)?;
     out.extend_from_slice(b"note: ")?;
-    push_said(out, scripts, higher)
+    push_said(out, scripts, call)
 }
 
 /// Appends the lines of a group.

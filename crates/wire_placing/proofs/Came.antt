@@ -12,6 +12,7 @@ use Rattle.wire_commands.specs.Plain.{Refuses}
 use Rattle.wire_commands.proofs.Came.{refuses}
 use Rattle.wire_commands.proofs.FileFaults.{not_read}
 use Rattle.wire_placing.specs.Placed.{ReadPlaced}
+use Rattle.wire_placing.proofs.Fits.{rows_fit}
 
 -- what reads as scripts is within the limit, so it is all that was to come
 all_came : (size : Size) (all : List ℕ) (s : Scripts) → Reads size (take (file_bytes size + 1) all) (Ok s) → take (file_bytes size + 1) all ≡ all
@@ -20,11 +21,17 @@ all_came size all s (inr (within, reads)) = take_all (file_bytes size + 1) all (
 
 read_placed : {size : Size} (coming : Option (List ℕ)) (bytes shown : List ℕ) (s : Scripts) (rows : List (List ℕ)) → shown ≡ bytes → IfSome coming (λ all. bytes ≡ take (file_bytes size + 1) all) →
     Reads size shown (Ok s) → AreCallLines size shown rows → ReadPlaced size coming s rows
-read_placed None bytes shown s rows same front reads lines = record { bytes = shown; came = tt; reads = reads; lines = lines }
+read_placed None bytes shown s rows same front reads lines = record { bytes = shown; came = tt; reads = reads; lines = lines; fits = rows_fit shown s rows reads lines }
 read_placed {size} (Some all) bytes shown s rows same front reads lines =
     let cut : shown ≡ take (file_bytes size + 1) all = same ∙ front in
     let whole : shown ≡ all = cut ∙ all_came size all s (subst (λ t. Reads size t (Ok s)) cut reads) in
-    record { bytes = all; came = refl; reads = subst (λ t. Reads size t (Ok s)) whole reads; lines = subst (λ t. AreCallLines size t rows) whole lines }
+    record {
+      bytes = all;
+      came = refl;
+      reads = subst (λ t. Reads size t (Ok s)) whole reads;
+      lines = subst (λ t. AreCallLines size t rows) whole lines;
+      fits = rows_fit shown s rows reads lines;
+    }
 
 -- what the reading of all of them answers
 pub placed_ok : {A : Type 0} (size : Size) (coming : Option (List ℕ)) (bytes shown : List ℕ) (rows : A → List (List ℕ)) (r : Result (Scripts × A) Fault) → shown ≡ bytes →

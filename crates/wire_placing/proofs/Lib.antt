@@ -1,2 +1,7 @@
 mod Came
-mod Checked
+mod Fits
+mod Grouped
+mod Listed
+mod Ordered
+mod Paired
+mod Written

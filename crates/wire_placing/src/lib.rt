@@ -1,10 +1,17 @@
-//! The commands whose answers say where in the file each call stands, from bytes to bytes.
+//! The commands with `--lines`, whose answers say where in the file each call stands, from bytes to bytes.
 #![tactic(auto)]
 
-mod answer;
+mod asking;
+mod chains;
 mod checking;
 mod file;
+mod lined;
+mod pair;
+mod races;
 mod reading;
 
+pub use asking::why_located;
 pub use checking::check_located;
 pub use file::PlanFile;
+pub use pair::witness_located;
+pub use races::witnesses_located;

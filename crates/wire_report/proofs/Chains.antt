@@ -83,13 +83,13 @@ text_once once json s x y a b first second = go first second
 
 -- what the chains between the two events tell
 module _ (s : Scripts) (x y : CallAt) (from to : Event) (is_from : from ≡ first_event (plan_of s) x) (is_to : to ≡ first_event (plan_of s) y) where
-  is_chain : (chain : List Event) → IsShown (plan_of s) from to chain → Before (plan_of s) from to → IsCallChain (plan_of s) x y chain
+  pub is_chain : (chain : List Event) → IsShown (plan_of s) from to chain → Before (plan_of s) from to → IsCallChain (plan_of s) x y chain
   is_chain chain shown before = record {
     shown = subst (λ v. IsShown (plan_of s) v (first_event (plan_of s) y) chain) is_from (subst (λ w. IsShown (plan_of s) from w chain) is_to shown);
     before = subst (λ v. Before (plan_of s) v (first_event (plan_of s) y)) is_from (subst (λ w. Before (plan_of s) from w) is_to before);
   }
 
-  is_not : (Before (plan_of s) from to → ⊥) → IsCallBefore (plan_of s) x y → ⊥
+  pub is_not : (Before (plan_of s) from to → ⊥) → IsCallBefore (plan_of s) x y → ⊥
   is_not n before = n (subst (λ v. Before (plan_of s) v to) (sym is_from) (subst (λ w. Before (plan_of s) (first_event (plan_of s) x) w) (sym is_to) before))
 
 pub tells_before : (json : Bool) (s : Scripts) (x y : CallAt) (from to : Event) (chain : List Event) (text : List ℕ) → from ≡ first_event (plan_of s) x → to ≡ first_event (plan_of s) y

@@ -1,4 +1,4 @@
--- Events that are the plan's: for the contracts of private functions.
+-- Events that are the plan's.
 use Rattle.std.specs.Prelude.{◌≡◌, ℕ, ◌<◌, List, Some, slice_get}
 use Rattle.wire_runs.specs.Plan.{Plan, event_count}
 use Rattle.wire_types.specs.declared.Event.{Event}

@@ -42,7 +42,7 @@ pub fn ordered_text(
 }
 
 /// The first line of the text of a chain.
-fn order_line(first: bool) -> &'static [u8]
+pub fn order_line(first: bool) -> &'static [u8]
     ensures { result.now ≡ spec.order_line first }
 {
     if first {
@@ -66,7 +66,11 @@ fn ordered_json(
 }
 
 /// The events of a chain as its steps.
-fn chain_steps(alloc: Global, plan: &Plan, chain: &[Event]) -> Result<Vec<ChainStep>, AllocError>
+pub fn chain_steps(
+    alloc: Global,
+    plan: &Plan,
+    chain: &[Event],
+) -> Result<Vec<ChainStep>, AllocError>
     requires { AreThere (plan_of plan.now) chain.now }
     ensures { IfOk result (λ steps. steps.items ≡ map (spec.step_of plan.now) (map event_of chain.now)) }
 {
@@ -120,7 +124,7 @@ pub fn unordered_text(
 }
 
 /// Those of two calls whose event isn't live, once where they are one.
-fn dead_calls(
+pub fn dead_calls(
     alloc: Global,
     plan: &Plan,
     marks: &Marks,
@@ -217,7 +221,7 @@ fn push_call_at(out: &mut Vec<CallAt>, call: CallAt) -> Result<(), AllocError>
 }
 
 /// Appends the line of a call that is dead.
-fn push_dead_line(out: &mut Vec<u8>, scripts: &Scripts, call: CallAt) -> Result<(), AllocError>
+pub fn push_dead_line(out: &mut Vec<u8>, scripts: &Scripts, call: CallAt) -> Result<(), AllocError>
     ensures { OnOk result (out.new.items ≡ out.old.items ++ spec.dead_line scripts.now call) }
 {
     out.extend_from_slice(b"dead ")?;
@@ -237,7 +241,7 @@ fn push_events(out: &mut Vec<u8>, plan: &Plan, chain: &[Event]) -> Result<(), Al
 }
 
 /// Appends the line of an event of the plan.
-fn push_event(out: &mut Vec<u8>, plan: &Plan, event: Event) -> Result<(), AllocError>
+pub fn push_event(out: &mut Vec<u8>, plan: &Plan, event: Event) -> Result<(), AllocError>
     requires { event.at < event_count (plan_of plan.now) event.proc.number }
     ensures { OnOk result (out.new.items ≡ out.old.items ++ spec.event_line plan.now (event_of event)) }
 {

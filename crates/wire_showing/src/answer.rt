@@ -12,13 +12,13 @@ use wire_types::{Fault, Sink};
 
 /// What there is to write, and how the command ends.
 #[derive(Drop)]
-pub(crate) struct Answer {
+pub struct Answer {
     pub text: Vec<u8>,
     pub ended: Ended,
 }
 
 /// How a command ends that shows so many races.
-pub(crate) fn ended_of(shown: usize) -> Ended
+pub fn ended_of(shown: usize) -> Ended
     ensures { result ≡ spec.ended_of shown }
 {
     if shown == 0 {
@@ -28,7 +28,7 @@ pub(crate) fn ended_of(shown: usize) -> Ended
 }
 
 /// Writes the text of an answer, and says how the command ends.
-pub(crate) fn write_answer<W: Sink>(writer: &mut W, answer: &Answer) -> Result<Ended, Fault>
+pub fn write_answer<W: Sink>(writer: &mut W, answer: &Answer) -> Result<Ended, Fault>
     ensures ok { IfOk result (λ ended. (ended ≡ answer.now.ended) × Appends (W.written writer.old) (W.written writer.new) answer.now.text.items) }
     ensures quiet { OnOk result (W.failures writer.new ≡ W.failures writer.old) }
     ensures front { IfErr result (λ e. WritesFront (W.written writer.old) (W.written writer.new) answer.now.text.items e) }

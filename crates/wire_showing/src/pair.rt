@@ -1,6 +1,6 @@
 //! Two runs that show the race of two calls.
 
-ghost use Rattle.std.specs.Prelude.{◌≡◌, ◌≢◌, ◌⊎◌, Ok, Err, map, OnOk, IfOk, IfErr};
+ghost use Rattle.std.specs.Prelude.{◌≡◌, ◌≢◌, ◌⊎◌, Err, map, OnOk, IfOk, IfErr};
 ghost use Rattle.wire_types.specs.declared.Fault.TheVariants.{Memory, Read};
 ghost use Rattle.wire_types.specs.Counting.{one_more};
 ghost use Rattle.wire_commands.specs.Why.{Asks, StopsBeforeAnswer};
@@ -14,10 +14,9 @@ use crate::races::is_reported;
 use crate::texts::{no_race, not_shown, witness_text};
 use std::alloc::Global;
 use std::thread::Threads;
-use wire_commands::{Ended, read_scripts};
+use wire_commands::{Ended, calls_named, read_scripts};
 use wire_content::Scripts;
 use wire_marks::{MarkedPlan, Marks};
-use wire_order::{Question, calls_asked};
 use wire_plan::Plan;
 use wire_races::finding_list;
 use wire_script::Size;
@@ -38,7 +37,7 @@ fn shown(alloc: Global, scripts: &Scripts, witness: &Witness, part: Part) -> Res
 }
 
 /// The answer where no run shows the race.
-fn unshown(alloc: Global, part: Part) -> Result<Answer, Fault>
+pub fn unshown(alloc: Global, part: Part) -> Result<Answer, Fault>
     ensures text { IfOk result (λ answer. answer.text.items ≡ spec.not_shown_text part) }
     ensures ended { IfOk result (λ answer. answer.ended ≡ Clean) }
     ensures err { IfErr result (λ e. e ≡ Memory) }
@@ -51,7 +50,7 @@ fn unshown(alloc: Global, part: Part) -> Result<Answer, Fault>
 }
 
 /// The answer where the calls are no race.
-fn unreported(alloc: Global, part: Part) -> Result<Answer, Fault>
+pub fn unreported(alloc: Global, part: Part) -> Result<Answer, Fault>
     ensures text { IfOk result (λ answer. answer.text.items ≡ spec.no_race_text part) }
     ensures ended { IfOk result (λ answer. answer.ended ≡ Clean) }
     ensures err { IfErr result (λ e. e ≡ Memory) }
@@ -105,24 +104,6 @@ fn pair_answer(
     let marked = marks.with(plan);
     let answer = searched(alloc, &marked, calls, part)?;
     Ok(answer)
-}
-
-/// The two calls that the words of a question name.
-fn calls_named(
-    alloc: Global,
-    scripts: &Scripts,
-    words: [&str; 4],
-) -> Result<(CallAt, CallAt), Fault>
-    ensures ok { IfOk result (λ calls. Asks scripts.now (map (λ w. w.now) words.entry) (Ok calls)) }
-    ensures err { IfErr result (λ e. (e ≡ Memory) ⊎ Asks scripts.now (map (λ w. w.now) words.entry) (Err e)) }
-{
-    let question = Question {
-        proc: words[0],
-        number: words[1],
-        other_proc: words[2],
-        other_number: words[3],
-    };
-    calls_asked(alloc, scripts, question)
 }
 
 /// The answer to a question about a plan.

@@ -35,7 +35,7 @@ fn is_race_of(finding: Finding, x: CallAt, y: CallAt) -> bool
 }
 
 /// Whether a race of these calls is among the findings.
-pub(crate) fn is_reported(list: &FindingList, x: CallAt, y: CallAt) -> bool
+pub fn is_reported(list: &FindingList, x: CallAt, y: CallAt) -> bool
     ensures { IsTrue result ↔ IsReported list.now x y }
 {
     for number in 0..list.len() {
@@ -50,7 +50,7 @@ pub(crate) fn is_reported(list: &FindingList, x: CallAt, y: CallAt) -> bool
 }
 
 /// How many races there are among the findings.
-pub(crate) fn count_races(list: &FindingList) -> usize
+pub fn count_races(list: &FindingList) -> usize
     ensures { result ≡ length (spec.races_of list.now) }
 {
     let mut count = 0;
@@ -66,7 +66,7 @@ pub(crate) fn count_races(list: &FindingList) -> usize
 }
 
 /// The first races among the findings, so many at most.
-pub(crate) fn first_races(
+pub fn first_races(
     alloc: Global,
     list: &FindingList,
     most: usize,

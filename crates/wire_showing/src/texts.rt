@@ -108,7 +108,7 @@ fn push_ends(out: &mut Vec<u8>, scripts: &Scripts, witness: &Witness) -> Result<
 }
 
 /// Appends the line of the call that ends differently.
-fn push_shown(out: &mut Vec<u8>, scripts: &Scripts, call: CallAt) -> Result<(), AllocError>
+pub fn push_shown(out: &mut Vec<u8>, scripts: &Scripts, call: CallAt) -> Result<(), AllocError>
     ensures { OnOk result (out.new.items ≡ out.old.items ++ spec.shown_line scripts.now call) }
 {
     out.extend_from_slice(b"shown ")?;
@@ -119,7 +119,7 @@ fn push_shown(out: &mut Vec<u8>, scripts: &Scripts, call: CallAt) -> Result<(), 
 }
 
 /// Appends the line of how a call ends in a run.
-fn push_end_line(
+pub fn push_end_line(
     out: &mut Vec<u8>,
     run: &[u8],
     scripts: &Scripts,

@@ -20,7 +20,7 @@ use wire_words::{push_call, push_number};
 
 /// A race of which a witness was looked for.
 #[derive(Clone, Copy)]
-pub(crate) struct TriedRace {
+pub struct TriedRace {
     pub race: Finding,
     /// The call that ends differently in the two runs of a witness, where one was found.
     pub shown: Option<CallAt>,
@@ -53,7 +53,7 @@ fn add(tried: &mut Vec<TriedRace>, one: TriedRace) -> Result<(), AllocError>
 }
 
 /// Looks for a witness of each of these races.
-pub(crate) fn try_races(
+pub fn try_races(
     alloc: Global,
     marked: &MarkedPlan<'_>,
     races: &[Finding],
@@ -71,7 +71,7 @@ pub(crate) fn try_races(
 }
 
 /// How many of these races are shown.
-pub(crate) fn count_shown(tried: &[TriedRace]) -> usize
+pub fn count_shown(tried: &[TriedRace]) -> usize
     ensures { result ≡ spec.count_shown tried.now }
 {
     tried.iter().filter(|one| one.shown.is_some()).count()
@@ -137,7 +137,7 @@ fn shown_of(alloc: Global, tried: &[TriedRace]) -> Result<Vec<Option<CallAt>>, A
 }
 
 /// How many races there are in all, and how many of them are shown, not shown and not tried.
-fn counts_of(tried: &[TriedRace], count: usize) -> RaceCounts
+pub fn counts_of(tried: &[TriedRace], count: usize) -> RaceCounts
     ensures { result ≡ spec.counts_of tried.now count }
 {
     let shown = count_shown(tried);
@@ -169,13 +169,13 @@ fn push_lines(out: &mut Vec<u8>, scripts: &Scripts, tried: &[TriedRace]) -> Resu
     ensures { OnOk result (out.new.items ≡ out.old.items ++ flat_map (spec.tried_line scripts.now) tried.now) }
 {
     for one in tried {
-        push_line(out, scripts, *one)?;
+        push_tried(out, scripts, *one)?;
     }
     Ok(())
 }
 
 /// Appends the line of a race.
-fn push_line(out: &mut Vec<u8>, scripts: &Scripts, tried: TriedRace) -> Result<(), AllocError>
+pub fn push_tried(out: &mut Vec<u8>, scripts: &Scripts, tried: TriedRace) -> Result<(), AllocError>
     ensures { OnOk result (out.new.items ≡ out.old.items ++ spec.tried_line scripts.now tried) }
 {
     push_verdict(out, scripts, tried.shown)?;
@@ -207,7 +207,7 @@ fn push_shown_by(out: &mut Vec<u8>, scripts: &Scripts, call: CallAt) -> Result<(
 }
 
 /// Appends the last line: how many races there are, and how many are shown, not shown and not tried.
-fn push_counts(out: &mut Vec<u8>, tried: &[TriedRace], count: usize) -> Result<(), AllocError>
+pub fn push_counts(out: &mut Vec<u8>, tried: &[TriedRace], count: usize) -> Result<(), AllocError>
     ensures { OnOk result (out.new.items ≡ out.old.items ++ spec.counts_line tried.now count) }
 {
     push_count(out, b"races ".as_slice(), count)?;

@@ -13,8 +13,8 @@ returns-clause-app c =
     let one = with_argument _ _ _ _ _ c.in_ok-arg.ensures alone c.needed_argument.ensures.rule c.needed_argument.ensures.local in
     let two = with_argument _ _ _ _ _ c.in_ok-arg-2.ensures one c.needed_argument-2.ensures.rule c.needed_argument-2.ensures.local in
     let three = with_argument _ _ _ _ _ c.in_ok-arg-3.ensures two c.needed_argument-3.ensures.rule c.needed_argument-3.ensures.local in
-    let four = with_argument _ _ _ _ _ c.in_ok-arg-4.ensures three c.needed_argument-4.ensures.rule c.needed_argument-4.ensures.local in
-    let five = with_argument _ _ _ _ _ c.in_ok-line.ensures four c.flag.ensures.rule c.flag.ensures.local in
+    let four = with_argument _ _ _ _ _ c.in_ok-line.ensures three c.needed_argument-4.ensures.rule c.needed_argument-4.ensures.local in
+    let five = grown_by _ _ _ spec.with_forms c.in_ok-line-2.ensures four in
     IfOk-weaker c.with_large.result _ _ (λ new grows. (grown_by _ new _ spec.with_large grows five).is) c.with_large.ensures
 
 pub returns-clause-local : goal.returns-clause-local
@@ -24,6 +24,6 @@ returns-clause-local c =
     let one = with_argument _ _ _ _ _ c.in_ok-arg.ensures alone c.needed_argument.ensures.rule c.needed_argument.ensures.local in
     let two = with_argument _ _ _ _ _ c.in_ok-arg-2.ensures one c.needed_argument-2.ensures.rule c.needed_argument-2.ensures.local in
     let three = with_argument _ _ _ _ _ c.in_ok-arg-3.ensures two c.needed_argument-3.ensures.rule c.needed_argument-3.ensures.local in
-    let four = with_argument _ _ _ _ _ c.in_ok-arg-4.ensures three c.needed_argument-4.ensures.rule c.needed_argument-4.ensures.local in
-    let five = with_argument _ _ _ _ _ c.in_ok-line.ensures four c.flag.ensures.rule c.flag.ensures.local in
+    let four = with_argument _ _ _ _ _ c.in_ok-line.ensures three c.needed_argument-4.ensures.rule c.needed_argument-4.ensures.local in
+    let five = grown_by _ _ _ spec.with_forms c.in_ok-line-2.ensures four in
     IfOk-weaker c.with_large.result _ _ (λ new grows. (grown_by _ new _ spec.with_large grows five).local) c.with_large.ensures

@@ -1,7 +1,10 @@
 use Rattle.std.proofs.Common.{inl, refl, ap, Err}
 use Rattle.wire_commands.proofs.Replayed.{handed_on, not_ok, not_on_ok, same_error}
 use Rattle.wire_commands.proofs.Followed.{on_ok_too, err_always}
-use Rattle.wire_placing.proofs.Checked.{grouped_ok, grouped_err, clean_one_end, no_read_writing, memory_no_read}
+use Rattle.wire_commands.specs.Check.{StopsBeforeFindings}
+use Rattle.wire_placing.specs.Grouped.{IsGroupedVerdict}
+use Rattle.wire_placing.proofs.Written.{wrote_all, wrote_front, no_read_writing, memory_no_read}
+use Rattle.wire_placing.proofs.Grouped.{clean_one_end}
 use Rattle.wire_placing.proofs.checking.check_located.Goals as goal
 
 pub returns-in_err-scripts-clause-ok : goal.returns-in_err-scripts-clause-ok
@@ -43,12 +46,12 @@ returns-in_err-answer-clause-unfailed g c =
 
 pub returns-clause-ok : goal.returns-clause-ok
 returns-clause-ok g c =
-    grouped_ok c.args.file.name.now _ _ _ c.in_ok-scripts.scripts _ c.in_ok-answer.answer.text.items c.in_ok-answer.answer.ended c.write_answer.result
+    wrote_all (IsGroupedVerdict c.args.file.json c.args.file.name.now) _ _ _ c.in_ok-scripts.scripts _ c.in_ok-answer.answer.text.items c.in_ok-answer.answer.ended c.write_answer.result
     c.in_ok-scripts.ensures.ok (rw c.as_slice.ensures.value at c.in_ok-answer.ensures.ok) c.write_answer.ensures.ok
 
 pub returns-clause-one_end : goal.returns-clause-one_end
 returns-clause-one_end g c =
-    clean_one_end c.args.file.name.now _ (g.W.Sink.written c.args.writer.now) (g.W.Sink.written c.write_answer.new.writer) c.in_ok-scripts.scripts _ c.in_ok-answer.answer.text.items
+    clean_one_end c.args.file.json c.args.file.name.now _ (g.W.Sink.written c.args.writer.now) (g.W.Sink.written c.write_answer.new.writer) c.in_ok-scripts.scripts _ c.in_ok-answer.answer.text.items
     c.in_ok-answer.answer.ended c.write_answer.result c.in_ok-scripts.ensures.ok (rw c.as_slice.ensures.value at c.in_ok-answer.ensures.ok) c.write_answer.ensures.ok
 
 pub returns-clause-quiet : goal.returns-clause-quiet
@@ -56,9 +59,9 @@ returns-clause-quiet g c = on_ok_too c.write_answer.result _ _ (λ quiet. (c.in_
 
 pub returns-clause-err : goal.returns-clause-err
 returns-clause-err g c =
-    grouped_err c.args.file.name.now _ (g.W.Sink.written c.args.writer.now) (g.W.Sink.written c.write_answer.new.writer) c.in_ok-scripts.scripts _
-    c.in_ok-answer.answer.text.items c.in_ok-answer.answer.ended _ _ c.write_answer.result c.in_ok-scripts.ensures.ok (rw c.as_slice.ensures.value at c.in_ok-answer.ensures.ok)
-    c.write_answer.ensures.front c.write_answer.ensures.failed
+    wrote_front (IsGroupedVerdict c.args.file.json c.args.file.name.now) (StopsBeforeFindings c.args.file.size (g.R.Source.coming c.args.reader.now))
+    (g.R.Source.coming c.args.reader.now) (g.W.Sink.written c.args.writer.now) (g.W.Sink.written c.write_answer.new.writer) c.in_ok-scripts.scripts _ c.in_ok-answer.answer.text.items
+    c.in_ok-answer.answer.ended _ _ c.write_answer.result c.in_ok-scripts.ensures.ok (rw c.as_slice.ensures.value at c.in_ok-answer.ensures.ok) c.write_answer.ensures.front c.write_answer.ensures.failed
 
 pub returns-clause-read_failed : goal.returns-clause-read_failed
 returns-clause-read_failed g c is =
