@@ -3,7 +3,8 @@ use Rattle.std.specs.Prelude.{◌≡◌, ℕ, Bool, List, [], ◌∷◌, ◌++�
 use Rattle.std.specs.List.{list_all}
 use Rattle.std.specs.Str.{bytes_eq}
 use Rattle.wire_types.specs.declared.Fault.{Fault}
-use Rattle.wire_types.specs.declared.Fault.TheVariants.{Memory, TooLong, BadHeader, BadLine, UnknownName, Twice, NotMember, TooMany, Workers, Read, Write, NotReady, BadOrder}
+use Rattle.wire_types.specs.declared.Fault.TheVariants.{Memory, TooLong, BadHeader, BadLine, UnknownName, Twice, NotMember}
+use Rattle.wire_types.specs.declared.Fault.TheVariants.{TooMany, Workers, Read, Write, NotReady, BadOrder}
 use Rattle.wire_lines.specs.Said.{is_word_byte}
 use Rattle.wire_explain.specs.Near.{IsHint}
 use Rattle.wire_explain.specs.Format.{usage_of, format_words}

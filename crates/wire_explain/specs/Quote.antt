@@ -1,5 +1,6 @@
 -- How a line of a file is quoted.
-use Rattle.std.specs.Prelude.{ℕ, ◌-◌, ◌==◌, ◌||◌, ◌&&◌, Bool, nat_le, nat_lt, List, ◌++◌, length, take, Option, Some, None, codes, decimal, slice_get, if◌then◌else◌}
+use Rattle.std.specs.Prelude.{ℕ, ◌-◌, ◌==◌, ◌||◌, ◌&&◌, Bool, nat_le, nat_lt, List, ◌++◌, length}
+use Rattle.std.specs.Prelude.{take, Option, Some, None, codes, decimal, slice_get, if◌then◌else◌}
 use Rattle.std.specs.List.{list_all}
 use Rattle.wire_lines.specs.Text.{lines_of}
 

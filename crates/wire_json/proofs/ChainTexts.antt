@@ -101,7 +101,8 @@ places_plain s (call ∷ calls) = places_plain s calls
 
 -- the text of a tree that is known
 module _ (tree : Data) (text : List ℕ) (told : has_float tree ≡ false → text ≡ compact_text tree ++ codes "\n") where
-  pub chain_told : (s : Scripts) (first : Bool) (word : List ℕ) (steps : List ChainStep) (chain : List Data) → tree ≡ chain_data word chain → word ≡ json.which_word first → chain ≡ map (step_data s) steps →
+  pub chain_told : (s : Scripts) (first : Bool) (word : List ℕ) (steps : List ChainStep) (chain : List Data) → tree ≡ chain_data word chain →
+      word ≡ json.which_word first → chain ≡ map (step_data s) steps →
       text ≡ json.json_chain first s steps
   chain_told s first word steps chain is named are =
       let whole : tree ≡ chain_data (json.which_word first) (map (step_data s) steps) = is ∙ (λ i. chain_data (named i) (are i)) in

@@ -12,7 +12,8 @@ line_member line = codes ",\"line\":" ++ decimal line
 -- a step of a chain, whose call stands on this line: `{"call":1,"line":7,"proc":"app:0","verb":"put"}`
 abbrev pub lined_step : Scripts → ChainStep → ℕ → List ℕ
 lined_step scripts step line =
-    codes "{" ++ call_member step.call ++ half_member step.half ++ line_member line ++ proc_member scripts step.call ++ verb_member scripts step.call ++ codes "}"
+    codes "{" ++ call_member step.call ++ half_member step.half ++ line_member line
+    ++ proc_member scripts step.call ++ verb_member scripts step.call ++ codes "}"
 
 -- a call that stands on this line, by its process and number alone
 abbrev pub lined_place : Scripts → CallAt → ℕ → List ℕ

@@ -35,11 +35,13 @@ read_placed {size} (Some all) bytes shown s rows same front reads lines =
 
 -- what the reading of all of them answers
 pub placed_ok : {A : Type 0} (size : Size) (coming : Option (List ℕ)) (bytes shown : List ℕ) (rows : A → List (List ℕ)) (r : Result (Scripts × A) Fault) → shown ≡ bytes →
-    IfSome coming (λ all. bytes ≡ take (file_bytes size + 1) all) → IfOk r (λ x. Reads size shown (Ok x.0)) → IfOk r (λ x. AreCallLines size shown (rows x.1)) → IfOk r (λ x. ReadPlaced size coming x.0 (rows x.1))
+    IfSome coming (λ all. bytes ≡ take (file_bytes size + 1) all) → IfOk r (λ x. Reads size shown (Ok x.0)) →
+    IfOk r (λ x. AreCallLines size shown (rows x.1)) → IfOk r (λ x. ReadPlaced size coming x.0 (rows x.1))
 placed_ok size coming bytes shown rows (Ok x) same front reads lines = read_placed coming bytes shown x.0 (rows x.1) same front reads lines
 placed_ok size coming bytes shown rows (Err e) same front reads lines = tt
 
-placed_fault : {size : Size} (coming : Option (List ℕ)) (bytes shown : List ℕ) (e : Fault) → shown ≡ bytes → IfSome coming (λ all. bytes ≡ take (file_bytes size + 1) all) → (e ≡ Memory) ⊎ Reads size shown (Err e) → (e ≡ Memory)
+placed_fault : {size : Size} (coming : Option (List ℕ)) (bytes shown : List ℕ) (e : Fault) → shown ≡ bytes →
+    IfSome coming (λ all. bytes ≡ take (file_bytes size + 1) all) → (e ≡ Memory) ⊎ Reads size shown (Err e) → (e ≡ Memory)
     ⊎ ((e ≡ Read) ⊎ Refuses size coming e)
 placed_fault coming bytes shown e same front (inl memory) = inl memory
 placed_fault coming bytes shown e same front (inr reads) = inr (inr (refuses coming bytes shown e same front reads))

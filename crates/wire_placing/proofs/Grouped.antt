@@ -19,12 +19,14 @@ use Rattle.wire_placing.specs.Lined.{json_groups}
 use Rattle.wire_placing.specs.Grouped.{IsGroupedJson, IsGroupedText, IsGroupedVerdict}
 
 -- the groups of the findings as JSON
-pub as_json : (rows : List (List ℕ)) (s : Scripts) (found : List Finding) (groups shown : List Group) (text : List ℕ) → AreGroupsOf s found groups → text ≡ json_groups rows s found shown → shown ≡ groups →
+pub as_json : (rows : List (List ℕ)) (s : Scripts) (found : List Finding) (groups shown : List Group) (text : List ℕ) →
+    AreGroupsOf s found groups → text ≡ json_groups rows s found shown → shown ≡ groups →
     IsGroupedJson rows s found text
 as_json rows s found groups shown text grouped tells is = record { groups = groups; grouped = grouped; tells = tells ∙ ap (json_groups rows s found) is }
 
 -- the groups of the findings, and how the check ends
-pub grouped_so : (json : Bool) (name : List ℕ) (s shown : Scripts) (rows : List (List ℕ)) (found : List Finding) (text : List ℕ) (ended : Ended) → ((found ≡ []) ↔ IsSettled (plan_of s)) → AreFindings s found →
+pub grouped_so : (json : Bool) (name : List ℕ) (s shown : Scripts) (rows : List (List ℕ)) (found : List Finding) (text : List ℕ) (ended : Ended) →
+    ((found ≡ []) ↔ IsSettled (plan_of s)) → AreFindings s found →
     shown ≡ s → IsGroupedText json name rows shown found text → ended ≡ ended_with found → IsGroupedVerdict json name s rows text ended
 grouped_so json name s shown rows found text ended law those same told ends = record {
   found = found;

@@ -11,7 +11,8 @@ use Rattle.wire_report.specs.Chain.{AreDead}
 use Rattle.wire_report.proofs.Chains.{is_chain, is_not}
 use Rattle.wire_placing.specs.Chains.{chain_form, unordered_form, IsPlacedChain, PlacesBefore, PlacesAfter, PlacesUnordered}
 
-module _ (json : Bool) (name : List ℕ) (rows : List (List ℕ)) (s : Scripts) (x y : CallAt) (from to : Event) (text : List ℕ) (f : from ≡ first_event (plan_of s) x) (t : to ≡ first_event (plan_of s) y) where
+module _ (json : Bool) (name : List ℕ) (rows : List (List ℕ)) (s : Scripts) (x y : CallAt) (from to : Event) (text : List ℕ)
+    (f : from ≡ first_event (plan_of s) x) (t : to ≡ first_event (plan_of s) y) where
   pub places_before : (chain : List Event) → IsShown (plan_of s) from to chain → Before (plan_of s) from to → text ≡ chain_form json name rows true s chain → IsPlacedChain json name rows s x y text
   places_before chain shown before e = PlacesBefore chain (is_chain s x y from to f t chain shown before) e
 

@@ -19,7 +19,8 @@ wrote_all Tells coming old new s rows text ended (Ok e) read tells wrote =
 wrote_all Tells coming old new s rows text ended (Err e) read tells wrote = tt
 
 -- or the front of it that the fault counts
-pub wrote_front : {size : Size} (Tells : Scripts → List (List ℕ) → List ℕ → Ended → Type 0) (Stops : Fault → Type 0) (coming old new : Option (List ℕ)) (s : Scripts) (rows : List (List ℕ)) (text : List ℕ) (ended : Ended)
+pub wrote_front : {size : Size} (Tells : Scripts → List (List ℕ) → List ℕ → Ended → Type 0) (Stops : Fault → Type 0)
+    (coming old new : Option (List ℕ)) (s : Scripts) (rows : List (List ℕ)) (text : List ℕ) (ended : Ended)
     (kept failed : Type 0) (r : Result Ended Fault) → ReadPlaced size coming s rows → Tells s rows text ended → IfErr r (WritesFront old new text) → IfErr r (λ _. failed) →
     IfErr r (λ e. (Stops e × kept) ⊎ (BreaksOffPlaced size coming Tells old new e × failed))
 wrote_front Tells Stops coming old new s rows text ended kept failed (Ok e) read tells front count = tt
@@ -27,7 +28,8 @@ wrote_front Tells Stops coming old new s rows text ended kept failed (Err e) rea
     inr (record { scripts = s; rows = rows; read = read; text = text; ended = ended; tells = tells; wrote = front }, count)
 
 -- a wrong word stops a command before it writes
-pub wrong_word : {size : Size} (coming : Option (List ℕ)) (words : List (List ℕ)) (s : Scripts) (rows : List (List ℕ)) (e : Fault) → ReadPlaced size coming s rows → (e ≡ Memory) ⊎ Asks s words (Err e) →
+pub wrong_word : {size : Size} (coming : Option (List ℕ)) (words : List (List ℕ)) (s : Scripts) (rows : List (List ℕ)) (e : Fault) →
+    ReadPlaced size coming s rows → (e ≡ Memory) ⊎ Asks s words (Err e) →
     StopsBeforeAnswer size coming words e
 wrong_word coming words s rows e read wrong = word_stops coming words s e (record { bytes = read.bytes; came = read.came; reads = read.reads }) wrong
 

@@ -8,7 +8,8 @@ use Rattle.wire_commands.specs.Why.{Asks}
 use Rattle.wire_placing.specs.Chains.{IsPlacedChain}
 
 -- the words name two calls of the scripts, and the text tells their order. A question finds nothing, so it ends clean
-pub record AnswersPlaced (json : Bool) (name : List ℕ) (words : List (List ℕ)) (scripts : Scripts) (rows : List (List ℕ)) (text : List ℕ) (ended : Ended) : Type 0 where
+pub record AnswersPlaced (json : Bool) (name : List ℕ) (words : List (List ℕ)) (scripts : Scripts)
+    (rows : List (List ℕ)) (text : List ℕ) (ended : Ended) : Type 0 where
   pub x : CallAt
   pub y : CallAt
   pub asks : Asks scripts words (Ok (x, y))

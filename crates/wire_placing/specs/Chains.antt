@@ -32,7 +32,9 @@ unordered_form true name rows scripts dead = json_unordered rows scripts dead
 pub data IsPlacedChain (json : Bool) (name : List ℕ) (rows : List (List ℕ)) (scripts : Scripts) (x y : CallAt) (text : List ℕ) : Type 0 where
   PlacesBefore : (chain : List Event) → IsCallChain (plan_of scripts) x y chain → text ≡ chain_form json name rows true scripts chain →
       IsPlacedChain json name rows scripts x y text
-  PlacesAfter : (chain : List Event) → (IsCallBefore (plan_of scripts) x y → ⊥) → IsCallChain (plan_of scripts) y x chain → text ≡ chain_form json name rows false scripts chain →
+  PlacesAfter : (chain : List Event) → (IsCallBefore (plan_of scripts) x y → ⊥) → IsCallChain (plan_of scripts) y x chain →
+      text ≡ chain_form json name rows false scripts chain →
       IsPlacedChain json name rows scripts x y text
-  PlacesUnordered : (dead : List CallAt) → (IsCallBefore (plan_of scripts) x y → ⊥) → (IsCallBefore (plan_of scripts) y x → ⊥) → AreDead (plan_of scripts) x y dead →
+  PlacesUnordered : (dead : List CallAt) → (IsCallBefore (plan_of scripts) x y → ⊥) →
+      (IsCallBefore (plan_of scripts) y x → ⊥) → AreDead (plan_of scripts) x y dead →
       text ≡ unordered_form json name rows scripts dead → IsPlacedChain json name rows scripts x y text

@@ -40,7 +40,8 @@ json_unordered rows scripts dead = codes "{\"before\":null,\"dead\":" ++ bracket
 -- the first members of a finding: its two calls, and its words
 unfoldable pub finding_members : List (List ℕ) → Scripts → Finding → List ℕ
 finding_members rows scripts finding =
-    codes "{\"calls\":[" ++ json_call rows scripts (pair_of finding).lower ++ codes "," ++ json_call rows scripts (pair_of finding).higher ++ codes "],\"finding\":"
+    codes "{\"calls\":[" ++ json_call rows scripts (pair_of finding).lower ++ codes ","
+    ++ json_call rows scripts (pair_of finding).higher ++ codes "],\"finding\":"
     ++ quoted (finding_words scripts finding)
 
 abbrev pub json_finding : List (List ℕ) → Scripts → Finding → List ℕ

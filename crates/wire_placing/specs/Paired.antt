@@ -44,7 +44,8 @@ placed_witness false name rows scripts other witness = placed_lines name rows sc
 placed_witness true name rows scripts other witness = json_witness rows scripts other witness
 
 -- it is written with both calls
-pub record IsPlacedWitness (json : Bool) (name : List ℕ) (rows : List (List ℕ)) (scripts : Scripts) (x y : CallAt) (witness : Witness) (text : List ℕ) : Type 0 where
+pub record IsPlacedWitness (json : Bool) (name : List ℕ) (rows : List (List ℕ)) (scripts : Scripts)
+    (x y : CallAt) (witness : Witness) (text : List ℕ) : Type 0 where
   pub other : CallAt
   pub both : AreBoth x y witness.call other
   pub tells : text ≡ placed_witness json name rows scripts other witness
@@ -68,7 +69,8 @@ pub data IsPlacedPair (json : Bool) (name : List ℕ) (rows : List (List ℕ)) (
       IsPlacedPair json name rows scripts x y text ended
 
 -- the words name two calls of the scripts, and the text tells of them
-pub record ShowsPlaced (json : Bool) (name : List ℕ) (words : List (List ℕ)) (scripts : Scripts) (rows : List (List ℕ)) (text : List ℕ) (ended : Ended) : Type 0 where
+pub record ShowsPlaced (json : Bool) (name : List ℕ) (words : List (List ℕ)) (scripts : Scripts)
+    (rows : List (List ℕ)) (text : List ℕ) (ended : Ended) : Type 0 where
   pub x : CallAt
   pub y : CallAt
   pub asks : Asks scripts words (Ok (x, y))

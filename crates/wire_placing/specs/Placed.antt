@@ -19,7 +19,8 @@ pub record ReadPlaced (size : Size) (coming : Option (List ℕ)) (scripts : Scri
   pub fits : map length rows ≡ map (λ (p : Process). length p.calls) scripts.processes
 
 -- all of a text went out that tells this of the scripts and of the lines of their calls, and the command ends so
-pub record WritesPlaced (size : Size) (coming : Option (List ℕ)) (Tells : Scripts → List (List ℕ) → List ℕ → Ended → Type 0) (ended : Ended) (old new : Option (List ℕ)) : Type 0 where
+pub record WritesPlaced (size : Size) (coming : Option (List ℕ)) (Tells : Scripts → List (List ℕ) → List ℕ → Ended → Type 0)
+    (ended : Ended) (old new : Option (List ℕ)) : Type 0 where
   pub scripts : Scripts
   pub rows : List (List ℕ)
   pub read : ReadPlaced size coming scripts rows
@@ -28,7 +29,8 @@ pub record WritesPlaced (size : Size) (coming : Option (List ℕ)) (Tells : Scri
   pub wrote : Appends old new text
 
 -- exactly as many bytes of such a text went out as the fault says, which aren't all of it
-pub record BreaksOffPlaced (size : Size) (coming : Option (List ℕ)) (Tells : Scripts → List (List ℕ) → List ℕ → Ended → Type 0) (old new : Option (List ℕ)) (fault : Fault) : Type 0 where
+pub record BreaksOffPlaced (size : Size) (coming : Option (List ℕ)) (Tells : Scripts → List (List ℕ) → List ℕ → Ended → Type 0)
+    (old new : Option (List ℕ)) (fault : Fault) : Type 0 where
   pub scripts : Scripts
   pub rows : List (List ℕ)
   pub read : ReadPlaced size coming scripts rows

@@ -26,7 +26,8 @@ races_form false name rows scripts tried count = flat_map (placed_race name rows
 races_form true name rows scripts tried count = json_races rows scripts tried count
 
 -- these races were tried, of so many in all: each that the text calls shown has a witness, and it ends with as many as are shown
-pub record ArePlaced (json : Bool) (name : List ℕ) (rows : List (List ℕ)) (scripts : Scripts) (races : List Finding) (count : ℕ) (text : List ℕ) (ended : Ended) : Type 0 where
+pub record ArePlaced (json : Bool) (name : List ℕ) (rows : List (List ℕ)) (scripts : Scripts) (races : List Finding)
+    (count : ℕ) (text : List ℕ) (ended : Ended) : Type 0 where
   pub tried : List TriedRace
   pub those : map (λ one. one.race) tried ≡ races
   pub shown : AreTried (plan_of scripts) tried

@@ -30,7 +30,8 @@ fn grouped_json(
     places: Places<'_>,
     found: &FindingList,
 ) -> Result<Vec<u8>, Fault>
-    ensures ok { IfOk result (λ text. IsGroupedText true places.entry.name.now (map (λ row. row.items) places.entry.rows.now) scripts.now found.now text.items) }
+    ensures ok { IfOk result (λ text. IsGroupedText true places.entry.name.now
+        (map (λ row. row.items) places.entry.rows.now) scripts.now found.now text.items) }
     ensures err { IfErr result (λ e. e ≡ Memory) }
 {
     let groups = group_findings(alloc, scripts, found)?;

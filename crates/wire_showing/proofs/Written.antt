@@ -15,7 +15,8 @@ use Rattle.wire_showing.specs.Pair.{AnswersPair, WritesPair, BreaksOffPair}
 use Rattle.wire_showing.specs.All.{IsTriedText, WritesTried, BreaksOffTried}
 
 -- the answer about two calls goes out
-pub pair_ok : (coming : Option (List ℕ)) (words : List (List ℕ)) (part : Part) (old new : Option (List ℕ)) (s : Scripts) (text : List ℕ) (ended : Ended) (r : Result Ended Fault) → ReadAs OfVersion coming s →
+pub pair_ok : (coming : Option (List ℕ)) (words : List (List ℕ)) (part : Part) (old new : Option (List ℕ)) (s : Scripts) (text : List ℕ) (ended : Ended) (r : Result Ended Fault) →
+    ReadAs OfVersion coming s →
     AnswersPair s words part text ended → IfOk r (λ e. (e ≡ ended) × Appends old new text) → IfOk r (λ e. WritesPair coming words part e old new)
 pair_ok coming words part old new s text ended (Ok e) read answers wrote =
     record { scripts = s; read = read; text = text; answers = subst (AnswersPair s words part text) (sym wrote.0) answers; wrote = wrote.1 }
@@ -36,7 +37,8 @@ tried_ok {json} coming most old new s text ended (Ok e) read tells wrote =
     record { scripts = s; read = read; text = text; tells = subst (IsTriedText json s most text) (sym wrote.0) tells; wrote = wrote.1 }
 tried_ok {json} coming most old new s text ended (Err e) read tells wrote = tt
 
-pub tried_err : {json : Bool} (coming : Option (List ℕ)) (most : ℕ) (old new : Option (List ℕ)) (s : Scripts) (text : List ℕ) (ended : Ended) (kept failed : Type 0) (r : Result Ended Fault) → ReadAs OfVersion coming s →
+pub tried_err : {json : Bool} (coming : Option (List ℕ)) (most : ℕ) (old new : Option (List ℕ)) (s : Scripts) (text : List ℕ) (ended : Ended) (kept failed : Type 0) (r : Result Ended Fault) →
+    ReadAs OfVersion coming s →
     IsTriedText json s most text ended → IfErr r (WritesFront old new text) → IfErr r (λ _. failed) →
     IfErr r (λ e. (StopsBeforeFindings OfVersion coming e × kept) ⊎ (BreaksOffTried json coming most old new e × failed))
 tried_err coming most old new s text ended kept failed (Ok e) read tells front count = tt

@@ -1,5 +1,6 @@
 -- Races that were tried: whether a witness was found of each, and the text that tells it.
-use Rattle.std.specs.Prelude.{◌≡◌, ℕ, ◌-◌, Bool, true, false, List, [], ◌∷◌, ◌++◌, ⊤, Option, Some, None, is_some, IfSome, codes, count_by, decimal, length, map}
+use Rattle.std.specs.Prelude.{◌≡◌, ℕ, ◌-◌, Bool, true, false, List, [], ◌∷◌, ◌++◌, ⊤, Option, Some}
+use Rattle.std.specs.Prelude.{None, is_some, IfSome, codes, count_by, decimal, length, map}
 use Rattle.std.specs.List.{flat_map}
 use Rattle.wire_types.specs.declared.CallAt.{CallAt}
 use Rattle.wire_content.specs.Scripts.{Scripts}

@@ -6,8 +6,8 @@ mod replaying;
 
 pub use replaying::{Manner, Mode, Rehearsed, rehearse, rehearse_complete, rehearse_sized};
 pub use wire_command_line::{
-    Asked, CallWords, CheckRequest, FollowRequest, MigrateRequest, Orders, PairRequest, RacesRequest,
-    Refusal, ReplayRequest, Request, WhyRequest, asked, read_request, workers_of,
+    Asked, CallWords, CheckRequest, FollowRequest, MigrateRequest, Orders, PairRequest,
+    RacesRequest, Refusal, ReplayRequest, Request, WhyRequest, asked, read_request, workers_of,
 };
 pub use wire_commands::{
     Ended, Form, check, check_in_form, check_sized, follow, follow_in_form, follow_sized, migrate,

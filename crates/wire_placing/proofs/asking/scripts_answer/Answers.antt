@@ -13,7 +13,8 @@ returns-in_err-plan-clause-err c = handed_on c.from_residual.result c.in_err-pla
 
 pub returns-clause-ok : goal.returns-clause-ok
 returns-clause-ok c =
-    subst (λ s. IfOk c.plan_answer-answer.result (λ a. AnswersPlaced c.args.telling.json c.args.telling.places.name.now (map (λ w. w.now) c.args.words) s (map (λ row. row.items) c.args.telling.places.rows.now) a.text.items a.ended)) c.in_ok-plan.ensures.ok c.plan_answer-answer.ensures.ok
+    subst (λ s. IfOk c.plan_answer-answer.result (λ a. AnswersPlaced c.args.telling.json c.args.telling.places.name.now (map (λ w. w.now) c.args.words) s
+    (map (λ row. row.items) c.args.telling.places.rows.now) a.text.items a.ended)) c.in_ok-plan.ensures.ok c.plan_answer-answer.ensures.ok
 
 pub returns-clause-err : goal.returns-clause-err
 returns-clause-err c =

@@ -46,7 +46,8 @@ returns-in_err-answer-clause-unfailed g c =
 
 pub returns-clause-ok : goal.returns-clause-ok
 returns-clause-ok g c =
-    wrote_all (AnswersPlaced c.args.file.json c.args.file.name.now (map (λ w. w.now) c.args.words)) _ _ _ c.in_ok-scripts.scripts _ c.in_ok-answer.answer.text.items c.in_ok-answer.answer.ended c.write_answer.result
+    wrote_all (AnswersPlaced c.args.file.json c.args.file.name.now (map (λ w. w.now) c.args.words)) _ _ _ c.in_ok-scripts.scripts
+    _ c.in_ok-answer.answer.text.items c.in_ok-answer.answer.ended c.write_answer.result
     c.in_ok-scripts.ensures.ok (rw c.as_slice.ensures.value at c.in_ok-answer.ensures.ok) c.write_answer.ensures.ok
 
 pub returns-clause-quiet : goal.returns-clause-quiet
@@ -54,9 +55,11 @@ returns-clause-quiet g c = on_ok_too c.write_answer.result _ _ (λ quiet. (c.in_
 
 pub returns-clause-err : goal.returns-clause-err
 returns-clause-err g c =
-    wrote_front (AnswersPlaced c.args.file.json c.args.file.name.now (map (λ w. w.now) c.args.words)) (StopsBeforeAnswer c.args.file.size (g.R.Source.coming c.args.reader.now) (map (λ w. w.now) c.args.words))
+    wrote_front (AnswersPlaced c.args.file.json c.args.file.name.now (map (λ w. w.now) c.args.words))
+    (StopsBeforeAnswer c.args.file.size (g.R.Source.coming c.args.reader.now) (map (λ w. w.now) c.args.words))
     (g.R.Source.coming c.args.reader.now) (g.W.Sink.written c.args.writer.now) (g.W.Sink.written c.write_answer.new.writer) c.in_ok-scripts.scripts _ c.in_ok-answer.answer.text.items
-    c.in_ok-answer.answer.ended _ _ c.write_answer.result c.in_ok-scripts.ensures.ok (rw c.as_slice.ensures.value at c.in_ok-answer.ensures.ok) c.write_answer.ensures.front c.write_answer.ensures.failed
+    c.in_ok-answer.answer.ended _ _ c.write_answer.result c.in_ok-scripts.ensures.ok
+    (rw c.as_slice.ensures.value at c.in_ok-answer.ensures.ok) c.write_answer.ensures.front c.write_answer.ensures.failed
 
 pub returns-clause-read_failed : goal.returns-clause-read_failed
 returns-clause-read_failed g c is =

@@ -35,8 +35,10 @@ returns-in-Some-2-clause-ok c =
     let found = rw c.in-Some-2.is at c.in_ok-chain-2.ensures.shown in
     if_ok c.ordered_text-in-Some-2.result
     (λ text e. places_after c.args.telling.json c.args.telling.places.name.now (map (λ row. row.items) c.args.telling.places.rows.now) c.args.plan.now c.args.calls.0 c.args.calls.1
-    (event_of c.first_event-from.result) (event_of c.first_event-to.result) text.items c.first_event-from.ensures c.first_event-to.ensures (map event_of c.in-Some-2.chain.items) not_before found.0 found.1
-    (e ∙ (λ i. chain_form c.args.telling.json c.args.telling.places.name.now (map (λ row. row.items) c.args.telling.places.rows.now) false c.args.plan.now (map event_of (c.as_slice-in-Some-2.ensures.value i)))))
+    (event_of c.first_event-from.result) (event_of c.first_event-to.result) text.items c.first_event-from.ensures c.first_event-to.ensures
+    (map event_of c.in-Some-2.chain.items) not_before found.0 found.1
+    (e ∙ (λ i. chain_form c.args.telling.json c.args.telling.places.name.now (map (λ row. row.items) c.args.telling.places.rows.now) false c.args.plan.now
+    (map event_of (c.as_slice-in-Some-2.ensures.value i)))))
     c.ordered_text-in-Some-2.ensures.ok
 
 pub returns-clause-ok : goal.returns-clause-ok

@@ -61,7 +61,8 @@ pub returns-clause-err : goal.returns-clause-err
 returns-clause-err g c =
     wrote_front (IsGroupedVerdict c.args.file.json c.args.file.name.now) (StopsBeforeFindings c.args.file.size (g.R.Source.coming c.args.reader.now))
     (g.R.Source.coming c.args.reader.now) (g.W.Sink.written c.args.writer.now) (g.W.Sink.written c.write_answer.new.writer) c.in_ok-scripts.scripts _ c.in_ok-answer.answer.text.items
-    c.in_ok-answer.answer.ended _ _ c.write_answer.result c.in_ok-scripts.ensures.ok (rw c.as_slice.ensures.value at c.in_ok-answer.ensures.ok) c.write_answer.ensures.front c.write_answer.ensures.failed
+    c.in_ok-answer.answer.ended _ _ c.write_answer.result c.in_ok-scripts.ensures.ok
+    (rw c.as_slice.ensures.value at c.in_ok-answer.ensures.ok) c.write_answer.ensures.front c.write_answer.ensures.failed
 
 pub returns-clause-read_failed : goal.returns-clause-read_failed
 returns-clause-read_failed g c is =

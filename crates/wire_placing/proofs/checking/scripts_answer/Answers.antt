@@ -4,4 +4,5 @@ use Rattle.wire_placing.proofs.checking.scripts_answer.Goals as goal
 
 pub returns-clause-ok : goal.returns-clause-ok
 returns-clause-ok g c =
-    subst (λ s. IfOk c.plan_answer-answer.result (λ a. IsGroupedVerdict c.args.telling.json c.args.telling.places.name.now s (map (λ row. row.items) c.args.telling.places.rows.now) a.text.items a.ended)) c.in_ok-plan.ensures.ok c.plan_answer-answer.ensures.ok
+    subst (λ s. IfOk c.plan_answer-answer.result (λ a. IsGroupedVerdict c.args.telling.json c.args.telling.places.name.now s
+    (map (λ row. row.items) c.args.telling.places.rows.now) a.text.items a.ended)) c.in_ok-plan.ensures.ok c.plan_answer-answer.ensures.ok

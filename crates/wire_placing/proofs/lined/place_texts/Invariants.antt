@@ -5,4 +5,5 @@ use Rattle.wire_placing.proofs.lined.place_texts.Given as goal
 -- the texts that are made, and those that are left, are all of them
 abbrev pub invariant-loop-call : goal.invariant-loop-call
 invariant-loop-call l =
-    map (λ text. text.items) l.texts.items ++ map (json_place (map (λ row. row.items) l.rows) l.scripts) (drop l.call-index l.calls) ≡ map (json_place (map (λ row. row.items) l.rows) l.scripts) l.calls
+    map (λ text. text.items) l.texts.items ++ map (json_place (map (λ row. row.items) l.rows) l.scripts) (drop l.call-index l.calls)
+    ≡ map (json_place (map (λ row. row.items) l.rows) l.scripts) l.calls
