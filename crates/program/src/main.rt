@@ -25,10 +25,10 @@ use wire_placing::{PlanFile, check_located, why_located, witness_located, witnes
 use wire_sched::OpenGate;
 use wire_types::{Fault, FromRead, ToWrite, write_out};
 use wire_up::{
-    CallWords, CheckRequest, FollowRequest, Form, Manner, MigrateRequest, Mode, Orders, PairRequest,
-    Part, RacesRequest, Refusal, ReplayRequest, Request, Size, Tries, WhyRequest, check_in_form,
-    follow_in_form, migrate_sized, read_request, rehearse_complete, rehearse_sized, why_in_form,
-    witness, witnesses_in_form,
+    CallWords, CheckRequest, FollowRequest, Form, Manner, MigrateRequest, Mode, Orders,
+    PairRequest, Part, RacesRequest, Refusal, ReplayRequest, Request, Size, Tries, WhyRequest,
+    check_in_form, follow_in_form, migrate_sized, read_request, rehearse_complete, rehearse_sized,
+    why_in_form, witness, witnesses_in_form,
 };
 
 /// The exit status of what was done, where nothing is to be told by it.
@@ -546,7 +546,13 @@ fn show_races(
         let file = file_of(asked.plan, false, json);
         witnesses_located(rt, rt.alloc(), file, &mut reader, &mut writer, most)?
     } else {
-        witnesses_in_form(rt, rt.alloc(), &mut reader, &mut writer, Tries { most, json })?
+        witnesses_in_form(
+            rt,
+            rt.alloc(),
+            &mut reader,
+            &mut writer,
+            Tries { most, json },
+        )?
     };
     Ok(ended.status())
 }
