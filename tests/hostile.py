@@ -56,6 +56,15 @@ def refused(name, line):
     return grammar.Refused(name, line).said()
 
 
+def sweeps(names):
+    """A plan without findings in which two ranks publish the same names, one after the other, and take all away as often, and its report."""
+    calls = b"".join(b"publish x%d 1\n" % n for n in range(names)) + b"unpublish *\n" * names
+    words = [b"publish"] * names + [b"unpublish"] * names
+    first, second = words + [b"fence"], [b"fence"] + words
+    said = b"".join(b"app:%d %d %s PMIX_SUCCESS\n" % (rank, n, word) for rank, made in enumerate((first, second)) for n, word in enumerate(made, 1))
+    return HEAD.replace(b"1", b"2", 1) + b"rank n0\n" + calls + b"fence all\nrank n0\nfence all\n" + calls, said + b"waiting 0\n"
+
+
 def table():
     """Hostile files: what each is called, its text, and its report or what is said of it."""
     commits = b"".join(b"app:0 %d commit PMIX_SUCCESS\n" % n for n in range(1, COMMITS + 1))
@@ -76,6 +85,7 @@ def table():
     yield "512 ranks of version 2", HEAD.replace(b"1", b"2", 1) + b"rank n0\n" * 512, b"waiting 0\n"
     yield "513 ranks of version 2", HEAD.replace(b"1", b"2", 1) + b"rank n0\n" * 513, refused("TooMany", 516)
     yield "32,769 calls of version 2", HEAD.replace(b"1", b"2", 1) + b"rank n0\n" + b"commit\n" * 32_769, refused("TooMany", 32_773)
+    yield "8,190 sweeps of each of two ranks with 8,190 shared names", *sweeps(8_190)
     yield "a cut in the header", cut[: at[b"rehearsal"]], refused("BadHeader", 1)
     yield "a cut in a commit", cut[: at[b"commi"]], refused("BadLine", 7)
     yield "a cut in a node", cut[:second_rank], refused("UnknownName", 8)
