@@ -181,7 +181,7 @@ fn word_at<'a>(question: Question<'a>, place: u64) -> Option<&'a str> {
 /// Within which limits a plan and its order are read, where a command has an order.
 fn order_size(request: &Request<'_>) -> Size {
     match request {
-        Request::Follow { large, .. } => size_of(*large),
+        Request::Follow(asked) => size_of(asked.large),
         _ => Size::OfVersion,
     }
 }
