@@ -614,21 +614,21 @@ EXPLAINED = (
     ("a word that is near none", b"rehearsal 1\nnode n0\njob app\nbarrier\n", b"fault 4 BadLine 4\n  4 | barrier\n  expected: 'rank NODE' or 'job NAME'\n"),
     ("a word before the first job", b"rehearsal 2\nkeep\nnod n0\n", b"fault 4 BadLine 3\n  3 | nod n0\n  expected: 'node NAME' or 'job NAME', or 'keep' right below 'rehearsal 2'\n  nearest word: node\n"),
     ("as near as another", b"rehearsal 1\njob app\npet\n", b"fault 4 BadLine 3\n  3 | pet\n  expected: 'rank NODE' or 'job NAME'\n  nearest word: put\n"),
-    ("a line that is cut", b"rehearsal 1\nnode n0\njob app\nrank n0\nget app:0", b"fault 4 BadLine 5\n  5 | get app:0\n  expected: 'get JOB:RANK KEY', below a line 'rank'; RANK is 0 or doesn't begin with 0, KEY isn't '*'\n"),
-    ("a key that is none", b"rehearsal 1\nnode n0\njob app\nrank n0\nput global * v\n", b"fault 4 BadLine 5\n  5 | put global * v\n  expected: 'put SCOPE KEY VALUE', below a line 'rank'; SCOPE is local, remote or global, KEY isn't '*'\n"),
-    ("a byte that no word has", b"rehearsal 1\nnode n0\njob app\nrank n0\nput global k v\x80\n", b"fault 4 BadLine 5\n  5 | put global k v?\n  expected: words of printable ASCII alone\n"),
+    ("a line that is cut", b"rehearsal 1\nnode n0\njob app\nrank n0\nget app:0", b"fault 4 BadLine 5\n  5 | get app:0\n  expected: 'get JOB:RANK KEY', below a 'rank' line; RANK is 0, or up to nine digits that don't begin with 0; KEY isn't '*'\n"),
+    ("a key that is none", b"rehearsal 1\nnode n0\njob app\nrank n0\nput global * v\n", b"fault 4 BadLine 5\n  5 | put global * v\n  expected: 'put SCOPE KEY VALUE', below a 'rank' line; SCOPE is local, remote or global, KEY isn't '*'\n"),
+    ("a byte that no word has", b"rehearsal 1\nnode n0\njob app\nrank n0\nput global k v\x80\n", b"fault 4 BadLine 5\n  5 | put global k v?\n  expected: only printable ASCII in words\n"),
     ("a node after a job", b"rehearsal 1\njob app\nnode n0\n", b"fault 4 BadLine 3\n  3 | node n0\n  expected: 'node NAME', before the first job; a name is without ':', ',', '#' and '*'\n"),
     ("an empty file", b"", b"fault 3 BadHeader 1\n  1 | (the file ends here)\n  expected: 'rehearsal 1' or 'rehearsal 2', before all other lines\n"),
     ("a header misspelt", b"# mine\nrehersal 1\r\n", b"fault 3 BadHeader 2\n  2 | rehersal 1\n  expected: 'rehearsal 1' or 'rehearsal 2', before all other lines\n  nearest word: rehearsal\n"),
-    ("bytes of a terminal", b"rehearsal 1\n\x1b[2J\x07\x7f\xc3\xa4\tcommit\n", b"fault 4 BadLine 2\n  2 | ?[2J?????commit\n  expected: words of printable ASCII alone\n"),
+    ("bytes of a terminal", b"rehearsal 1\n\x1b[2J\x07\x7f\xc3\xa4\tcommit\n", b"fault 4 BadLine 2\n  2 | ?[2J?????commit\n  expected: only printable ASCII in words\n"),
     ("a long line", b"rehearsal 1\n" + b"x" * 121 + b"\n", b"fault 4 BadLine 2\n  2 | " + b"x" * 120 + b"..\n  expected: 'node NAME' or 'job NAME', or 'keep' right below 'rehearsal 2'\n"),
     ("a line just short enough", b"rehearsal 1\n" + b"x" * 120 + b"\n", b"fault 4 BadLine 2\n  2 | " + b"x" * 120 + b"\n  expected: 'node NAME' or 'job NAME', or 'keep' right below 'rehearsal 2'\n"),
     ("an unknown node", b"rehearsal 1\nnode n0\njob app\nrank n1\n", b"fault 5 UnknownName 4\n  4 | rank n1\n  expected: a node, a job or a rank that the file declares\n"),
-    ("a name told twice", b"rehearsal 1\nnode n0\nnode n0\n", b"fault 6 Twice 3\n  3 | node n0\n  expected: a name that no line of this kind above has\n"),
+    ("a name told twice", b"rehearsal 1\nnode n0\nnode n0\n", b"fault 6 Twice 3\n  3 | node n0\n  expected: a name that no earlier line of this kind has\n"),
     ("a fence without its caller", b"rehearsal 1\nnode n0\njob app\nrank n0\nfence app:1\nrank n0\n", b"fault 7 NotMember 5\n  5 | fence app:1\n  expected: a set with the rank that calls the fence\n"),
 )
 
-ORDERED = b"  expected: a rank of the plan, such as app:0, alone, in an order within its limit\n"
+ORDERED = b"  expected: one rank of the plan and nothing else, such as app:0, and an order within its size limit\n"
 
 # The words of a question, each wrong, with what explains it.
 ASKED = (

@@ -39,18 +39,18 @@ are_ascii words = list_all (λ word. list_all is_word_byte word) words
 abbrev pub expected_line : List ℕ → ℕ → List ℕ
 expected_line bytes line =
     if are_ascii (words_at bytes line) then unwrap_or (usage_of (first_in (words_at bytes line))) (expected_at (place_of bytes line))
-    else codes "words of printable ASCII alone"
+    else codes "only printable ASCII in words"
 
 -- what was expected, where a plan has this fault
 abbrev pub expected : List ℕ → Fault → List ℕ
 expected bytes Memory = codes "more memory"
-expected bytes (TooLong line) = codes "names and keys of at most 63 bytes, values of at most 255, and a file within the limit of its bytes"
+expected bytes (TooLong line) = codes "names and keys of at most 63 bytes, values of at most 255, and a file within its size limit"
 expected bytes (BadHeader line) = codes "'rehearsal 1' or 'rehearsal 2', before all other lines"
 expected bytes (BadLine line) = expected_line bytes line
 expected bytes (UnknownName line) = codes "a node, a job or a rank that the file declares"
-expected bytes (Twice line) = codes "a name that no line of this kind above has"
+expected bytes (Twice line) = codes "a name that no earlier line of this kind has"
 expected bytes (NotMember line) = codes "a set with the rank that calls the fence"
-expected bytes (TooMany line) = codes "no more nodes, jobs, ranks or calls than the limits; --large has larger ones"
+expected bytes (TooMany line) = codes "no more nodes, jobs, ranks or calls than the limits (with --large, which 'witness' doesn't take, they are larger)"
 expected bytes Workers = codes "1 to 64 workers"
 expected bytes Read = codes "a file that can be opened and read"
 expected bytes (Write count) = codes "an output that can be written"

@@ -5,7 +5,7 @@ use Rattle.wire_explain.specs.Quote.{shown_bytes, front_of, quoted, labelled}
 -- a line of an order: it, and what was expected there
 abbrev pub order_explanation : List ℕ → ℕ → List ℕ
 order_explanation bytes line =
-    quoted bytes line ++ labelled (codes "  expected: ") (codes "a rank of the plan, such as app:0, alone, in an order within its limit")
+    quoted bytes line ++ labelled (codes "  expected: ") (codes "one rank of the plan and nothing else, such as app:0, and an order within its size limit")
 
 -- a byte of a word, as it is shown on one line
 abbrev pub in_line : ℕ → ℕ

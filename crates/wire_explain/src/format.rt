@@ -17,39 +17,42 @@ static USAGES: [(&str, &str); 14] = [
         "'node NAME', before the first job; a name is without ':', ',', '#' and '*'",
     ),
     ("job", "'job NAME'; a name is without ':', ',', '#' and '*'"),
-    ("rank", "'rank NODE', below a line 'job'"),
+    (
+        "rank",
+        "'rank NODE', below a 'job' line; a name is without ':', ',', '#' and '*'",
+    ),
     (
         "put",
-        "'put SCOPE KEY VALUE', below a line 'rank'; SCOPE is local, remote or global, KEY isn't '*'",
+        "'put SCOPE KEY VALUE', below a 'rank' line; SCOPE is local, remote or global, KEY isn't '*'",
     ),
-    ("commit", "'commit' alone, below a line 'rank'"),
+    ("commit", "'commit' alone, below a 'rank' line"),
     (
         "fence",
-        "'fence all' or 'fence JOB:RANK,JOB:*', then nothing or 'collect', below a line 'rank'; RANK is 0 or doesn't begin with 0",
+        "'fence all' or 'fence ITEM,ITEM,..', then nothing or 'collect', below a 'rank' line; ITEM is JOB:RANK or JOB:*, RANK as for 'get'",
     ),
     (
         "get",
-        "'get JOB:RANK KEY', below a line 'rank'; RANK is 0 or doesn't begin with 0, KEY isn't '*'",
+        "'get JOB:RANK KEY', below a 'rank' line; RANK is 0, or up to nine digits that don't begin with 0; KEY isn't '*'",
     ),
     (
         "get-now",
-        "'get-now JOB:RANK KEY', below a line 'rank'; RANK is 0 or doesn't begin with 0, KEY isn't '*'",
+        "'get-now JOB:RANK KEY', below a 'rank' line; RANK is 0, or up to nine digits that don't begin with 0; KEY isn't '*'",
     ),
     (
         "publish",
-        "'publish NAME VALUE', below a line 'rank'; NAME isn't '*'",
+        "'publish NAME VALUE', below a 'rank' line; NAME isn't '*'",
     ),
     (
         "lookup",
-        "'lookup NAME', below a line 'rank'; NAME isn't '*'",
+        "'lookup NAME', below a 'rank' line; NAME isn't '*'",
     ),
     (
         "lookup-wait",
-        "'lookup-wait NAME', below a line 'rank'; NAME isn't '*'",
+        "'lookup-wait NAME', below a 'rank' line; NAME isn't '*'",
     ),
     (
         "unpublish",
-        "'unpublish NAME', or 'unpublish *' in version 2, below a line 'rank'",
+        "'unpublish NAME', or 'unpublish *' in version 2, below a 'rank' line",
     ),
 ];
 

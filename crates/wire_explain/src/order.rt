@@ -17,7 +17,7 @@ fn order_explanation(alloc: Global, bytes: &[u8], line: u64) -> Result<Vec<u8>, 
     push_labelled(
         &mut explanation,
         b"  expected: ",
-        b"a rank of the plan, such as app:0, alone, in an order within its limit",
+        b"one rank of the plan and nothing else, such as app:0, and an order within its size limit",
     )?;
     Ok(explanation)
 }

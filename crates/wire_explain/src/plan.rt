@@ -76,7 +76,7 @@ fn expected_line(alloc: Global, bytes: &[u8], line: u64) -> Result<&'static str,
 {
     let words = words_at(alloc, bytes, line)?;
     if !are_ascii(words.as_slice()) {
-        return Ok("words of printable ASCII alone");
+        return Ok("only printable ASCII in words");
     }
     if let Some(usage) = usage_of(first_in(words.as_slice())) {
         return Ok(usage);
@@ -92,13 +92,13 @@ fn expected(alloc: Global, bytes: &[u8], fault: Fault) -> Result<&'static str, A
         Fault::BadLine(line) => return expected_line(alloc, bytes, line),
         Fault::Memory => "more memory",
         Fault::TooLong(_) =>
-            "names and keys of at most 63 bytes, values of at most 255, and a file within the limit of its bytes",
+            "names and keys of at most 63 bytes, values of at most 255, and a file within its size limit",
         Fault::BadHeader(_) => "'rehearsal 1' or 'rehearsal 2', before all other lines",
         Fault::UnknownName(_) => "a node, a job or a rank that the file declares",
-        Fault::Twice(_) => "a name that no line of this kind above has",
+        Fault::Twice(_) => "a name that no earlier line of this kind has",
         Fault::NotMember(_) => "a set with the rank that calls the fence",
         Fault::TooMany(_) =>
-            "no more nodes, jobs, ranks or calls than the limits; --large has larger ones",
+            "no more nodes, jobs, ranks or calls than the limits (with --large, which 'witness' doesn't take, they are larger)",
         Fault::Workers => "1 to 64 workers",
         Fault::Read => "a file that can be opened and read",
         Fault::Write(_) => "an output that can be written",
