@@ -17,7 +17,8 @@ const VERSION: &str = "0.1.0";
 const JSON: &str = "Writes JSON instead of text";
 
 /// What is said of `--lines` where an answer tells of calls one by one.
-const LINES: &str = "Tells the file and the line of each call, as editors and terminals open it";
+const LINES: &str =
+    "Tells the file and the line of each call, in the form that editors and terminals open";
 
 /// The file of scripts, which may be left out.
 fn file_argument<'a>(alloc: Global) -> Arg<'a>
@@ -119,7 +120,7 @@ fn check_command<'a>(alloc: Global) -> Result<Command<'a>, AllocError>
     ensures local { IfOk result (λ c. (fields_of c).has_globals ≡ false) }
 {
     let lines =
-        "Groups findings that are alike, and tells the file and the lines of the first two calls of each";
+        "Groups findings that are alike, and tells where the calls of each group's first finding stand";
     let line = Command::new(alloc, "check").about(
         "Finds every race between the scripts, and every key that is put twice",
     );
