@@ -82,7 +82,7 @@ get_there plan x y owner key r = event_within plan y.proc y.at (GetNow owner key
 pub source_there : (plan : Plan) (x y : Event) (owner key : ℕ) → IsKeyRace plan x y owner key → x.at < event_count plan x.proc
 source_there plan x y owner key r = let s = source_is plan x y owner key r in event_within plan x.proc x.at s.what s.is
 
-differ : (plan : Plan) (x y : Event) (owner key : ℕ) → IsKeyRace plan x y owner key → x ≡ y → ⊥
+pub differ : (plan : Plan) (x y : Event) (owner key : ℕ) → IsKeyRace plan x y owner key → x ≡ y → ⊥
 differ plan x y owner key r e =
     let s = source_is plan x y owner key r in
     s.no_get owner key (same_Some _ _ (sym s.is ∙ ap (kind plan) e ∙ (race_open plan x y owner key r).is))

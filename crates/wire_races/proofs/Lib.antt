@@ -19,6 +19,7 @@ mod Swept
 mod SweepRaces
 pub mod Rivals
 pub mod OneList
+pub mod Pairs
 pub mod Marked
 pub mod Gathered
 pub mod Together

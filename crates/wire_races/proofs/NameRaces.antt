@@ -85,7 +85,7 @@ above_not m p lt le = omega (arith, lt, le)
 pub processes : (plan : Plan) (name p : ℕ) (calls : List Event) → AreCallsOn plan name calls → HoldsInFront (λ z. z.proc ≤ p) calls
 processes plan name p calls are k l y z lt e f le = up_to p y z (are.rising k l y z lt e f) le
 
-turned : (plan : Plan) (x y : Event) → IsUnordered plan x y → IsUnordered plan y x
+pub turned : (plan : Plan) (x y : Event) → IsUnordered plan x y → IsUnordered plan y x
 turned plan x y u = record { live_x = u.live_y; live_y = u.live_x; not_before = u.not_after; not_after = u.not_before }
 
 -- the calls of a race are unordered

@@ -60,7 +60,7 @@ same_number calls m n a b e = elim (cases_lt m n) [
 ]
 
 -- a call is told by its first event
-same_call : (plan : Plan) (v w : CallAt) → v.call < length (calls_of plan v.proc.number) → w.call < length (calls_of plan w.proc.number) → first_event plan v ≡ first_event plan w → v ≡ w
+pub same_call : (plan : Plan) (v w : CallAt) → v.call < length (calls_of plan v.proc.number) → w.call < length (calls_of plan w.proc.number) → first_event plan v ≡ first_event plan w → v ≡ w
 same_call plan v w a b e =
     let p : v.proc.number ≡ w.proc.number = ap (λ (x : Event). x.proc) e in
     let at : length (kinds_of (take v.call (calls_of plan v.proc.number))) ≡ length (kinds_of (take w.call (calls_of plan w.proc.number))) = ap (λ (x : Event). x.at) e in

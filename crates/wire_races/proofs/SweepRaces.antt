@@ -31,7 +31,7 @@ use Rattle.wire_races.proofs.Growing.{adds_both, adds_same}
 use Rattle.wire_races.proofs.NameRaces.{between_lower, race_lower, race_unordered, low_calls, high_calls, all_race, only_one}
 use Rattle.wire_races.proofs.Swept.{sweep_writes, sweep_publishes, facing_all, facing_rivals}
 
-none_contained : {A : Type 0} (x : A) → Contains [] x → ⊥
+pub none_contained : {A : Type 0} (x : A) → Contains [] x → ⊥
 none_contained x h = let lt = h.1 in omega (arith, lt)
 
 -- whether an event publishes a name, by its kind in the code

@@ -3,7 +3,7 @@ use Rattle.std.proofs.Common.{◌≡◌, ◌≢◌, ◌∙◌, inl, inr, ⊎_eli
 use Rattle.std.specs.Prelude.{slice_get, option_map, not}
 use Rattle.wire_types.specs.declared.Proc.{Proc}
 use Rattle.wire_content.specs.Scripts.{numbers_of}
-use Rattle.std.proofs.lemmas.Bool.{cases_eq, true≢false}
+use Rattle.std.proofs.lemmas.Bool.{cases_Bool, cases_eq, true≢false}
 use Rattle.std.proofs.lemmas.Option.{same_Some, slice_get_within, slice_get-map}
 use Rattle.wire_runs.specs.Plan.{Plan, Event, UnpublishAll, kind, event_count}
 use Rattle.wire_runs.specs.Names.{publishes, writes_name, calls_name}
@@ -183,6 +183,17 @@ module _ (plan : Plan) (name : ℕ) where
           let lt = slice_get_within publishes_ found.0 x found.1 in
           to.all found.0 x z (omega (arith, lt, end)) found.1 refl sweeps;
     }
+
+-- where no publish of the name is of the process, it doesn't publish the name
+pub none_publishes : (plan : Plan) (name p : ℕ) (publishes_ : List Event) → ArePublishes plan name publishes_ →
+    ((k : ℕ) (z : Event) → k < length publishes_ → slice_get publishes_ k ≡ Some z → z.proc ≡ p → ⊥) → publishes plan p name (event_count plan p) ≡ false
+none_publishes plan name p publishes_ are never = elim (cases_Bool (publishes plan p name (event_count plan p))) [
+  | inl t ↦
+      let w = published_at plan p name (event_count plan p) t in
+      let found = are.all (record { proc = p; at = w.0 }) w.2 in
+      absurd (never found.0 _ (slice_get_within publishes_ found.0 _ found.1) found.1 refl)
+  | inr f ↦ f
+]
 
 -- a process that can take away all its names is one of these
 abbrev pub IsKnown : Plan → ℕ → List Proc → Type 0

@@ -12,3 +12,6 @@ pub mod SweepRaces
 pub mod Pieces
 pub mod Fates
 pub mod Pasts
+pub mod Racing
+pub mod Reported
+pub mod Contested

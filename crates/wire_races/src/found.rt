@@ -149,6 +149,13 @@ impl Found {
         self.push_all(piece.subjects.as_slice(), piece.entries.as_slice())
     }
 
+    /// The findings as they were met.
+    pub(crate) fn as_met(self) -> FindingList
+        ensures { result ≡ self }
+    {
+        FindingList::new(self.entries, self.subjects)
+    }
+
     /// The findings of a plan with these names, each once, in their order. Where they were met so, nothing is
     /// moved.
     pub(crate) fn into_list(self, names: &Texts) -> FindingList

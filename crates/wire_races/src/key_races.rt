@@ -45,7 +45,7 @@ fn is_lower(x: Event, y: Event) -> bool
 }
 
 /// Whether two events are live and neither is before the other.
-fn are_unordered(marks: &Marks, x: Event, y: Event) -> bool
+pub(crate) fn are_unordered(marks: &Marks, x: Event, y: Event) -> bool
     ensures { (plan : runs.Plan) → AreMarks plan marks.now → (IsTrue result ↔ IsUnordered plan (event_of x) (event_of y)) }
 {
     marks.live(x) && marks.live(y) && !marks.before(x, y) && !marks.before(y, x)
@@ -370,7 +370,12 @@ fn add_get_now(
 }
 
 /// Adds the races of an event of the plan, where it is a get that is answered at once.
-fn add_event(plan: &Plan, marks: &Marks, found: &mut Found, event: Event) -> Result<(), AllocError>
+pub(crate) fn add_event(
+    plan: &Plan,
+    marks: &Marks,
+    found: &mut Found,
+    event: Event,
+) -> Result<(), AllocError>
     requires marks { AreMarks (plan_of plan.now) marks.now }
     requires found { AreFound (plan_of plan.now) found.old }
     requires there { event.at < event_count (plan_of plan.now) event.proc.number }

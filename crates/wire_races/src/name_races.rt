@@ -22,7 +22,7 @@ ghost use Rattle.wire_content.specs.Scripts.{numbers_of};
 use crate::call_races::{NameCall, add_races, unordered_with};
 use crate::found::Found;
 use crate::pieces::add_pieces;
-use crate::sweep_races::{add_sweep_races, sweepers_of};
+use crate::sweep_races::{add_sweep_races, is_publisher, sweepers_of};
 use rayon::prelude::*;
 use std::alloc::{AllocError, Global};
 use std::thread::Threads;
@@ -30,15 +30,15 @@ use wire_marks::{MarkedPlan, Marks};
 use wire_plan::{Kind, Plan};
 use wire_types::{Event, Proc};
 
-// Whether a call on a name alone can change what stands there.
-fn is_write(plan: &Plan, x: NameCall) -> bool
-    requires there { x.event.at < event_count (plan_of plan.now) x.event.proc.number }
-    requires plain { is_plain_call x.name (kind (plan_of plan.now) (event_of x.event)) ≡ true }
+/// Whether an event can change what stands under a name.
+pub(crate) fn is_write(plan: &Plan, x: NameCall) -> bool
+    requires { x.event.at < event_count (plan_of plan.now) x.event.proc.number }
     ensures { result ≡ writes_name (plan_of plan.now) x.name (event_of x.event) (kind (plan_of plan.now) (event_of x.event)) }
 {
     match plan.kind(x.event) {
         Kind::Publish { name } => name == x.name,
         Kind::Unpublish { name } => name == x.name,
+        Kind::UnpublishAll => is_publisher(plan, x.event.proc, x.name),
         _ => false,
     }
 }

@@ -6,6 +6,7 @@ ghost use Rattle.std.specs.List.Sorted.{IsStrictlyIncreasing, IsNonDecreasingBy}
 ghost use Rattle.wire_runs.specs.Plan.{event_of, kind, event_count};
 ghost use Rattle.wire_runs.specs.Plan as runs;
 ghost use Rattle.wire_runs.specs.Names.{is_publish};
+ghost use Rattle.wire_runs.specs.Names as runs_names;
 ghost use Rattle.wire_content.specs.Planned.{plan_of};
 ghost use Rattle.wire_content.specs.Scripts.{numbers_of};
 ghost use Rattle.wire_races.specs.Collected.{AreFound};
@@ -63,6 +64,19 @@ pub(crate) fn sweepers_of(alloc: Global, plan: &Plan, name: u32) -> Result<Vec<P
     Ok(procs)
 }
 
+/// Whether a process publishes a name.
+pub(crate) fn is_publisher(plan: &Plan, proc: Proc, name: u32) -> bool
+    ensures { result ≡ runs_names.publishes (plan_of plan.now) proc.number name (event_count (plan_of plan.now) proc.number) }
+{
+    let publishes = plan.publishes(name);
+    for publish in publishes {
+        if publish.proc.number == proc.number {
+            return true;
+        }
+    }
+    false
+}
+
 // The name that an event of the plan publishes, if it is a publish.
 fn published(plan: &Plan, event: Event) -> Option<u32>
     requires { event.at < event_count (plan_of plan.now) event.proc.number }
@@ -74,8 +88,8 @@ fn published(plan: &Plan, event: Event) -> Option<u32>
     }
 }
 
-// The names that a process publishes, each once.
-fn names_of(alloc: Global, plan: &Plan, proc: Proc) -> Result<Vec<u32>, AllocError>
+/// The names that a process publishes, each once.
+pub(crate) fn names_of(alloc: Global, plan: &Plan, proc: Proc) -> Result<Vec<u32>, AllocError>
     ensures those { IfOk result (λ names. ArePublished (plan_of plan.now) proc.number names.items) }
     ensures once { IfOk result (λ names. IsStrictlyIncreasing names.items) }
 {

@@ -7,8 +7,8 @@ use Rattle.wire_races.proofs.Rivals.{all_calls, all_writers, changing, higher_ca
 use Rattle.wire_races.proofs.NameRaces.{plain_calls}
 use Rattle.wire_races.proofs.name_races.rivals_of.Goals as goal
 
-pub is_write-requires-clause-there : goal.is_write-requires-clause-there
-is_write-requires-clause-there c = starts_within (plan_of c.args.plan.now) (event_of c.args.x.event) (starts_named (plan_of c.args.plan.now) c.args.x.name (event_of c.args.x.event)
+pub is_write-requires : goal.is_write-requires
+is_write-requires c = starts_within (plan_of c.args.plan.now) (event_of c.args.x.event) (starts_named (plan_of c.args.plan.now) c.args.x.name (event_of c.args.x.event)
     (plain_calls (plan_of c.args.plan.now) c.args.x.name (event_of c.args.x.event) _ c.requires.x))
 
 pub returns-then-is_write-clause-rivals : goal.returns-then-is_write-clause-rivals

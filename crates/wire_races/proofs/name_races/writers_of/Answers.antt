@@ -10,15 +10,11 @@ use Rattle.wire_races.proofs.Rivals.{IsWriterBelow, one_writer, no_writer, every
 use Rattle.wire_races.proofs.name_races.writers_of.Goals as goal
 use Rattle.wire_races.proofs.name_races.writers_of.Goals.{then-is_write+in_ok-push, else-is_write}
 
-pub is_write-requires-clause-there : goal.is_write-requires-clause-there
-is_write-requires-clause-there c =
+pub is_write-requires : goal.is_write-requires
+is_write-requires c =
     let plan = plan_of c.args.plan.now in
     let calls = c.name_calls-calls.result.now in
     plain_there plan c.args.name _ (c.name_calls-calls.ensures.only c.loop-event.event-index _ (place_at calls c.loop-event.event-index _ c.loop-event-test.true))
-
-pub is_write-requires-clause-plain : goal.is_write-requires-clause-plain
-is_write-requires-clause-plain c =
-    c.name_calls-calls.ensures.only c.loop-event.event-index _ (place_at c.name_calls-calls.result.now c.loop-event.event-index _ c.loop-event-test.true)
 
 pub loop-event-preserved : goal.loop-event-preserved
 loop-event-preserved c =
