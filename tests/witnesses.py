@@ -5,12 +5,13 @@ What it holds for each plan:
 
 - `witness` has a line for each race that `check` reports, in the same order, and its last line counts them. So it has with `--most 1`.
 - Of a race that it calls shown, `witness P N Q M` shows the same call, and `witness Q M P N` shows one too. The two orders that are written
-  are those of `--first` and `--second`. Each of these, followed, gives the end of that call that is written.
+  are those of `--first` and `--second`. Each of these, followed, gives the end of that call that is written, and the two ends that are written differ.
 - Of a race that it doesn't call shown, `witness P N Q M` says so, with status 0. Of two calls without a race it says that.
 
 Prints a line for each plan for which this fails, and last 'N passed, M failed'.
 """
 import glob
+import itertools
 import os
 import random
 import re
@@ -23,6 +24,11 @@ import soak
 
 TOP = os.path.dirname(os.path.dirname(os.path.abspath(__file__)))
 PLANS, MOST_RACES, SECONDS, SEED = 40, 4, 60, 1
+# A lookup can bring what two ranks published, and that is the same value. In the second plan only this tells the runs apart that are tried.
+ALIKE = (
+    "rank n0\npublish x v\nrank n0\npublish x v\nrank n0\nlookup x\n",
+    "rank n0\nget app:1 k\nlookup x\nrank n0\npublish x v\nput global k 1\ncommit\nunpublish x\nput global m 2\ncommit\nrank n0\nget app:1 m\npublish x v\n",
+)
 LAST = re.compile(r"races (\d+) shown (\d+) not-shown (\d+) not-tried (\d+)")
 
 
@@ -67,6 +73,7 @@ def is_shown(program, plan, room, words, call):
     want(lines[0].startswith(f"shown {call or ''}"), f"{words}: {lines[0]}, and in the list {call}")
     call = " ".join(lines[0].split()[1:3])
     first, second = lines[1].removeprefix("first "), lines[2].removeprefix("second ")
+    want(first != second, f"{words}: both ends are {first}")
     count = int(lines[3].removeprefix("order "))
     orders = lines[4 : 4 + count], lines[5 + count :]
     want(len(orders[1]) == int(lines[4 + count].removeprefix("order ")), f"{words}: the second order")
@@ -112,12 +119,14 @@ def look_at(program, plan, room, dice):
 
 
 def plans(room, dice, count):
-    """The examples, and random plans that are read."""
+    """The examples, plans in which values are alike, and random plans that are read."""
     yield from sorted(glob.glob(os.path.join(TOP, "examples", "*.plan")))
-    for number in range(count):
+    texts = [f"rehearsal 1\nnode n0\njob app\n{ranks}".encode() for ranks in ALIKE]
+    made = (b"".join(b" ".join(line) + b"\n" for line in soak.Maker(dice).lines()) for _ in range(count))
+    for number, text in enumerate(itertools.chain(texts, made)):
         path = os.path.join(room, f"{number}.plan")
         with open(path, "wb") as it:
-            it.write(b"".join(b" ".join(line) + b"\n" for line in soak.Maker(dice).lines()))
+            it.write(text)
         yield path
 
 
