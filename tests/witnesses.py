@@ -33,6 +33,11 @@ import soak
 TOP = os.path.dirname(os.path.dirname(os.path.abspath(__file__)))
 # How many random plans, and of at most how many calls. How many races of a plan are looked at, and how many of these are followed.
 PLANS, MOST_CALLS, MOST_RACES, MOST_FOLLOWED, SECONDS, SEED = 100, 100, 200, 2, 60, 1
+# A lookup can bring what two ranks published, and that is the same value. In the second plan only this tells the runs apart that are tried.
+ALIKE = (
+    "rank n0\npublish x v\nrank n0\npublish x v\nrank n0\nlookup x\n",
+    "rank n0\nget app:1 k\nlookup x\nrank n0\npublish x v\nput global k 1\ncommit\nunpublish x\nput global m 2\ncommit\nrank n0\nget app:1 m\npublish x v\n",
+)
 LAST = re.compile(r"races (\d+) shown (\d+) not-shown (\d+) not-tried (\d+)")
 
 
@@ -173,6 +178,15 @@ def random_plans(room, dice, count):
             count -= 1
 
 
+def alike_plans(room):
+    """Plans in which values are alike."""
+    for number, ranks in enumerate(ALIKE):
+        path = os.path.join(room, f"alike-{number}.plan")
+        with open(path, "w", encoding="ascii") as it:
+            it.write(f"rehearsal 1\nnode n0\njob app\n{ranks}")
+        yield path
+
+
 def plans_below(folders):
     """All plans in and below folders."""
     found = [os.path.join(here, name) for it in folders for here, _, names in os.walk(it) for name in names]
@@ -183,7 +197,7 @@ def all_plans(program, count=PLANS, folders=None):
     """Looks at all plans. Answers how many went well, and how many didn't."""
     dice, well, told = random.Random(SEED), [], collections.Counter()
     with tempfile.TemporaryDirectory(prefix="wire-up-") as room:
-        ours = [*sorted(glob.glob(os.path.join(TOP, "examples", "*.plan"))), *random_plans(room, dice, count)]
+        ours = [*sorted(glob.glob(os.path.join(TOP, "examples", "*.plan"))), *alike_plans(room), *random_plans(room, dice, count)]
         for plan in plans_below(folders) if folders else ours:
             if ran(program, "check", plan)[0] > 1:
                 continue

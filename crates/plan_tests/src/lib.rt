@@ -29,3 +29,5 @@ mod sweeps;
 mod tests;
 #[cfg(test)]
 mod texts;
+#[cfg(test)]
+mod witnesses;

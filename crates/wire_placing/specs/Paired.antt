@@ -2,7 +2,6 @@
 use Rattle.std.specs.Prelude.{◌≡◌, ◌⊎◌, ℕ, Bool, true, false, List, ◌++◌, Ok, codes}
 use Rattle.wire_types.specs.declared.CallAt.{CallAt}
 use Rattle.wire_content.specs.Scripts.{Scripts, numbers_of}
-use Rattle.wire_content.specs.Planned.{plan_of}
 use Rattle.wire_races.specs.declared.finding.Finding.{Finding}
 use Rattle.wire_races.specs.Findings.{AreFindings}
 use Rattle.wire_report.specs.Unsettled.{order_text}
@@ -57,7 +56,7 @@ part_of true = Json
 
 -- of a race: a witness is written, or that none was found. It ends with one finding exactly where a witness is written
 pub data IsPlacedSearch (json : Bool) (name : List ℕ) (rows : List (List ℕ)) (scripts : Scripts) (x y : CallAt) (text : List ℕ) (ended : Ended) : Type 0 where
-  PlacesWitness : (witness : Witness) → IsWitness (plan_of scripts) x y witness → IsPlacedWitness json name rows scripts x y witness text → ended ≡ Found 1 →
+  PlacesWitness : (witness : Witness) → IsWitness scripts x y witness → IsPlacedWitness json name rows scripts x y witness text → ended ≡ Found 1 →
       IsPlacedSearch json name rows scripts x y text ended
   PlacesNone : text ≡ not_shown_text (part_of json) → ended ≡ Clean → IsPlacedSearch json name rows scripts x y text ended
 

@@ -2,7 +2,6 @@
 use Rattle.std.specs.Prelude.{◌≡◌, ℕ, Bool, true, false, List, ◌++◌, length, map, take}
 use Rattle.std.specs.List.{flat_map}
 use Rattle.wire_content.specs.Scripts.{Scripts}
-use Rattle.wire_content.specs.Planned.{plan_of}
 use Rattle.wire_races.specs.declared.finding.Finding.{Finding}
 use Rattle.wire_races.specs.Findings.{AreFindings}
 use Rattle.wire_located.specs.Label.{pair_of}
@@ -30,7 +29,7 @@ pub record ArePlaced (json : Bool) (name : List ℕ) (rows : List (List ℕ)) (s
     (count : ℕ) (text : List ℕ) (ended : Ended) : Type 0 where
   pub tried : List TriedRace
   pub those : map (λ one. one.race) tried ≡ races
-  pub shown : AreTried (plan_of scripts) tried
+  pub shown : AreTried scripts tried
   pub tells : text ≡ races_form json name rows scripts tried count
   pub ends : ended ≡ ended_of (count_shown tried)
 

@@ -1,10 +1,10 @@
 -- Races that were tried, and one more.
-use Rattle.std.proofs.Common.{◌≡◌, ◌∙◌, ap, subst, sym, ℕ, suc, ◌+◌, List, [], ◌∷◌, ◌++◌, map, take, append_assoc, decimal, Option, Some, IfSome, Result, Ok, Err, OnOk, arith}
+use Rattle.std.proofs.Common.{◌≡◌, ◌∙◌, ap, subst, sym, ℕ, suc, ◌+◌, List, [], ◌∷◌, ◌++◌, map, take, append_assoc, decimal, Some, IfSome, Result, Ok, Err, OnOk, arith}
 use Rattle.std.specs.Prelude.{slice_get}
 use Rattle.std.specs.declared.alloc.AllocError.{AllocError}
 use Rattle.std.proofs.lemmas.List.{map-append}
 use Rattle.wire_types.specs.declared.CallAt.{CallAt}
-use Rattle.wire_runs.specs.Plan.{Plan}
+use Rattle.wire_content.specs.Scripts.{Scripts}
 use Rattle.wire_races.specs.declared.finding.Finding.{Finding}
 use Rattle.wire_witness.specs.Witness.{IsWitness}
 use Rattle.wire_witness.specs.declared.witness.Witness.{Witness}
@@ -13,12 +13,12 @@ use Rattle.wire_showing.specs.Tried.{IsShownBy, IsTried, AreTried}
 use Rattle.wire_showing.specs.declared.tried.TriedRace.{TriedRace}
 use Rattle.wire_showing.proofs.Fronts.{next}
 
-with_one : (plan : Plan) (tried : List TriedRace) (one : TriedRace) → AreTried plan tried → IsTried plan one → AreTried plan (tried ++ one ∷ [])
-with_one plan [] one are is = (is, tt)
-with_one plan (first ∷ others) one are is = (are.0, with_one plan others one are.1 is)
+with_one : (scripts : Scripts) (tried : List TriedRace) (one : TriedRace) → AreTried scripts tried → IsTried scripts one → AreTried scripts (tried ++ one ∷ [])
+with_one scripts [] one are is = (is, tt)
+with_one scripts (first ∷ others) one are is = (are.0, with_one scripts others one are.1 is)
 
-pub one_more : (plan : Plan) (tried later : List TriedRace) (one : TriedRace) → AreTried plan tried → IsTried plan one → later ≡ tried ++ one ∷ [] → AreTried plan later
-one_more plan tried later one are is at = subst (AreTried plan) (sym at) (with_one plan tried one are is)
+pub one_more : (scripts : Scripts) (tried later : List TriedRace) (one : TriedRace) → AreTried scripts tried → IsTried scripts one → later ≡ tried ++ one ∷ [] → AreTried scripts later
+one_more scripts tried later one are is at = subst (AreTried scripts) (sym at) (with_one scripts tried one are is)
 
 -- their races are those that were to be tried
 pub races_on : (tried later : List TriedRace) (one : TriedRace) (races : List Finding) (i : ℕ) (race : Finding) → map (λ t. t.race) tried ≡ take i races → later ≡ tried ++ one ∷ [] → one.race ≡ race →
@@ -28,10 +28,10 @@ races_on tried later one races i race so_far at same there =
     ap (map (λ t. t.race)) at ∙ map-append (λ t. t.race) tried (one ∷ []) ∙ (λ k. so_far k ++ same k ∷ []) ∙ sym (next races i race there) ∙ ap (λ n. take n races) more
 
 -- a witness of the calls of a race shows it
-pub shown_race : (plan : Plan) (race : Finding) (calls : CallAt × CallAt) (witness : Witness) → Some calls ≡ race_calls race → IsWitness plan calls.0 calls.1 witness →
-    IfSome (race_calls race) (IsShownBy plan witness.call)
-shown_race plan race calls witness is of_them =
-    subst (λ o. IfSome o (IsShownBy plan witness.call)) is (record { witness = witness; of_them = of_them; ends = λ i. witness.call })
+pub shown_race : (scripts : Scripts) (race : Finding) (calls : CallAt × CallAt) (witness : Witness) → Some calls ≡ race_calls race → IsWitness scripts calls.0 calls.1 witness →
+    IfSome (race_calls race) (IsShownBy scripts witness.call)
+shown_race scripts race calls witness is of_them =
+    subst (λ o. IfSome o (IsShownBy scripts witness.call)) is (record { witness = witness; of_them = of_them; ends = λ i. witness.call })
 
 -- two numbers behind their words
 pub both_counts : (r : Result (Unit {0}) AllocError) (start one new u v words others : List ℕ) (a b m n : ℕ) → one ≡ start ++ (u ++ decimal a) → OnOk r (new ≡ one ++ (v ++ decimal b)) →

@@ -4,7 +4,6 @@ use Rattle.std.specs.Io.KnownBytes.{Appends}
 use Rattle.wire_types.specs.Front.{WritesFront}
 use Rattle.wire_types.specs.declared.Fault.{Fault}
 use Rattle.wire_content.specs.Scripts.{Scripts}
-use Rattle.wire_content.specs.Planned.{plan_of}
 use Rattle.wire_script.specs.declared.Size.TheVariants.{OfVersion}
 use Rattle.wire_races.specs.declared.finding.Finding.{Finding}
 use Rattle.wire_races.specs.Findings.{AreFindings}
@@ -23,7 +22,7 @@ ended_of shown = if shown == 0 then Clean else Found shown
 pub record AreTold (json : Bool) (scripts : Scripts) (races : List Finding) (count : ℕ) (text : List ℕ) (ended : Ended) : Type 0 where
   pub tried : List TriedRace
   pub those : map (λ one. one.race) tried ≡ races
-  pub shown : AreTried (plan_of scripts) tried
+  pub shown : AreTried scripts tried
   pub tells : text ≡ tried_form json scripts tried count
   pub ends : ended ≡ ended_of (count_shown tried)
 

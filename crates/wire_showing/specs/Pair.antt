@@ -5,7 +5,6 @@ use Rattle.wire_types.specs.Front.{WritesFront}
 use Rattle.wire_types.specs.declared.CallAt.{CallAt}
 use Rattle.wire_types.specs.declared.Fault.{Fault}
 use Rattle.wire_content.specs.Scripts.{Scripts}
-use Rattle.wire_content.specs.Planned.{plan_of}
 use Rattle.wire_script.specs.declared.Size.TheVariants.{OfVersion}
 use Rattle.wire_races.specs.declared.finding.Finding.{Finding}
 use Rattle.wire_races.specs.Findings.{AreFindings}
@@ -21,7 +20,7 @@ use Rattle.wire_showing.specs.Texts.{witness_text, not_shown_text, no_race_text}
 
 -- of a race: a witness is written, or that none was found. It ends with one finding exactly where a witness is written
 pub data IsSearched (scripts : Scripts) (x y : CallAt) (part : Part) (text : List ℕ) (ended : Ended) : Type 0 where
-  TellsWitness : (witness : Witness) → IsWitness (plan_of scripts) x y witness → text ≡ witness_text part scripts witness → ended ≡ Found 1 →
+  TellsWitness : (witness : Witness) → IsWitness scripts x y witness → text ≡ witness_text part scripts witness → ended ≡ Found 1 →
       IsSearched scripts x y part text ended
   TellsNone : text ≡ not_shown_text part → ended ≡ Clean → IsSearched scripts x y part text ended
 

@@ -4,7 +4,6 @@ use Rattle.std.specs.Prelude.{None, is_some, IfSome, codes, count_by, decimal, l
 use Rattle.std.specs.List.{flat_map}
 use Rattle.wire_types.specs.declared.CallAt.{CallAt}
 use Rattle.wire_content.specs.Scripts.{Scripts}
-use Rattle.wire_runs.specs.Plan.{Plan}
 use Rattle.wire_words.specs.Words.{call_text}
 use Rattle.wire_json.specs.declared.witnesses.RaceCounts.{RaceCounts}
 use Rattle.wire_json.specs.Witnesses.{json_races}
@@ -15,19 +14,19 @@ use Rattle.wire_showing.specs.Races.{race_calls}
 use Rattle.wire_showing.specs.declared.tried.TriedRace.{TriedRace}
 
 -- there is a witness of the two calls in whose runs this call ends differently
-pub record IsShownBy (plan : Plan) (call : CallAt) (calls : CallAt × CallAt) : Type 0 where
+pub record IsShownBy (scripts : Scripts) (call : CallAt) (calls : CallAt × CallAt) : Type 0 where
   pub witness : Witness
-  pub of_them : IsWitness plan calls.0 calls.1 witness
+  pub of_them : IsWitness scripts calls.0 calls.1 witness
   pub ends : witness.call ≡ call
 
 -- where a race is shown by a call, there is such a witness
-abbrev pub IsTried : Plan → TriedRace → Type 0
-IsTried plan tried = IfSome tried.shown (λ call. IfSome (race_calls tried.race) (IsShownBy plan call))
+abbrev pub IsTried : Scripts → TriedRace → Type 0
+IsTried scripts tried = IfSome tried.shown (λ call. IfSome (race_calls tried.race) (IsShownBy scripts call))
 
 -- and so for each of these
-abbrev pub AreTried : Plan → List TriedRace → Type 0
-AreTried plan [] = ⊤
-AreTried plan (one ∷ others) = IsTried plan one × AreTried plan others
+abbrev pub AreTried : Scripts → List TriedRace → Type 0
+AreTried scripts [] = ⊤
+AreTried scripts (one ∷ others) = IsTried scripts one × AreTried scripts others
 
 -- how many of them are shown
 abbrev pub count_shown : List TriedRace → ℕ

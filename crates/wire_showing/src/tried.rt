@@ -3,7 +3,6 @@
 ghost use Rattle.std.specs.Prelude.{◌≡◌, ◌++◌, ◌∷◌, [], true, map, IfOk, IfErr, OnOk};
 ghost use Rattle.std.specs.List.{flat_map};
 ghost use Rattle.wire_types.specs.declared.Fault.TheVariants.{Memory};
-ghost use Rattle.wire_content.specs.Planned.{plan_of};
 ghost use Rattle.wire_showing.specs.Tried as spec;
 ghost use Rattle.wire_showing.specs.Tried.{AreTried, IsTried};
 
@@ -29,7 +28,7 @@ pub struct TriedRace {
 /// Looks for a witness of a race.
 fn try_race(alloc: Global, marked: &MarkedPlan<'_>, race: Finding) -> Result<TriedRace, Fault>
     ensures race { IfOk result (λ tried. tried.race ≡ race) }
-    ensures shown { IfOk result (IsTried (plan_of marked.now)) }
+    ensures shown { IfOk result (IsTried marked.now) }
     ensures err { IfErr result (λ e. e ≡ Memory) }
 {
     let Some((x, y)) = race_calls(race) else {
@@ -59,7 +58,7 @@ pub fn try_races(
     races: &[Finding],
 ) -> Result<Vec<TriedRace>, Fault>
     ensures races { IfOk result (λ tried. map (λ t. t.race) tried.items ≡ races.now) }
-    ensures shown { IfOk result (λ tried. AreTried (plan_of marked.now) tried.items) }
+    ensures shown { IfOk result (λ tried. AreTried marked.now tried.items) }
     ensures err { IfErr result (λ e. e ≡ Memory) }
 {
     let mut tried = Vec::new(alloc);

@@ -2,7 +2,6 @@
 use Rattle.std.specs.Prelude.{◌≡◌, ℕ, List, Ok}
 use Rattle.wire_types.specs.declared.CallAt.{CallAt}
 use Rattle.wire_content.specs.Scripts.{Scripts, numbers_of}
-use Rattle.wire_content.specs.Planned.{plan_of}
 use Rattle.wire_script.specs.declared.Size.TheVariants.{OfVersion}
 use Rattle.wire_script.specs.Reads.{Reads}
 use Rattle.wire_witness.specs.declared.witness.Witness.{Witness}
@@ -28,4 +27,4 @@ pub record AreOrdersOf (bytes : List ℕ) (s : Scripts) (witness : Witness) : Ty
 abbrev pub WitnessIsFollowed : Type 0
 WitnessIsFollowed =
     (bytes : List ℕ) (s : Scripts) (x y : CallAt) (witness : Witness) → Reads OfVersion bytes (Ok s) →
-    IsWitness (plan_of s) x y witness → AreOrdersOf bytes s witness
+    IsWitness s x y witness → AreOrdersOf bytes s witness

@@ -12,7 +12,7 @@ use Rattle.wire_content.specs.Planned.{plan_of}
 use Rattle.wire_core.specs.Course.{Course, plan_in, state_of}
 use Rattle.wire_core.specs.Within.{RunsWithin}
 use Rattle.wire_witness.specs.declared.runs.Run.{Run}
-use Rattle.wire_witness.specs.Witness.{ComesFirst, IsRunWith, end_after}
+use Rattle.wire_witness.specs.Witness.{ComesFirst, IsRunWithFirst, end_after}
 use Rattle.wire_witness.specs.Runs.{IsRunOf}
 
 -- steps more
@@ -47,15 +47,15 @@ finished old new more x y run is first legal ended first_end other_end core =
     let comes : ComesFirst (plan_in new) new.history (first_event (plan_in new) x) (first_event (plan_in new) y) =
     subst (λ (c : Course). ComesFirst (plan_in c) c.history (first_event (plan_in c) x) (first_event (plan_in c) y)) (sym is)
     (comes_later (plan_in old) old.history more (first_event (plan_in old) x) (first_event (plan_in old) y) first) in
-    let with_first : IsRunWith (plan_in new) new.history x y = record { whole = record { legal = legal; ended = ended }; first = comes } in
-    let at_end : (s : Scripts) → new.scripts ≡ s → IsRunWith (plan_of s) new.history x y × (end_after (plan_of s) new.history x ≡ Some run.first_end)
+    let with_first : IsRunWithFirst (plan_in new) new.history x y = record { whole = record { legal = legal; ended = ended }; first = comes } in
+    let at_end : (s : Scripts) → new.scripts ≡ s → IsRunWithFirst (plan_of s) new.history x y × (end_after (plan_of s) new.history x ≡ Some run.first_end)
     × (end_after (plan_of s) new.history y ≡ Some run.other_end) =
-    λ s same. subst (λ t. IsRunWith (plan_of t) new.history x y × (end_after (plan_of t) new.history x ≡ Some run.first_end) × (end_after (plan_of t) new.history y ≡ Some run.other_end)) same
+    λ s same. subst (λ t. IsRunWithFirst (plan_of t) new.history x y × (end_after (plan_of t) new.history x ≡ Some run.first_end) × (end_after (plan_of t) new.history y ≡ Some run.other_end)) same
     (with_first, first_end, other_end) in
     let all = at_end old.scripts scripts in
     record {
       scripts_are = ap (λ course. course.scripts) core ∙ scripts;
-      with_first = subst (λ (c : Course). IsRunWith (plan_of old.scripts) c.history x y) (sym core) all.0;
+      with_first = subst (λ (c : Course). IsRunWithFirst (plan_of old.scripts) c.history x y) (sym core) all.0;
       first_end = subst (λ (c : Course). end_after (plan_of old.scripts) c.history x ≡ Some run.first_end) (sym core) all.1;
       other_end = subst (λ (c : Course). end_after (plan_of old.scripts) c.history y ≡ Some run.other_end) (sym core) all.2;
     }

@@ -1,8 +1,10 @@
--- A witness of a pair of calls: two runs that can't go on, in which the calls come in different orders, and one of them ends differently.
+-- A witness of a pair of calls: two runs that can't go on, in which the calls come in different orders, and one of them ends differently as it is written.
 use Rattle.std.specs.Prelude.{◌≡◌, ◌≢◌, ◌⊎◌, ℕ, List, ◌++◌, Option, Some, slice_get}
 use Rattle.wire_types.specs.declared.CallAt.{CallAt}
 use Rattle.wire_types.specs.declared.CallEnd.{CallEnd}
-use Rattle.wire_content.specs.Scripts.{numbers_of}
+use Rattle.wire_content.specs.Scripts.{Scripts, numbers_of}
+use Rattle.wire_content.specs.Planned.{plan_of}
+use Rattle.wire_words.specs.Words.{end_text}
 use Rattle.wire_runs.specs.Plan.{Plan, Event}
 use Rattle.wire_runs.specs.State.{start, IsDone}
 use Rattle.wire_runs.specs.Step.{IsInterleaving, IsEnd, run}
@@ -23,7 +25,7 @@ pub record ComesFirst (plan : Plan) (steps : List ℕ) (x y : Event) : Type 0 wh
   pub not_yet : ¬ (IsDone (run plan so_far) y)
 
 -- the steps are an interleaving that can't go on, and the call x comes in it before the call y has come: of a fence its arrival
-pub record IsRunWith (plan : Plan) (steps : List ℕ) (x y : CallAt) : Type 0 where
+pub record IsRunWithFirst (plan : Plan) (steps : List ℕ) (x y : CallAt) : Type 0 where
   pub whole : IsWholeRun plan steps
   pub first : ComesFirst plan steps (first_event plan x) (first_event plan y)
 
@@ -31,11 +33,11 @@ pub record IsRunWith (plan : Plan) (steps : List ℕ) (x y : CallAt) : Type 0 wh
 abbrev pub end_after : Plan → List ℕ → CallAt → Option CallEnd
 end_after plan steps call = slice_get (row plan (run plan steps) call.proc.number) call.call
 
--- in the first run x comes first, in the second y; and one of the two calls ends differently
-pub record IsWitness (plan : Plan) (x y : CallAt) (witness : Witness) : Type 0 where
-  pub first : IsRunWith plan (numbers_of witness.first.items) x y
-  pub second : IsRunWith plan (numbers_of witness.second.items) y x
+-- in the first run x comes first, in the second y; and the ends of one of the two calls differ as they are written
+pub record IsWitness (scripts : Scripts) (x y : CallAt) (witness : Witness) : Type 0 where
+  pub first : IsRunWithFirst (plan_of scripts) (numbers_of witness.first.items) x y
+  pub second : IsRunWithFirst (plan_of scripts) (numbers_of witness.second.items) y x
   pub of_them : (witness.call ≡ x) ⊎ (witness.call ≡ y)
-  pub first_end : end_after plan (numbers_of witness.first.items) witness.call ≡ Some witness.first_end
-  pub second_end : end_after plan (numbers_of witness.second.items) witness.call ≡ Some witness.second_end
-  pub differ : witness.first_end ≢ witness.second_end
+  pub first_end : end_after (plan_of scripts) (numbers_of witness.first.items) witness.call ≡ Some witness.first_end
+  pub second_end : end_after (plan_of scripts) (numbers_of witness.second.items) witness.call ≡ Some witness.second_end
+  pub differ : end_text scripts witness.first_end ≢ end_text scripts witness.second_end

@@ -5,15 +5,18 @@ ghost use Rattle.wire_types.specs.declared.Fault.TheVariants.{Memory};
 ghost use Rattle.wire_runs.specs.Ends.{calls_of};
 ghost use Rattle.wire_content.specs.Planned.{plan_of};
 ghost use Rattle.wire_content.specs.Scripts.{numbers_of};
+ghost use Rattle.wire_words.specs.Words.{end_text};
 ghost use Rattle.wire_witness.specs.Witness.{IsWitness};
 ghost use Rattle.wire_witness.specs.Runs.{AreApart, AreRunsOf, IsRunOf};
 
 use crate::runs::{Run, held_run, needed_run};
 use crate::witness::Witness;
 use std::alloc::{AllocError, Global};
+use wire_content::Scripts;
 use wire_marks::MarkedPlan;
 use wire_plan::Plan;
 use wire_types::{CallAt, CallEnd, Fault};
+use wire_words::push_end;
 
 /// A pair of calls.
 #[derive(Clone, Copy)]
@@ -22,7 +25,7 @@ struct Pair {
     y: CallAt,
 }
 
-/// Two ends of one call that differ.
+/// Two ends of one call that differ as they are written.
 #[derive(Clone, Copy)]
 struct Difference {
     call: CallAt,
@@ -37,30 +40,54 @@ struct Runs<'a> {
     second: Option<Run<'a>>,
 }
 
-/// The call that ends differently in two runs of a plan: the first in which x comes first, the second in which y does.
-fn find_difference(plan: &Plan, pair: Pair, first: &Run<'_>, second: &Run<'_>) -> Option<Difference>
+/// Whether two ends are written alike; the values that they bring may then come from different calls.
+fn read_alike(
+    alloc: Global,
+    scripts: &Scripts,
+    one: &CallEnd,
+    other: &CallEnd,
+) -> Result<bool, AllocError>
+    ensures { IfOk result (λ alike. IsTrue alike ↔ (end_text scripts.now one.now ≡ end_text scripts.now other.now)) }
+{
+    let mut text = Vec::new(alloc);
+    push_end(&mut text, scripts, one)?;
+    let mut other_text = Vec::new(alloc);
+    push_end(&mut other_text, scripts, other)?;
+    Ok(text.as_slice() == other_text.as_slice())
+}
+
+/// The call whose ends are written differently in two runs of a plan: the first in which x comes first, the second
+/// in which y does.
+fn find_difference(
+    alloc: Global,
+    plan: &Plan,
+    pair: Pair,
+    first: &Run<'_>,
+    second: &Run<'_>,
+) -> Result<Option<Difference>, AllocError>
     requires first { IsRunOf plan.now pair.x pair.y first.now }
     requires second { IsRunOf plan.now pair.y pair.x second.now }
-    ensures { IfSome result (AreApart plan.now pair.x pair.y first.now second.now) }
+    ensures { IfOk result (λ o. IfSome o (AreApart plan.now pair.x pair.y first.now second.now)) }
 {
-    if first.first_end != second.other_end {
-        return Some(Difference {
+    let scripts = plan.scripts();
+    if !read_alike(alloc, scripts, &first.first_end, &second.other_end)? {
+        return Ok(Some(Difference {
             call: pair.x,
             first_end: first.first_end,
             second_end: second.other_end,
-        });
+        }));
     }
-    if first.other_end != second.first_end {
-        return Some(Difference {
+    if !read_alike(alloc, scripts, &first.other_end, &second.first_end)? {
+        return Ok(Some(Difference {
             call: pair.y,
             first_end: first.other_end,
             second_end: second.first_end,
-        });
+        }));
     }
-    None
+    Ok(None)
 }
 
-/// The witness that two runs are in which a call ends differently.
+/// The witness that two runs are in which the ends of a call differ.
 fn witness_of(
     alloc: Global,
     apart: Difference,
@@ -93,9 +120,9 @@ fn lay(
 ) -> Result<Option<Witness>, AllocError>
     requires first { IsRunOf plan.now pair.x pair.y first.now }
     requires second { IsRunOf plan.now pair.y pair.x second.now }
-    ensures { IfOk result (λ o. IfSome o (IsWitness (plan_of plan.now) pair.x pair.y)) }
+    ensures { IfOk result (λ o. IfSome o (IsWitness plan.now pair.x pair.y)) }
 {
-    let Some(apart) = find_difference(plan, pair, first, second) else {
+    let Some(apart) = find_difference(alloc, plan, pair, first, second)? else {
         return Ok(None);
     };
     let witness = witness_of(alloc, apart, first, second)?;
@@ -112,7 +139,7 @@ fn lay_both(
 ) -> Result<Option<Witness>, AllocError>
     requires first { IfSome first.now (IsRunOf plan.now pair.x pair.y) }
     requires second { IfSome second.now (IsRunOf plan.now pair.y pair.x) }
-    ensures { IfOk result (λ o. IfSome o (IsWitness (plan_of plan.now) pair.x pair.y)) }
+    ensures { IfOk result (λ o. IfSome o (IsWitness plan.now pair.x pair.y)) }
 {
     match (first, second) {
         (Some(first), Some(second)) => lay(alloc, plan, pair, first, second),
@@ -164,7 +191,7 @@ fn lay_all(
 ) -> Result<Option<Witness>, AllocError>
     requires held { AreRunsOf plan.now pair.x pair.y held.now }
     requires needed { AreRunsOf plan.now pair.x pair.y needed.now }
-    ensures { IfOk result (λ o. IfSome o (IsWitness (plan_of plan.now) pair.x pair.y)) }
+    ensures { IfOk result (λ o. IfSome o (IsWitness plan.now pair.x pair.y)) }
 {
     if let Some(witness) = lay_both(alloc, plan, pair, &needed.first, &needed.second)? {
         return Ok(Some(witness));
@@ -185,7 +212,7 @@ fn find_beside(
     requires x_there { pair.x.call < length (calls_of (plan_of marked.now) pair.x.proc.number) }
     requires y_there { pair.y.call < length (calls_of (plan_of marked.now) pair.y.proc.number) }
     requires held { AreRunsOf marked.now pair.x pair.y held.now }
-    ensures shown { IfOk result (λ o. IfSome o (IsWitness (plan_of marked.now) pair.x pair.y)) }
+    ensures shown { IfOk result (λ o. IfSome o (IsWitness marked.now pair.x pair.y)) }
     ensures err { IfErr result (λ e. e ≡ Memory) }
 {
     let plan = marked.plan();
@@ -202,7 +229,7 @@ fn find_beside(
 fn find_among(alloc: Global, marked: &MarkedPlan<'_>, pair: Pair) -> Result<Option<Witness>, Fault>
     requires x_there { pair.x.call < length (calls_of (plan_of marked.now) pair.x.proc.number) }
     requires y_there { pair.y.call < length (calls_of (plan_of marked.now) pair.y.proc.number) }
-    ensures shown { IfOk result (λ o. IfSome o (IsWitness (plan_of marked.now) pair.x pair.y)) }
+    ensures shown { IfOk result (λ o. IfSome o (IsWitness marked.now pair.x pair.y)) }
     ensures err { IfErr result (λ e. e ≡ Memory) }
 {
     let held = held_runs(alloc, marked, pair)?;
@@ -232,7 +259,7 @@ pub fn find_witness(
     x: CallAt,
     y: CallAt,
 ) -> Result<Option<Witness>, Fault>
-    ensures shown { IfOk result (λ o. IfSome o (IsWitness (plan_of marked.now) x y)) }
+    ensures shown { IfOk result (λ o. IfSome o (IsWitness marked.now x y)) }
     ensures err { IfErr result (λ e. e ≡ Memory) }
 {
     if !is_there(marked.plan(), x) || !is_there(marked.plan(), y) {
