@@ -124,7 +124,7 @@ def has_one_version(deb, room):
 def four_commands():
     """The commands of README.md that lead from the package to a diagram."""
     with open(os.path.join(TOP, "README.md"), encoding="utf-8") as it:
-        return re.search(r"\n((?:    .*\n)+)", it.read().partition("\n## From the package to a diagram")[2])[1].split("\n    ")
+        return re.search(r"\n((?:    .*\n)+)", it.read().partition("\n**By the recorder**")[2])[1].split("\n    ")
 
 
 def done_by_hand(commands, path, room):

@@ -1,4 +1,5 @@
-"""Runs the built program on random files, most of them damaged, and holds it to itself and to a second reader (tests/grammar.py).
+"""Runs the built program on random files, most of them damaged, and holds it to itself, to a second reader (tests/grammar.py) and to a
+model of plans (tests/model.py).
 
 Usage: python3 tests/soak.py [PROGRAM] [--minutes N | --seconds N] [--seed N] [--keep FOLDER]
        python3 tests/soak.py [PROGRAM] --again FILE          looks at one file once more
@@ -16,6 +17,9 @@ holds for each file:
   changes no byte of either, and tells the first line of the report that isn't `PMIX_SUCCESS`.
 - `why` says the same of two calls in both directions. A question or an order that the second reader refuses is refused with the fault that
   it names. Where a step can't be taken, the order before it can be followed, and leaves that rank unready.
+- Of a plan of at most 60 events, the findings of `check` are those of the model. Without findings, the report of `replay` is that of the
+  model's plain run. So is each report of `follow` that of the same steps in the model, and a step that can't be taken is the same one. The
+  first line of `why` is the model's too, and which calls are dead.
 
 A file for which this fails is made as small as it can be, by lines, and kept in FOLDER (out/soak). Prints what it tried each minute and
 at the end, and last 'N differences'.
@@ -36,11 +40,14 @@ import time
 
 sys.dont_write_bytecode = True
 import grammar
+import model
 
 TOP = os.path.dirname(os.path.dirname(os.path.abspath(__file__)))
 SECONDS, MOST_DIFFERENCES, REDUCE_SECONDS = 10, 20, 60
 # Longer files aren't handed over one byte at a time, and no complete order of theirs is looked for.
 MOST_BYTES, MOST_STEPS = 4_000, 24
+# Longer plans aren't held to the model.
+MOST_EVENTS = 60
 WORKERS = (1, 2, 7, 64)
 FAULT = re.compile(rb"wire_up: fault (\d+) (\w+)( \d+)?\n")
 FAILED_CALL = re.compile(rb"wire_up: \S+:\d+ \d+ [a-z-]+ (?:[A-Z_]+|waiting|unreached)\n")
@@ -246,6 +253,8 @@ class Runner:
 
     def __init__(self, program, room):
         self.program, self.room, self.runs, self.faults = program, room, collections.Counter(), collections.Counter()
+        # How many answers of each command were held to the model.
+        self.held = collections.Counter()
         self.slowest = (0.0, "")
 
     def written(self, name, text):
@@ -335,8 +344,11 @@ class Look:
             self.at_refusal(why.said())
             return "refused"
         self.scripts, self.canonical = scripts, grammar.canonical(scripts)
+        self.events = sum(1 + (words[0] == b"fence") for it in scripts.procs for words in it.calls)
+        self.model = model.Plan(scripts) if self.events <= MOST_EVENTS else None
         same("canonical text that reads as another", self.canonical, grammar.canonical(grammar.read(self.canonical)))
         checked = self.at_inputs("check")
+        self.hold("check", checked.wrote, model.Plan.findings)
         self.at_version_2()
         same("another answer with large limits", checked, self.runner.run("check", "--large", self.path))
         self.at_questions()
@@ -349,6 +361,12 @@ class Look:
         same("findings 0", Ran(0, b"findings 0\n", b""), checked, "check")
         self.at_report()
         return "without findings"
+
+    def hold(self, command, wrote, answer, what=""):
+        """Holds what a command wrote of a small plan to an answer of the model."""
+        if self.model:
+            same(f"another answer of {command} than the model's", answer(self.model), wrote, what)
+            self.runner.held[command] += 1
 
     def at_version_2(self):
         """The same plan under version 2: it is written as the second reader writes it, and answered as it was."""
@@ -390,6 +408,7 @@ class Look:
         """A plan without findings."""
         report = self.at_inputs("replay")
         same("the status of a report", (0, b""), (report.status, report.said))
+        self.hold("replay", report.wrote, lambda it: model.Run(it).go().report())
         as_form = report._replace(wrote=as_json(self.scripts, report.wrote))
         for workers in WORKERS:
             same("another report", report, self.runner.run("replay", f"--workers={workers}", self.path), f"1 and {workers} workers")
@@ -399,8 +418,7 @@ class Look:
         failed = [line for line in report.wrote.splitlines(True)[:-1] if line.split()[3] != b"PMIX_SUCCESS"]
         complete = report._replace(status=int(bool(failed)), said=b"".join([b"wire_up: ", *failed[:1]]) if failed else b"")
         same("the answer of --complete", complete, self.runner.run("replay", "--complete", self.path))
-        events = sum(1 + (words[0] == b"fence") for it in self.scripts.procs for words in it.calls)
-        if self.is_small and events <= MOST_STEPS:
+        if self.is_small and self.events <= MOST_STEPS:
             self.at_complete_order(report)
 
     def at_complete_order(self, report):
@@ -419,6 +437,7 @@ class Look:
         ran = self.runner.run("follow", self.runner.written("it.order", order), self.path)
         if ran.status:
             raise Difference("an order that is refused", f"{what}: {order.split()}: {ran.said}")
+        self.hold("follow", ran.wrote, lambda it: model.followed(it, order.split())[0].report(), order.split())
         return ran
 
     def at_findings(self, checked):
@@ -466,6 +485,8 @@ class Look:
         same("a question", (0, 0), (ran.status, other.status), f"{words}: {ran.said}")
         head, _, chain = ran.wrote.partition(b"\n")
         turned = {b"before": b"after", b"after": b"before", b"unordered": b"unordered"}
+        said = ran.wrote if head == b"unordered" else head + b"\n"
+        self.hold("why", said, lambda it: it.why(*(it.call_named(proc.encode(), n) for proc, n in (x, y))), words)
         chains = [sorted(it.splitlines()) if head == b"unordered" else it for it in (chain, other.wrote.partition(b"\n")[2])]
         same("a question from both sides", (turned.get(head), chains[0]), (other.wrote.partition(b"\n")[0], chains[1]), words)
 
@@ -495,13 +516,16 @@ class Look:
         except grammar.Refused as why:
             same("an odd order", Ran(2, b"", why.said()), ran, order)
             return
-        if ran.status:
+        if not ran.status:
+            self.hold("follow", ran.wrote, lambda it: model.followed(it, steps)[0].report(), order)
+        else:
             late = re.fullmatch(rb"wire_up: fault 12 NotReady (\d+)\n", ran.said)
             if not late or not 1 <= int(late[1]) <= len(steps):
                 raise Difference("an order refused", f"{order}: {ran.said}")
             before = self.at_order(b"".join(it + b"\n" for it in steps[: int(late[1]) - 1]), "the steps before it").wrote
             stands = [it for it in before.splitlines() if it.startswith(steps[int(late[1]) - 1] + b" ") and it.endswith(b" ready")]
             same("a step that was ready", [], stands, order)
+            self.hold("follow", late[1], lambda it: b"%d" % (model.followed(it, steps)[1] or 0), order)
 
 
 def dumped(form):
@@ -604,7 +628,8 @@ class Soak:
         faults = ", ".join(f"{count:,} {name}" for name, count in sorted(self.runner.faults.items()))
         print(f"seed {self.args.seed}. {self.told()}")
         print(f"{self.damaged:,} of the files were damaged; {self.bytes:,} bytes in all")
-        print(f"runs: {runs}\nfaults: {faults}\nslowest run: {self.runner.slowest[0]:.2f} s, {self.runner.slowest[1]}")
+        held = ", ".join(f"{count:,} {name}" for name, count in sorted(self.runner.held.items()))
+        print(f"runs: {runs}\nheld to the model: {held}\nfaults: {faults}\nslowest run: {self.runner.slowest[0]:.2f} s, {self.runner.slowest[1]}")
         print(f"{self.kinds['different']:,} differences", flush=True)
 
 

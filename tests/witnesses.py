@@ -1,17 +1,23 @@
-"""Holds `witness` to `check` and `follow`, on the examples and on random plans.
+"""Holds `witness` to the model (tests/model.py), to `check` and to `follow`: on the examples and on random plans, or on plans that are told.
 
-Usage: python3 tests/witnesses.py PROGRAM [PLANS]
+Usage: python3 tests/witnesses.py PROGRAM [PLANS]      the examples, two plans in which values are alike, and so many random plans
+       python3 tests/witnesses.py PROGRAM FOLDER..     all files *.plan, and all that are named `plan`, in these folders and below
 What it holds for each plan:
 
 - `witness` has a line for each race that `check` reports, in the same order, and its last line counts them. So it has with `--most 1`.
-- Of a race that it calls shown, `witness P N Q M` shows the same call, and `witness Q M P N` shows one too. The two orders that are written
-  are those of `--first` and `--second`. Each of these, followed, gives the end of that call that is written, and the two ends that are written differ.
-- Of a race that it doesn't call shown, `witness P N Q M` says so, with status 0. Of two calls without a race it says that.
+  These are the races of the model.
+- A race that the four runs of the model show is called shown, and `witness P N Q M` writes the call, the ends and the two runs of the model.
+- Of any race that is called shown, `witness P N Q M` shows the same call, with two ends that read differently. The two orders that are
+  written are those of `--first` and `--second`, and each of these, followed, gives the end of that call that is written. All this holds
+  of `witness Q M P N` too. The orders, and what is said of `witness Q M P N`, are held for two races of a plan, and for all that the model
+  doesn't show.
+- Of a race that isn't called shown, `witness P N Q M` says so, with status 0. Of two calls without a race it says that.
 
-Prints a line for each plan for which this fails, and last 'N passed, M failed'.
+The first 200 races of a plan are looked at. Prints a line for each plan for which this fails, then how many races were shown, and last
+'N passed, M failed'. If no race was shown at all, that is a failure too.
 """
+import collections
 import glob
-import itertools
 import os
 import random
 import re
@@ -20,14 +26,17 @@ import sys
 import tempfile
 
 sys.dont_write_bytecode = True
+import grammar
+import model
 import soak
 
 TOP = os.path.dirname(os.path.dirname(os.path.abspath(__file__)))
-PLANS, MOST_RACES, SECONDS, SEED = 40, 4, 60, 1
-# A lookup can bring what two ranks published, and that is the same value. In the second plan only this tells the runs apart that are tried.
+# How many random plans, and of at most how many calls. How many races of a plan are looked at, and how many of these are followed.
+PLANS, MOST_CALLS, MOST_RACES, MOST_FOLLOWED, SECONDS, SEED = 100, 100, 200, 2, 60, 1
+# Plans in which a lookup brings a value that two calls publish. Of the runs of the second that are tried, only the publish differs that it comes from.
 ALIKE = (
-    "rank n0\npublish x v\nrank n0\npublish x v\nrank n0\nlookup x\n",
-    "rank n0\nget app:1 k\nlookup x\nrank n0\npublish x v\nput global k 1\ncommit\nunpublish x\nput global m 2\ncommit\nrank n0\nget app:1 m\npublish x v\n",
+    b"rank n0\npublish x v\nrank n0\npublish x v\nrank n0\nlookup x\n",
+    b"rank n0\nget app:1 k\nlookup x\nrank n0\npublish x v\nput global k 1\ncommit\nunpublish x\nput global m 2\ncommit\nrank n0\nget app:1 m\npublish x v\n",
 )
 LAST = re.compile(r"races (\d+) shown (\d+) not-shown (\d+) not-tried (\d+)")
 
@@ -66,14 +75,18 @@ def followed(program, plan, room, option, words, lines):
     return report
 
 
-def is_shown(program, plan, room, words, call):
-    """Looks at two calls of a race that is shown, by this call if one is named."""
+def shown_by(program, plan, words):
+    """What `witness` writes of two calls of a race that it shows."""
     status, lines = ran(program, "witness", "--", *words, plan)
-    want(status == 1, f"witness {words}: {status}")
-    want(lines[0].startswith(f"shown {call or ''}"), f"{words}: {lines[0]}, and in the list {call}")
-    call = " ".join(lines[0].split()[1:3])
+    want(status == 1 and lines[0].startswith("shown "), f"witness {words}: {status}")
     first, second = lines[1].removeprefix("first "), lines[2].removeprefix("second ")
-    want(first != second, f"{words}: both ends are {first}")
+    want(first != second, f"witness {words}: both ends read alike, {first}")
+    return lines
+
+
+def is_followed(program, plan, room, words, lines):
+    """Follows both orders that `witness` writes of two calls."""
+    call, (first, second) = " ".join(lines[0].split()[1:3]), (line.partition(" ")[2] for line in lines[1:3])
     count = int(lines[3].removeprefix("order "))
     orders = lines[4 : 4 + count], lines[5 + count :]
     want(len(orders[1]) == int(lines[4 + count].removeprefix("order ")), f"{words}: the second order")
@@ -87,9 +100,10 @@ def is_not_shown(program, plan, words, says):
     want(status == 0 and lines[0] == says and len(lines) == 2, f"witness {words}: {status} {lines}")
 
 
-def is_listed(program, plan):
-    """The lines of `witness` about a plan, beside those of `check`."""
+def is_listed(program, plan, modelled):
+    """The lines of `witness` about a plan, beside those of `check` and of the model."""
     _, findings = ran(program, "check", plan)
+    want(findings == modelled.findings().decode("latin-1").splitlines(), "the findings aren't those of the model")
     races = [line for line in findings if line.startswith("race ")]
     status, lines = ran(program, "witness", plan)
     counts = [int(n) for n in LAST.fullmatch(lines[-1]).groups()]
@@ -103,52 +117,110 @@ def is_listed(program, plan):
     return lines[:-1]
 
 
-def look_at(program, plan, room, dice):
-    """Looks at a plan, and answers how many of its races are shown, of how many."""
-    lines = is_listed(program, plan)
-    for line in dice.sample(lines, min(MOST_RACES, len(lines))):
-        told = line.split()
-        words = told[told.index("race") + 1 :][:4]
-        if told[0] == "shown":
-            is_shown(program, plan, room, words, " ".join(told[1:3]))
-            is_shown(program, plan, room, words[2:] + words[:2], None)
-        else:
-            is_not_shown(program, plan, words, "not shown")
-    if lines:
-        is_not_shown(program, plan, words[:2] + words[:2], "no race")
+class Look:
+    """The looks at the races of one plan."""
+
+    def __init__(self, program, plan, room):
+        self.program, self.plan, self.room = program, plan, room
+        with open(plan, "rb") as it:
+            self.model = model.Plan(grammar.read(it.read()))
+
+    def words(self, x, y):
+        return f"{self.model.call_text(x).decode()} {self.model.call_text(y).decode()}".split()
+
+    def at_all(self, dice):
+        """Looks at all races. Answers how many of them are shown, and how many aren't."""
+        lines, races, told = is_listed(self.program, self.plan, self.model)[:MOST_RACES], self.model.races(), collections.Counter()
+        far = dice.sample(range(len(lines)), min(MOST_FOLLOWED, len(lines)))
+        for number, (line, race) in enumerate(zip(lines, races)):
+            told[self.at_race(race.x, race.y, line, number in far)] += 1
+        if lines:
+            is_not_shown(self.program, self.plan, self.words(races[0].x, races[0].x), "no race")
+        return told
+
+    def at_race(self, x, y, line, is_far):
+        """Looks at a race, of which the list has a line, and also at its orders if that is asked. Answers whether it is shown."""
+        shown, words = model.witness(self.model, x, y), self.words(x, y)
+        if not line.startswith("shown "):
+            want(not shown, f"{words}: not shown, and the model shows it")
+            is_not_shown(self.program, self.plan, words, "not shown")
+            return False
+        call = self.at_shown(x, y, shown, is_far or not shown)
+        want(call == line.split()[1:3], f"{words}: {call}, and in the list {line}")
+        if is_far or not shown:
+            self.at_shown(y, x, model.witness(self.model, y, x), True)
+        return True
+
+    def at_shown(self, x, y, shown, is_far):
+        """Looks at two calls of a race that is called shown, beside what shows it in the model. Answers the call that ends differently."""
+        words = self.words(x, y)
+        lines = shown_by(self.program, self.plan, words)
+        if shown:
+            want(lines == model.witness_text(self.model, shown).decode("latin-1").splitlines(), f"{words}: other runs than in the model")
+        if is_far:
+            is_followed(self.program, self.plan, self.room, words, lines)
+        return lines[0].split()[1:3]
 
 
-def plans(room, dice, count):
-    """The examples, plans in which values are alike, and random plans that are read."""
-    yield from sorted(glob.glob(os.path.join(TOP, "examples", "*.plan")))
-    texts = [f"rehearsal 1\nnode n0\njob app\n{ranks}".encode() for ranks in ALIKE]
-    made = (b"".join(b" ".join(line) + b"\n" for line in soak.Maker(dice).lines()) for _ in range(count))
-    for number, text in enumerate(itertools.chain(texts, made)):
-        path = os.path.join(room, f"{number}.plan")
+def alike_plans(room):
+    """The plans in which two calls publish the same value."""
+    for number, ranks in enumerate(ALIKE):
+        path = os.path.join(room, f"alike-{number}.plan")
         with open(path, "wb") as it:
-            it.write(text)
+            it.write(b"rehearsal 1\nnode n0\njob app\n" + ranks)
         yield path
 
 
-def all_plans(program, count=PLANS):
+def random_plans(room, dice, count):
+    """Random plans that are read, have races and aren't long."""
+    while count:
+        text = b"".join(b" ".join(line) + b"\n" for line in soak.Maker(dice).lines())
+        try:
+            scripts = grammar.read(text)
+        except grammar.Refused:
+            continue
+        if sum(len(it.calls) for it in scripts.procs) <= MOST_CALLS and model.Plan(scripts).races():
+            path = os.path.join(room, f"{count}.plan")
+            with open(path, "wb") as it:
+                it.write(text)
+            yield path
+            count -= 1
+
+
+def plans_below(folders):
+    """All plans in and below folders."""
+    found = [os.path.join(here, name) for it in folders for here, _, names in os.walk(it) for name in names]
+    return sorted(it for it in found if it.endswith(".plan") or os.path.basename(it) == "plan")
+
+
+def all_plans(program, count=PLANS, folders=None):
     """Looks at all plans. Answers how many went well, and how many didn't."""
-    dice, well = random.Random(SEED), []
+    dice, well, told = random.Random(SEED), [], collections.Counter()
     with tempfile.TemporaryDirectory(prefix="wire-up-") as room:
-        for plan in plans(room, dice, count):
+        ours = [*sorted(glob.glob(os.path.join(TOP, "examples", "*.plan"))), *alike_plans(room), *random_plans(room, dice, count)]
+        for plan in plans_below(folders) if folders else ours:
             if ran(program, "check", plan)[0] > 1:
                 continue
             try:
-                look_at(program, plan, room, dice)
+                told += Look(program, plan, room).at_all(dice)
                 well.append(True)
             except (Wrong, subprocess.TimeoutExpired) as why:
-                print(f"tests/witnesses.py: {os.path.basename(plan)}: {why}")
+                print(f"tests/witnesses.py: {plan if folders else os.path.basename(plan)}: {why}")
                 well.append(False)
-    print(f"tests/witnesses.py: {well.count(True)} passed, {well.count(False)} failed", flush=True)
-    return well.count(True), well.count(False)
+    print(f"tests/witnesses.py: {told[True]} of {told.total()} races shown")
+    failed = well.count(False) + (not told[True])
+    print(f"tests/witnesses.py: {well.count(True)} passed, {failed} failed", flush=True)
+    return well.count(True), failed
+
+
+def main():
+    if len(sys.argv) < 2:
+        sys.exit(__doc__)
+    words = sys.argv[2:]
+    is_count = len(words) == 1 and words[0].isdigit()
+    told = {"count": int(words[0])} if is_count else {"folders": words}
+    return 1 if all_plans(os.path.abspath(sys.argv[1]), **told)[1] else 0
 
 
 if __name__ == "__main__":
-    if len(sys.argv) not in (2, 3):
-        sys.exit(__doc__)
-    passed, failed = all_plans(os.path.abspath(sys.argv[1]), *map(int, sys.argv[2:]))
-    sys.exit(1 if failed else 0)
+    sys.exit(main())
