@@ -1,6 +1,6 @@
 """Holds `witness` to the model (tests/model.py), to `check` and to `follow`: on the examples and on random plans, or on plans that are told.
 
-Usage: python3 tests/witnesses.py PROGRAM [PLANS]      the examples, and so many random plans
+Usage: python3 tests/witnesses.py PROGRAM [PLANS]      the examples, two plans in which values are alike, and so many random plans
        python3 tests/witnesses.py PROGRAM FOLDER..     all files *.plan, and all that are named `plan`, in these folders and below
 What it holds for each plan:
 
@@ -33,10 +33,10 @@ import soak
 TOP = os.path.dirname(os.path.dirname(os.path.abspath(__file__)))
 # How many random plans, and of at most how many calls. How many races of a plan are looked at, and how many of these are followed.
 PLANS, MOST_CALLS, MOST_RACES, MOST_FOLLOWED, SECONDS, SEED = 100, 100, 200, 2, 60, 1
-# A lookup can bring what two ranks published, and that is the same value. In the second plan only this tells the runs apart that are tried.
+# Plans in which a lookup brings a value that two calls publish. Of the runs of the second that are tried, only the publish differs that it comes from.
 ALIKE = (
-    "rank n0\npublish x v\nrank n0\npublish x v\nrank n0\nlookup x\n",
-    "rank n0\nget app:1 k\nlookup x\nrank n0\npublish x v\nput global k 1\ncommit\nunpublish x\nput global m 2\ncommit\nrank n0\nget app:1 m\npublish x v\n",
+    b"rank n0\npublish x v\nrank n0\npublish x v\nrank n0\nlookup x\n",
+    b"rank n0\nget app:1 k\nlookup x\nrank n0\npublish x v\nput global k 1\ncommit\nunpublish x\nput global m 2\ncommit\nrank n0\nget app:1 m\npublish x v\n",
 )
 LAST = re.compile(r"races (\d+) shown (\d+) not-shown (\d+) not-tried (\d+)")
 
@@ -162,6 +162,15 @@ class Look:
         return lines[0].split()[1:3]
 
 
+def alike_plans(room):
+    """The plans in which two calls publish the same value."""
+    for number, ranks in enumerate(ALIKE):
+        path = os.path.join(room, f"alike-{number}.plan")
+        with open(path, "wb") as it:
+            it.write(b"rehearsal 1\nnode n0\njob app\n" + ranks)
+        yield path
+
+
 def random_plans(room, dice, count):
     """Random plans that are read, have races and aren't long."""
     while count:
@@ -176,15 +185,6 @@ def random_plans(room, dice, count):
                 it.write(text)
             yield path
             count -= 1
-
-
-def alike_plans(room):
-    """Plans in which values are alike."""
-    for number, ranks in enumerate(ALIKE):
-        path = os.path.join(room, f"alike-{number}.plan")
-        with open(path, "w", encoding="ascii") as it:
-            it.write(f"rehearsal 1\nnode n0\njob app\n{ranks}")
-        yield path
 
 
 def plans_below(folders):
