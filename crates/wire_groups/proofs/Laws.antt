@@ -15,11 +15,11 @@ use Rattle.std.proofs.lemmas.Map.Keys.{sorted_head, sorted_tail, Less-from_sorte
 use Rattle.std.proofs.lemmas.Map.Views.{list_any-from_Contains}
 use Rattle.std.proofs.lemmas.Option.{slice_get_within, slice_get-get_or, get_or_from_slice_get}
 use Rattle.wire_groups.specs.declared.Group.{Group}
-use Rattle.wire_groups.specs.Groups.{AreGroups, group_of}
+use Rattle.wire_groups.specs.Groups.{AreGroups, IsOfLabel, group_of}
 use Rattle.wire_groups.specs.Laws.{HasLabel, HasOneGroup, GroupsPart, OneGrouping}
 use Rattle.wire_groups.proofs.Noted.{within}
 use Rattle.wire_groups.proofs.Order.{total}
-use Rattle.wire_groups.proofs.Parted.{IsOfLabel, one_group}
+use Rattle.wire_groups.proofs.Parted.{one_group}
 
 module _ {X : Type 0} {c : X → X → Ordering} (o : IsTotalOrder c) where
   not_itself : (x : X) → c x x ≡ Less → ⊥
@@ -70,7 +70,7 @@ module _ {X : Type 0} {c : X → X → Ordering} (o : IsTotalOrder c) where
 module _ {K : Type 0} (same : K → K → Bool) where
   there_too : (labels : List K) (groups others : List Group) → AreGroups same labels groups → AreGroups same labels others → (g : Group) → Contains groups g → Contains others g
   there_too labels groups others these those g there =
-      let of_label : (label : K) × Contains labels label × (g ≡ group_of same labels label) = All-contains (λ h. (label : K) × Contains labels label × (h ≡ group_of same labels label)) groups g these.only there in
+      let of_label : IsOfLabel same labels g = All-contains (IsOfLabel same labels) groups g these.only there in
       subst (Contains others) (sym of_label.2) (All-contains (λ label. Contains others (group_of same labels label)) labels of_label.0 those.each of_label.1)
 
   pub one_grouping : OneGrouping same
@@ -87,11 +87,11 @@ module _ {K : Type 0} (same : K → K → Bool) where
     is_there : {X : Type 0} (xs : List X) (k : ℕ) (x : X) → slice_get xs k ≡ Some x → Contains xs x
     is_there xs k x at = (k, slice_get_within xs k x at, get_or_from_slice_get xs k x x at)
 
-    of_a_label : (labels : List K) (groups : List Group) → AreGroups same labels groups → (g : Group) → Contains groups g → IsOfLabel same laws labels g
-    of_a_label labels groups are g there = All-contains (IsOfLabel same laws labels) groups g are.only there
+    of_a_label : (labels : List K) (groups : List Group) → AreGroups same labels groups → (g : Group) → Contains groups g → IsOfLabel same labels g
+    of_a_label labels groups are g there = All-contains (IsOfLabel same labels) groups g are.only there
 
     -- a group whose first place has a label is the group of that label
-    only_that : (labels : List K) (label : K) (g : Group) → IsOfLabel same laws labels g → HasLabel same labels label g → g ≡ group_of same labels label
+    only_that : (labels : List K) (label : K) (g : Group) → IsOfLabel same labels g → HasLabel same labels label g → g ≡ group_of same labels label
     only_that labels label g (own, there, is) (x, at, alike) =
         let place : ℕ = position_or_len (same own) labels in
         let at_place : slice_get labels place ≡ Some x = ap (λ (h : Group). slice_get labels h.first) (sym is) ∙ at in
@@ -116,7 +116,7 @@ module _ {K : Type 0} (same : K → K → Bool) where
               one_number total groups other found.0 own are.rising (there ∙ ap Some is) (at_number groups own found);
         }
 
-    place_of : (labels : List K) (g : Group) → IsOfLabel same laws labels g → (label : K) × (slice_get labels g.first ≡ Some label)
+    place_of : (labels : List K) (g : Group) → IsOfLabel same labels g → (label : K) × (slice_get labels g.first ≡ Some label)
     place_of labels g (own, there, is) =
         let place : ℕ = position_or_len (same own) labels in
         (get_or labels place own, ap (λ (h : Group). slice_get labels h.first) is ∙ slice_get-get_or labels place own (first_within labels own there))

@@ -16,7 +16,7 @@ use Rattle.std.proofs.lemmas.Map.Views.{list_any-from_Contains}
 use Rattle.std.proofs.lemmas.Map.Keys.{IsDistinct-IsPermutation, apart_from_distinct, sorted_from_all_adjacent}
 use Rattle.indexmap.specs.IndexSet.{insert_key}
 use Rattle.wire_groups.specs.declared.Group.{Group}
-use Rattle.wire_groups.specs.Groups.{AreGroups, group_of, group_cmp}
+use Rattle.wire_groups.specs.Groups.{AreGroups, IsOfLabel, group_of, group_cmp}
 use Rattle.wire_groups.specs.Tally.{distinct}
 use Rattle.wire_groups.proofs.Distinct.{AreApart, AreAmong, any_distinct, distinct_apart, distinct_among}
 use Rattle.wire_groups.proofs.Noted.{within}
@@ -52,13 +52,9 @@ module _ {K : Type 0} (same : K → K → Bool) (laws : IsEquivalence same) (lab
         | inr f ↦ rw f (All-push P acc k so_far (All-head P k ks all))
       ]
 
-  -- it is the group of a label that is there
-  abbrev pub IsOfLabel : Group → Type 0
-  IsOfLabel group = (label : K) × Contains labels label × (group ≡ group_of same labels label)
-
-  only_groups : All IsOfLabel (map (group_of same labels) (distinct same labels))
-  only_groups = All-map IsOfLabel (group_of same labels) (distinct same labels)
-      (All-weaker (Contains labels) (λ k. IsOfLabel (group_of same labels k)) (λ x there. (x, there, refl)) (distinct same labels)
+  only_groups : All (IsOfLabel same labels) (map (group_of same labels) (distinct same labels))
+  only_groups = All-map (IsOfLabel same labels) (group_of same labels) (distinct same labels)
+      (All-weaker (Contains labels) (λ k. IsOfLabel same labels (group_of same labels k)) (λ x there. (x, there, refl)) (distinct same labels)
       (only_added (Contains labels) labels [] (All-nil (Contains labels)) (All-contains_itself labels)))
 
   other_place : (k x : K) → same k x ≡ false → list_any (same k) labels ≡ true → list_any (same x) labels ≡ true → begin_alike (group_of same labels k) (group_of same labels x) ≡ false
@@ -125,7 +121,7 @@ module _ {K : Type 0} (same : K → K → Bool) (laws : IsEquivalence same) (lab
       let counted : List Group = map (group_of same labels) (distinct same labels) in
       record {
         each = All-weaker _ _ (λ x there. Contains-permutation counted groups (group_of same labels x) those there) labels (each_group same laws labels);
-        only = All-permutation (IsOfLabel same laws labels) counted groups those (only_groups same laws labels);
+        only = All-permutation (IsOfLabel same labels) counted groups those (only_groups same laws labels);
         rising = rising_groups groups sorted (IsDistinct-IsPermutation begin_alike (λ g h. flips g.first h.first) counted groups those
             (apart_groups same laws labels (distinct same labels) (distinct_apart same laws labels) (distinct_among same laws labels)));
         whole = whole;

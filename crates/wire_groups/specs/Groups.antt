@@ -15,9 +15,13 @@ module _ {K : Type 0} (same : K → K → Bool) where
   abbrev pub group_of : List K → K → Group
   group_of labels label = record { first = position_or_len (same label) labels; count = count_by (same label) labels }
 
+  -- it is the group of a label that is there
+  abbrev pub IsOfLabel : List K → Group → Type 0
+  IsOfLabel labels group = (label : K) × Contains labels label × (group ≡ group_of labels label)
+
   -- the groups of the labels: that of each label and no other, each once, the larger first; and each place counts in one of them
   pub record AreGroups (labels : List K) (groups : List Group) : Type 0 where
     pub each : All (λ label. Contains groups (group_of labels label)) labels
-    pub only : All (λ group. (label : K) × Contains labels label × (group ≡ group_of labels label)) groups
+    pub only : All (IsOfLabel labels) groups
     pub rising : IsStrictlySortedBy group_cmp groups
     pub whole : sum_by (λ (g : Group). g.count) groups ≡ length labels
