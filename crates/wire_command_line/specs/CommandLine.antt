@@ -30,8 +30,7 @@ pub record Grows (old : Command) (grown : App → App) (new : Command) : Type 0 
   pub shape : (fields_of old).has_globals ≡ false → app_of new ≡ grown (app_of old)
   pub local : (fields_of old).has_globals ≡ false → (fields_of new).has_globals ≡ false
 
--- the commands
--- the last words of each: whether a fault is explained, and the plan
+-- the last words of each command: whether a fault is explained, and the plan
 abbrev pub with_plan : App → App
 with_plan line = with_rule (with_rule line (flag (codes "explain"))) (optional_word (codes "FILE"))
 
@@ -39,9 +38,11 @@ with_plan line = with_rule (with_rule line (flag (codes "explain"))) (optional_w
 abbrev pub with_forms : App → App
 with_forms line = with_rule (with_rule line (flag (codes "lines"))) (flag (codes "json"))
 
+-- a large plan, and the last words
 abbrev pub with_large : App → App
 with_large line = with_plan (with_rule line (flag (codes "large")))
 
+-- the commands
 abbrev pub check_line : App
 check_line = with_large (with_forms (new_app (codes "check")))
 

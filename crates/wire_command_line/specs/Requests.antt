@@ -97,7 +97,7 @@ pub record IsRequestBy (command : Option (Text × List Row)) (request : Request)
   pub named : command ≡ Some (name, rows)
   pub says : IsRequest name rows request
 
--- it is one of the program's commands, with the words that it needs
+-- the name is that of one of the program's commands, and the words that it needs are given
 abbrev pub is_full : Text → List Row → Bool
 is_full name rows =
     list_any (bytes_eq name) (codes "check" ∷ codes "replay" ∷ codes "follow" ∷ codes "why" ∷ codes "migrate" ∷ codes "witness" ∷ []) && has_needed name rows
@@ -107,14 +107,15 @@ abbrev pub is_of_pair : List Row → Bool
 is_of_pair rows =
     has_both (codes "P") (codes "N") rows && has_both (codes "Q") (codes "M") rows && is_some (orders_said rows) && not (is_some (first_of (codes "most") rows))
 
--- or there is none of a call, and no order is asked for
+-- the words of `witness` name no call: no order is asked for, and `--most` says a number
 abbrev pub is_of_all : List Row → Bool
 is_of_all rows = not (is_set (codes "first") rows) && not (is_set (codes "second") rows) && is_some (most_said (most_word rows))
 
+-- the words of `witness` go together: those of two calls, or of none
 abbrev pub is_fitting : List Row → Bool
 is_fitting rows = if is_some (first_of (codes "N") rows) then is_of_pair rows else is_of_all rows
 
--- there is one
+-- the words name a command with all that it needs
 abbrev pub is_command : Option (Text × List Row) → Bool
 is_command command = option_map_or (λ c. is_full c.0 c.1) command false
 

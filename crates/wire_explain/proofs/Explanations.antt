@@ -1,9 +1,9 @@
 -- A text that is appended to, part by part.
 use Rattle.std.proofs.Common.{◌≡◌, ◌∙◌, ap, map, ℕ, List, [], ◌++◌, Option, codes}
 use Rattle.wire_types.specs.declared.Fault.{Fault}
-use Rattle.wire_explain.specs.Near.{IsHint}
+use Rattle.wire_explain.specs.Hint.{IsHintFor, known, doubtful}
 use Rattle.wire_explain.specs.Quote.{shown_byte, labelled}
-use Rattle.wire_explain.specs.Explained.{Explains, candidates, explanation, line_part, plan_line, expected, hint_part}
+use Rattle.wire_explain.specs.Explained.{Explains, explanation, line_part, plan_line, expected, hint_part}
 use Rattle.wire_explain.specs.Order.{word_line, expected_word, word_explanation}
 
 pub built : (first second second' third zero one two three : List ℕ) → zero ≡ [] → one ≡ zero ++ first → two ≡ one ++ second' → second' ≡ second → three ≡ two ++ third
@@ -11,7 +11,7 @@ pub built : (first second second' third zero one two three : List ℕ) → zero 
 built first second second' third zero one two three none a b same c =
     c ∙ ap (λ t. t ++ third) (b ∙ ap (λ t. one ++ t) same ∙ ap (λ t. t ++ second) (a ∙ ap (λ t. t ++ first) none))
 
-pub explained : (bytes : List ℕ) (fault : Fault) (hint : Option (List ℕ)) (raw text : List ℕ) → IsHint (candidates bytes fault).0 (candidates bytes fault).1 hint → raw ≡ explanation bytes fault hint
+pub explained : (bytes : List ℕ) (fault : Fault) (hint : Option (List ℕ)) (raw text : List ℕ) → IsHintFor (known bytes fault) (doubtful bytes fault) hint → raw ≡ explanation bytes fault hint
     → text ≡ map shown_byte raw → Explains bytes fault text
 explained bytes fault hint raw text near is at = record { hint = hint; nearest = near; is = at ∙ ap (map shown_byte) is }
 

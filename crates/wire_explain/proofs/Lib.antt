@@ -3,3 +3,5 @@ pub mod Explanations
 pub mod Tables
 pub mod Shown
 pub mod Usages
+mod Lines
+mod Words

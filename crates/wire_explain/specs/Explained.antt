@@ -1,13 +1,12 @@
 -- What is told of the fault of a plan.
-use Rattle.std.specs.Prelude.{◌≡◌, ℕ, Bool, List, [], ◌∷◌, ◌++◌, map, unwrap_or, Option, Some, None, codes, if◌then◌else◌}
+use Rattle.std.specs.Prelude.{◌≡◌, ℕ, Bool, List, [], ◌++◌, map, unwrap_or, Option, Some, None, codes, if◌then◌else◌}
 use Rattle.std.specs.List.{list_all}
-use Rattle.std.specs.Str.{bytes_eq}
 use Rattle.wire_types.specs.declared.Fault.{Fault}
 use Rattle.wire_types.specs.declared.Fault.TheVariants.{Memory, TooLong, BadHeader, BadLine, UnknownName, Twice, NotMember}
 use Rattle.wire_types.specs.declared.Fault.TheVariants.{TooMany, Workers, Read, Write, NotReady, BadOrder}
 use Rattle.wire_lines.specs.Said.{is_word_byte}
-use Rattle.wire_explain.specs.Near.{IsHint}
-use Rattle.wire_explain.specs.Format.{usage_of, format_words}
+use Rattle.wire_explain.specs.Hint.{IsHintFor, doubtful, known}
+use Rattle.wire_explain.specs.Format.{usage_of}
 use Rattle.wire_explain.specs.Quote.{shown_byte, quoted, labelled}
 use Rattle.wire_explain.specs.Place.{first_in, words_at, place_of}
 use Rattle.wire_explain.specs.declared.place.Place.{Place}
@@ -57,20 +56,6 @@ expected bytes (Write count) = codes "an output that can be written"
 expected bytes (NotReady step) = codes "a rank that can take its next step"
 expected bytes (BadOrder place) = codes "a rank of the plan, such as app:0"
 
--- a word that may be misspelt, and the words that may be meant
-abbrev pub candidates_of_word : List ℕ → Option (List ℕ) → List ℕ × List (List ℕ)
-candidates_of_word word None = (word, format_words)
-candidates_of_word word (Some usage) = ([], [])
-
--- the first word of a header has a candidate where it isn't the right one
-abbrev pub candidates_of_header : List ℕ → List ℕ × List (List ℕ)
-candidates_of_header word = if bytes_eq word (codes "rehearsal") then ([], []) else (word, codes "rehearsal" ∷ [])
-
-abbrev pub candidates : List ℕ → Fault → List ℕ × List (List ℕ)
-candidates bytes (BadHeader line) = candidates_of_header (first_in (words_at bytes line))
-candidates bytes (BadLine line) = candidates_of_word (first_in (words_at bytes line)) (usage_of (first_in (words_at bytes line)))
-candidates bytes _ = ([], [])
-
 -- the lines: the line at fault, what was expected, and the nearest word
 abbrev pub line_part : List ℕ → Option ℕ → List ℕ
 line_part bytes (Some line) = quoted bytes line
@@ -86,5 +71,5 @@ explanation bytes fault hint = line_part bytes (plan_line fault) ++ labelled (co
 -- a text explains the fault of a plan, with the nearest of the words that may be meant; each byte is shown
 pub record Explains (bytes : List ℕ) (fault : Fault) (text : List ℕ) : Type 0 where
   pub hint : Option (List ℕ)
-  pub nearest : IsHint (candidates bytes fault).0 (candidates bytes fault).1 hint
+  pub nearest : IsHintFor (known bytes fault) (doubtful bytes fault) hint
   pub is : text ≡ map shown_byte (explanation bytes fault hint)

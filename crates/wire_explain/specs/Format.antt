@@ -1,7 +1,9 @@
 -- The lines of the format by their first words, and how each is written.
-use Rattle.std.specs.Prelude.{◌≡◌, ℕ, Bool, true, false, List, [], ◌∷◌, map, Option, Some, None, codes, if◌then◌else◌}
+use Rattle.std.specs.Prelude.{◌≡◌, ◌⊎◌, ℕ, Bool, true, false, List, [], ◌∷◌, map, Option, Some, None, codes, slice_get, if◌then◌else◌}
+use Rattle.std.specs.List.{All}
 use Rattle.std.specs.Str.{bytes_eq}
-use Rattle.wire_lines.specs.Said.{Said, first_word, begins_with}
+use Rattle.wire_types.specs.declared.Scope.TheVariants.{Local, Remote, Global}
+use Rattle.wire_lines.specs.Said.{Said, IsLawful, first_word, other_words, begins_with, spelled_scope, collect_words}
 
 -- the first words, each with how its line is written and where it stands
 abbrev pub usages : List (List ℕ × List ℕ)
@@ -42,3 +44,31 @@ begins_as word (Some usage) = begins_with (39 ∷ word) usage
 -- each line of the format has a usage, which begins with the first word of the line
 abbrev pub LinesHaveUsages : Type 0
 LinesHaveUsages = (said : Said) → begins_as (first_word said) (usage_of (first_word said)) ≡ true
+
+-- the place of the word that is one of a few, in a line that begins with this word: the scope of a put, what follows the set
+-- of a fence, and else the first word itself
+abbrev pub choice_place : List ℕ → ℕ
+choice_place first = if bytes_eq first (codes "put") then 1 else (if bytes_eq first (codes "fence") then 2 else 0)
+
+-- the scopes of a put
+abbrev pub scopes : List (List ℕ)
+scopes = spelled_scope Local ∷ spelled_scope Remote ∷ spelled_scope Global ∷ []
+
+-- the words that the format has there
+abbrev pub choices : List ℕ → List (List ℕ)
+choices first = if bytes_eq first (codes "put") then scopes else (if bytes_eq first (codes "fence") then collect_words true else format_words)
+
+-- a line of the format has this word at this place, where the word is the first or comes after this first one
+pub record IsOfFormat (place : ℕ) (first word : List ℕ) : Type 0 where
+  pub said : Said
+  pub lawful : IsLawful said
+  pub begins : (place ≡ 0) ⊎ (first_word said ≡ first)
+  pub there : slice_get (first_word said ∷ other_words said) place ≡ Some word
+
+-- each usage is that of a line of the format, by its first word
+abbrev pub UsagesAreLines : Type 0
+UsagesAreLines = All (λ word. IsOfFormat 0 word word) format_words
+
+-- each word that may be meant is one that the format has there
+abbrev pub ChoicesAreWords : Type 0
+ChoicesAreWords = (first : List ℕ) → All (IsOfFormat (choice_place first) first) (choices first)

@@ -2,5 +2,6 @@ pub mod Near
 pub mod Format
 pub mod Quote
 pub mod Place
+pub mod Hint
 pub mod Explained
 pub mod Order

@@ -29,13 +29,13 @@ abbrev pub line_at : List ℕ → ℕ → Option (List ℕ)
 line_at bytes number = slice_get (lines_of bytes) (number - 1)
 
 -- how it is shown
-abbrev pub shown_line : Option (List ℕ) → List ℕ
-shown_line (Some line) = front_of shown_bytes line
-shown_line None = codes "(the file ends here)"
+abbrev pub quoted_line : Option (List ℕ) → List ℕ
+quoted_line (Some line) = front_of shown_bytes line
+quoted_line None = codes "(the file ends here)"
 
 -- the line of this number, with the number before it
 abbrev pub quoted : List ℕ → ℕ → List ℕ
-quoted bytes number = codes "  " ++ decimal number ++ codes " | " ++ shown_line (line_at bytes number) ++ codes "\n"
+quoted bytes number = codes "  " ++ decimal number ++ codes " | " ++ quoted_line (line_at bytes number) ++ codes "\n"
 
 -- a line of two parts
 abbrev pub labelled : List ℕ → List ℕ → List ℕ

@@ -2,6 +2,7 @@
 #![tactic(auto)]
 
 mod format;
+mod hint;
 mod law;
 mod near;
 mod order;
@@ -9,7 +10,7 @@ pub mod place;
 mod plan;
 mod quote;
 
-pub use law::lines_have_usages;
+pub use law::{choices_are_words, lines_have_usages, usages_are_lines};
 pub use near::{is_within, nearest};
 pub use order::{explain_order, explain_word};
 pub use place::Place;

@@ -1,17 +1,14 @@
 //! The explanation of the fault of a plan.
 
-ghost use Rattle.std.specs.Prelude.{◌≡◌, ◌++◌, ◌∷◌, [], true, codes, map, option_map, IfOk, OnOk};
+ghost use Rattle.std.specs.Prelude.{◌≡◌, ◌++◌, true, map, option_map, IfOk, OnOk};
 ghost use Rattle.std.specs.List.{list_all};
 ghost use Rattle.wire_lines.specs.Said as said;
-ghost use Rattle.wire_explain.specs.Near.{IsHint};
 ghost use Rattle.wire_explain.specs.Quote.{is_printable_text};
-ghost use Rattle.wire_explain.specs.Format.{usage_of as usage_said};
-ghost use Rattle.wire_explain.specs.Place as there;
 ghost use Rattle.wire_explain.specs.Explained as spec;
 ghost use Rattle.wire_explain.specs.Explained.{Explains};
 
-use crate::format::{format_words, usage_of};
-use crate::near::nearest;
+use crate::format::usage_of;
+use crate::hint::hint_of;
 use crate::place::{Place, first_in, place_of, words_at};
 use crate::quote::{push_labelled, push_quoted, shown_text};
 use std::alloc::{AllocError, Global};
@@ -105,45 +102,6 @@ fn expected(alloc: Global, bytes: &[u8], fault: Fault) -> Result<&'static str, A
         Fault::NotReady(_) => "a rank that can take its next step",
         Fault::BadOrder(_) => "a rank of the plan, such as app:0",
     })
-}
-
-/// The nearest of the format's words, where the first word of a line isn't one of them.
-fn hint_of_line(alloc: Global, word: &[u8]) -> Result<Option<&'static [u8]>, AllocError>
-    ensures { IfOk result (λ hint. IsHint (spec.candidates_of_word word.now (usage_said word.now)).0
-        (spec.candidates_of_word word.now (usage_said word.now)).1 (option_map (λ w. w.now) hint)) }
-{
-    if usage_of(word).is_some() {
-        return Ok(nearest(b"", &[]));
-    }
-    let words = format_words(alloc)?;
-    Ok(nearest(word, words.as_slice()))
-}
-
-/// The first word of a header, where that of a line is near it and isn't the same.
-fn hint_of_header(word: &[u8]) -> Option<&'static [u8]>
-    ensures { IsHint (spec.candidates_of_header word.now).0 (spec.candidates_of_header word.now).1 (option_map (λ w. w.now) result) }
-{
-    if word == b"rehearsal".as_slice() {
-        return nearest(b"", &[]);
-    }
-    nearest(word, &[b"rehearsal".as_slice()])
-}
-
-/// The nearest of the words that may be meant.
-fn hint_of(alloc: Global, bytes: &[u8], fault: Fault) -> Result<Option<&'static [u8]>, AllocError>
-    ensures { IfOk result (λ hint. IsHint (spec.candidates bytes.now fault).0 (spec.candidates bytes.now fault).1 (option_map (λ w. w.now) hint)) }
-{
-    match fault {
-        Fault::BadHeader(line) => {
-            let words = words_at(alloc, bytes, line)?;
-            Ok(hint_of_header(first_in(words.as_slice())))
-        }
-        Fault::BadLine(line) => {
-            let words = words_at(alloc, bytes, line)?;
-            hint_of_line(alloc, first_in(words.as_slice()))
-        }
-        _ => Ok(nearest(b"", &[])),
-    }
 }
 
 /// Appends the line of a plan that a fault names.

@@ -77,7 +77,7 @@ pub fn push_quoted(out: &mut Vec<u8>, bytes: &[u8], number: u64) -> Result<(), A
 
 /// Appends a line, or that there is none.
 fn push_shown(out: &mut Vec<u8>, line: Option<&[u8]>) -> Result<(), AllocError>
-    ensures { OnOk result (out.new.items ≡ out.old.items ++ spec.shown_line (option_map (λ l. l.now) line.entry)) }
+    ensures { OnOk result (out.new.items ≡ out.old.items ++ spec.quoted_line (option_map (λ l. l.now) line.entry)) }
 {
     match line {
         Some(line) => push_front(out, line, SHOWN_BYTES),

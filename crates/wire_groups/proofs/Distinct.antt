@@ -5,7 +5,7 @@ use Rattle.std.specs.List.{list_any}
 use Rattle.std.proofs.lemmas.Bool.{cases_Bool}
 use Rattle.std.proofs.lemmas.List.Sums.{fold-append}
 use Rattle.indexmap.specs.IndexSet.{insert_key}
-use Rattle.wire_groups.specs.Groups.{distinct}
+use Rattle.wire_groups.specs.Tally.{distinct}
 
 module _ {K : Type 0} (same : K → K → Bool) where
   -- none equals one that follows it

@@ -10,8 +10,8 @@ use Rattle.std.proofs.lemmas.List.Sums.{sum_by-append, sum_by-set}
 use Rattle.indexmap.specs.IndexSet.{insert_key}
 use Rattle.wire_groups.specs.declared.Group.{Group}
 use Rattle.wire_groups.specs.declared.Tally.{Tally}
-use Rattle.wire_groups.specs.Groups.{distinct, group_of}
-use Rattle.wire_groups.specs.Tally.{IsTally}
+use Rattle.wire_groups.specs.Groups.{group_of}
+use Rattle.wire_groups.specs.Tally.{IsTally, distinct}
 use Rattle.wire_groups.proofs.Distinct.{distinct_push, any_distinct, distinct_apart, distinct_among}
 use Rattle.wire_groups.proofs.Groups.{more, groups_new, groups_again}
 
@@ -27,7 +27,7 @@ not_old true e = refl
 not_old false e = absurd (true≢false (sym e))
 
 module _ {K : Type 0} (same : K → K → Bool) (laws : IsEquivalence same) (x : K) where
-  within : (ks : List K) → list_any (same x) ks ≡ true → position_or_len (same x) ks < length ks
+  pub within : (ks : List K) → list_any (same x) ks ≡ true → position_or_len (same x) ks < length ks
   within [] any = absurd (true≢false (sym any))
   within (k ∷ ks) any = go (λ left. within ks left) (same x k) refl
     where

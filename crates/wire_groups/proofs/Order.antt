@@ -5,7 +5,7 @@ use Rattle.std.proofs.lemmas.List.Sorted.{ranks_by}
 use Rattle.wire_groups.specs.declared.Group.{Group}
 use Rattle.wire_groups.specs.Groups.{group_cmp}
 
-total : IsTotalOrder group_cmp
+pub total : IsTotalOrder group_cmp
 total = then_total (on_total (λ (g : Group). g.count) (back_total nat_cmp_total)) (on_total (λ (g : Group). g.first) nat_cmp_total)
 
 pub groups_rank : IsStrictWeakOrder (λ x y. is_lt (group_cmp x y))

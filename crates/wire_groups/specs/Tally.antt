@@ -1,8 +1,13 @@
 -- What is counted so far, for the contracts of private functions.
-use Rattle.std.specs.Prelude.{◌≡◌, Bool, List, map, length, sum_by}
+use Rattle.std.specs.Prelude.{◌≡◌, Bool, List, [], map, fold, length, sum_by}
+use Rattle.indexmap.specs.IndexSet.{insert_key}
 use Rattle.wire_groups.specs.declared.Group.{Group}
 use Rattle.wire_groups.specs.declared.Tally.{Tally}
-use Rattle.wire_groups.specs.Groups.{distinct, group_of}
+use Rattle.wire_groups.specs.Groups.{group_of}
+
+-- the labels, each once and in the order of their first places
+abbrev pub distinct : {K : Type 0} → (K → K → Bool) → List K → List K
+distinct same labels = fold (insert_key same) [] labels
 
 -- these labels are counted, each in the group of its own
 pub record IsTally {K : Type 0} (same : K → K → Bool) (labels : List K) (tally : Tally K) : Type 0 where

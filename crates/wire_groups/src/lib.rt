@@ -5,7 +5,10 @@ ghost use Rattle.std.specs.Prelude.{◌≡◌, ◌+◌, ◌<◌, ◌^◌, [], su
 ghost use Rattle.wire_groups.specs.Groups.{AreGroups, group_cmp as the_order};
 ghost use Rattle.wire_groups.specs.Tally.{IsTally};
 
+mod law;
+
 use indexmap::IndexSet;
+pub use law::{groups_part, one_grouping};
 use std::alloc::{AllocError, Global};
 use std::cmp::Ordering;
 use std::hash::Hash;

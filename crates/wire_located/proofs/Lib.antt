@@ -1,3 +1,4 @@
 mod Grouped
 mod Labels
+mod Laws
 mod Same

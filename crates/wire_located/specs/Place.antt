@@ -3,17 +3,17 @@ use Rattle.std.specs.Prelude.{ℕ, ◌&&◌, List, ◌++◌, Option, Some, None,
 use Rattle.wire_types.specs.declared.CallAt.{CallAt}
 
 -- a byte of a file's name as it is shown: `?` for what isn't printable ASCII, so that no name plays with the terminal
-abbrev pub shown_byte : ℕ → ℕ
-shown_byte b = if nat_le 32 b && nat_le b 126 then b else 63
+abbrev pub name_byte : ℕ → ℕ
+name_byte b = if nat_le 32 b && nat_le b 126 then b else 63
 
 -- the line of a call, by the lines of the calls of its process
-abbrev pub line_in : Option (List ℕ) → ℕ → ℕ
-line_in None c = 0
-line_in (Some lines) c = slice_index_or lines c 0
+abbrev pub row_line : Option (List ℕ) → ℕ → ℕ
+row_line None c = 0
+row_line (Some lines) c = slice_index_or lines c 0
 
 abbrev pub line_of : List (List ℕ) → CallAt → ℕ
-line_of rows call = line_in (slice_get rows call.proc.number) call.call
+line_of rows call = row_line (slice_get rows call.proc.number) call.call
 
 -- where a call stands, as editors and terminals open it: `early-get.plan:7: `
 abbrev pub place_text : List ℕ → List (List ℕ) → CallAt → List ℕ
-place_text name rows call = map shown_byte name ++ codes ":" ++ decimal (line_of rows call) ++ codes ": "
+place_text name rows call = map name_byte name ++ codes ":" ++ decimal (line_of rows call) ++ codes ": "

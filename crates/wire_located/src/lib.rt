@@ -3,10 +3,12 @@
 
 mod grouping;
 mod label;
+mod law;
 mod place;
 mod text;
 
 pub use grouping::group_findings;
 pub use label::{Deed, Label, Pair, Subject, pair_of};
+pub use law::{labels_tell, one_grouping};
 pub use place::{Places, line_of, push_place};
 pub use text::{located_text, push_note, push_second};

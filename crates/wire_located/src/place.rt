@@ -16,8 +16,8 @@ pub struct Places<'a> {
 }
 
 /// A byte as it is shown: `?` for what isn't printable ASCII.
-fn shown_byte(byte: u8) -> u8
-    ensures { result ≡ spec.shown_byte byte }
+fn name_byte(byte: u8) -> u8
+    ensures { result ≡ spec.name_byte byte }
 {
     if 32 <= byte && byte <= 126 {
         byte
@@ -28,10 +28,10 @@ fn shown_byte(byte: u8) -> u8
 
 /// Appends a name as it is shown.
 fn push_name(out: &mut Vec<u8>, name: &[u8]) -> Result<(), AllocError>
-    ensures { OnOk result (out.new.items ≡ out.old.items ++ map spec.shown_byte name.now) }
+    ensures { OnOk result (out.new.items ≡ out.old.items ++ map spec.name_byte name.now) }
 {
     for byte in name {
-        out.push(shown_byte(*byte))?;
+        out.push(name_byte(*byte))?;
     }
     Ok(())
 }
@@ -41,13 +41,13 @@ pub fn line_of(rows: &[Vec<u64>], call: CallAt) -> u64
     ensures { result ≡ spec.line_of (map (λ row. row.items) rows.now) call }
 {
     match rows.get(call.proc.index()) {
-        Some(row) => line_in(row.as_slice(), call.call as usize),
+        Some(row) => row_line(row.as_slice(), call.call as usize),
         None => 0,
     }
 }
 
 /// The number at a place of a row, 0 where there is none.
-fn line_in(row: &[u64], place: usize) -> u64
+fn row_line(row: &[u64], place: usize) -> u64
     ensures { result ≡ slice_index_or row.now place 0 }
 {
     match row.get(place) {

@@ -24,9 +24,9 @@ abbrev pub missing_for : Plan → State → ℕ → List ℕ → List ℕ
 missing_for plan s p members = missing plan s.done members (arrivals plan p members (s.done p))
 
 -- a space and the text of each of these ranks
-abbrev pub names_text : Scripts → List ℕ → List ℕ
-names_text scripts [] = []
-names_text scripts (p ∷ ps) = codes " " ++ name_of scripts p ++ names_text scripts ps
+abbrev pub rank_list_text : Scripts → List ℕ → List ℕ
+rank_list_text scripts [] = []
+rank_list_text scripts (p ∷ ps) = codes " " ++ name_of scripts p ++ rank_list_text scripts ps
 
 -- that there are so many more
 abbrev pub more_text : ℕ → List ℕ
@@ -35,7 +35,7 @@ more_text (suc n) = codes " and " ++ decimal (suc n) ++ codes " more"
 
 -- the first eight of these, and how many more there are
 abbrev pub ranks_text : Scripts → List ℕ → List ℕ
-ranks_text scripts ps = names_text scripts (take 8 ps) ++ more_text (length ps - 8)
+ranks_text scripts ps = rank_list_text scripts (take 8 ps) ++ more_text (length ps - 8)
 
 -- a key of its own for which a rank waits
 abbrev pub own_key_text : Scripts → ℕ → List ℕ
@@ -48,25 +48,25 @@ key_text scripts p owner key =
     else codes " " ++ name_of scripts owner ++ codes " to commit the key " ++ text_at scripts.keys key
 
 -- the name for which a lookup-wait waits
-abbrev pub name_text : Scripts → ℕ → List ℕ
-name_text scripts name = codes " the name " ++ text_at scripts.names name ++ codes " to be published"
+abbrev pub published_text : Scripts → ℕ → List ℕ
+published_text scripts name = codes " the name " ++ text_at scripts.names name ++ codes " to be published"
 
 -- what p waits for, whose next event is of this kind: at the end of a fence for those of its members that haven't arrived
 abbrev pub wait_text : Scripts → State → ℕ → Kind → List ℕ
 wait_text scripts s p (Get owner key) = key_text scripts p owner key
 wait_text scripts s p (Leave members) = ranks_text scripts (missing_for (plan_of scripts) s p members) ++ codes " to arrive"
-wait_text scripts s p (LookupWait name) = name_text scripts name
+wait_text scripts s p (LookupWait name) = published_text scripts name
 wait_text scripts s p _ = codes " nothing"
 
 -- a call, and its verb
-abbrev pub place_text : Scripts → CallAt → List ℕ
-place_text scripts x = call_text scripts x ++ codes " " ++ verb_text_in (call_at scripts.processes x.proc.number x.call)
+abbrev pub said_call : Scripts → CallAt → List ℕ
+said_call scripts x = call_text scripts x ++ codes " " ++ verb_text_in (call_at scripts.processes x.proc.number x.call)
 
 -- where p stands, and what it waits for there
 abbrev pub standing_text : Scripts → State → ℕ → Option Kind → List ℕ
 standing_text scripts s p None = codes "  stands at: its end, with no call left\n"
 standing_text scripts s p (Some kind) =
-    labelled (codes "  stands at: ") (place_text scripts (call_of (plan_of scripts) (next_event s p)))
+    labelled (codes "  stands at: ") (said_call scripts (call_of (plan_of scripts) (next_event s p)))
     ++ labelled (codes "  waits for:") (wait_text scripts s p kind)
 
 -- the number of a line, 0 where there is none

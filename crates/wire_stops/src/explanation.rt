@@ -36,8 +36,8 @@ fn line_of_step(alloc: Global, bytes: &[u8], step: u64) -> Result<u64, AllocErro
 }
 
 /// Appends a call, and its verb.
-fn push_place(out: &mut Vec<u8>, scripts: &Scripts, place: CallAt) -> Result<(), AllocError>
-    ensures { OnOk result (out.new.items ≡ out.old.items ++ spec.place_text scripts.now place) }
+fn push_said_call(out: &mut Vec<u8>, scripts: &Scripts, place: CallAt) -> Result<(), AllocError>
+    ensures { OnOk result (out.new.items ≡ out.old.items ++ spec.said_call scripts.now place) }
 {
     push_call(out, scripts, place)?;
     out.extend_from_slice(b" ")?;
@@ -46,10 +46,10 @@ fn push_place(out: &mut Vec<u8>, scripts: &Scripts, place: CallAt) -> Result<(),
 
 /// Appends the line that tells at which call a rank stands.
 fn push_stands(out: &mut Vec<u8>, scripts: &Scripts, place: CallAt) -> Result<(), AllocError>
-    ensures { OnOk result (out.new.items ≡ out.old.items ++ labelled (codes "  stands at: ") (spec.place_text scripts.now place)) }
+    ensures { OnOk result (out.new.items ≡ out.old.items ++ labelled (codes "  stands at: ") (spec.said_call scripts.now place)) }
 {
     out.extend_from_slice(b"  stands at: ")?;
-    push_place(out, scripts, place)?;
+    push_said_call(out, scripts, place)?;
     out.extend_from_slice(b"\n")
 }
 

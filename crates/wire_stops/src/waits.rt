@@ -18,8 +18,8 @@ use wire_words::{push_number, push_proc};
 const NAMED: usize = 8;
 
 /// Appends a space and a rank, for each of these.
-fn push_names(out: &mut Vec<u8>, scripts: &Scripts, ranks: &[Proc]) -> Result<(), AllocError>
-    ensures { OnOk result (out.new.items ≡ out.old.items ++ spec.names_text scripts.now (numbers_of ranks.now)) }
+fn push_rank_list(out: &mut Vec<u8>, scripts: &Scripts, ranks: &[Proc]) -> Result<(), AllocError>
+    ensures { OnOk result (out.new.items ≡ out.old.items ++ spec.rank_list_text scripts.now (numbers_of ranks.now)) }
 {
     for rank in ranks {
         out.extend_from_slice(b" ")?;
@@ -45,7 +45,7 @@ fn push_ranks(out: &mut Vec<u8>, scripts: &Scripts, ranks: &[Proc]) -> Result<()
     ensures { OnOk result (out.new.items ≡ out.old.items ++ spec.ranks_text scripts.now (numbers_of ranks.now)) }
 {
     let named = ranks.len().min(NAMED);
-    push_names(out, scripts, &ranks[..named])?;
+    push_rank_list(out, scripts, &ranks[..named])?;
     push_more(out, ranks.len() - named)
 }
 
@@ -92,8 +92,8 @@ fn push_name_text(out: &mut Vec<u8>, scripts: &Scripts, name: u32) -> Result<(),
 }
 
 /// Appends the name for which a rank waits.
-fn push_name(out: &mut Vec<u8>, scripts: &Scripts, name: u32) -> Result<(), AllocError>
-    ensures { OnOk result (out.new.items ≡ out.old.items ++ spec.name_text scripts.now name) }
+fn push_published(out: &mut Vec<u8>, scripts: &Scripts, name: u32) -> Result<(), AllocError>
+    ensures { OnOk result (out.new.items ≡ out.old.items ++ spec.published_text scripts.now name) }
 {
     out.extend_from_slice(b" the name ")?;
     push_name_text(out, scripts, name)?;
@@ -131,7 +131,7 @@ pub(crate) fn push_wait(
     match kind {
         Kind::Get { owner, key } => push_key(out, scripts, proc, owner, key),
         Kind::Leave { set } => push_missing(alloc, out, core, proc, set),
-        Kind::LookupWait { name } => push_name(out, scripts, name),
+        Kind::LookupWait { name } => push_published(out, scripts, name),
         _ => out.extend_from_slice(b" nothing"),
     }
 }

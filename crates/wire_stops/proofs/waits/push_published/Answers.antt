@@ -1,7 +1,7 @@
 use Rattle.std.proofs.Common.{codes}
 use Rattle.wire_content.specs.Scripts.{text_at}
 use Rattle.wire_stops.proofs.Texts.{then_joined}
-use Rattle.wire_stops.proofs.waits.push_name.Goals as goal
+use Rattle.wire_stops.proofs.waits.push_published.Goals as goal
 
 pub returns : goal.returns
 returns c =

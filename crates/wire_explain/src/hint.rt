@@ -1,0 +1,89 @@
+//! The nearest word that may be meant where a line is wrong.
+
+ghost use Rattle.std.specs.Prelude.{◌≡◌, map, option_map, slice_get, IfOk};
+ghost use Rattle.std.specs.List.{list_any};
+ghost use Rattle.std.specs.Str.{bytes_eq};
+ghost use Rattle.wire_explain.specs.Format as format;
+ghost use Rattle.wire_explain.specs.Place as there;
+ghost use Rattle.wire_explain.specs.Hint as spec;
+ghost use Rattle.wire_explain.specs.Hint.{IsHintFor};
+
+use crate::format::format_words;
+use crate::near::nearest;
+use crate::place::{first_in, words_at};
+use std::alloc::{AllocError, Global};
+use wire_types::Fault;
+
+/// The word at a place of a line, from 0.
+fn word_in<'a>(words: &[&'a [u8]], place: usize) -> Option<&'a [u8]>
+    ensures { option_map (λ w. w.now) result ≡ slice_get (map (λ w. w.now) words.now) place }
+{
+    match words.get(place) {
+        Some(word) => Some(*word),
+        None => None,
+    }
+}
+
+/// Whether a word is one of some words.
+fn is_among(word: &[u8], words: &[&[u8]]) -> bool
+    ensures { result ≡ list_any (bytes_eq word.now) (map (λ w. w.now) words.now) }
+{
+    for other in words {
+        if word == *other {
+            return true;
+        }
+    }
+    false
+}
+
+/// The nearest of the words that the format has at a place, where a word stands there that is none of them.
+fn hint_for<'a>(known: &[&'a [u8]], word: Option<&[u8]>) -> Option<&'a [u8]>
+    ensures { IsHintFor (map (λ w. w.now) known.now) (option_map (λ w. w.now) word.entry) (option_map (λ w. w.now) result) }
+{
+    match word {
+        Some(word) if !is_among(word, known) => nearest(word, known),
+        _ => None,
+    }
+}
+
+/// The nearest of the words that may be meant in a line that isn't one of the format.
+fn hint_of_line(alloc: Global, words: &[&[u8]]) -> Result<Option<&'static [u8]>, AllocError>
+    ensures { IfOk result (λ hint. IsHintFor (format.choices (there.first_in (map (λ w. w.now) words.now)))
+        (slice_get (map (λ w. w.now) words.now) (format.choice_place (there.first_in (map (λ w. w.now) words.now)))) (option_map (λ w. w.now) hint)) }
+{
+    let first = first_in(words);
+    if first == b"put".as_slice() {
+        let scopes = [
+            b"local".as_slice(),
+            b"remote".as_slice(),
+            b"global".as_slice(),
+        ];
+        return Ok(hint_for(&scopes, word_in(words, 1)));
+    }
+    if first == b"fence".as_slice() {
+        return Ok(hint_for(&[b"collect".as_slice()], word_in(words, 2)));
+    }
+    let known = format_words(alloc)?;
+    Ok(hint_for(known.as_slice(), word_in(words, 0)))
+}
+
+/// The nearest of the words that may be meant, where a plan has this fault.
+pub(crate) fn hint_of(
+    alloc: Global,
+    bytes: &[u8],
+    fault: Fault,
+) -> Result<Option<&'static [u8]>, AllocError>
+    ensures { IfOk result (λ hint. IsHintFor (spec.known bytes.now fault) (spec.doubtful bytes.now fault) (option_map (λ w. w.now) hint)) }
+{
+    match fault {
+        Fault::BadHeader(line) => {
+            let words = words_at(alloc, bytes, line)?;
+            Ok(hint_for(&[b"rehearsal".as_slice()], word_in(words.as_slice(), 0)))
+        }
+        Fault::BadLine(line) => {
+            let words = words_at(alloc, bytes, line)?;
+            hint_of_line(alloc, words.as_slice())
+        }
+        _ => Ok(None),
+    }
+}
