@@ -555,7 +555,7 @@ fn part_of(orders: Orders, json: bool) -> Part {
 
 /// Shows the race of two calls of a plan.
 fn show_race(
-    rt: &(impl Files + Input + Print + Eprint + AllocGlobal + Threads + Wait + Sync),
+    rt: &(impl Files + Input + Print + Eprint + AllocGlobal + Wait),
     asked: PairRequest<'_>,
     watch: &mut Watch<'_, '_>,
 ) -> Result<u8, Fault> {
@@ -565,10 +565,10 @@ fn show_race(
     let words = words_of(asked.first, asked.second);
     let ended = if asked.lines {
         let file = file_of(asked.plan, false, asked.json);
-        witness_located(rt, rt.alloc(), file, &mut reader, &mut writer, words)?
+        witness_located(rt.alloc(), file, &mut reader, &mut writer, words)?
     } else {
         let part = part_of(asked.orders, asked.json);
-        witness(rt, rt.alloc(), &mut reader, &mut writer, words, part)?
+        witness(rt.alloc(), &mut reader, &mut writer, words, part)?
     };
     Ok(ended.status())
 }

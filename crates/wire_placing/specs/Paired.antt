@@ -2,8 +2,8 @@
 use Rattle.std.specs.Prelude.{◌≡◌, ◌⊎◌, ℕ, Bool, true, false, List, ◌++◌, Ok, codes}
 use Rattle.wire_types.specs.declared.CallAt.{CallAt}
 use Rattle.wire_content.specs.Scripts.{Scripts, numbers_of}
-use Rattle.wire_races.specs.declared.finding.Finding.{Finding}
-use Rattle.wire_races.specs.Findings.{AreFindings}
+use Rattle.wire_content.specs.Planned.{plan_of}
+use Rattle.wire_races.specs.Racing.{AreRacing}
 use Rattle.wire_report.specs.Unsettled.{order_text}
 use Rattle.wire_located.specs.Place.{place_text}
 use Rattle.wire_located.specs.Text.{note_line}
@@ -14,7 +14,6 @@ use Rattle.wire_commands.specs.declared.checking.Ended.TheVariants.{Clean, Found
 use Rattle.wire_commands.specs.Why.{Asks}
 use Rattle.wire_showing.specs.declared.part.Part.{Part}
 use Rattle.wire_showing.specs.declared.part.Part.TheVariants.{Whole, Json}
-use Rattle.wire_showing.specs.Races.{IsReported}
 use Rattle.wire_showing.specs.Texts.{shown_line, end_line, not_shown_text, no_race_text}
 use Rattle.wire_placing.specs.Lined.{json_witness}
 
@@ -60,11 +59,10 @@ pub data IsPlacedSearch (json : Bool) (name : List ℕ) (rows : List (List ℕ))
       IsPlacedSearch json name rows scripts x y text ended
   PlacesNone : text ≡ not_shown_text (part_of json) → ended ≡ Clean → IsPlacedSearch json name rows scripts x y text ended
 
--- of two calls: what is written of their race, where it is among the findings, else that no race is reported
+-- of two calls: what is written of their race, where they race, else that no race is reported
 pub data IsPlacedPair (json : Bool) (name : List ℕ) (rows : List (List ℕ)) (scripts : Scripts) (x y : CallAt) (text : List ℕ) (ended : Ended) : Type 0 where
-  IsAmongThem : (found : List Finding) → AreFindings scripts found → IsReported found x y → IsPlacedSearch json name rows scripts x y text ended →
-      IsPlacedPair json name rows scripts x y text ended
-  IsNone : (found : List Finding) → AreFindings scripts found → (IsReported found x y → ⊥) → text ≡ no_race_text (part_of json) → ended ≡ Clean →
+  TheyRace : AreRacing (plan_of scripts) x y → IsPlacedSearch json name rows scripts x y text ended → IsPlacedPair json name rows scripts x y text ended
+  TheyDoNot : (AreRacing (plan_of scripts) x y → ⊥) → text ≡ no_race_text (part_of json) → ended ≡ Clean →
       IsPlacedPair json name rows scripts x y text ended
 
 -- the words name two calls of the scripts, and the text tells of them

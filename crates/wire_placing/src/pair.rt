@@ -1,8 +1,10 @@
 //! Two runs that show the race of two calls, and where the calls stand.
 
-ghost use Rattle.std.specs.Prelude.{◌≡◌, ◌≢◌, ◌⊎◌, ◌++◌, Err, map, OnOk, IfOk, IfErr};
+ghost use Rattle.std.specs.Prelude.{◌≡◌, ◌≢◌, ◌⊎◌, ◌<◌, ◌++◌, Err, map, length, OnOk, IfOk, IfErr};
 ghost use Rattle.wire_types.specs.declared.Fault.TheVariants.{Memory, Read};
 ghost use Rattle.wire_types.specs.Counting.{one_more};
+ghost use Rattle.wire_runs.specs.Ends.{calls_of};
+ghost use Rattle.wire_content.specs.Planned.{plan_of};
 ghost use Rattle.wire_commands.specs.Why.{Asks, StopsBeforeAnswer};
 ghost use Rattle.wire_commands.specs.declared.checking.Ended.TheVariants.{Found};
 ghost use Rattle.wire_placing.specs.Paired as spec;
@@ -13,17 +15,14 @@ use crate::file::{PlanFile, Telling};
 use crate::lined::witness_json;
 use crate::reading::read_placed;
 use std::alloc::{AllocError, Global};
-use std::thread::Threads;
 use wire_commands::{Ended, calls_named};
 use wire_content::Scripts;
 use wire_located::{Places, push_note, push_place};
 use wire_marks::{MarkedPlan, Marks};
 use wire_plan::Plan;
-use wire_races::finding_list;
+use wire_races::are_racing;
 use wire_report::push_order;
-use wire_showing::{
-    Answer, Part, is_reported, push_end_line, push_shown, unreported, unshown, write_answer,
-};
+use wire_showing::{Answer, Part, push_end_line, push_shown, unreported, unshown, write_answer};
 use wire_types::{CallAt, Fault, Sink, Source};
 use wire_witness::{Witness, find_witness};
 
@@ -155,30 +154,30 @@ fn searched(
 
 /// The answer about two calls of a plan.
 fn pair_answer(
-    rt: &(impl Threads + Sync),
     alloc: Global,
     plan: &Plan,
     telling: Telling<'_>,
     calls: (CallAt, CallAt),
 ) -> Result<Answer, Fault>
+    requires x_there { calls.0.call < length (calls_of (plan_of plan.now) calls.0.proc.number) }
+    requires y_there { calls.1.call < length (calls_of (plan_of plan.now) calls.1.proc.number) }
     ensures ok { IfOk result (λ answer. IsPlacedPair telling.entry.json telling.entry.places.name.now (map (λ row. row.items) telling.entry.places.rows.now)
         plan.now calls.0 calls.1 answer.text.items answer.ended) }
     ensures err { IfErr result (λ e. e ≡ Memory) }
 {
     let marks = Marks::of(alloc, plan)?;
-    let found = finding_list(rt, alloc, plan, &marks)?;
-    if !is_reported(&found, calls.0, calls.1) {
+    let marked = marks.with(plan);
+    let racing = are_racing(alloc, &marked, calls.0, calls.1)?;
+    if !racing {
         let answer = unreported(alloc, part_of(telling.json))?;
         return Ok(answer);
     }
-    let marked = marks.with(plan);
     let answer = searched(alloc, &marked, telling, calls)?;
     Ok(answer)
 }
 
 /// The answer to a question about a plan.
 fn plan_answer(
-    rt: &(impl Threads + Sync),
     alloc: Global,
     plan: &Plan,
     telling: Telling<'_>,
@@ -189,13 +188,12 @@ fn plan_answer(
     ensures err { IfErr result (λ e. (e ≡ Memory) ⊎ Asks plan.now (map (λ w. w.now) words.entry) (Err e)) }
 {
     let calls = calls_named(alloc, plan.scripts(), words)?;
-    let answer = pair_answer(rt, alloc, plan, telling, calls)?;
+    let answer = pair_answer(alloc, plan, telling, calls)?;
     Ok(answer)
 }
 
 /// The answer to a question about scripts.
 fn scripts_answer(
-    rt: &(impl Threads + Sync),
     alloc: Global,
     scripts: Scripts,
     telling: Telling<'_>,
@@ -206,7 +204,7 @@ fn scripts_answer(
     ensures err { IfErr result (λ e. (e ≡ Memory) ⊎ Asks scripts (map (λ w. w.now) words.entry) (Err e)) }
 {
     let plan = Plan::build(alloc, scripts)?;
-    let answer = plan_answer(rt, alloc, &plan, telling, words);
+    let answer = plan_answer(alloc, &plan, telling, words);
     drop(plan);
     answer
 }
@@ -220,7 +218,6 @@ fn scripts_answer(
 /// other fault nothing. `Memory` may come in place of any other answer. What is said of bytes is said where the
 /// reader and the writer tell theirs.
 pub fn witness_located<R: Source, W: Sink>(
-    rt: &(impl Threads + Sync),
     alloc: Global,
     file: PlanFile<'_>,
     reader: &mut R,
@@ -246,6 +243,6 @@ pub fn witness_located<R: Source, W: Sink>(
         rows: rows.as_slice(),
     };
     let json = file.json;
-    let answer = scripts_answer(rt, alloc, scripts, Telling { places, json }, words)?;
+    let answer = scripts_answer(alloc, scripts, Telling { places, json }, words)?;
     write_answer(writer, &answer)
 }

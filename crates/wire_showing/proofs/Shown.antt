@@ -8,7 +8,7 @@ use Rattle.wire_content.specs.Scripts.{Scripts}
 use Rattle.wire_races.specs.declared.finding.Finding.{Finding}
 use Rattle.wire_witness.specs.Witness.{IsWitness}
 use Rattle.wire_witness.specs.declared.witness.Witness.{Witness}
-use Rattle.wire_showing.specs.Races.{race_calls}
+use Rattle.wire_races.specs.Reported.{race_calls}
 use Rattle.wire_showing.specs.Tried.{IsShownBy, IsTried, AreTried}
 use Rattle.wire_showing.specs.declared.tried.TriedRace.{TriedRace}
 use Rattle.wire_showing.proofs.Fronts.{next}

@@ -5,9 +5,9 @@ use Rattle.wire_types.specs.Front.{WritesFront}
 use Rattle.wire_types.specs.declared.CallAt.{CallAt}
 use Rattle.wire_types.specs.declared.Fault.{Fault}
 use Rattle.wire_content.specs.Scripts.{Scripts}
+use Rattle.wire_content.specs.Planned.{plan_of}
 use Rattle.wire_script.specs.declared.Size.TheVariants.{OfVersion}
-use Rattle.wire_races.specs.declared.finding.Finding.{Finding}
-use Rattle.wire_races.specs.Findings.{AreFindings}
+use Rattle.wire_races.specs.Racing.{AreRacing}
 use Rattle.wire_witness.specs.declared.witness.Witness.{Witness}
 use Rattle.wire_witness.specs.Witness.{IsWitness}
 use Rattle.wire_commands.specs.declared.checking.Ended.{Ended}
@@ -15,7 +15,6 @@ use Rattle.wire_commands.specs.declared.checking.Ended.TheVariants.{Clean, Found
 use Rattle.wire_commands.specs.Plain.{ReadAs}
 use Rattle.wire_commands.specs.Why.{Asks}
 use Rattle.wire_showing.specs.declared.part.Part.{Part}
-use Rattle.wire_showing.specs.Races.{IsReported}
 use Rattle.wire_showing.specs.Texts.{witness_text, not_shown_text, no_race_text}
 
 -- of a race: a witness is written, or that none was found. It ends with one finding exactly where a witness is written
@@ -24,12 +23,10 @@ pub data IsSearched (scripts : Scripts) (x y : CallAt) (part : Part) (text : Lis
       IsSearched scripts x y part text ended
   TellsNone : text ≡ not_shown_text part → ended ≡ Clean → IsSearched scripts x y part text ended
 
--- of two calls: what is written of their race, where it is among the findings, else that no race is reported
+-- of two calls: what is written of their race, where they race, else that no race is reported
 pub data IsPairText (scripts : Scripts) (x y : CallAt) (part : Part) (text : List ℕ) (ended : Ended) : Type 0 where
-  Reported : (found : List Finding) → AreFindings scripts found → IsReported found x y → IsSearched scripts x y part text ended →
-      IsPairText scripts x y part text ended
-  Unreported : (found : List Finding) → AreFindings scripts found → (IsReported found x y → ⊥) → text ≡ no_race_text part → ended ≡ Clean →
-      IsPairText scripts x y part text ended
+  Reported : AreRacing (plan_of scripts) x y → IsSearched scripts x y part text ended → IsPairText scripts x y part text ended
+  Unreported : (AreRacing (plan_of scripts) x y → ⊥) → text ≡ no_race_text part → ended ≡ Clean → IsPairText scripts x y part text ended
 
 -- the words name two calls of the scripts, and the text tells of them
 pub record AnswersPair (scripts : Scripts) (words : List (List ℕ)) (part : Part) (text : List ℕ) (ended : Ended) : Type 0 where

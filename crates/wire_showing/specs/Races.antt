@@ -1,14 +1,7 @@
 -- The races among the findings of a plan.
-use Rattle.std.specs.Prelude.{◌≡◌, ◌⊎◌, ℕ, Bool, List, filter, Option, Some, None, is_some, slice_get}
-use Rattle.wire_types.specs.declared.CallAt.{CallAt}
+use Rattle.std.specs.Prelude.{Bool, List, filter, is_some}
 use Rattle.wire_races.specs.declared.finding.Finding.{Finding}
-use Rattle.wire_races.specs.declared.finding.Finding.TheVariants.{Rewrite, KeyRace, NameRace}
-
--- the calls of a race, the lower first; nothing of a rewrite
-abbrev pub race_calls : Finding → Option (CallAt × CallAt)
-race_calls (Rewrite first later) = None
-race_calls (KeyRace lower higher owner key) = Some (lower, higher)
-race_calls (NameRace lower higher name) = Some (lower, higher)
+use Rattle.wire_races.specs.Reported.{race_calls}
 
 abbrev pub is_race : Finding → Bool
 is_race finding = is_some (race_calls finding)
@@ -16,14 +9,3 @@ is_race finding = is_some (race_calls finding)
 -- the races among the findings, in their order
 abbrev pub races_of : List Finding → List Finding
 races_of found = filter is_race found
-
--- it is a race of these calls, in either order
-abbrev pub IsRaceOf : Finding → CallAt → CallAt → Type 0
-IsRaceOf finding x y = (race_calls finding ≡ Some (x, y)) ⊎ (race_calls finding ≡ Some (y, x))
-
--- a race of these calls is among the findings
-pub record IsReported (found : List Finding) (x y : CallAt) : Type 0 where
-  pub at : ℕ
-  pub finding : Finding
-  pub there : slice_get found at ≡ Some finding
-  pub races : IsRaceOf finding x y

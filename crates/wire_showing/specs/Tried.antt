@@ -10,7 +10,7 @@ use Rattle.wire_json.specs.Witnesses.{json_races}
 use Rattle.wire_report.specs.Findings.{finding_words, finding_line}
 use Rattle.wire_witness.specs.Witness.{IsWitness}
 use Rattle.wire_witness.specs.declared.witness.Witness.{Witness}
-use Rattle.wire_showing.specs.Races.{race_calls}
+use Rattle.wire_races.specs.Reported.{race_calls}
 use Rattle.wire_showing.specs.declared.tried.TriedRace.{TriedRace}
 
 -- there is a witness of the two calls in whose runs this call ends differently

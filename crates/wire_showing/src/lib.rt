@@ -13,6 +13,6 @@ pub use all::{Tries, witnesses, witnesses_in_form};
 pub use answer::{Answer, ended_of, write_answer};
 pub use pair::{unreported, unshown, witness};
 pub use part::Part;
-pub use races::{count_races, first_races, is_reported};
+pub use races::{count_races, first_races};
 pub use texts::{push_end_line, push_shown};
 pub use tried::{TriedRace, count_shown, counts_of, push_counts, push_tried, try_races};

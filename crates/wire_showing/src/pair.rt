@@ -1,8 +1,10 @@
 //! Two runs that show the race of two calls.
 
-ghost use Rattle.std.specs.Prelude.{◌≡◌, ◌≢◌, ◌⊎◌, Err, map, OnOk, IfOk, IfErr};
+ghost use Rattle.std.specs.Prelude.{◌≡◌, ◌≢◌, ◌⊎◌, ◌<◌, Err, map, length, OnOk, IfOk, IfErr};
 ghost use Rattle.wire_types.specs.declared.Fault.TheVariants.{Memory, Read};
 ghost use Rattle.wire_types.specs.Counting.{one_more};
+ghost use Rattle.wire_runs.specs.Ends.{calls_of};
+ghost use Rattle.wire_content.specs.Planned.{plan_of};
 ghost use Rattle.wire_commands.specs.Why.{Asks, StopsBeforeAnswer};
 ghost use Rattle.wire_commands.specs.declared.checking.Ended.TheVariants.{Clean, Found};
 ghost use Rattle.wire_showing.specs.Texts as spec;
@@ -10,15 +12,13 @@ ghost use Rattle.wire_showing.specs.Pair.{AnswersPair, BreaksOffPair, IsPairText
 
 use crate::answer::{Answer, write_answer};
 use crate::part::Part;
-use crate::races::is_reported;
 use crate::texts::{no_race, not_shown, witness_text};
 use std::alloc::Global;
-use std::thread::Threads;
 use wire_commands::{Ended, calls_named, read_scripts};
 use wire_content::Scripts;
 use wire_marks::{MarkedPlan, Marks};
 use wire_plan::Plan;
-use wire_races::finding_list;
+use wire_races::are_racing;
 use wire_script::Size;
 use wire_types::{CallAt, Fault, Sink, Source};
 use wire_witness::{Witness, find_witness};
@@ -86,45 +86,39 @@ fn searched(
 
 /// The answer about two calls of a plan.
 fn pair_answer(
-    rt: &(impl Threads + Sync),
     alloc: Global,
     plan: &Plan,
     calls: (CallAt, CallAt),
     part: Part,
 ) -> Result<Answer, Fault>
+    requires x_there { calls.0.call < length (calls_of (plan_of plan.now) calls.0.proc.number) }
+    requires y_there { calls.1.call < length (calls_of (plan_of plan.now) calls.1.proc.number) }
     ensures ok { IfOk result (λ answer. IsPairText plan.now calls.0 calls.1 part answer.text.items answer.ended) }
     ensures err { IfErr result (λ e. e ≡ Memory) }
 {
     let marks = Marks::of(alloc, plan)?;
-    let found = finding_list(rt, alloc, plan, &marks)?;
-    if !is_reported(&found, calls.0, calls.1) {
+    let marked = marks.with(plan);
+    let racing = are_racing(alloc, &marked, calls.0, calls.1)?;
+    if !racing {
         let answer = unreported(alloc, part)?;
         return Ok(answer);
     }
-    let marked = marks.with(plan);
     let answer = searched(alloc, &marked, calls, part)?;
     Ok(answer)
 }
 
 /// The answer to a question about a plan.
-fn plan_answer(
-    rt: &(impl Threads + Sync),
-    alloc: Global,
-    plan: &Plan,
-    words: [&str; 4],
-    part: Part,
-) -> Result<Answer, Fault>
+fn plan_answer(alloc: Global, plan: &Plan, words: [&str; 4], part: Part) -> Result<Answer, Fault>
     ensures ok { IfOk result (λ answer. AnswersPair plan.now (map (λ w. w.now) words.entry) part answer.text.items answer.ended) }
     ensures err { IfErr result (λ e. (e ≡ Memory) ⊎ Asks plan.now (map (λ w. w.now) words.entry) (Err e)) }
 {
     let calls = calls_named(alloc, plan.scripts(), words)?;
-    let answer = pair_answer(rt, alloc, plan, calls, part)?;
+    let answer = pair_answer(alloc, plan, calls, part)?;
     Ok(answer)
 }
 
 /// The answer to a question about scripts.
 fn scripts_answer(
-    rt: &(impl Threads + Sync),
     alloc: Global,
     scripts: Scripts,
     words: [&str; 4],
@@ -134,13 +128,13 @@ fn scripts_answer(
     ensures err { IfErr result (λ e. (e ≡ Memory) ⊎ Asks scripts (map (λ w. w.now) words.entry) (Err e)) }
 {
     let plan = Plan::build(alloc, scripts)?;
-    let answer = plan_answer(rt, alloc, &plan, words, part);
+    let answer = plan_answer(alloc, &plan, words, part);
     drop(plan);
     answer
 }
 
-/// Shows the race of two calls of a file of scripts: reads the file to its end, looks whether a race of the two
-/// calls is among the findings, and if so for two runs in which the calls come in different orders and one of
+/// Shows the race of two calls of a file of scripts: reads the file to its end, looks whether the two calls race,
+/// and if so for two runs in which the calls come in different orders and one of
 /// them ends differently. It writes that call, how it ends in each run, and the orders of both runs, in lines or as
 /// JSON, or one of these orders alone. Where no such runs are found, it says so, and nothing of other runs.
 ///
@@ -149,7 +143,6 @@ fn scripts_answer(
 /// other fault nothing. `Memory` may come in place of any other answer. What is said of bytes is said where the
 /// reader and the writer tell theirs.
 pub fn witness<R: Source, W: Sink>(
-    rt: &(impl Threads + Sync),
     alloc: Global,
     reader: &mut R,
     writer: &mut W,
@@ -170,6 +163,6 @@ pub fn witness<R: Source, W: Sink>(
     ensures unfailed { IfErr result (λ e. e ≢ Memory → e ≢ Read → R.failures reader.new ≡ R.failures reader.old) }
 {
     let scripts = read_scripts(alloc, Size::OfVersion, reader)?;
-    let answer = scripts_answer(rt, alloc, scripts, words, part)?;
+    let answer = scripts_answer(alloc, scripts, words, part)?;
     write_answer(writer, &answer)
 }

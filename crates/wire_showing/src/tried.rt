@@ -6,12 +6,11 @@ ghost use Rattle.wire_types.specs.declared.Fault.TheVariants.{Memory};
 ghost use Rattle.wire_showing.specs.Tried as spec;
 ghost use Rattle.wire_showing.specs.Tried.{AreTried, IsTried};
 
-use crate::races::race_calls;
 use std::alloc::{AllocError, Global};
 use wire_content::Scripts;
 use wire_json::{RaceCounts, races_json};
 use wire_marks::MarkedPlan;
-use wire_races::Finding;
+use wire_races::{Finding, race_calls};
 use wire_report::push_finding;
 use wire_types::{CallAt, Fault};
 use wire_witness::find_witness;

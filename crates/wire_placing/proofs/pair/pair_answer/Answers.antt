@@ -1,16 +1,18 @@
-use Rattle.std.proofs.Common.{◌∙◌, ap, subst, map}
+use Rattle.std.proofs.Common.{◌∙◌, ap, subst, sym, map}
+use Rattle.std.proofs.lemmas.Bool.{true≢false}
 use Rattle.wire_showing.specs.Texts.{no_race_text}
-use Rattle.wire_placing.specs.Paired.{IsPlacedSearch, IsAmongThem, IsNone}
+use Rattle.wire_placing.specs.Paired.{IsPlacedSearch, TheyRace, TheyDoNot}
 use Rattle.wire_placing.proofs.pair.pair_answer.Goals as goal
 
-pub returns-then-not-is_reported-clause-ok : goal.returns-then-not-is_reported-clause-ok
-returns-then-not-is_reported-clause-ok g c =
-    IsNone c.in_ok-found.found c.in_ok-found.ensures.ok (λ there. cc (c.if-not-is_reported.true, c.is_reported.ensures.1 there)) (c.in_ok-answer.ensures.text ∙ ap no_race_text c.part_of.ensures)
-    c.in_ok-answer.ensures.ended
+pub returns-then-not-racing-clause-ok : goal.returns-then-not-racing-clause-ok
+returns-then-not-racing-clause-ok c =
+    let told = rw c.with-marked.ensures at c.in_ok-racing.ensures in
+    TheyDoNot (λ race. true≢false (sym (told.1 race) ∙ c.if-not-racing.true)) (c.in_ok-answer.ensures.text ∙ ap no_race_text c.part_of.ensures) c.in_ok-answer.ensures.ended
 
 pub returns-clause-ok : goal.returns-clause-ok
-returns-clause-ok g c =
-    IsAmongThem c.in_ok-found.found c.in_ok-found.ensures.ok (c.is_reported.ensures.0 c.if-not-is_reported.false)
+returns-clause-ok c =
+    let told = rw c.with-marked.ensures at c.in_ok-racing.ensures in
+    TheyRace (told.0 c.if-not-racing.false)
     (subst
     (λ s. IsPlacedSearch c.args.telling.json c.args.telling.places.name.now (map (λ row. row.items) c.args.telling.places.rows.now) s c.args.calls.0 c.args.calls.1 c.in_ok-answer-2.answer.text.items
     c.in_ok-answer-2.answer.ended)

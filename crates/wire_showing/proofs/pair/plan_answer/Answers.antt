@@ -4,15 +4,15 @@ use Rattle.wire_commands.proofs.Questioned.{asked_too, refused_too}
 use Rattle.wire_showing.proofs.pair.plan_answer.Goals as goal
 
 pub returns-in_err-calls-clause-ok : goal.returns-in_err-calls-clause-ok
-returns-in_err-calls-clause-ok g c = not_ok c.from_residual.result c.in_err-calls.field-0.0 _ c.from_residual.ensures.1
+returns-in_err-calls-clause-ok c = not_ok c.from_residual.result c.in_err-calls.field-0.0 _ c.from_residual.ensures.1
 
 pub returns-in_err-calls-clause-err : goal.returns-in_err-calls-clause-err
-returns-in_err-calls-clause-err g c =
+returns-in_err-calls-clause-err c =
     handed_on c.from_residual.result c.in_err-calls.field-0.0 _ c.from_residual.ensures.1
     (refused_too c.scripts.result.now c.args.plan.now (map (λ w. w.now) c.args.words) c.in_err-calls.field-0.0 c.scripts.ensures.scripts c.in_err-calls.ensures.err)
 
 pub returns-clause-ok : goal.returns-clause-ok
-returns-clause-ok g c = record {
+returns-clause-ok c = record {
   x = c.in_ok-calls.calls.0;
   y = c.in_ok-calls.calls.1;
   asks = asked_too c.scripts.result.now c.args.plan.now (map (λ w. w.now) c.args.words) c.in_ok-calls.calls c.scripts.ensures.scripts c.in_ok-calls.ensures.ok;
