@@ -1,4 +1,4 @@
--- What a rehearsal of a file of scripts writes. Where nothing is found, it is what became of every call in the plain run, for any
+-- What a rehearsal of a plan writes. Where nothing is found, it is what became of every call in the plain run, for any
 -- number of workers.
 use Rattle.std.specs.Prelude.{◌≡◌, ◌⊎◌, ℕ, Bool, true, false, List, [], ◌∷◌, Option}
 use Rattle.std.specs.Io.KnownBytes.{Appends}
@@ -43,6 +43,31 @@ pub record IsReplay (mode : Mode) (scripts : Scripts) (ended : Ended) (text : Li
   pub found : List Finding
   pub judged : IsJudged scripts found ended
   pub tells : Tells mode scripts found text
+
+-- all that is written where these are found went out
+pub record WritesFound (mode : Mode) (scripts : Scripts) (found : List Finding) (old new : Option (List ℕ)) : Type 0 where
+  pub text : List ℕ
+  pub tells : TellsFound mode.json mode.anyway scripts found text
+  pub wrote : Appends old new text
+
+-- exactly as many bytes of it went out as the fault says, which aren't all of it
+pub record BreaksOffFound (mode : Mode) (scripts : Scripts) (found : List Finding) (old new : Option (List ℕ)) (fault : Fault) : Type 0 where
+  pub text : List ℕ
+  pub tells : TellsFound mode.json mode.anyway scripts found text
+  pub wrote : WritesFront old new text fault
+
+-- all of a rehearsal of the scripts went out
+pub record WritesRehearsal (mode : Mode) (scripts : Scripts) (ended : Ended) (old new : Option (List ℕ)) : Type 0 where
+  pub text : List ℕ
+  pub rehearsal : IsReplay mode scripts ended text
+  pub wrote : Appends old new text
+
+-- exactly as many bytes of it went out as the fault says, which aren't all of it
+pub record BreaksOffRehearsal (mode : Mode) (scripts : Scripts) (old new : Option (List ℕ)) (fault : Fault) : Type 0 where
+  pub ended : Ended
+  pub text : List ℕ
+  pub rehearsal : IsReplay mode scripts ended text
+  pub wrote : WritesFront old new text fault
 
 -- what was to come read as scripts of which every interleaving that can't go on ends in one state, the plain run's, and the report of
 -- that state went out

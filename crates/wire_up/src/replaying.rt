@@ -1,4 +1,4 @@
-//! The rehearsal of a file of scripts by threads.
+//! The rehearsal of a plan by threads.
 
 ghost use Rattle.std.specs.Prelude.{◌≡◌, ◌≢◌, ◌⊎◌, [], Ok, Err, OnOk, IfOk, IfErr};
 ghost use Rattle.wire_types.specs.declared.Fault.TheVariants.{Memory, Read, Workers};
@@ -9,7 +9,8 @@ ghost use Rattle.wire_races.specs.Findings.{AreFindings};
 ghost use Rattle.wire_collect.specs.Collect.{MayWork};
 ghost use Rattle.wire_commands.specs.declared.checking.Ended.TheVariants.{Clean};
 ghost use Rattle.wire_up.specs.Complete.{TellsCalls, JudgesCalls, line_in, complete_status};
-ghost use Rattle.wire_up.specs.Replay.{TellsRun, TellsFound, IsReplay, WritesOneEnd, WritesReplay, BreaksOffReplay, StopsBeforeReplay};
+ghost use Rattle.wire_up.specs.Replay.{TellsRun, IsReplay, WritesFound, BreaksOffFound, WritesRehearsal, BreaksOffRehearsal};
+ghost use Rattle.wire_up.specs.Replay.{WritesOneEnd, WritesReplay, BreaksOffReplay, StopsBeforeReplay};
 
 use crate::failing::failure_line;
 use std::alloc::Global;
@@ -21,8 +22,8 @@ use wire_content::Scripts;
 use wire_marks::Marks;
 use wire_plan::Plan;
 use wire_races::laws::settled_exactly;
-use wire_races::{Finding, Settled, Unsettled, findings};
-use wire_report::{findings_text, report_text, unsettled_text, write_text};
+use wire_races::{FindingList, Settled, finding_list};
+use wire_report::{report_text, unsettled_text, write_findings, write_text};
 use wire_sched::Gate;
 use wire_script::Size;
 use wire_types::{Fault, Sink, Source};
@@ -32,7 +33,7 @@ use wire_types::{Fault, Sink, Source};
 pub struct Mode {
     /// JSON in place of lines.
     pub json: bool,
-    /// Scripts in which something is found are run too.
+    /// A plan in which something is found is run too.
     pub anyway: bool,
 }
 
@@ -66,11 +67,11 @@ impl Rehearsed {
     }
 }
 
-/// The workers of a run, and the gate that they call.
-#[derive_where(Clone, Copy)]
-struct Staff<'a, G> {
-    workers: usize,
-    gate: &'a G,
+/// A plan in which something is found, with what is found.
+#[derive(Drop)]
+struct PlanWithFindings {
+    plan: Plan,
+    findings: FindingList,
 }
 
 /// The marks and the findings of a plan.
@@ -78,14 +79,35 @@ fn find_races(
     rt: &(impl Threads + Sync),
     alloc: Global,
     plan: &Plan,
-) -> Result<(Marks, Vec<Finding>), Fault>
+) -> Result<(Marks, FindingList), Fault>
     ensures marks { IfOk result (λ m. AreMarks (plan_of plan.now) m.0) }
-    ensures findings { IfOk result (λ m. AreFindings plan.now m.1.items) }
+    ensures findings { IfOk result (λ m. AreFindings plan.now m.1) }
     ensures err { IfErr result (λ e. e ≡ Memory) }
 {
     let marks = Marks::of(alloc, plan)?;
-    let found = findings(rt, alloc, plan, &marks)?;
+    let found = finding_list(rt, alloc, plan, &marks)?;
     Ok((marks, found))
+}
+
+/// The plan as a settled one, where nothing is found; else with what is found.
+fn settle_plan(
+    alloc: Global,
+    plan: Plan,
+    marks: Marks,
+    findings: FindingList,
+) -> Result<Settled, PlanWithFindings>
+    requires marks { AreMarks (plan_of plan) marks }
+    requires those { AreFindings plan findings }
+    ensures settled { IfOk result (λ s. (s ≡ plan) × AreFindings s []) }
+    ensures unsettled { IfErr result (λ u. (u.plan ≡ plan) × AreFindings u.plan u.findings × (u.findings ≢ [])) }
+{
+    if !findings.is_empty() {
+        return Err(PlanWithFindings { plan, findings });
+    }
+    match Settled::try_new(plan, marks, Vec::new(alloc)) {
+        Ok(settled) => Ok(settled),
+        Err(_) => unreachable!(),
+    }
 }
 
 /// The plan of scripts as a settled one, where nothing is found; else with what is found.
@@ -93,14 +115,14 @@ fn settle(
     rt: &(impl Threads + Sync),
     alloc: Global,
     scripts: Scripts,
-) -> Result<Result<Settled, Unsettled>, Fault>
+) -> Result<Result<Settled, PlanWithFindings>, Fault>
     ensures settled { IfOk result (λ r. IfOk r (λ s. (s ≡ scripts) × AreFindings s [])) }
-    ensures unsettled { IfOk result (λ r. IfErr r (λ u. (u.plan ≡ scripts) × AreFindings u.plan u.findings.items × (u.findings.items ≢ []))) }
+    ensures unsettled { IfOk result (λ r. IfErr r (λ u. (u.plan ≡ scripts) × AreFindings u.plan u.findings × (u.findings ≢ []))) }
     ensures err { IfErr result (λ e. e ≡ Memory) }
 {
     let plan = Plan::build(alloc, scripts)?;
     match find_races(rt, alloc, &plan) {
-        Ok((marks, found)) => Ok(Settled::try_new(plan, marks, found)),
+        Ok((marks, found)) => Ok(settle_plan(alloc, plan, marks, found)),
         Err(fault) => {
             drop(plan);
             Err(fault)
@@ -113,21 +135,42 @@ fn run_settled<R: Threads + Wait + Sync, G: Gate + Sync>(
     rt: &R,
     alloc: Global,
     settled: &Settled,
-    staff: Staff<'_, G>,
-    mode: Mode,
+    manner: Manner<'_, G>,
 ) -> Result<(Rehearsed, Vec<u8>), Fault>
-    requires workers { MayWork staff.workers }
+    requires workers { MayWork manner.workers }
     requires none { AreFindings settled.now [] }
-    ensures ok { IfOk result (λ r. IsReplay mode settled.now r.0.ended r.1.items) }
+    ensures ok { IfOk result (λ r. IsReplay manner.entry.mode settled.now r.0.ended r.1.items) }
     ensures calls { IfOk result (λ r. TellsCalls settled.now r.0.ended (line_in r.0.failure)) }
     ensures err { IfErr result (λ e. e ≡ Memory) }
 {
-    let outcome = run_workers(rt, alloc, settled, staff.workers, staff.gate)?;
-    let text = report_text(alloc, settled.plan().scripts(), &outcome, mode.json)?;
+    let outcome = run_workers(rt, alloc, settled, manner.workers, manner.gate)?;
+    let text = report_text(alloc, settled.plan().scripts(), &outcome, manner.mode.json)?;
     let failure = failure_line(alloc, settled.plan().scripts(), &outcome)?;
     settled_exactly();
     let ended = Ended::Clean;
     Ok((Rehearsed { ended, failure }, text))
+}
+
+/// Runs a settled plan, writes the report of its run, and says how its rehearsal ends.
+fn rehearse_settled<R: Threads + Wait + Sync, G: Gate + Sync, W: Sink>(
+    rt: &R,
+    alloc: Global,
+    settled: &Settled,
+    manner: Manner<'_, G>,
+    writer: &mut W,
+) -> Result<Rehearsed, Fault>
+    requires workers { MayWork manner.workers }
+    requires none { AreFindings settled.now [] }
+    ensures ok { IfOk result (λ r. WritesRehearsal manner.entry.mode settled.now r.ended (W.written writer.old) (W.written writer.new)) }
+    ensures calls { IfOk result (λ r. TellsCalls settled.now r.ended (line_in r.failure)) }
+    ensures quiet { OnOk result (W.failures writer.new ≡ W.failures writer.old) }
+    ensures err { IfErr result (λ e. ((e ≡ Memory) × (writer.new ≡ writer.old))
+        ⊎ (BreaksOffRehearsal manner.entry.mode settled.now (W.written writer.old) (W.written writer.new) e
+        × (W.failures writer.new ≡ one_more (W.failures writer.old)))) }
+{
+    let (rehearsed, text) = run_settled(rt, alloc, settled, manner)?;
+    write_text(writer, text.as_slice())?;
+    Ok(rehearsed)
 }
 
 /// The text of a run of any plan, with its order.
@@ -135,97 +178,112 @@ fn run_anyway<R: Threads + Wait + Sync, G: Gate + Sync>(
     rt: &R,
     alloc: Global,
     plan: &Plan,
-    staff: Staff<'_, G>,
-    json: bool,
+    manner: Manner<'_, G>,
 ) -> Result<Vec<u8>, Fault>
-    requires { MayWork staff.workers }
-    ensures ok { IfOk result (λ text. TellsRun json plan.now text.items) }
+    requires { MayWork manner.workers }
+    ensures ok { IfOk result (λ text. TellsRun manner.entry.mode.json plan.now text.items) }
     ensures err { IfErr result (λ e. e ≡ Memory) }
 {
-    let (outcome, order) = run_any(rt, alloc, plan, staff.workers, staff.gate)?;
-    unsettled_text(alloc, plan.scripts(), &outcome, order.as_slice(), json)
+    let (outcome, order) = run_any(rt, alloc, plan, manner.workers, manner.gate)?;
+    unsettled_text(
+        alloc,
+        plan.scripts(),
+        &outcome,
+        order.as_slice(),
+        manner.mode.json,
+    )
 }
 
-/// The text of a plan in which something is found.
-fn text_of_unsettled<R: Threads + Wait + Sync, G: Gate + Sync>(
+/// Writes what a rehearsal tells of a plan in which something is found: the findings, or a run in spite of them.
+fn write_found<R: Threads + Wait + Sync, G: Gate + Sync, W: Sink>(
     rt: &R,
     alloc: Global,
-    unsettled: &Unsettled,
-    staff: Staff<'_, G>,
-    mode: Mode,
-) -> Result<Vec<u8>, Fault>
-    requires { MayWork staff.workers }
-    ensures ok { IfOk result (λ text. TellsFound mode.json mode.anyway unsettled.now.plan unsettled.now.findings.items text.items) }
-    ensures err { IfErr result (λ e. e ≡ Memory) }
+    found: &PlanWithFindings,
+    manner: Manner<'_, G>,
+    writer: &mut W,
+) -> Result<(), Fault>
+    requires { MayWork manner.workers }
+    ensures ok { OnOk result (WritesFound manner.entry.mode found.now.plan found.now.findings (W.written writer.old) (W.written writer.new)) }
+    ensures quiet { OnOk result (W.failures writer.new ≡ W.failures writer.old) }
+    ensures err { IfErr result (λ e. ((e ≡ Memory) × (writer.new ≡ writer.old))
+        ⊎ (BreaksOffFound manner.entry.mode found.now.plan found.now.findings (W.written writer.old) (W.written writer.new) e
+        × (W.failures writer.new ≡ one_more (W.failures writer.old)))) }
 {
-    if mode.anyway {
-        return run_anyway(rt, alloc, &unsettled.plan, staff, mode.json);
+    if manner.mode.anyway {
+        let text = run_anyway(rt, alloc, &found.plan, manner)?;
+        return write_text(writer, text.as_slice());
     }
-    let scripts = unsettled.plan.scripts();
-    findings_text(alloc, scripts, unsettled.findings.as_slice(), mode.json)
+    let scripts = found.plan.scripts();
+    write_findings(alloc, scripts, &found.findings, manner.mode.json, writer)
 }
 
-/// How a rehearsal of a plan ends in which something is found, and its text.
-fn tell_unsettled<R: Threads + Wait + Sync, G: Gate + Sync>(
+/// Writes what a rehearsal tells of a plan in which something is found, and says how it ends.
+fn rehearse_found<R: Threads + Wait + Sync, G: Gate + Sync, W: Sink>(
     rt: &R,
     alloc: Global,
-    unsettled: &Unsettled,
-    staff: Staff<'_, G>,
-    mode: Mode,
-) -> Result<(Rehearsed, Vec<u8>), Fault>
-    requires workers { MayWork staff.workers }
-    requires those { AreFindings unsettled.now.plan unsettled.now.findings.items }
-    requires some { unsettled.now.findings.items ≢ [] }
-    ensures ok { IfOk result (λ r. IsReplay mode unsettled.now.plan r.0.ended r.1.items) }
-    ensures calls { IfOk result (λ r. TellsCalls unsettled.now.plan r.0.ended (line_in r.0.failure)) }
-    ensures err { IfErr result (λ e. e ≡ Memory) }
+    found: &PlanWithFindings,
+    manner: Manner<'_, G>,
+    writer: &mut W,
+) -> Result<Rehearsed, Fault>
+    requires workers { MayWork manner.workers }
+    requires those { AreFindings found.now.plan found.now.findings }
+    requires some { found.now.findings ≢ [] }
+    ensures ok { IfOk result (λ r. WritesRehearsal manner.entry.mode found.now.plan r.ended (W.written writer.old) (W.written writer.new)) }
+    ensures calls { IfOk result (λ r. TellsCalls found.now.plan r.ended (line_in r.failure)) }
+    ensures quiet { OnOk result (W.failures writer.new ≡ W.failures writer.old) }
+    ensures err { IfErr result (λ e. ((e ≡ Memory) × (writer.new ≡ writer.old))
+        ⊎ (BreaksOffRehearsal manner.entry.mode found.now.plan (W.written writer.old) (W.written writer.new) e
+        × (W.failures writer.new ≡ one_more (W.failures writer.old)))) }
 {
-    let text = text_of_unsettled(rt, alloc, unsettled, staff, mode)?;
     settled_exactly();
-    let rehearsed = Rehearsed {
-        ended: Ended::of_findings(unsettled.findings.as_slice()),
+    let ended = Ended::of_count(found.findings.len());
+    write_found(rt, alloc, found, manner, writer)?;
+    Ok(Rehearsed {
+        ended,
         failure: None,
-    };
-    Ok((rehearsed, text))
+    })
 }
 
-/// How a rehearsal of scripts ends, and its text.
-fn rehearse_scripts<R: Threads + Wait + Sync, G: Gate + Sync>(
+/// Rehearses scripts: writes what came of it, and says how it ends.
+fn rehearse_scripts<R: Threads + Wait + Sync, G: Gate + Sync, W: Sink>(
     rt: &R,
     alloc: Global,
     scripts: Scripts,
-    staff: Staff<'_, G>,
-    mode: Mode,
-) -> Result<(Rehearsed, Vec<u8>), Fault>
-    requires { MayWork staff.workers }
-    ensures ok { IfOk result (λ r. IsReplay mode scripts r.0.ended r.1.items) }
-    ensures calls { IfOk result (λ r. TellsCalls scripts r.0.ended (line_in r.0.failure)) }
-    ensures err { IfErr result (λ e. e ≡ Memory) }
+    manner: Manner<'_, G>,
+    writer: &mut W,
+) -> Result<Rehearsed, Fault>
+    requires { MayWork manner.workers }
+    ensures ok { IfOk result (λ r. WritesRehearsal manner.entry.mode scripts r.ended (W.written writer.old) (W.written writer.new)) }
+    ensures calls { IfOk result (λ r. TellsCalls scripts r.ended (line_in r.failure)) }
+    ensures quiet { OnOk result (W.failures writer.new ≡ W.failures writer.old) }
+    ensures err { IfErr result (λ e. ((e ≡ Memory) × (writer.new ≡ writer.old))
+        ⊎ (BreaksOffRehearsal manner.entry.mode scripts (W.written writer.old) (W.written writer.new) e
+        × (W.failures writer.new ≡ one_more (W.failures writer.old)))) }
 {
     match settle(rt, alloc, scripts)? {
         Ok(settled) => {
-            let end = run_settled(rt, alloc, &settled, staff, mode);
+            let end = rehearse_settled(rt, alloc, &settled, manner, writer);
             drop(settled);
             end
         }
-        Err(unsettled) => {
-            let end = tell_unsettled(rt, alloc, &unsettled, staff, mode);
-            drop(unsettled);
+        Err(found) => {
+            let end = rehearse_found(rt, alloc, &found, manner, writer);
+            drop(found);
             end
         }
     }
 }
 
-/// Rehearses a file of scripts with at most so many workers at once (`run_any` of `wire_collect` says how; no clause says how
-/// many there were): reads the file to its end, judges its plan as `check` does, and writes what came of it, as lines or as JSON.
+/// Rehearses a plan with at most so many workers at once (`run_any` of `wire_collect` says how; no clause says how
+/// many there were): reads its file to the end, judges it as `check` does, and writes what came of it, as lines or as JSON.
 ///
 /// Where there is nothing to find, it runs the plan and writes what became of every call: the same for any number of
-/// workers, the report of the plain run. It answers `Clean`. Else it writes the findings, or, with `anyway`, it runs
-/// the plan in spite of them and writes what became of every call and in which order the steps came. Followed in that
+/// workers, the report of the plain run. It answers `Clean`. Else it writes the findings, as `check` does, or, with `anyway`, it
+/// runs the plan in spite of them and writes what became of every call and in which order the steps came. Followed in that
 /// order, the plan gives the same report. It answers `Found`.
 ///
-/// The fault `Workers` comes before all else, where there is no worker or more than 64. The fault of a file is the first
-/// that it has. After the fault `Write` the front of the text that it counts is written, after any other fault
+/// The fault `Workers` comes before all else, where there is no worker or more than 64. The fault of a plan is the first
+/// that its file has. After the fault `Write` the front of the text that it counts is written, after any other fault
 /// nothing. `Memory` may come in place of any other answer but `Workers`. What is said of bytes is said where the reader
 /// and the writer tell theirs.
 pub fn rehearse<R: Source, W: Sink, T: Threads + Wait + Sync, G: Gate + Sync>(
@@ -265,7 +323,7 @@ pub fn rehearse<R: Source, W: Sink, T: Threads + Wait + Sync, G: Gate + Sync>(
     rehearse_sized(rt, alloc, reader, writer, manner)
 }
 
-/// Rehearses a file of scripts as `rehearse` does, in this manner.
+/// Rehearses a plan as `rehearse` does, in this manner.
 pub fn rehearse_sized<R: Source, W: Sink, T: Threads + Wait + Sync, G: Gate + Sync>(
     rt: &T,
     alloc: Global,
@@ -300,7 +358,7 @@ pub fn rehearse_sized<R: Source, W: Sink, T: Threads + Wait + Sync, G: Gate + Sy
     }
 }
 
-/// Rehearses a file of scripts as `rehearse_sized` does, and answers besides the line of the report of the first call that isn't
+/// Rehearses a plan as `rehearse_sized` does, and answers besides the line of the report of the first call that isn't
 /// answered `PMIX_SUCCESS`, in process order and then by its number. Where it finds nothing, that line is the same for every
 /// interleaving that can't go on; there is none exactly where in each of them every call is answered `PMIX_SUCCESS`. Where it
 /// finds something, there is none.
@@ -333,17 +391,9 @@ pub fn rehearse_complete<R: Source, W: Sink, T: Threads + Wait + Sync, G: Gate +
     ensures read_failed { result ≡ Err Read → R.failures reader.new ≡ one_more (R.failures reader.old) }
     ensures unfailed { IfErr result (λ e. e ≢ Memory → e ≢ Read → R.failures reader.new ≡ R.failures reader.old) }
 {
-    let Manner {
-        size,
-        workers,
-        mode,
-        gate,
-    } = manner;
-    if workers < 1 || MOST_WORKERS < workers {
+    if manner.workers < 1 || MOST_WORKERS < manner.workers {
         return Err(Fault::Workers);
     }
-    let scripts = read_scripts(alloc, size, reader)?;
-    let (rehearsed, text) = rehearse_scripts(rt, alloc, scripts, Staff { workers, gate }, mode)?;
-    write_text(writer, text.as_slice())?;
-    Ok(rehearsed)
+    let scripts = read_scripts(alloc, manner.size, reader)?;
+    rehearse_scripts(rt, alloc, scripts, manner, writer)
 }

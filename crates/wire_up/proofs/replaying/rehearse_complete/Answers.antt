@@ -1,17 +1,30 @@
-use Rattle.std.proofs.Common.{inr}
-use Rattle.wire_commands.proofs.Replayed.{handed_on}
-use Rattle.wire_up.proofs.Worked.{rehearsal_broken, clean_writes}
+use Rattle.std.proofs.Common.{arith}
+use Rattle.wire_commands.proofs.Followed.{err_always}
+use Rattle.wire_up.proofs.Written.{writes_replay, judges_calls, both_quiet, clean_one_end, breaks_off, no_failed_read}
 use Rattle.wire_up.proofs.replaying.rehearse_complete.Goals as goal
 
-pub returns-in_err-write_text-clause-err : goal.returns-in_err-write_text-clause-err
-returns-in_err-write_text-clause-err g c =
-    let broken = rehearsal_broken c.args.manner.mode (g.R.Source.coming c.args.reader.now) (g.W.Sink.written c.args.writer.now) (g.W.Sink.written c.write_text.new.sink) c.in_ok-scripts.scripts
-    c.in_ok-rehearsed.rehearsed.ended c.in_ok-rehearsed.text.items c.as_slice.result.now c.in_err-write_text.field-0.0 c.in_ok-scripts.ensures.ok c.in_ok-rehearsed.ensures.ok c.as_slice.ensures.value
-    c.in_err-write_text.ensures.front in
-    handed_on c.from_residual-in_err-write_text.result c.in_err-write_text.field-0.0 _ c.from_residual-in_err-write_text.ensures.1 (inr (broken, c.in_err-write_text.ensures.failed))
+pub returns-clause-ok : goal.returns-clause-ok
+returns-clause-ok g c = writes_replay c.args.manner.mode _ _ _ c.in_ok-scripts.scripts c.rehearse_scripts.result c.in_ok-scripts.ensures.ok c.rehearse_scripts.ensures.ok
+
+pub returns-clause-calls : goal.returns-clause-calls
+returns-clause-calls g c = judges_calls _ c.in_ok-scripts.scripts c.rehearse_scripts.result c.in_ok-scripts.ensures.ok c.rehearse_scripts.ensures.calls
+
+pub returns-clause-quiet : goal.returns-clause-quiet
+returns-clause-quiet g c = both_quiet _ _ c.rehearse_scripts.result c.in_ok-scripts.ensures.quiet c.rehearse_scripts.ensures.quiet
 
 pub returns-clause-one_end : goal.returns-clause-one_end
 returns-clause-one_end g c =
-    clean_writes c.args.manner.mode (g.R.Source.coming c.args.reader.now) (g.W.Sink.written c.args.writer.now)
-    (g.W.Sink.written c.write_text.new.sink) c.in_ok-scripts.scripts c.in_ok-rehearsed.rehearsed.ended
-    c.in_ok-rehearsed.text.items c.as_slice.result.now c.in_ok-scripts.ensures.ok c.in_ok-rehearsed.ensures.ok c.as_slice.ensures.value c.in_ok-write_text.ensures.ok
+    clean_one_end c.args.manner.mode _ (g.W.Sink.written c.args.writer.now) (g.W.Sink.written c.rehearse_scripts.new.writer) c.in_ok-scripts.scripts c.rehearse_scripts.result
+    c.in_ok-scripts.ensures.ok c.rehearse_scripts.ensures.ok
+
+pub returns-clause-err : goal.returns-clause-err
+returns-clause-err g c =
+    breaks_off c.args.manner.workers c.args.manner.mode _ _ _ c.in_ok-scripts.scripts _ _ c.rehearse_scripts.result (omega arith, omega arith) c.in_ok-scripts.ensures.ok c.rehearse_scripts.ensures.err
+
+pub returns-clause-read_failed : goal.returns-clause-read_failed
+returns-clause-read_failed g c is =
+    absurd (no_failed_read c.args.manner.mode c.in_ok-scripts.scripts (g.W.Sink.written c.args.writer.now)
+    (g.W.Sink.written c.rehearse_scripts.new.writer) _ _ c.rehearse_scripts.result c.rehearse_scripts.ensures.err is)
+
+pub returns-clause-unfailed : goal.returns-clause-unfailed
+returns-clause-unfailed g c = err_always c.rehearse_scripts.result _ (λ e memory read. c.in_ok-scripts.ensures.quiet)

@@ -8,7 +8,7 @@ use Rattle.wire_up.proofs.replaying.run_settled.Goals as goal
 
 pub returns-clause-ok : goal.returns-clause-ok
 returns-clause-ok g c =
-    settled_told c.args.mode c.args.settled.now c.scripts.result.now [] (ends_of c.in_ok-outcome.outcome) c.in_ok-text.text.items refl
+    settled_told c.args.manner.mode c.args.settled.now c.scripts.result.now [] (ends_of c.in_ok-outcome.outcome) c.in_ok-text.text.items refl
     (c.settled_exactly.ensures c.args.settled.now [] c.requires.none) c.requires.none
     (c.scripts.ensures.scripts ∙ c.plan.ensures.same) c.in_ok-outcome.ensures.ok c.in_ok-text.ensures.ok
 

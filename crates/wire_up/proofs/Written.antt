@@ -1,0 +1,80 @@
+-- From what went out of the parts of a rehearsal to what went out of it.
+use Rattle.std.proofs.Common.{◌≡◌, ◌≢◌, ◌↔◌, ◌⊎◌, inl, inr, subst, refl, ℕ, List, [], Option, Result, Ok, Err, IfOk, IfErr, OnOk}
+use Rattle.wire_types.specs.declared.Fault.{Fault}
+use Rattle.wire_types.specs.declared.Fault.TheVariants.{Memory, Read, Write}
+use Rattle.wire_types.specs.Front.{WritesFront}
+use Rattle.wire_content.specs.Scripts.{Scripts}
+use Rattle.wire_content.specs.Planned.{plan_of}
+use Rattle.wire_runs.specs.Races.{IsSettled}
+use Rattle.wire_races.specs.declared.finding.Finding.{Finding}
+use Rattle.wire_races.specs.Findings.{AreFindings}
+use Rattle.wire_collect.specs.Collect.{MayWork}
+use Rattle.wire_script.specs.declared.Size.{Size}
+use Rattle.wire_commands.specs.declared.checking.Ended.{Ended}
+use Rattle.wire_commands.specs.declared.checking.Ended.TheVariants.{Clean}
+use Rattle.wire_commands.specs.Plain.{ReadAs}
+use Rattle.wire_commands.specs.Check.{ended_with}
+use Rattle.wire_up.specs.declared.replaying.Mode.{Mode}
+use Rattle.wire_up.specs.declared.replaying.Rehearsed.{Rehearsed}
+use Rattle.wire_up.specs.Complete.{TellsCalls, JudgesCalls, line_in}
+use Rattle.wire_up.specs.Replay.{IsReplay, WritesFound, BreaksOffFound, WritesRehearsal, BreaksOffRehearsal, WritesOneEnd, WritesReplay, BreaksOffReplay, StopsBeforeReplay}
+use Rattle.wire_up.proofs.Worked.{found_told, clean_writes}
+
+-- the front of the text of a rehearsal went out
+pub rehearsal_broken : (mode : Mode) (s : Scripts) (ended : Ended) (old new : Option (List ℕ)) (text shown : List ℕ) (e : Fault) → IsReplay mode s ended text → shown ≡ text →
+    WritesFront old new shown e → BreaksOffRehearsal mode s old new e
+rehearsal_broken mode s ended old new text shown e rehearsal is front =
+    record { ended = ended; text = text; rehearsal = rehearsal; wrote = subst (λ t. WritesFront old new t e) is front }
+
+-- what is told of a plan in which something is found
+pub found_out : (mode : Mode) (s : Scripts) (found : List Finding) (ended : Ended) (old new : Option (List ℕ)) → ((found ≡ []) ↔ IsSettled (plan_of s)) → AreFindings s found → found ≢ [] →
+    ended ≡ ended_with found → WritesFound mode s found old new → WritesRehearsal mode s ended old new
+found_out mode s found ended old new law those some ends out =
+    record { text = out.text; rehearsal = found_told mode s found found ended out.text law those some refl ends out.tells; wrote = out.wrote }
+
+-- how a rehearsal of scripts stops: memory ran out, or the front went out
+abbrev pub Stops : Mode → Scripts → Option (List ℕ) → Option (List ℕ) → Type 0 → Type 0 → Fault → Type 0
+Stops mode s old new A B e = ((e ≡ Memory) × A) ⊎ (BreaksOffRehearsal mode s old new e × B)
+
+pub found_broken : (mode : Mode) (s : Scripts) (found : List Finding) (ended : Ended) (old new : Option (List ℕ)) (A B : Type 0) (e : Fault) → ((found ≡ []) ↔ IsSettled (plan_of s)) →
+    AreFindings s found → found ≢ [] → ended ≡ ended_with found
+    → ((e ≡ Memory) × A) ⊎ (BreaksOffFound mode s found old new e × B) → Stops mode s old new A B e
+found_broken mode s found ended old new A B e law those some ends (inl memory) = inl memory
+found_broken mode s found ended old new A B e law those some ends (inr (out, failed)) =
+    inr (record { ended = ended; text = out.text; rehearsal = found_told mode s found found ended out.text law those some refl ends out.tells; wrote = out.wrote }, failed)
+
+-- what went out of a rehearsal of scripts that were read
+pub writes_replay : {size : Size} (mode : Mode) (coming old new : Option (List ℕ)) (s : Scripts) (r : Result Rehearsed Fault) →
+    ReadAs size coming s → IfOk r (λ v. WritesRehearsal mode s v.ended old new) →
+    IfOk r (λ v. WritesReplay size mode coming v.ended old new)
+writes_replay mode coming old new s (Ok v) read told = record { scripts = s; read = read; text = told.text; rehearsal = told.rehearsal; wrote = told.wrote }
+writes_replay mode coming old new s (Err e) read told = tt
+
+pub judges_calls : {size : Size} (coming : Option (List ℕ)) (s : Scripts) (r : Result Rehearsed Fault) → ReadAs size coming s → IfOk r (λ v. TellsCalls s v.ended (line_in v.failure)) →
+    IfOk r (λ v. JudgesCalls size coming v.ended (line_in v.failure))
+judges_calls coming s (Ok v) read tells = record { scripts = s; read = read; tells = tells }
+judges_calls coming s (Err e) read tells = tt
+
+pub clean_one_end : {size : Size} (mode : Mode) (coming old new : Option (List ℕ)) (s : Scripts) (r : Result Rehearsed Fault) →
+    ReadAs size coming s → IfOk r (λ v. WritesRehearsal mode s v.ended old new) →
+    IfOk r (λ v. v.ended ≡ Clean → WritesOneEnd size mode.json coming old new)
+clean_one_end mode coming old new s (Ok v) read told = λ clean. clean_writes mode coming old new s v.ended read told clean
+clean_one_end mode coming old new s (Err e) read told = tt
+
+pub breaks_off : {size : Size} (workers : ℕ) (mode : Mode) (coming old new : Option (List ℕ)) (s : Scripts) (A B : Type 0) (r : Result Rehearsed Fault) → MayWork workers → ReadAs size coming s →
+    IfErr r (Stops mode s old new A B) → IfErr r (λ e. (StopsBeforeReplay size workers coming e × A) ⊎ (BreaksOffReplay size mode coming old new e × B))
+breaks_off workers mode coming old new s A B (Ok v) may read stops = tt
+breaks_off workers mode coming old new s A B (Err e) may read (inl (memory, none)) = inl (inr (may, inl memory), none)
+breaks_off workers mode coming old new s A B (Err e) may read (inr (front, failed)) =
+    inr (record { scripts = s; read = read; ended = front.ended; text = front.text; rehearsal = front.rehearsal; wrote = front.wrote }, failed)
+
+-- neither the reader nor the writer failed
+pub both_quiet : (P Q : Type 0) (r : Result Rehearsed Fault) → P → OnOk r Q → OnOk r (P × Q)
+both_quiet P Q (Ok v) p q = (p, q)
+both_quiet P Q (Err e) p q = tt
+
+-- the writing is no failed read
+pub no_failed_read : (mode : Mode) (s : Scripts) (old new : Option (List ℕ)) (A B : Type 0) (r : Result Rehearsed Fault) → IfErr r (Stops mode s old new A B) → r ≡ Err Read → ⊥
+no_failed_read mode s old new A B (Ok v) stops is = let bad : Ok v ≡ Err Read = is in cc
+no_failed_read mode s old new A B (Err e) (inl (memory, none)) is = let bad : Memory ≡ Read = cc in cc
+no_failed_read mode s old new A B (Err e) (inr (front, failed)) is = let bad : Write front.wrote.0 ≡ Read = cc (front.wrote.1) in cc
