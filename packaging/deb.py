@@ -22,7 +22,7 @@ from manual import TOP
 
 NAME = "wire-up"
 MAINTAINER = "The developers of wire_up <wire-up@wire-up.invalid>"
-ABOUT = "rehearses the PMIx wire-up of a parallel job and finds its races"
+ABOUT = "finds the races in a plan of the PMIx wire-up of a parallel job"
 LONG = """\
  wire_up reads a plan: the nodes, jobs and ranks of a parallel job, and the PMIx
  calls of each rank. It reports every race between the calls. Where it finds

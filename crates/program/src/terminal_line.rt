@@ -15,6 +15,9 @@ const FIRST: u64 = 1;
 /// How many milliseconds the line stays as it is.
 const TICK: u64 = 250;
 
+/// How often it is time for the line: ten years of ticks. After them there is none.
+const MOST_TICKS: u64 = 10 * 366 * 24 * 3600 * 1000 / TICK;
+
 /// Takes a line away that is no longer than this one.
 const BLANK: &str = "\r                                        \r";
 
@@ -181,15 +184,16 @@ impl Progress {
         true
     }
 
-    /// Shows the line again and again, until it is closed.
+    /// Shows the line again and again, until it is closed or has had all its ticks.
     fn keep(&self, rt: &(impl Eprint + Clock + Wait), start: Instant) {
-        for _ in rt.forever() {
+        for _ in 0..MOST_TICKS {
             self.pause.park_timeout(rt, Duration::from_millis(TICK));
             match start.elapsed(rt) {
                 Ok(elapsed) if self.tick(rt, elapsed.as_secs()) => {}
                 _ => return,
             }
         }
+        self.close(rt);
     }
 }
 

@@ -1,5 +1,5 @@
 -- What a parse met, as the matches of the words say it.
-use Rattle.std.proofs.Common.{◌≡◌, ◌∙◌, ap, sym, subst, refl, true, List, Option, Some, None, option_map, Box, Result, Ok, Err, OnOk, IfErr, IsErrAnd, MatchResult}
+use Rattle.std.proofs.Common.{◌≡◌, ◌∙◌, ap, sym, subst, refl, true, List, Option, Some, None, option_map, Box, Result, Ok, Err, OnOk, IfErr, MatchResult}
 use Rattle.std.specs.Box.{box_value}
 use Rattle.clap.specs.Words.{App, Row, Text, HasMatchesOf, FailsBy, fault_of, rows_of, found_of, is_simple, is_simple_and_free, subcommand_of, subcommand_rows, subcommand_rows_of}
 use Rattle.clap.specs.declared.error.Error.{Error}

@@ -20,12 +20,12 @@ const JSON: &str = "Writes JSON instead of text";
 const LINES: &str =
     "Tells the file and the line of each call, in the form that editors and terminals open";
 
-/// The file of scripts, which may be left out.
+/// The plan, which may be left out.
 fn file_argument<'a>(alloc: Global) -> Arg<'a>
     ensures rule { rule_of result ≡ spec.optional_word (codes "FILE") }
     ensures local { result.global ≡ false }
 {
-    Arg::new(alloc, "FILE").help("The file of scripts, standard input if not given")
+    Arg::new(alloc, "FILE").help("The plan, standard input if not given")
 }
 
 /// A word that has to be given.
@@ -65,7 +65,7 @@ fn workers_argument<'a>(alloc: Global) -> Arg<'a>
     Arg::new(alloc, "workers")
         .long("workers")
         .value_name("N")
-        .help("How many threads run the scripts, 1 to 64 (1 if not given)")
+        .help("How many threads run the plan, 1 to 64 (1 if not given)")
 }
 
 /// The option that says how many races are tried.
@@ -86,7 +86,7 @@ fn optional_argument<'a>(alloc: Global, name: &'a str, help: &'a str) -> Arg<'a>
     Arg::new(alloc, name).help(help)
 }
 
-/// A command with the words that come last: whether a fault is explained, and the file of scripts.
+/// A command with the words that come last: whether a fault is explained, and the plan.
 fn with_plan<'a>(alloc: Global, line: Command<'a>) -> Result<Command<'a>, AllocError>
     ensures { IfOk result (Grows line.entry spec.with_plan) }
 {
@@ -122,7 +122,7 @@ fn check_command<'a>(alloc: Global) -> Result<Command<'a>, AllocError>
     let lines =
         "Groups findings that are alike, and tells where the calls of each group's first finding stand";
     let line = Command::new(alloc, "check").about(
-        "Finds every race between the scripts, and every key that is put twice",
+        "Finds every race of a plan, and every key that a rank puts twice",
     );
     let line = with_forms(alloc, line, lines)?;
     with_large(alloc, line)
@@ -132,11 +132,11 @@ fn replay_command<'a>(alloc: Global) -> Result<Command<'a>, AllocError>
     ensures app { IfOk result (λ c. app_of c ≡ spec.replay_line) }
     ensures local { IfOk result (λ c. (fields_of c).has_globals ≡ false) }
 {
-    let anyway = "Runs scripts with findings too, and shows in which order their steps came";
+    let anyway = "Runs a plan with findings too, and shows in which order its steps came";
     let complete =
         "Ends with status 1, and names the first such call, if a call fails or is never answered";
     let line = Command::new(alloc, "replay")
-        .about("Runs the scripts if nothing is found in them, and shows what became of every call")
+        .about("Runs a plan if nothing is found in it, and shows what became of every call")
         .arg(workers_argument(alloc))?
         .arg(flag(alloc, "json", JSON))?
         .arg(flag(alloc, "anyway", anyway))?
@@ -150,7 +150,7 @@ fn follow_command<'a>(alloc: Global) -> Result<Command<'a>, AllocError>
 {
     let order = "The file of the order: each line names the process that takes the next step";
     let line = Command::new(alloc, "follow")
-        .about("Runs the scripts in the order of a file, and shows what became of every call")
+        .about("Runs a plan in the order of a file, and shows what became of every call")
         .arg(needed_argument(alloc, "ORDER", order))?
         .arg(flag(alloc, "json", JSON))?;
     with_large(alloc, line)
@@ -178,7 +178,7 @@ fn migrate_command<'a>(alloc: Global) -> Result<Command<'a>, AllocError>
     ensures local { IfOk result (λ c. (fields_of c).has_globals ≡ false) }
 {
     let line = Command::new(alloc, "migrate").about(
-        "Writes the same scripts under version 2 of the format",
+        "Writes the same plan under version 2 of the format",
     );
     with_large(alloc, line)
 }
@@ -213,9 +213,7 @@ pub(crate) fn program<'a>(alloc: Global) -> Command<'a>
     ensures local { (fields_of result).has_globals ≡ false }
 {
     Command::new(alloc, "wire_up")
-        .about(
-            "Rehearses the wire-up of a PMIx job: finds every race between its ranks, and replays it",
-        )
+        .about("Finds every race in a plan of the wire-up of a PMIx job, and replays the plan")
         .version(VERSION)
         .after_help(FAULTS_AND_STATUSES)
         .subcommand_required(true)

@@ -3,7 +3,7 @@ use Rattle.std.proofs.lemmas.Result.{IfOk-weaker}
 use Rattle.clap.specs.Simple.{app_of_fields}
 use Rattle.clap.specs.Words.{new_app}
 use Rattle.wire_command_line.specs.CommandLine as spec
-use Rattle.wire_command_line.proofs.Lines.{IsLine, grown_by, with_argument}
+use Rattle.wire_command_line.proofs.Lines.{IsLine, grown_by}
 use Rattle.wire_command_line.proofs.commands.check_command.Goals as goal
 
 pub returns-clause-app : goal.returns-clause-app
