@@ -32,7 +32,7 @@ import soak
 
 TOP = os.path.dirname(os.path.dirname(os.path.abspath(__file__)))
 # How many random plans, and of at most how many calls. How many races of a plan are looked at, and how many of these are followed.
-PLANS, MOST_CALLS, MOST_RACES, MOST_FOLLOWED, SECONDS, SEED = 100, 100, 200, 2, 60, 1
+PLANS, MOST_CALLS, MOST_RACES, MOST_FOLLOWED, SECONDS, SEED = 500, 100, 200, 2, 60, 1
 # Plans in which a lookup brings a value that two calls publish. Of the runs of the second that are tried, only the publish differs that it comes from.
 ALIKE = (
     b"rank n0\npublish x v\nrank n0\npublish x v\nrank n0\nlookup x\n",
@@ -171,10 +171,13 @@ def alike_plans(room):
         yield path
 
 
-def random_plans(room, dice, count):
-    """Random plans that are read, have races and aren't long."""
+def our_plans(room, dice, count):
+    """The examples, plans in which values are alike, and so many random plans that are read, have races and aren't long."""
+    yield from sorted(glob.glob(os.path.join(TOP, "examples", "*.plan")))
+    yield from alike_plans(room)
     while count:
-        text = b"".join(b" ".join(line) + b"\n" for line in soak.Maker(dice).lines())
+        maker = soak.MeetingMaker if count % 2 else soak.Maker
+        text = b"".join(b" ".join(line) + b"\n" for line in maker(dice).lines())
         try:
             scripts = grammar.read(text)
         except grammar.Refused:
@@ -197,8 +200,7 @@ def all_plans(program, count=PLANS, folders=None):
     """Looks at all plans. Answers how many went well, and how many didn't."""
     dice, well, told = random.Random(SEED), [], collections.Counter()
     with tempfile.TemporaryDirectory(prefix="wire-up-") as room:
-        ours = [*sorted(glob.glob(os.path.join(TOP, "examples", "*.plan"))), *alike_plans(room), *random_plans(room, dice, count)]
-        for plan in plans_below(folders) if folders else ours:
+        for plan in plans_below(folders) if folders else our_plans(room, dice, count):
             if ran(program, "check", plan)[0] > 1:
                 continue
             try:

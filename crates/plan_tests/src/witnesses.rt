@@ -3,7 +3,6 @@
 use std::alloc::Global;
 use std::process::Abort;
 use std::test::Fail;
-use std::thread::Threads;
 use wire_types::{MemorySink, MemorySource};
 use wire_up::{Ended, Part, witness};
 
@@ -127,10 +126,10 @@ No run that was tried shows this race. Another run may show it all the same.
 ];
 
 /// Asserts what is written of two calls, and how that ends.
-fn check_shown(rt: &(impl Abort + Threads + Sync), alloc: Global, row: &Shown) {
+fn check_shown(rt: &impl Abort, alloc: Global, row: &Shown) {
     let mut from = MemorySource::new(row.plan);
     let mut to = MemorySink::new(Vec::new(alloc));
-    let answer = witness(rt, alloc, &mut from, &mut to, row.words, Part::Whole);
+    let answer = witness(alloc, &mut from, &mut to, row.words, Part::Whole);
     assert_eq!(rt; answer, Ok(row.ended), "{}", row.name);
     assert_eq!(rt; to.bytes.as_slice(), row.text.as_bytes(), "{}", row.name);
 }
