@@ -4,12 +4,13 @@ use Rattle.std.proofs.lemmas.Bool.{cases_eq}
 use Rattle.std.proofs.Math.Path.{fun_ext}
 use Rattle.wire_runs.specs.Plan.{Plan, Event}
 use Rattle.wire_runs.specs.State.{State, start, next_event, IsDone}
-use Rattle.wire_runs.specs.Step.{is_enabled, step, IsInterleaving, run_from, IsReachable}
+use Rattle.wire_runs.specs.Step.{is_enabled, step, IsReachable}
 use Rattle.wire_runs.specs.Order.{Edge}
 use Rattle.wire_runs.specs.Fate.{Fate, Waits, HasFate, IsSoundCut}
 use Rattle.wire_runs.specs.Laws.{FatesHold}
 use Rattle.wire_runs.proofs.Due.{done_same, done_other, reachable_sound}
 use Rattle.wire_runs.proofs.Fates.{runs_are_sound}
+use Rattle.wire_runs.proofs.Runs.{run_push, legal_push}
 use Rattle.wire_content.specs.Scripts.{Scripts}
 use Rattle.wire_content.specs.Planned.{plan_of}
 use Rattle.wire_board.specs.declared.hold.Hold.{Hold}
@@ -25,14 +26,6 @@ pub cut_start : (plan : Plan) (n : ℕ) → IsReachedCut plan (replicate {A = �
 cut_start plan n = record { state = start; reached = ([], tt, refl); done = λ p. sym (zero_at n p) }
 
 -- One more event
-
-run_push : (plan : Plan) (s : State) (w : List ℕ) (p : ℕ) → run_from plan s (w ++ p ∷ []) ≡ step plan (run_from plan s w) p
-run_push plan s [] p = refl
-run_push plan s (q ∷ w) p = run_push plan (step plan s q) w p
-
-legal_push : (plan : Plan) (s : State) (w : List ℕ) (p : ℕ) → IsInterleaving plan s w → is_enabled plan (run_from plan s w) p ≡ true → IsInterleaving plan s (w ++ p ∷ [])
-legal_push plan s [] p legal on = (on, tt)
-legal_push plan s (q ∷ w) p legal on = (legal.0, legal_push plan (step plan s q) w p legal.1 on)
 
 reached_more : (plan : Plan) (s : State) (p : ℕ) → IsReachable plan s → is_enabled plan s p ≡ true → IsReachable plan (step plan s p)
 reached_more plan s p r on =

@@ -8,6 +8,7 @@ use mathlib.Core.Option.{some, none, some-ne-none, some-injective}
 use lib.ListN.{get_elem?}
 use Rattle.atomic_table.specs.Table.{Me, step, keeps, opening, Allows, Splits, Joins}
 use Rattle.atomic_table.proofs.Lists.{at_set, at_snoc}
+use Rattle.wire_runs.proofs.Lists.{set_raises}
 use Rattle.wire_content.specs.Scripts.{Scripts}
 use Rattle.wire_content.specs.Planned.{plan_of}
 use Rattle.wire_board.specs.declared.hold.Hold.{Hold}
@@ -34,13 +35,6 @@ set_below (x ∷ xs) (y ∷ ys) zero zero n l e = omega arith
 set_below (x ∷ xs) (y ∷ ys) zero (suc j) n l e = e
 set_below (x ∷ xs) (y ∷ ys) (suc k) zero n l e = e
 set_below (x ∷ xs) (y ∷ ys) (suc k) (suc j) n l e = set_below xs ys k j n (omega arith) e
-
-set_raises : (ys : List ℕ) (k j n : ℕ) → get_or ys k 0 ≤ n → get_or ys j 0 ≤ get_or (set ys k n) j 0
-set_raises [] k j n h = omega arith
-set_raises (y ∷ ys) zero zero n h = h
-set_raises (y ∷ ys) zero (suc j) n h = omega arith
-set_raises (y ∷ ys) (suc k) zero n h = omega arith
-set_raises (y ∷ ys) (suc k) (suc j) n h = set_raises ys k j n h
 
 -- Counting owners
 
@@ -171,7 +165,7 @@ fits_other plan words k n h apart up f = record {
   here = let l = length-set words k n in let b = f.here in omega arith;
   size = f.size ∙ sym (length-set words k n);
   place = f.place ∙ sym (get_or-set_other words k h.rank n 0 apart);
-  below = λ j. let a = f.below j in let b = set_raises words k j n up in omega arith;
+  below = λ j. let a = f.below j in let b = set_raises words k n up j in omega arith;
 }
 
 each_other : (plan : Scripts) (words : List ℕ) (k n : ℕ) → get_or words k 0 ≤ n → (v : List Hold) → count_of k v ≡ 0 → Each (Fits plan words) v → Each (Fits plan (set words k n)) v

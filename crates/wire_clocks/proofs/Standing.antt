@@ -1,10 +1,10 @@
 -- The clocks that trees of rows stand for.
 use Rattle.std.proofs.Common.{◌≡◌, ◌∙◌, ◌^◌, ◌/◌, ◌%◌, ◌-◌, ◌<◌, ◌≤◌, ℕ, zero, suc, List, Some, None, length, map, slice_index, refl, sym, ap, subst, arith, inl, inr}
-use Rattle.std.specs.Prelude.{Bool, true, false, nat_lt, ◌&&◌, slice_get, if◌then◌else◌, Result, IfOk}
+use Rattle.std.specs.Prelude.{Bool, true, false, nat_lt, slice_get, if◌then◌else◌, Result, IfOk}
 use Rattle.std.specs.declared.alloc.AllocError.{AllocError}
 use Rattle.std.specs.List.{list_all, range_with_len}
 use Rattle.std.proofs.Math.Nat.{one-le-pow}
-use Rattle.std.proofs.lemmas.Bool.{and_from, cases_lt, cond_both, ltb-true, lt-ltb, true≢false}
+use Rattle.std.proofs.lemmas.Bool.{and_from, cases_lt, cond_both, ltb-true, lt-ltb, true≢false, and_parts}
 use Rattle.std.proofs.lemmas.List.{get_or_past}
 use Rattle.std.proofs.lemmas.List.Elements.{All-get_or, All-from_get_or}
 use Rattle.std.proofs.lemmas.List.FromFn.{get_or-map-range_with_len, length-map-range_with_len}
@@ -17,17 +17,13 @@ use Rattle.wire_clocks.specs.ClockTrees.{Clocks, numbers_of, is_clock, says, IsR
 use Rattle.wire_clocks.specs.Trees.{is_tree, clock_of_tree, clocks_of_trees, AreTrees}
 use Rattle.wire_clocks.proofs.Growing.{says_kept, tree_kept, says_zero, says_down, tree_of_zeros, tree_there, zero_kept}
 
-both_true : (x y : Bool) → (x && y) ≡ true → (x ≡ true) × (y ≡ true)
-both_true true y e = (refl, e)
-both_true false y e = absurd (true≢false (sym e))
-
 -- the test finds trees
 pub tree_found : (rows : List (List ℕ)) → IsZero rows → (k tree : ℕ) → is_tree rows k tree ≡ true → IsTree rows k tree
 unfolding is_tree IsTree
 tree_found rows z zero tree e = tt
 tree_found rows z (suc k) tree e =
     let numbers = numbers_in (slice_get rows tree) in
-    let both = both_true (nat_lt tree (length rows)) (list_all (is_tree rows k) numbers) e in (
+    let both = and_parts (nat_lt tree (length rows)) (list_all (is_tree rows k) numbers) e in (
       ltb-true tree (length rows) both.0,
       λ i. elim (cases_lt i (length numbers)) [
         | inl lt ↦ tree_found rows z k (entry rows tree i) (All-get_or (λ n. is_tree rows k n ≡ true) numbers i 0 lt (AllPass-from_list_all (is_tree rows k) numbers both.1))

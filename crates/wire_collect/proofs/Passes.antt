@@ -1,27 +1,16 @@
 -- The last of the first passes.
-use Rattle.std.proofs.Common.{◌≡◌, ℕ, zero, suc, List, [], ◌∷◌, ◌++◌, length, subst, sym, refl, Option, Some, None, option_to_list, IfSome, append-nil, ⊎_elim, ◌∙◌}
-use mathlib.Core.Option.{some, some-ne-none}
-use lib.ListN.{get_elem?}
+use Rattle.std.proofs.Common.{◌≡◌, ℕ, List, [], ◌∷◌, ◌++◌, length, subst, sym, Option, Some, None, option_to_list, IfSome, append-nil, ⊎_elim, ◌∙◌}
 use Rattle.wire_sched.specs.declared.round.Round.{Round}
 use Rattle.wire_sched.specs.declared.round.Pass.{Pass}
 use Rattle.wire_sched.specs.Rounds.{IsPassOf, worker_of}
-use Rattle.wire_sched.proofs.Rows.{get_snoc}
+use Rattle.wire_sched.proofs.Rows.{get_snoc, get_longer, get_last}
 use Rattle.wire_collect.specs.Passes.{AreFirstPasses}
 
-at_longer : (ps qs : List Pass) (k : ℕ) (p : Pass) → get_elem? ps k ≡ some p → get_elem? (ps ++ qs) k ≡ some p
-at_longer [] qs k p e = absurd (some-ne-none p (sym e))
-at_longer (q ∷ ps) qs zero p e = e
-at_longer (q ∷ ps) qs (suc k) p e = at_longer ps qs k p e
-
-at_last : (ps : List Pass) (p : Pass) → get_elem? (ps ++ p ∷ []) (length ps) ≡ some p
-at_last [] p = refl
-at_last (q ∷ ps) p = at_last ps p
-
 first_passes : (r : Round) (ps : List Pass) (p : Pass) → AreFirstPasses r (ps ++ p ∷ []) → AreFirstPasses r ps
-first_passes r ps p all k q at = all k q (at_longer ps (p ∷ []) k q at)
+first_passes r ps p all k q at = all k q (get_longer ps (p ∷ []) k q at)
 
 last_of : (r : Round) (ps : List Pass) (p : Pass) → AreFirstPasses r (ps ++ p ∷ []) → (worker_of p ≡ length ps) × IsPassOf r p
-last_of r ps p all = all (length ps) p (at_last ps p)
+last_of r ps p all = all (length ps) p (get_last ps p)
 
 pub passes_again : (r : Round) (ps : List Pass) (p : Pass) → AreFirstPasses r ps → worker_of p ≡ length ps → IsPassOf r p → AreFirstPasses r (ps ++ p ∷ [])
 passes_again r ps p all number is k q at =

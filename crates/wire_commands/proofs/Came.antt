@@ -37,12 +37,12 @@ scripts_fault : {size : Size} (coming : Option (List ℕ)) (bytes shown : List �
 scripts_fault coming bytes shown e same front (inl memory) = inl memory
 scripts_fault coming bytes shown e same front (inr reads) = inr (inr (refuses coming bytes shown e same front reads))
 
-pub scripts_err : (size : Size) (coming : Option (List ℕ)) (bytes shown : List ℕ) (r : Result Scripts Fault) → shown ≡ bytes → IfSome coming (λ all. bytes ≡ take (file_bytes size + 1) all) →
+pub scripts_err : {A : Type 0} (size : Size) (coming : Option (List ℕ)) (bytes shown : List ℕ) (r : Result A Fault) → shown ≡ bytes → IfSome coming (λ all. bytes ≡ take (file_bytes size + 1) all) →
     IfErr r (λ e. (e ≡ Memory) ⊎ Reads size shown (Err e)) → IfErr r (λ e. (e ≡ Memory) ⊎ ((e ≡ Read) ⊎ Refuses size coming e))
 scripts_err size coming bytes shown (Ok s) same front reads = tt
 scripts_err size coming bytes shown (Err e) same front reads = scripts_fault coming bytes shown e same front reads
 
 -- a fault of a file is no failed read
-pub no_read_of_file : (size : Size) (bytes : List ℕ) (r : Result Scripts Fault) → IfErr r (λ e. (e ≡ Memory) ⊎ Reads size bytes (Err e)) → r ≡ Err Read → ⊥
+pub no_read_of_file : {A : Type 0} (size : Size) (bytes : List ℕ) (r : Result A Fault) → IfErr r (λ e. (e ≡ Memory) ⊎ Reads size bytes (Err e)) → r ≡ Err Read → ⊥
 no_read_of_file size bytes (Ok s) told is = let bad : Ok s ≡ Err Read = is in cc
 no_read_of_file size bytes (Err e) told is = let same : e ≡ Read = cc in not_read size bytes e told same

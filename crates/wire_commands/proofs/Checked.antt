@@ -1,5 +1,5 @@
 -- From what the parts of a check tell to what it tells.
-use Rattle.std.proofs.Common.{◌≡◌, ◌≢◌, ◌∙◌, ◌↔◌, ◌⊎◌, inl, inr, ap, sym, refl, ℕ, List, [], ◌∷◌, length, Bool, false, Option, Result, Ok, Err, IfOk, IfErr, OnOk}
+use Rattle.std.proofs.Common.{◌≡◌, ◌≢◌, ◌∙◌, ◌↔◌, ◌⊎◌, inl, inr, ap, sym, refl, ℕ, List, [], ◌∷◌, length, Bool, Option, Result, Ok, Err, IfOk, IfErr}
 use Rattle.std.specs.Io.KnownBytes.{Appends}
 use Rattle.wire_types.specs.declared.Fault.{Fault}
 use Rattle.wire_types.specs.declared.Fault.TheVariants.{Memory, Read, Write}
@@ -97,11 +97,6 @@ pub breaks_off : {size : Size} (json : Bool) (coming old new : Option (List ℕ)
 breaks_off json coming old new s A B (Ok ended) read ends = tt
 breaks_off json coming old new s A B (Err e) read (inl (memory, none)) = inl (inl memory, none)
 breaks_off json coming old new s A B (Err e) read (inr (front, failed)) = inr (record { scripts = s; read = read; broke = front }, failed)
-
--- neither the reader nor the writer failed
-pub both_quiet : (P Q : Type 0) (r : Result Ended Fault) → P → OnOk r Q → OnOk r (P × Q)
-both_quiet P Q (Ok ended) p q = (p, q)
-both_quiet P Q (Err e) p q = tt
 
 -- the writing is no failed read
 pub no_failed_read : (json : Bool) (old new : Option (List ℕ)) (s : Scripts) (A B : Type 0) (r : Result Ended Fault) → IfErr r (Ends json s old new A B) → r ≡ Err Read → ⊥

@@ -35,14 +35,6 @@ refuses_steps None bytes shown s e same front reads = record { bytes = shown; ca
 refuses_steps {size} (Some all) bytes shown s e same front reads =
     record { bytes = all; came = refl; reads = sym (order_limited size s all) ∙ ap (order_read size s) (sym (same ∙ front)) ∙ reads }
 
-pub ok_too : {A : Type 0} (r : Result A Fault) (P Q : A → Type 0) → ((x : A) → P x → Q x) → IfOk r P → IfOk r Q
-ok_too (Ok x) P Q f p = f x p
-ok_too (Err e) P Q f p = tt
-
-pub err_too : {A : Type 0} (r : Result A Fault) (P Q : Fault → Type 0) → ((e : Fault) → P e → Q e) → IfErr r P → IfErr r Q
-err_too (Ok x) P Q f p = tt
-err_too (Err e) P Q f p = f e p
-
 -- a read of the order failed, or the order is refused
 pub order_fault : {size : Size} (coming : Option (List ℕ)) (s : Scripts) (e : Fault) (bytes shown : List ℕ) → shown ≡ bytes →
     IfSome coming (λ all. bytes ≡ take (order_bytes size + 1) all) → (e ≡ Memory)
@@ -62,10 +54,6 @@ pub steps_err : (size : Size) (coming : Option (List ℕ)) (bytes shown : List �
     IfErr r (λ e. (e ≡ Memory) ⊎ (order_read size s shown ≡ Err e)) → IfErr r (λ e. (e ≡ Memory) ⊎ ((e ≡ Read) ⊎ RefusesSteps size coming s e))
 steps_err size coming bytes shown s (Ok order) same front reads = tt
 steps_err size coming bytes shown s (Err e) same front reads = order_fault coming s e bytes shown same front reads
-
-pub on_ok_too : {A : Type 0} (r : Result A Fault) (P Q : Type 0) → (P → Q) → OnOk r P → OnOk r Q
-on_ok_too (Ok x) P Q f p = f p
-on_ok_too (Err e) P Q f p = tt
 
 -- the faults of the file
 pub of_file : {size : Size} (coming order_coming : Option (List ℕ)) (e : Fault) → (e ≡ Memory) ⊎ ((e ≡ Read) ⊎ Refuses size coming e) → StopsBefore size coming order_coming e

@@ -1,32 +1,22 @@
 -- From what the parts of answering a question answer to what it answers.
-use Rattle.std.proofs.Common.{◌≡◌, ◌≢◌, ◌∙◌, ap, subst, sym, refl, ℕ, Bool, ◌<◌, List, length, ◌⊎◌, inl, inr, Option, Some, None, Result, Ok, Err, IfErr, IfOk, OnOk, Vec, Global}
-use Rattle.std.specs.Prelude.{slice_get, option_map}
-use Rattle.std.proofs.lemmas.List.{length-map}
-use Rattle.std.proofs.lemmas.Option.{slice_get-map}
+use Rattle.std.proofs.Common.{◌≡◌, ◌≢◌, ◌∙◌, ap, subst, sym, ℕ, Bool, ◌<◌, List, length, ◌⊎◌, inl, inr, Option, Result, Ok, Err, IfErr, IfOk, OnOk, Vec, Global}
 use Rattle.std.specs.Io.KnownBytes.{Appends}
 use Rattle.wire_types.specs.declared.CallAt.{CallAt}
 use Rattle.wire_types.specs.declared.Fault.{Fault}
 use Rattle.wire_types.specs.declared.Fault.TheVariants.{Memory, Read, BadOrder}
 use Rattle.wire_types.specs.Front.{WritesFront}
-use Rattle.wire_content.specs.Scripts.{Scripts, Process, calls_in}
-use Rattle.wire_content.specs.Planned.{plan_of, planned_call, planned_process}
+use Rattle.wire_content.specs.Scripts.{Scripts}
+use Rattle.wire_content.specs.Planned.{plan_of}
 use Rattle.wire_script.specs.declared.Size.{Size}
-use Rattle.wire_order.specs.Question.{QuestionReads, Asks as AsksBoth, First, Second, Third, Fourth, IsCallNamed, calls_made}
-use Rattle.wire_runs.specs.Ends.{calls_of, process_calls}
+use Rattle.wire_order.specs.Question.{QuestionReads, Asks as AsksBoth, First, Second, Third, Fourth, IsCallNamed}
+use Rattle.wire_runs.specs.Ends.{calls_of}
+use Rattle.wire_content.proofs.PlannedCalls.{as_many_planned}
 use Rattle.wire_report.specs.Chain.{IsChainText}
 use Rattle.wire_commands.specs.Plain.{ReadAs, Refuses}
 use Rattle.wire_commands.specs.Why.{Asks, Answers, WritesAnswer, BreaksOffAnswer, StopsBeforeAnswer}
 
--- the calls that are named are the plan's
-made_in : (s : Scripts) (o : Option Process) → length (calls_in o) ≡ length (process_calls (option_map (planned_process s) o))
-made_in s None = refl
-made_in s (Some p) = sym (length-map p.calls (planned_call s))
-
-made : (s : Scripts) (p : ℕ) → calls_made s p ≡ length (calls_of (plan_of s) p)
-made s p = made_in s (slice_get s.processes p) ∙ ap (λ o. length (process_calls o)) (sym (slice_get-map (planned_process s) s.processes p))
-
 named_there : (s : Scripts) (proc number : List ℕ) (x : CallAt) → IsCallNamed s proc number x → x.call < length (calls_of (plan_of s) x.proc.number)
-named_there s proc number x named = subst (λ n. x.call < n) (made s x.proc.number) named.numbered.there
+named_there s proc number x named = subst (λ n. x.call < n) (as_many_planned s x.proc.number) named.numbered.there
 
 both_there : (s : Scripts) (p n q m : List ℕ) (calls : CallAt × CallAt) → QuestionReads s p n q m (Ok calls)
     → (calls.0.call < length (calls_of (plan_of s) calls.0.proc.number)) × (calls.1.call < length (calls_of (plan_of s) calls.1.proc.number))

@@ -23,10 +23,6 @@ pub not_on_ok : {A : Type 0} (r : Result A Fault) (e : Fault) (P : Type 0) → I
 not_on_ok (Ok x) e P is = absurd is
 not_on_ok (Err f) e P is = tt
 
-pub on_error : {A : Type 0} (r : Result A Fault) (P : Type 0) → P → OnErr r P
-on_error (Ok x) P p = tt
-on_error (Err f) P p = p
-
 -- it is the error that was handed on
 pub same_error : {A : Type 0} (r : Result A Fault) (e f : Fault) → IsErrAnd r (λ d. d ≡ e) → r ≡ Err f → e ≡ f
 same_error (Ok x) e f is at = absurd is
@@ -45,8 +41,11 @@ only_refused coming e (inr (inl is)) memory read write = absurd (read is)
 only_refused coming e (inr (inr refuses)) memory read write = refuses
 
 -- memory that ran out is no failed read and no failed write
+pub memory_is_no_read : (e : Fault) → e ≡ Memory → e ≢ Read
+memory_is_no_read e memory is = let bad : Memory ≡ Read = sym memory ∙ is in cc
+
 pub memory_no_read : (r : Result (Unit {0}) Fault) (e : Fault) → IsErrAnd r (λ d. d ≡ e) → e ≡ Memory → r ≡ Err Read → ⊥
-memory_no_read r e is memory at = let bad : Memory ≡ Read = sym memory ∙ same_error r e Read is at in cc
+memory_no_read r e is memory at = memory_is_no_read e memory (same_error r e Read is at)
 
 pub memory_no_write : (r : Result (Unit {0}) Fault) (e : Fault) (n : ℕ) → IsErrAnd r (λ d. d ≡ e) → e ≡ Memory → r ≡ Err (Write n) → ⊥
 memory_no_write r e n is memory at = let bad : Memory ≡ Write n = sym memory ∙ same_error r e (Write n) is at in cc
@@ -73,7 +72,7 @@ breaks_off coming old new s text (Err e) n read is (m, carries, (short, front)) 
     }
 
 -- the writing is no failed read
-pub no_read_writing : (old new : Option (List ℕ)) (text : List ℕ) (r : Result (Unit {0}) Fault) → IfErr r (WritesFront old new text) → r ≡ Err Read → ⊥
+pub no_read_writing : {A : Type 0} (old new : Option (List ℕ)) (text : List ℕ) (r : Result A Fault) → IfErr r (WritesFront old new text) → r ≡ Err Read → ⊥
 no_read_writing old new text (Ok x) front is = let bad : Ok x ≡ Err Read = is in cc
 no_read_writing old new text (Err e) (m, carries, (short, front)) is = let bad : Write m ≡ Read = cc in cc
 
@@ -93,8 +92,3 @@ untouched old new written later text (Err e) (m, carries, (short, front)) = λ n
 pub at_error : (r : Result (Unit {0}) Fault) (e : Fault) (P : Type 0) → IfErr r (λ _. P) → r ≡ Err e → P
 at_error (Ok x) e P p at = let bad : Ok x ≡ Err e = at in absurd (cc)
 at_error (Err d) e P p at = p
-
--- neither the reader nor the writer failed
-pub both_quiet : (P Q : Type 0) (r : Result (Unit {0}) Fault) → P → OnOk r Q → OnOk r (P × Q)
-both_quiet P Q (Ok x) p q = (p, q)
-both_quiet P Q (Err e) p q = tt

@@ -5,4 +5,5 @@ pub mod Listed
 pub mod SameCalls
 pub mod Same
 pub mod Migrated
+pub mod PlannedCalls
 mod Apart

@@ -7,6 +7,7 @@ use Rattle.wire_runs.specs.Step.{IsInterleaving, run}
 use Rattle.wire_runs.proofs.Due.{reachable_sound}
 use Rattle.wire_core.proofs.Steps.{get_set}
 use Rattle.std.proofs.lemmas.Bool.{false_from_ne_true, cases_lt, leb-true, and_parts}
+use Rattle.std.proofs.Math.Bool.{and-false}
 use Rattle.wire_runs.specs.Plan.{Plan, Kind, Arrive, kind_at, event_count}
 use Rattle.wire_runs.specs.Puts.{stored}
 use Rattle.wire_runs.specs.Fences.{arrivals, is_complete, is_collecting, has_node}
@@ -80,14 +81,6 @@ delivered_done plan cut p node key (suc n) late = step (delivered_done plan cut 
           ∙ before ge
     ]
 
-pub and_none : (b : Bool) → (b && false) ≡ false
-and_none true = refl
-and_none false = refl
-
-pub and_all : (b : Bool) → (b && true) ≡ b
-and_all true = refl
-and_all false = refl
-
 -- an arrival at a fence that doesn't collect, or doesn't reach the node, brings nothing to it in any cut
 pub may_not : (s : Scripts) (table : FenceTable) (p at number node : ℕ) (members : List ℕ) (collect : Bool) → AreFencesOf s table → kind_at (plan_of s) p at ≡ Some (Arrive members collect) →
     IsMet s table (record { proc = p; at = at }) number → (collects_in (fence_at table number) && reaches_in table node (fence_at table number)) ≡ false → (cut : ℕ → ℕ) →
@@ -96,7 +89,7 @@ may_not s table p at number node members collect fences is m none cut =
     let complete = is_complete (plan_of s) cut m.fence.members m.fence.nth in
     sym (brings_told s table cut p at number node members collect fences is m complete (collects_in (fence_at table number)) (reaches_in table node (fence_at table number)) refl refl refl)
     ∙ ap (λ b. complete && b) none
-    ∙ and_none complete
+    ∙ and-false complete
 
 -- where no event brings anything, what was delivered stays
 pub delivered_still : (plan : Plan) (cut : ℕ → ℕ) (p node key from to : ℕ) → BringNothing plan p node from to → from ≤ to → delivered plan cut p node key to ≡ delivered plan cut p node key from

@@ -1,22 +1,16 @@
 -- An order of steps, one step at a time.
-use Rattle.std.proofs.Common.{◌≡◌, ◌∙◌, ap, sym, subst, ℕ, zero, suc, List, [], ◌∷◌, ◌++◌, take, true, Some, arith, append_assoc}
+use Rattle.std.proofs.Common.{◌≡◌, ◌∙◌, ap, sym, subst, ℕ, suc, List, [], ◌∷◌, ◌++◌, take, true, Some, append_assoc}
 use Rattle.std.specs.Prelude.{slice_get}
-use Rattle.std.proofs.lemmas.Option.{slice_get_within, same_Some}
 use Rattle.std.proofs.lemmas.List.{append-nil}
-use Rattle.wire_runs.specs.Plan.{Plan}
-use Rattle.wire_runs.specs.State.{State, start}
-use Rattle.wire_runs.specs.Step.{is_enabled, step, IsInterleaving, run, run_from, IsEnd}
+use Rattle.wire_runs.specs.State.{start}
+use Rattle.wire_runs.specs.Step.{is_enabled, IsInterleaving, run, run_from, IsEnd}
 use Rattle.wire_runs.specs.PlainRun.{plain_run}
 use Rattle.wire_runs.specs.Races.{IsSettled}
 use Rattle.wire_runs.proofs.PlainRun.{plain_runs}
+use Rattle.wire_runs.proofs.Runs.{legal_push, run_append, legal_append}
+use Rattle.wire_runs.proofs.Lists.{take_get}
 use Rattle.wire_core.specs.Course.{Course, plan_in, state_of}
 use Rattle.wire_core.specs.Following.{Follows}
-use Rattle.wire_core.proofs.Steps.{legal_push, run_append}
-
-take_more : (xs : List ℕ) (n x : ℕ) → slice_get xs n ≡ Some x → take (suc n) xs ≡ take n xs ++ x ∷ []
-take_more [] n x is = let lt = slice_get_within [] n x is in absurd (omega (arith, lt))
-take_more (y ∷ xs) zero x is = ap (λ z. z ∷ []) (same_Some _ _ is)
-take_more (y ∷ xs) (suc n) x is = ap (λ ys. y ∷ ys) (take_more xs n x is)
 
 -- no step
 pub follows_none : (course : Course) (order : List ℕ) → Follows course (take 0 order) course
@@ -38,17 +32,12 @@ follows_push old now new order p follows on new_is =
 -- the next of an order
 pub follows_more : (old now new : Course) (order : List ℕ) (n p : ℕ) → Follows old (take n order) now → slice_get order n ≡ Some p → is_enabled (plan_in now) (state_of now) p ≡ true →
     new ≡ record { scripts = now.scripts; history = now.history ++ p ∷ [] } → Follows old (take (suc n) order) new
-follows_more old now new order n p follows is on new_is = subst (λ xs. Follows old xs new) (sym (take_more order n p is)) (follows_push old now new (take n order) p follows on new_is)
-
--- steps after steps
-legal_after : (plan : Plan) (s : State) (v w : List ℕ) → IsInterleaving plan s v → IsInterleaving plan (run_from plan s v) w → IsInterleaving plan s (v ++ w)
-legal_after plan s [] w first more = more
-legal_after plan s (p ∷ v) w first more = (first.0, legal_after plan (step plan s p) v w first.1 more)
+follows_more old now new order n p follows is on new_is = subst (λ xs. Follows old xs new) (sym (take_get order n p is)) (follows_push old now new (take n order) p follows on new_is)
 
 -- where the history so far is an interleaving, it still is one after steps that are followed
 pub legal_still : (old new : Course) (order : List ℕ) → Follows old order new → IsInterleaving (plan_in old) start old.history → IsInterleaving (plan_in new) start new.history
 legal_still old new order follows legal = subst (λ (c : Course). IsInterleaving (plan_in c) start c.history) (sym follows.taken)
-    (legal_after (plan_in old) start old.history order legal follows.enabled)
+    (legal_append (plan_in old) start old.history order legal follows.enabled)
 
 -- where nothing was done before, the plan is settled and nobody may go on after the steps, the plain run ends in the same state
 pub ends_plainly : (old new : Course) (order : List ℕ) → Follows old order new → old.history ≡ [] → IsSettled (plan_in new) → IsEnd (plan_in new) (state_of new) →

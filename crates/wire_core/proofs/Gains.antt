@@ -1,32 +1,24 @@
 -- What a step brings to a node.
-use Rattle.std.proofs.Common.{◌≡◌, ◌≢◌, ◌∙◌, ap, sym, refl, subst, ℕ, zero, suc, ◌+◌, ◌<◌, ◌≤◌, List, [], ◌∷◌, ◌++◌, length}
-use Rattle.std.proofs.Common.{Bool, true, false, cond, ◌&&◌, nat_eq, nat_lt, Option, Some, None, is_some, arith, inl, inr}
+use Rattle.std.proofs.Common.{◌≡◌, ◌≢◌, ◌∙◌, ap, sym, refl, subst, ℕ, zero, suc, ◌+◌, ◌<◌, ◌≤◌, [], ◌∷◌, length}
+use Rattle.std.proofs.Common.{Bool, true, false, cond, ◌&&◌, nat_eq, Option, Some, None, is_some, arith, inl, inr}
 use Rattle.std.proofs.Common.{eq-eqb, ne_eqb, eqb-true}
 use Rattle.std.specs.Prelude.{slice_get, IfSome}
 use Rattle.std.specs.HashMap.{spare}
 use Rattle.std.proofs.lemmas.Bool.{cond-true, cond-false, cond_both, cases_Bool, cases_eq, ltb-true, ltb-false, and_parts, and_from, true≢false}
 use Rattle.std.proofs.lemmas.Option.{same_Some}
-use Rattle.std.proofs.lemmas.List.{length_push}
-use Rattle.wire_runs.specs.Plan.{Plan, Kind, Get, Event, kind, kind_at, event_count, event_total, process_count, node_of, same_node, admits}
-use Rattle.wire_runs.specs.Puts.{own, stored, stored_with, scope_of}
-use Rattle.wire_runs.specs.State.{Answer, Value, State, start, next_event, next_kind}
-use Rattle.wire_runs.specs.Sight.{Sight, Nothing, Outside, Shown, held, served, for_others, greater, greatest, got_with, got, got_on, kept, get_sees}
+use Rattle.wire_runs.specs.Plan.{Plan, Kind, Get, Event, kind, kind_at, event_total, process_count, node_of, same_node, admits}
+use Rattle.wire_runs.specs.Puts.{stored, scope_of}
+use Rattle.wire_runs.specs.State.{State, start, next_event, next_kind}
+use Rattle.wire_runs.specs.Sight.{Sight, Nothing, Outside, Shown, served, for_others, greater, greatest, got_with, got, got_on, kept, get_sees}
 use Rattle.wire_runs.specs.Step.{sight_reply, reply, step}
 use Rattle.wire_runs.proofs.Due.{done_same, done_other, done_up}
 use Rattle.wire_runs.proofs.Known.{replies_same, replies_other, reply_now}
+use Rattle.wire_runs.proofs.Lists.{slice_get-append_left, one_longer}
 use Rattle.wire_core.specs.Met.{stored_at}
 use Rattle.wire_core.specs.declared.keeping.Gain.{Gain}
 use Rattle.wire_core.specs.declared.keeping.Keeping.{Keeping}
 use Rattle.wire_core.specs.Keeping.{is_same, count_in, count_after, GetGains, IsGain, IsKeeping, is_later}
-use Rattle.wire_core.proofs.LastPuts.{IsUpTo, up_same, stored_up, greater_first, greater_second, greatest_same, greatest_grown}
-
-length_answers : (xs : List Answer) (a : Answer) → length (xs ++ a ∷ []) ≡ suc (length xs)
-length_answers xs a = let l = length_push xs a in omega (arith, l)
-
-get_front : (xs ys : List Answer) (i : ℕ) → i < length xs → slice_get (xs ++ ys) i ≡ slice_get xs i
-get_front [] ys i h = absurd (omega (arith, h))
-get_front (x ∷ xs) ys zero h = refl
-get_front (x ∷ xs) ys (suc i) h = get_front xs ys i (omega (arith, h))
+use Rattle.wire_core.proofs.LastPuts.{IsUpTo, stored_up, greater_first, greater_second, greatest_same, greatest_grown}
 
 -- what q's next event brings of p's key to the node
 abbrev gained : Plan → State → ℕ → ℕ → ℕ → ℕ → Option ℕ
@@ -38,7 +30,8 @@ module _ (plan : Plan) (s : State) (q : ℕ) (lengths : (p : ℕ) → length (s.
   reply_was m i lt = elim (cases_eq m q) [
     | inl e ↦ subst (λ k. slice_get ((step plan s q).replies k) i ≡ slice_get (s.replies k) i) (sym e)
         (ap (λ xs. slice_get xs i) (replies_same plan s q)
-        ∙ get_front (s.replies q) (reply plan s (next_event s q) (kind plan (next_event s q)) ∷ []) i (let l = lengths q in let low = subst (λ k. i < s.done k) e lt in omega (arith, l, low)))
+        ∙ slice_get-append_left (s.replies q) (reply plan s (next_event s q) (kind plan (next_event s q)) ∷ []) i
+        (let l = lengths q in let low = subst (λ k. i < s.done k) e lt in omega (arith, l, low)))
     | inr ne ↦ ap (λ xs. slice_get xs i) (replies_other plan s q m ne)
   ]
 
@@ -114,7 +107,7 @@ module _ (plan : Plan) (s : State) (q steps : ℕ) (old new : Keeping) (found : 
   lengths_now : (p : ℕ) → length ((step plan s q).replies p) ≡ (step plan s q).done p
   lengths_now p = elim (cases_eq p q) [
     | inl e ↦ subst (λ m. length ((step plan s q).replies m) ≡ (step plan s q).done m) (sym e)
-        (ap length (replies_same plan s q) ∙ length_answers (s.replies q) (reply plan s (next_event s q) (kind plan (next_event s q))) ∙ ap suc (k.lengths q) ∙ sym (done_same plan s q))
+        (ap length (replies_same plan s q) ∙ one_longer (s.replies q) (reply plan s (next_event s q) (kind plan (next_event s q))) ∙ ap suc (k.lengths q) ∙ sym (done_same plan s q))
     | inr ne ↦ ap length (replies_other plan s q p ne) ∙ k.lengths p ∙ sym (done_other plan s q p ne)
   ]
 

@@ -1,15 +1,16 @@
 -- Runs within limits, one step at a time.
-use Rattle.std.proofs.Common.{◌≡◌, ◌∙◌, ap, sym, refl, subst, ℕ, suc, ◌<◌, List, [], ◌∷◌, ◌++◌, length, true, ⊎_elim, inl, inr, arith}
+use Rattle.std.proofs.Common.{◌≡◌, ◌∙◌, ap, sym, refl, subst, ℕ, suc, ◌<◌, List, [], ◌∷◌, ◌++◌, length, inl, inr, arith}
 use Rattle.std.proofs.lemmas.Bool.{cases_eq}
 use Rattle.wire_runs.specs.Plan.{event_total}
 use Rattle.wire_runs.specs.State.{start}
-use Rattle.wire_runs.specs.Step.{is_enabled, step, IsInterleaving, run}
+use Rattle.wire_runs.specs.Step.{step, IsInterleaving}
 use Rattle.wire_runs.proofs.Due.{done_same, done_other}
+use Rattle.wire_runs.proofs.Runs.{legal_push, run_append}
 use Rattle.wire_core.specs.Course.{Course, plan_in, state_of}
 use Rattle.wire_core.specs.Following.{Follows}
 use Rattle.wire_core.specs.Within.{limit_at, MayGo}
 use Rattle.wire_core.proofs.Following.{follows_none, follows_push}
-use Rattle.wire_core.proofs.Steps.{legal_push, run_append, step_history, length_push}
+use Rattle.wire_core.proofs.Steps.{step_history}
 
 -- a run within limits so far
 pub record Goes (limits : List ℕ) (old new : Course) : Type 0 where

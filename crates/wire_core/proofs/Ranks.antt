@@ -23,6 +23,7 @@ use Rattle.wire_core.specs.Ranks.{calls_at, IsRankOf}
 use Rattle.wire_core.specs.Seeing.{seen_as, brought_of, is_something, reply_to}
 use Rattle.wire_runs.specs.Ends.{given}
 use Rattle.wire_runs.specs.Step.{sight_reply}
+use Rattle.wire_runs.proofs.Basics.{event_past}
 use Rattle.wire_core.specs.Met.{stored_at}
 use Rattle.wire_core.specs.declared.rank.Rank.{Rank}
 
@@ -44,11 +45,6 @@ seen_given plan owner (Shown put) = refl
 pub held_something : (plan : Plan) (p : ℕ) (o : Option ℕ) → is_something (seen_as plan p (held o)) ≡ is_some o
 held_something plan p None = refl
 held_something plan p (Some put) = refl
-
--- past its last event a process has none
-pub event_past : (plan : Plan) (p n : ℕ) → event_count plan p ≤ n → kind_at plan p n ≡ None
-unfolding kind_at event_count
-event_past plan p n past = slice_get_past (kinds plan p) n past
 
 -- has stored nothing
 stored_past : (plan : Plan) (p key n : ℕ) → process_count plan ≤ p → stored plan p key n ≡ None

@@ -18,7 +18,7 @@ use Rattle.wire_plan.specs.declared.Kind.TheVariants as code
 use Rattle.wire_names.specs.Changes.{HasName}
 use Rattle.wire_plan.specs.Kinds.{kind_of}
 use Rattle.wire_runs.specs.State.{State, start, next_event}
-use Rattle.wire_runs.specs.Step.{is_enabled, step, reply, IsInterleaving, run, run_from}
+use Rattle.wire_runs.specs.Step.{is_enabled, step, reply, IsInterleaving, run}
 use Rattle.wire_runs.specs.Ends.{given, replies_of}
 use Rattle.wire_runs.specs.Plan.{event_total}
 use Rattle.wire_runs.specs.PlainRun.{lowest, go_on, plain_from}
@@ -26,17 +26,12 @@ use Rattle.wire_runs.proofs.Basics.{event_within}
 use Rattle.wire_runs.proofs.Length.{runs_end}
 use Rattle.wire_runs.proofs.Due.{done_same, done_other}
 use Rattle.wire_runs.proofs.Known.{replies_same, replies_other}
+use Rattle.wire_runs.proofs.Runs.{run_push, legal_push}
+use Rattle.wire_runs.proofs.Lists.{one_longer}
 use Rattle.wire_core.specs.Puts.{is_put}
 use Rattle.wire_core.specs.Ranks.{puts_left, calls_at, IsRankOf, AreRanksOf, IsCourse}
 use Rattle.wire_core.specs.Seeing.{replies_in}
 use Rattle.wire_core.specs.declared.rank.Rank.{Rank}
-
--- elements of a list that grew at its end
-pub get_push : {A : Type 0} (xs : List A) (y : A) (i : ℕ) (x : A) → slice_get (xs ++ y ∷ []) i ≡ Some x → (slice_get xs i ≡ Some x) ⊎ ((i ≡ length xs) × (x ≡ y))
-get_push [] y zero x h = inr (refl, sym (same_Some _ _ h))
-get_push [] y (suc i) x h = inl h
-get_push (z ∷ xs) y zero x h = inl h
-get_push (z ∷ xs) y (suc i) x h = elim (get_push xs y i x h) [ inl l ↦ inl l | inr r ↦ inr (ap suc r.0, r.1) ]
 
 -- elements of a list in which one was replaced
 pub get_set : {A : Type 0} (xs : List A) (p : ℕ) (y : A) (i : ℕ) (x : A) → slice_get (slice_set xs p y) i ≡ Some x → ((i ≡ p) × (x ≡ y)) ⊎ ((i ≡ p → ⊥) × (slice_get xs i ≡ Some x))
@@ -152,18 +147,6 @@ ranks_step plan s p ranks new told now = record {
   ];
 }
 
-pub run_push : (plan : Plan) (s : State) (w : List ℕ) (p : ℕ) → run_from plan s (w ++ p ∷ []) ≡ step plan (run_from plan s w) p
-run_push plan s [] p = refl
-run_push plan s (q ∷ w) p = run_push plan (step plan s q) w p
-
-pub legal_push : (plan : Plan) (s : State) (w : List ℕ) (p : ℕ) → IsInterleaving plan s w → is_enabled plan (run_from plan s w) p ≡ true → IsInterleaving plan s (w ++ p ∷ [])
-legal_push plan s [] p legal on = (on, tt)
-legal_push plan s (q ∷ w) p legal on = (legal.0, legal_push plan (step plan s q) w p legal.1 on)
-
-pub run_append : (plan : Plan) (s : State) (v w : List ℕ) → run_from plan s (v ++ w) ≡ run_from plan (run_from plan s v) w
-run_append plan s [] w = refl
-run_append plan s (p ∷ v) w = run_append plan (step plan s p) v w
-
 -- the course after one step of a process that is enabled
 pub course_step : (scripts : Scripts) (history : List ℕ) (ranks : List Rank) (p : ℕ) (new : Rank) → IsCourse scripts history ranks →
     is_enabled (plan_of scripts) (run (plan_of scripts) history) p ≡ true → IsRankOf (plan_of scripts) (step (plan_of scripts) (run (plan_of scripts) history) p) p new →
@@ -219,15 +202,11 @@ step_space plan s p old e told is =
     let space = told.space in
     omega (arith, within, space)
 
-pub length_push : (w : List ℕ) (p : ℕ) → length (w ++ p ∷ []) ≡ suc (length w)
-length_push [] p = refl
-length_push (q ∷ w) p = ap suc (length_push w p)
-
 -- and so has the history
 pub step_history : (plan : Plan) (w : List ℕ) (p : ℕ) → IsInterleaving plan start w → is_enabled plan (run plan w) p ≡ true → length w < event_total plan
 step_history plan w p legal on =
     let longer = runs_end plan (w ++ p ∷ []) (legal_push plan start w p legal on) in
-    let one = length_push w p in
+    let one = one_longer w p in
     omega (arith, longer, one)
 
 -- the plain run goes on with the lowest process that is enabled

@@ -4,6 +4,7 @@ use Rattle.std.specs.Prelude.{⊤}
 use Rattle.std.specs.List.{list_all}
 use Rattle.std.proofs.lemmas.Bool.{cases_Bool, cases_eq, true≢false, eqb-true, eq-eqb, ne_eqb, ltb-true, ltb-false, eqb-false, and_parts, cond_both}
 use Rattle.std.proofs.lemmas.List.Sums.{sum_by-cons, count_by-le-length}
+use Rattle.std.proofs.Math.Bool.{and-true, and-false}
 use Rattle.wire_runs.specs.Plan.{with_member, set_of}
 use Rattle.wire_runs.specs.Fences.{is_member}
 
@@ -127,14 +128,6 @@ all_fails test (x ∷ xs) p member f = elim (cases_Bool (x == p)) [
       ]
 ]
 
-and_true : (b : Bool) → b ≡ (b && true)
-and_true true = refl
-and_true false = refl
-
-and_false : (b : Bool) → false ≡ (b && false)
-and_false true = refl
-and_false false = refl
-
 -- a member is asked besides
 pub all_one_more : (f g : ℕ → Bool) (p : ℕ) (b : Bool) → ((m : ℕ) → (m ≡ p → ⊥) → f m ≡ g m) → f p ≡ true → g p ≡ b → (members : List ℕ) → is_member members p ≡ true →
     list_all g members ≡ (list_all f members && b)
@@ -143,8 +136,8 @@ all_one_more f g p true same before after members member =
       | inl here ↦ ap g here ∙ after ∙ sym (ap f here ∙ before)
       | inr other ↦ sym (same m other)
     ]) members
-    ∙ and_true (list_all f members)
-all_one_more f g p false same before after members member = all_fails g members p member after ∙ and_false (list_all f members)
+    ∙ sym (and-true (list_all f members))
+all_one_more f g p false same before after members member = all_fails g members p member after ∙ sym (and-false (list_all f members))
 
 -- a canonical set has each member once
 abbrev Above : ℕ → List ℕ → Type 0
@@ -190,3 +183,10 @@ rises_distinct (x ∷ xs) rises = (not_above x xs rises.0, rises_distinct xs ris
 
 pub canonical_distinct : (xs : List ℕ) → set_of xs ≡ xs → AreDistinct xs
 canonical_distinct xs same = subst AreDistinct same (rises_distinct (set_of xs) (set_rises xs))
+
+-- none of them is missing where all are there
+pub none_missing : (a b n : ℕ) → a + b ≡ n → (a == 0) ≡ (b == n)
+none_missing a b n sum = elim (cases_eq a 0) [
+  | inl none ↦ eq-eqb a 0 none ∙ sym (eq-eqb b n (omega (arith, sum, none)))
+  | inr some ↦ ne_eqb a 0 some ∙ sym (ne_eqb b n (λ e. omega (arith, sum, some, e)))
+]

@@ -1,15 +1,15 @@
 -- The events of calls: a process arrives at fences as often as it calls them.
-use Rattle.std.proofs.Common.{◌≡◌, ◌∙◌, ℕ, zero, suc, ◌+◌, ◌<◌, List, [], ◌∷◌, ◌++◌, map, take, drop, length, Bool, true, false, cond, ◌&&◌, ◌==◌, Option, Some, None, option_map, slice_get, refl}
+use Rattle.std.proofs.Common.{◌≡◌, ◌∙◌, ℕ, zero, suc, ◌+◌, ◌<◌, List, [], ◌∷◌, ◌++◌, map, take, drop, length, Bool, true, false, cond, ◌&&◌, ◌==◌, Option, Some, None, slice_get, refl}
 use Rattle.std.proofs.Common.{sym, ap, inl, inr, arith, add-one, length-append}
 use Rattle.std.specs.Prelude.{⊤}
 use Rattle.std.specs.Str.{bytes_eq}
 use Rattle.std.specs.Cmp.Lexicographic.{bytes_decides}
 use Rattle.std.proofs.lemmas.Bool.{cases_eq, cond_both, eq-eqb, ne_eqb, false_from_ne_true}
-use Rattle.std.proofs.lemmas.Option.{none-some, same_Some, slice_get-map, slice_get-get_or}
+use Rattle.std.proofs.lemmas.Option.{none-some, same_Some, slice_get-get_or}
 use Rattle.std.proofs.lemmas.List.{map-append}
 use Rattle.std.proofs.lemmas.List.Sums.{sum_by_push}
-use Rattle.wire_runs.specs.Plan.{Plan, Kind, Put, Commit, Arrive, Leave, Get, GetNow, Publish, Lookup, LookupWait, Unpublish, UnpublishAll, Fixed, CallPut, CallCommit, CallFence, CallGet}
-use Rattle.wire_runs.specs.Plan.{CallGetNow, CallPublish, CallLookup, CallLookupWait, CallUnpublish, CallUnpublishAll, CallFixed, set_of, kinds_of, process_kinds, kinds, kind_at, event_count}
+use Rattle.wire_runs.specs.Plan.{Kind, Put, Commit, Arrive, Leave, Get, GetNow, Publish, Lookup, LookupWait, Unpublish, UnpublishAll, Fixed, CallPut, CallCommit, CallFence, CallGet}
+use Rattle.wire_runs.specs.Plan.{CallGetNow, CallPublish, CallLookup, CallLookupWait, CallUnpublish, CallUnpublishAll, CallFixed, set_of, kinds_of, kind_at, event_count}
 use Rattle.wire_runs.specs.Plan as plan
 use Rattle.wire_runs.specs.Fences.{arrivals_with, arrivals, collects_with, collects}
 use Rattle.wire_types.specs.declared.Call.{Call}
@@ -17,31 +17,21 @@ use Rattle.wire_types.specs.declared.Call.TheVariants as call
 use Rattle.wire_types.specs.declared.Reply.{Reply}
 use Rattle.wire_types.specs.declared.Status.TheVariants.{BadParam}
 use Rattle.wire_types.specs.Replies.{bare}
+use Rattle.wire_runs.proofs.Lists.{take_get, slice_get-append_right}
 use Rattle.wire_content.specs.Said.{is_reserved}
-use Rattle.wire_content.specs.Scripts.{Process, Scripts, IsSound, calls_in, set_at, text_at}
-use Rattle.wire_content.specs.Planned.{reply_of_key, planned_call, planned_process, plan_of}
-use Rattle.wire_fence.specs.FenceTable.{is_over, fence_count, written_calls}
+use Rattle.wire_content.specs.Scripts.{Scripts, IsSound, set_at, text_at}
+use Rattle.wire_content.specs.Planned.{reply_of_key, planned_call, plan_of}
+use Rattle.wire_content.proofs.PlannedCalls.{events_are}
+use Rattle.wire_fence.specs.FenceTable.{is_over, fence_count, written_calls, FenceInfo, FenceTable, AreFencesOf, fence_at, fence_over}
 use Rattle.wire_fence.specs.Reading.{says_with, says_to}
 use Rattle.wire_fence.specs.Missing.{CallsAreArrivals}
 
 -- elements by their numbers
-pub take_get : {A : Type 0} (xs : List A) (n : ℕ) (x : A) → slice_get xs n ≡ Some x → take (suc n) xs ≡ take n xs ++ x ∷ []
-take_get [] n x h = absurd (none-some x h)
-take_get (y ∷ ys) zero x h = ap (λ z. z ∷ []) (same_Some y x h)
-take_get (y ∷ ys) (suc n) x h = ap (λ zs. y ∷ zs) (take_get ys n x h)
-
 pub take_past : {A : Type 0} (xs : List A) (n : ℕ) → slice_get xs n ≡ None → take (suc n) xs ≡ take n xs
 take_past [] zero h = refl
 take_past [] (suc n) h = refl
 take_past (y ∷ ys) zero h = absurd (none-some y (sym h))
 take_past {A = A} (y ∷ ys) (suc n) h = ap (λ (zs : List A). y ∷ zs) (take_past ys n h)
-
-slice_get-append_at : {A : Type 0} (xs ys : List A) (i : ℕ) → slice_get (xs ++ ys) (length xs + i) ≡ slice_get ys i
-slice_get-append_at [] ys i = ap (slice_get ys) (omega arith)
-slice_get-append_at (x ∷ xs) ys i = ap (slice_get (x ∷ (xs ++ ys))) (plus (length xs) i) ∙ slice_get-append_at xs ys i
-  where
-    plus : (a b : ℕ) → suc a + b ≡ suc (a + b)
-    plus a b = omega arith
 
 drop_get : {A : Type 0} (xs : List A) (n : ℕ) (x : A) → slice_get xs n ≡ Some x → xs ≡ take n xs ++ (x ∷ drop (suc n) xs)
 drop_get [] n x h = absurd (none-some x h)
@@ -89,15 +79,6 @@ plain_event (CallFixed reply) plain = record { event = Fixed reply; one = λ _. 
 unless_plain : (b : Bool) (reply : Reply) (k : plan.Call) → IsPlain k → IsPlain (cond b (CallFixed reply) k)
 unless_plain b reply k plain = cond_both b (CallFixed reply) k IsPlain (λ _. tt) (λ _. plain)
 
--- the events of a process
-pub events_are : (s : Scripts) (p : ℕ) → kinds (plan_of s) p ≡ kinds_of (map (planned_call s) (written_calls s p))
-unfolding kinds
-events_are s p = ap process_kinds (slice_get-map (planned_process s) s.processes p) ∙ go (slice_get s.processes p)
-  where
-    go : (o : Option Process) → process_kinds (option_map (planned_process s) o) ≡ kinds_of (map (planned_call s) (calls_in o))
-    go None = refl
-    go (Some process) = refl
-
 pub event_is : (s : Scripts) (p i : ℕ) → kind_at (plan_of s) p i ≡ slice_get (kinds_of (map (planned_call s) (written_calls s p))) i
 unfolding kind_at
 event_is s p i = ap (λ es. slice_get es i) (events_are s p)
@@ -126,7 +107,7 @@ event_of_call s p c i k is =
     ∙ ap (λ calls. slice_get (kinds_of (map (planned_call s) calls)) (events_to s p c + i)) (drop_get (written_calls s p) c k is)
     ∙ ap (λ calls. slice_get (kinds_of calls) (events_to s p c + i)) (map-append (planned_call s) front (k ∷ rest))
     ∙ ap (λ es. slice_get es (events_to s p c + i)) (events-append (map (planned_call s) front) (planned_call s k ∷ map (planned_call s) rest))
-    ∙ slice_get-append_at (kinds_of (map (planned_call s) front)) (kinds_of (planned_call s k ∷ map (planned_call s) rest)) i
+    ∙ slice_get-append_right (kinds_of (map (planned_call s) front)) (kinds_of (planned_call s k ∷ map (planned_call s) rest)) i
 
 -- sets of the scripts are the same where their numbers are
 pub set_there : (s : Scripts) (set : ℕ) → set < length s.sets → slice_get s.sets set ≡ Some (set_at s.sets set)
@@ -137,6 +118,16 @@ set_canonical s set sound low = sound.sets.canonical set (set_at s.sets set) (se
 
 pub same_set : (s : Scripts) (m n : ℕ) → IsSound s → m < length s.sets → n < length s.sets → set_at s.sets m ≡ set_at s.sets n → m ≡ n
 same_set s m n sound low_m low_n same = sound.sets.once m n (set_at s.sets n) (set_there s m low_m ∙ ap Some same) (set_there s n low_n)
+
+-- fences with the same members and the same number among theirs are one
+pub same_fence : (s : Scripts) (table : FenceTable) (m n : ℕ) (f g : FenceInfo) → AreFencesOf s table → fence_at table m ≡ Some f → fence_at table n ≡ Some g → f.members ≡ g.members → f.nth ≡ g.nth →
+    m ≡ n
+same_fence s table m n f g fences at_m at_n members nth =
+    let is_f = fences.each m f at_m in
+    let is_g = fences.each n g at_n in
+    let sets : f.set ≡ g.set = same_set s f.set g.set fences.sound is_f.of_set is_g.of_set (sym (ap (λ (x : FenceInfo). x.members) is_f.is) ∙ members ∙ ap (λ (x : FenceInfo). x.members) is_g.is) in
+    let same : f ≡ g = is_f.is ∙ ap (λ a. fence_over s a f.nth) sets ∙ ap (fence_over s g.set) nth ∙ sym is_g.is in
+    fences.once m n g (at_m ∙ ap Some same) at_n
 
 sets_compare : (s : Scripts) (m n : ℕ) → IsSound s → m < length s.sets → n < length s.sets → bytes_eq (set_of (set_at s.sets m)) (set_at s.sets n) ≡ (m == n)
 sets_compare s m n sound low_m low_n =

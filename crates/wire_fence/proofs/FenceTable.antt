@@ -1,8 +1,8 @@
 -- The table of fences, once all calls are read.
-use Rattle.std.proofs.Common.{◌≡◌, ◌∙◌, ℕ, zero, suc, ◌+◌, ◌<◌, List, [], ◌∷◌, map, take, length, Bool, true, cond, ◌==◌, nat_lt, nat_le, count_by, Option, Some, None, option_map, slice_get, get_or}
+use Rattle.std.proofs.Common.{◌≡◌, ◌∙◌, ℕ, zero, suc, ◌<◌, List, [], ◌∷◌, map, take, length, Bool, true, cond, ◌==◌, nat_lt, nat_le, count_by, Option, Some, None, option_map, slice_get, get_or}
 use Rattle.std.proofs.Common.{refl, sym, ap, subst, inl, inr, arith}
 use Rattle.std.specs.List.{list_all}
-use Rattle.std.proofs.lemmas.Bool.{cases_eq, cases_lt, eq-eqb, ne_eqb, lt-ltb, le-ltb, ltb-true, and_parts}
+use Rattle.std.proofs.lemmas.Bool.{cases_lt, lt-ltb, le-ltb, ltb-true, and_parts}
 use Rattle.std.proofs.lemmas.Option.{none-some, same_Some, slice_get-map, slice_get-get_or, slice_get_within, slice_get_past}
 use Rattle.std.proofs.lemmas.List.{get_or_past}
 use Rattle.wire_runs.specs.Plan.{event_count}
@@ -15,7 +15,7 @@ use Rattle.wire_fence.specs.declared.register.FenceDraft.{FenceDraft}
 use Rattle.wire_fence.specs.FenceTable.{FenceInfo, FenceTable, IsFenceOf, IsFence, AreFencesOf, is_reached, fence_at, fence_number, fence_over, fence_count, written_calls}
 use Rattle.wire_fence.specs.Reading.{says_to}
 use Rattle.wire_fence.specs.Register.{info_of, HasRow, read_count, read_to, IsRead, AreRead, IsNumber, AreAllNumbers}
-use Rattle.wire_fence.proofs.Counts.{all_same, all_by_count}
+use Rattle.wire_fence.proofs.Counts.{all_same, all_by_count, none_missing}
 use Rattle.wire_fence.proofs.Events.{all_arrivals, all_say}
 
 -- all calls
@@ -26,12 +26,6 @@ read_all : (s : Scripts) (m : ℕ) → read_to s (length s.processes) m ≡ all_
 read_all s m = elim (cases_lt m (length s.processes)) [
   | inl low ↦ ap (λ b. cond b (length (written_calls s m)) 0) (lt-ltb m (length s.processes) low)
   | inr past ↦ ap (λ b. cond b (length (written_calls s m)) 0) (le-ltb m (length s.processes) past) ∙ sym (ap (λ o. length (calls_in o)) (slice_get_past s.processes m past))
-]
-
-none_missing : (a b n : ℕ) → a + b ≡ n → (a == 0) ≡ (b == n)
-none_missing a b n sum = elim (cases_eq a 0) [
-  | inl none ↦ eq-eqb a 0 none ∙ sym (eq-eqb b n (omega (arith, sum, none)))
-  | inr some ↦ ne_eqb a 0 some ∙ sym (ne_eqb b n (λ e. omega (arith, sum, some, e)))
 ]
 
 -- a row tells of its fence

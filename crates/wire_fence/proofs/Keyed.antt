@@ -1,8 +1,8 @@
 -- The register finds a row by its set and its number.
-use Rattle.std.proofs.Common.{◌≡◌, ◌∙◌, ℕ, zero, suc, ◌+◌, List, [], ◌∷◌, ◌++◌, map, length, Bool, true, false, not, cond, ◌&&◌, ◌||◌, ◌==◌, Option, Some, None, option_map, slice_get, get_or, refl}
+use Rattle.std.proofs.Common.{◌≡◌, ◌∙◌, ℕ, zero, suc, ◌+◌, List, [], ◌∷◌, ◌++◌, map, length, Bool, true, false, not, cond, ◌&&◌, ◌==◌, Option, Some, None, option_map, slice_get, get_or, refl}
 use Rattle.std.proofs.Common.{sym, ap, inl, inr, arith}
 use Rattle.std.specs.List.{list_any, position_or_len}
-use Rattle.std.proofs.lemmas.Bool.{cases_Bool, true≢false, eqb-true, eq-eqb, and_parts}
+use Rattle.std.proofs.lemmas.Bool.{cases_Bool, true≢false, eqb-true, eq-eqb, and_parts, not-true, not-false, or_right}
 use Rattle.std.proofs.lemmas.Option.{none-some, same_Some, slice_get-map, slice_get_within, get_or_from_slice_get}
 use Rattle.std.proofs.lemmas.List.{map-set, set-get_or, length-map, get_or-map}
 use Rattle.std.proofs.Math.ListN.{set}
@@ -17,12 +17,8 @@ has_key [] m set_of_call nth has = absurd (none-some has.row has.there)
 has_key (x ∷ rows) zero set_of_call nth has =
     let same = same_Some x has.row has.there in
     rw (eq-eqb set_of_call x.set (sym has.of_set ∙ ap (λ (r : FenceDraft). r.set) (sym same)), eq-eqb nth x.nth (sym has.is_nth ∙ ap (λ (r : FenceDraft). r.nth) (sym same))) refl
-has_key (x ∷ rows) (suc m) set_of_call nth has = or_true (is_key set_of_call nth (key_of x)) (list_any (is_key set_of_call nth) (map key_of rows))
+has_key (x ∷ rows) (suc m) set_of_call nth has = or_right (is_key set_of_call nth (key_of x)) (list_any (is_key set_of_call nth) (map key_of rows))
     (has_key rows m set_of_call nth (record { row = has.row; there = has.there; of_set = has.of_set; is_nth = has.is_nth }))
-  where
-    or_true : (a b : Bool) → b ≡ true → (a || b) ≡ true
-    or_true true b t = refl
-    or_true false b t = t
 
 last_place : {A : Type 0} (test : A → Bool) (xs : List A) → list_any test xs ≡ false → position_or_len test xs ≡ length xs
 last_place test [] none = refl
@@ -34,20 +30,12 @@ last_place test (x ∷ xs) none = elim (cases_Bool (test x)) [
     one_more : (n : ℕ) → 1 + n ≡ suc n
     one_more n = omega arith
 
-not_new : (b : Bool) → true ≡ not b → b ≡ false
-not_new true e = absurd (true≢false e)
-not_new false e = refl
-
-not_old : (b : Bool) → false ≡ not b → b ≡ true
-not_old true e = refl
-not_old false e = absurd (true≢false (sym e))
-
 pub first_call : (rows new : List FenceDraft) (keys : List (ℕ × ℕ)) (set_of_call nth members number : ℕ) (collect is_new : Bool) (row : FenceDraft) → keys ≡ map key_of rows →
     is_new ≡ not (list_any (is_key set_of_call nth) keys) → is_new ≡ true → number ≡ position_or_len (is_key set_of_call nth) keys → new ≡ rows ++ row ∷ [] →
     row ≡ called collect (record { set = set_of_call; nth = nth; missing = members; collects = true }) → IsCalled rows set_of_call nth members collect number new
 first_call rows new keys set_of_call nth members number collect is_new row keyed added fresh index pushed is =
     let none : list_any (is_key set_of_call nth) (map key_of rows) ≡ false = ap (list_any (is_key set_of_call nth)) (sym keyed)
-    ∙ not_new (list_any (is_key set_of_call nth) keys) (sym fresh ∙ added) in
+    ∙ not-true (list_any (is_key set_of_call nth) keys) (sym added ∙ fresh) in
     First
     (index ∙ ap (position_or_len (is_key set_of_call nth)) keyed ∙ last_place (is_key set_of_call nth) (map key_of rows) none ∙ length-map rows key_of)
     (λ m has. true≢false (sym (has_key rows m set_of_call nth has) ∙ none))
@@ -64,7 +52,7 @@ finds : (rows : List FenceDraft) (new keys : List (ℕ × ℕ)) (set_of_call nth
     is_new ≡ false → new ≡ cond (list_any (is_key set_of_call nth) keys) keys (keys ++ (set_of_call, nth) ∷ []) → (k : ℕ × ℕ) × (slice_get new number ≡ Some k) × (is_key set_of_call nth k ≡ true) →
     Finds rows set_of_call nth number
 finds rows new keys set_of_call nth number is_new keyed added was_there after (k, there, is) =
-    let old : list_any (is_key set_of_call nth) keys ≡ true = not_old (list_any (is_key set_of_call nth) keys) (sym was_there ∙ added) in
+    let old : list_any (is_key set_of_call nth) keys ≡ true = not-false (list_any (is_key set_of_call nth) keys) (sym added ∙ was_there) in
     let same : new ≡ map key_of rows = after ∙ ap (λ b. cond b keys (keys ++ (set_of_call, nth) ∷ [])) old ∙ keyed in
     go (slice_get rows number) refl (sym (slice_get-map key_of rows number) ∙ ap (λ xs. slice_get xs number) (sym same) ∙ there)
   where
@@ -95,7 +83,7 @@ pub keyed_again : (rows : List FenceDraft) (new keys : List (ℕ × ℕ)) (set_o
 keyed_again rows new keys set_of_call nth number collect is_new row after keyed added was_there keys_after stored read is =
     let found = finds rows new keys set_of_call nth number is_new keyed added was_there keys_after stored in
     let within = slice_get_within rows number found.row found.there in
-    let old : list_any (is_key set_of_call nth) keys ≡ true = not_old (list_any (is_key set_of_call nth) keys) (sym was_there ∙ added) in
+    let old : list_any (is_key set_of_call nth) keys ≡ true = not-false (list_any (is_key set_of_call nth) keys) (sym added ∙ was_there) in
     keys_after
     ∙ ap (λ b. cond b keys (keys ++ (set_of_call, nth) ∷ [])) old
     ∙ keyed

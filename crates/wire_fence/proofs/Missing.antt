@@ -2,25 +2,19 @@
 use Rattle.std.proofs.Common.{◌≡◌, ◌∙◌, ℕ, suc, ◌+◌, ◌-◌, ◌<◌, List, map, length, Bool, false, cond, ◌==◌, nat_le, Option, Some, option_map, refl, sym, ap, subst, inl, inr, arith}
 use Rattle.std.specs.Str.{bytes_eq}
 use Rattle.std.specs.Cmp.Lexicographic.{bytes_decides}
-use Rattle.std.proofs.lemmas.Bool.{cases_Bool, cases_eq, cases_lt, eq-eqb, ne_eqb, le-leb, lt-leb}
+use Rattle.std.proofs.lemmas.Bool.{cases_Bool, cases_eq, cases_lt, le-leb, lt-leb}
 use Rattle.std.proofs.lemmas.Option.{same_Some, slice_get_within, slice_get-map, get_or_from_slice_get}
 use Rattle.std.proofs.lemmas.List.{length-map, length-set, get_or-set_same, get_or-set_other}
 use Rattle.wire_runs.specs.Plan.{Kind, Arrive, kind_at, update}
 use Rattle.wire_runs.specs.Fences.{arrivals_with, arrivals, is_complete}
+use Rattle.wire_runs.proofs.Basics.{update_same, update_other}
 use Rattle.wire_content.specs.Scripts.{Scripts, IsSound, set_at}
 use Rattle.wire_content.specs.Planned.{plan_of}
-use Rattle.wire_fence.specs.FenceTable.{FenceInfo, FenceTable, IsFence, AreFencesOf, fence_at, fence_over}
+use Rattle.wire_fence.specs.FenceTable.{FenceInfo, FenceTable, IsFence, AreFencesOf, fence_at}
 use Rattle.wire_fence.specs.Arrivals.{arrived, missing_at, one_arrived, TellsMissing, IsArriving}
 use Rattle.wire_fence.specs.Missing.{OtherEventsKeep, ArrivalCounts, SomebodyIsMissing, ArrivingIsMissing}
-use Rattle.wire_fence.proofs.Counts.{AreDistinct, count_same, count_none, count_short, count_one_more, all_by_count, canonical_distinct}
-use Rattle.wire_fence.proofs.Events.{set_canonical, same_set}
-
--- one event more of p
-pub cut_here : (cut : ℕ → ℕ) (p v : ℕ) → update cut p v p ≡ v
-cut_here cut p v = ap (λ b. cond b v (cut p)) (eq-eqb p p refl)
-
-pub cut_other : (cut : ℕ → ℕ) (p v m : ℕ) → (m ≡ p → ⊥) → update cut p v m ≡ cut m
-cut_other cut p v m other = ap (λ b. cond b v (cut m)) (ne_eqb m p other)
+use Rattle.wire_fence.proofs.Counts.{AreDistinct, count_same, count_none, count_short, count_one_more, all_by_count, canonical_distinct, none_missing}
+use Rattle.wire_fence.proofs.Events.{set_canonical, same_fence}
 
 -- where p's event changes nothing at a fence
 arrived_same : (s : Scripts) (cut : ℕ → ℕ) (p : ℕ) (fence : FenceInfo) →
@@ -31,10 +25,10 @@ arrived_same s cut p fence same =
     (λ m. elim (cases_eq m p) [
       | inl here ↦
           ap (λ n. nat_le fence.nth (arrivals (plan_of s) n fence.members (update cut p (suc (cut p)) n))) here
-          ∙ ap (λ v. nat_le fence.nth (arrivals (plan_of s) p fence.members v)) (cut_here cut p (suc (cut p)))
+          ∙ ap (λ v. nat_le fence.nth (arrivals (plan_of s) p fence.members v)) (update_same cut p (suc (cut p)))
           ∙ same
           ∙ ap (λ n. nat_le fence.nth (arrivals (plan_of s) n fence.members (cut n))) (sym here)
-      | inr other ↦ ap (λ v. nat_le fence.nth (arrivals (plan_of s) m fence.members v)) (cut_other cut p (suc (cut p)) m other)
+      | inr other ↦ ap (λ v. nat_le fence.nth (arrivals (plan_of s) m fence.members v)) (update_other cut p (suc (cut p)) m other)
     ])
     fence.members
 
@@ -94,9 +88,9 @@ arrived_more s cut table number p fences arriving =
     (λ m. nat_le fence.nth (arrivals (plan_of s) m fence.members (cut m)))
     (λ m. nat_le fence.nth (arrivals (plan_of s) m fence.members (update cut p (suc (cut p)) m)))
     p
-    (λ m other. ap (λ v. nat_le fence.nth (arrivals (plan_of s) m fence.members v)) (sym (cut_other cut p (suc (cut p)) m other)))
+    (λ m other. ap (λ v. nat_le fence.nth (arrivals (plan_of s) m fence.members v)) (sym (update_other cut p (suc (cut p)) m other)))
     (not_yet s cut table number p arriving)
-    (ap (λ v. nat_le fence.nth (arrivals (plan_of s) p fence.members v)) (cut_here cut p (suc (cut p))) ∙ ap (nat_le fence.nth) arriving.nth ∙ le-leb fence.nth fence.nth (omega arith))
+    (ap (λ v. nat_le fence.nth (arrivals (plan_of s) p fence.members v)) (update_same cut p (suc (cut p))) ∙ ap (nat_le fence.nth) arriving.nth ∙ le-leb fence.nth fence.nth (omega arith))
     fence.members
     (members_distinct s fence fences.sound (fences.each number fence arriving.there))
     arriving.member
@@ -107,15 +101,6 @@ le_same j n other = elim (cases_lt n j) [
   | inl low ↦ lt-leb j (suc n) (omega (arith, low, other)) ∙ sym (lt-leb j n low)
   | inr le ↦ le-leb j (suc n) (omega (arith, le)) ∙ sym (le-leb j n le)
 ]
-
-same_fence : (s : Scripts) (table : FenceTable) (m n : ℕ) (f g : FenceInfo) → AreFencesOf s table → fence_at table m ≡ Some f → fence_at table n ≡ Some g → f.members ≡ g.members → f.nth ≡ g.nth →
-    m ≡ n
-same_fence s table m n f g fences at_m at_n members nth =
-    let is_f = fences.each m f at_m in
-    let is_g = fences.each n g at_n in
-    let sets : f.set ≡ g.set = same_set s f.set g.set fences.sound is_f.of_set is_g.of_set (sym (ap (λ (x : FenceInfo). x.members) is_f.is) ∙ members ∙ ap (λ (x : FenceInfo). x.members) is_g.is) in
-    let same : f ≡ g = is_f.is ∙ ap (λ a. fence_over s a f.nth) sets ∙ ap (fence_over s g.set) nth ∙ sym is_g.is in
-    fences.once m n g (at_m ∙ ap Some same) at_n
 
 arrived_elsewhere : (s : Scripts) (cut : ℕ → ℕ) (table : FenceTable) (number other p : ℕ) (fence : FenceInfo) → AreFencesOf s table → IsArriving s cut table number p →
     fence_at table other ≡ Some fence → (other ≡ number → ⊥) → arrived s (update cut p (suc (cut p))) fence ≡ arrived s cut fence
@@ -168,12 +153,6 @@ pub complete_is : (s : Scripts) (cut : ℕ → ℕ) (table : FenceTable) (missin
 complete_is s cut table missing number fence tells there =
     none_missing (missing_at missing number) (arrived s cut fence) (length fence.members) (tells.each number fence there)
     ∙ all_by_count (λ m. nat_le fence.nth (arrivals (plan_of s) m fence.members (cut m))) fence.members
-  where
-    none_missing : (a b n : ℕ) → a + b ≡ n → (a == 0) ≡ (b == n)
-    none_missing a b n sum = elim (cases_eq a 0) [
-      | inl none ↦ eq-eqb a 0 none ∙ sym (eq-eqb b n (omega (arith, sum, none)))
-      | inr some ↦ ne_eqb a 0 some ∙ sym (ne_eqb b n (λ e. omega (arith, sum, some, e)))
-    ]
 
 pub tells_first : (s : Scripts) (table : FenceTable) (missing : List ℕ) → AreFencesOf s table → missing ≡ map (λ (f : FenceInfo). length f.members) table.fences → TellsMissing s (λ p. 0) table missing
 tells_first s table missing fences is = record {

@@ -6,6 +6,7 @@ use Rattle.std.proofs.lemmas.Bool.{cases_eq, cases_lt, eq-eqb, eqb-true, ne_eqb,
 use Rattle.std.proofs.lemmas.Option.{slice_get-map}
 use Rattle.std.proofs.lemmas.List.{get_or_past}
 use Rattle.std.proofs.lemmas.List.Folds.{list_any_more, list_any-append}
+use Rattle.std.proofs.Math.Bool.{or-false}
 use Rattle.wire_runs.specs.Plan.{node_of, process_node}
 use Rattle.wire_runs.specs.Fences.{has_node}
 use Rattle.wire_content.specs.Scripts.{Process, Scripts, set_at}
@@ -31,16 +32,12 @@ same_either_way a b = elim (cases_eq a b) [
 abbrev pub is_pair : ℕ → ℕ → ℕ × ℕ → Bool
 is_pair set node r = (set == r.0) && (node == r.1)
 
-or_false : (b : Bool) → (b || false) ≡ b
-or_false true = refl
-or_false false = refl
-
 -- what is among the pairs isn't new
 not_new : (kept : List (ℕ × ℕ)) (set found other node : ℕ) → is_noted kept set found ≡ true → is_noted kept other node ≡ (is_noted kept other node || is_pair other node (set, found))
 not_new kept set found other node there = go (is_pair other node (set, found)) refl
   where
     go : (b : Bool) → is_pair other node (set, found) ≡ b → is_noted kept other node ≡ (is_noted kept other node || b)
-    go false f = sym (or_false (is_noted kept other node))
+    go false f = sym (or-false (is_noted kept other node))
     go true t =
         let parts = and_parts (other == set) (node == found) t in
         let its_set = eqb-true other set parts.0 in
@@ -57,7 +54,7 @@ noted_one kept new set found other node is =
     ∙ elim (list_any (is_pair set found) kept) as (λ b. list_any (is_pair set found) kept ≡ b →
     is_noted (if b then kept else kept ++ (set, found) ∷ []) other node ≡ (is_noted kept other node || is_pair other node (set, found))) [
       | true ↦ λ e. not_new kept set found other node e
-      | false ↦ λ e. list_any-append (is_pair other node) kept ((set, found) ∷ []) ∙ ap (λ b. is_noted kept other node || b) (or_false (is_pair other node (set, found)))
+      | false ↦ λ e. list_any-append (is_pair other node) kept ((set, found) ∷ []) ∙ ap (λ b. is_noted kept other node || b) (or-false (is_pair other node (set, found)))
     ] refl
 
 among : (a s m f : Bool) → ((a || (s && m)) || (s && f)) ≡ (a || (s && (m || f)))
@@ -105,7 +102,7 @@ set_noted s sets n k node kept new was now = elim (cases_eq k n) [
       ] in
       now
       ∙ ap (λ b. is_noted kept k node || (b && has_node (plan_of s) (set_at sets n) node)) (ne_eqb k n ne)
-      ∙ or_false (is_noted kept k node)
+      ∙ or-false (is_noted kept k node)
       ∙ was
       ∙ ap (λ b. b && has_node (plan_of s) (set_at sets k) node) same)
 ]

@@ -10,14 +10,16 @@ use Rattle.wire_runs.specs.Plan.{update}
 use Rattle.wire_runs.specs.Fences.{is_member}
 use Rattle.wire_types.specs.declared.Call.{Call}
 use Rattle.wire_types.specs.declared.Call.TheVariants.{Fence}
+use Rattle.wire_runs.proofs.Lists.{take_get, slice_get_push_kept, slice_get_push_last}
+use Rattle.wire_runs.proofs.Basics.{update_same, update_other}
 use Rattle.wire_content.specs.Scripts.{Scripts, IsSound, set_at}
 use Rattle.wire_fence.specs.declared.register.FenceDraft.{FenceDraft}
 use Rattle.wire_fence.specs.FenceTable.{is_over, fence_count, written_calls}
 use Rattle.wire_fence.specs.Reading.{says_with, says_to}
 use Rattle.wire_fence.specs.Register.{called, HasRow, IsCalled, Again, First, read_count, IsRead, AreRead}
 use Rattle.wire_fence.proofs.Counts.{count_same, all_same, count_none, all_pass, count_one_more, all_one_more, canonical_distinct}
-use Rattle.wire_fence.proofs.Events.{take_get, set_canonical}
-use Rattle.wire_fence.proofs.Missing.{cut_here, cut_other, le_same}
+use Rattle.wire_fence.proofs.Events.{set_canonical}
+use Rattle.wire_fence.proofs.Missing.{le_same}
 
 -- one more call of a list
 pub count_call : (calls : List Call) (n set_of_row : ℕ) (call : Call) → slice_get calls n ≡ Some call →
@@ -87,16 +89,16 @@ module _ (s : Scripts) (sound : IsSound s) (read : ℕ → ℕ) (p n set_of_call
   count = fence_count set_of_call (take n (written_calls s p))
 
   elsewhere : (m : ℕ) → (m ≡ p → ⊥) → before m ≡ after m
-  elsewhere m other = cut_other read p n m other ∙ sym (cut_other read p (suc n) m other)
+  elsewhere m other = update_other read p n m other ∙ sym (update_other read p (suc n) m other)
 
   count_elsewhere : (m set_of_row : ℕ) → (m ≡ p → ⊥) → read_count s before m set_of_row ≡ read_count s after m set_of_row
   count_elsewhere m set_of_row other = ap (λ k. fence_count set_of_row (take k (written_calls s m))) (elsewhere m other)
 
   count_before : (set_of_row : ℕ) → read_count s before p set_of_row ≡ fence_count set_of_row (take n (written_calls s p))
-  count_before set_of_row = ap (λ k. fence_count set_of_row (take k (written_calls s p))) (cut_here read p n)
+  count_before set_of_row = ap (λ k. fence_count set_of_row (take k (written_calls s p))) (update_same read p n)
 
   count_after : (set_of_row : ℕ) → read_count s after p set_of_row ≡ fence_count set_of_row (take n (written_calls s p)) + cond (set_of_call == set_of_row) 1 0
-  count_after set_of_row = ap (λ k. fence_count set_of_row (take k (written_calls s p))) (cut_here read p (suc n)) ∙ count_call (written_calls s p) n set_of_row (Fence set_of_call collect) is
+  count_after set_of_row = ap (λ k. fence_count set_of_row (take k (written_calls s p))) (update_same read p (suc n)) ∙ count_call (written_calls s p) n set_of_row (Fence set_of_call collect) is
 
   count_here : read_count s after p set_of_call ≡ suc count
   count_here = count_after set_of_call ∙ ap (λ b. count + cond b 1 0) (eq-eqb set_of_call set_of_call refl) ∙ add-one count
@@ -123,11 +125,11 @@ module _ (s : Scripts) (sound : IsSound s) (read : ℕ → ℕ) (p n set_of_call
   says_after : (set_of_row nth : ℕ) → says_to set_of_row nth (written_calls s p) (after p) ≡ cond ((set_of_call == set_of_row) && (suc (fence_count set_of_row (take n (written_calls s p))) == nth))
       collect (says_to set_of_row nth (written_calls s p) n)
   says_after set_of_row nth =
-      ap (says_to set_of_row nth (written_calls s p)) (cut_here read p (suc n))
+      ap (says_to set_of_row nth (written_calls s p)) (update_same read p (suc n))
       ∙ ap (says_with set_of_row nth (fence_count set_of_row (take n (written_calls s p))) (says_to set_of_row nth (written_calls s p) n)) is
 
   says_before : (set_of_row nth : ℕ) → says_to set_of_row nth (written_calls s p) (before p) ≡ says_to set_of_row nth (written_calls s p) n
-  says_before set_of_row nth = ap (says_to set_of_row nth (written_calls s p)) (cut_here read p n)
+  says_before set_of_row nth = ap (says_to set_of_row nth (written_calls s p)) (update_same read p n)
 
   others_say : (set_of_row nth : ℕ) → ((set_of_row ≡ set_of_call) × (nth ≡ suc count) → ⊥) →
       says_to set_of_row nth (written_calls s p) (before p) ≡ says_to set_of_row nth (written_calls s p) (after p)
@@ -277,15 +279,6 @@ push_at (y ∷ rows) row (suc m) x h = elim (push_at rows row m x h) [
   | inr old ↦ inr old
 ]
 
-push_old : (rows : List FenceDraft) (row : FenceDraft) (m : ℕ) (x : FenceDraft) → slice_get rows m ≡ Some x → slice_get (rows ++ row ∷ []) m ≡ Some x
-push_old [] row m x h = absurd (none-some x h)
-push_old (y ∷ rows) row zero x h = h
-push_old (y ∷ rows) row (suc m) x h = push_old rows row m x h
-
-push_new : (rows : List FenceDraft) (row : FenceDraft) → slice_get (rows ++ row ∷ []) (length rows) ≡ Some row
-push_new [] row = refl
-push_new (y ∷ rows) row = push_new rows row
-
 -- each row keeps its place
 pub kept_row : (rows new : List FenceDraft) (set_of_call nth members number : ℕ) (collect : Bool) → IsCalled rows set_of_call nth members collect number new → (m k j : ℕ) → HasRow rows m k j →
     HasRow new m k j
@@ -310,7 +303,7 @@ kept_row rows new set_of_call nth members number collect (First last none made) 
     let row = called collect (record { set = set_of_call; nth = nth; missing = members; collects = true }) in
     record {
       row = has.row;
-      there = ap (λ xs. slice_get xs m) made ∙ push_old rows row m has.row has.there;
+      there = ap (λ xs. slice_get xs m) made ∙ slice_get_push_kept rows row m has.row has.there;
       of_set = has.of_set;
       is_nth = has.is_nth;
     }
@@ -326,7 +319,7 @@ row_of_call rows new set_of_call nth members number collect (Again row there of_
 row_of_call rows new set_of_call nth members number collect (First last none made) = record {
   row = called collect (record { set = set_of_call; nth = nth; missing = members; collects = true });
   there = ap (λ xs. slice_get xs number) made ∙ ap (slice_get (rows ++ called collect (record { set = set_of_call; nth = nth; missing = members; collects = true }) ∷ [])) last
-      ∙ push_new rows (called collect (record { set = set_of_call; nth = nth; missing = members; collects = true }));
+      ∙ slice_get_push_last rows (called collect (record { set = set_of_call; nth = nth; missing = members; collects = true }));
   of_set = refl;
   is_nth = refl;
 }
@@ -431,23 +424,23 @@ read_other s read p n call rows is over silent are =
     (λ m k. elim (cases_eq m p) [
       | inl here ↦
           ap (λ q. read_count s (update read p (suc n)) q k) here
-          ∙ ap (λ v. fence_count k (take v (written_calls s p))) (cut_here read p (suc n))
+          ∙ ap (λ v. fence_count k (take v (written_calls s p))) (update_same read p (suc n))
           ∙ count_call (written_calls s p) n k call is
           ∙ ap (λ b. fence_count k (take n (written_calls s p)) + cond b 1 0) (over k)
           ∙ plus_none (fence_count k (take n (written_calls s p)))
-          ∙ ap (λ v. fence_count k (take v (written_calls s p))) (sym (cut_here read p n))
+          ∙ ap (λ v. fence_count k (take v (written_calls s p))) (sym (update_same read p n))
           ∙ ap (λ q. read_count s (update read p n) q k) (sym here)
-      | inr ne ↦ ap (λ v. fence_count k (take v (written_calls s m))) (cut_other read p (suc n) m ne ∙ sym (cut_other read p n m ne))
+      | inr ne ↦ ap (λ v. fence_count k (take v (written_calls s m))) (update_other read p (suc n) m ne ∙ sym (update_other read p n m ne))
     ])
     (λ m k j. elim (cases_eq m p) [
       | inl here ↦
           ap (λ q. says_to k j (written_calls s q) (update read p (suc n) q)) here
-          ∙ ap (says_to k j (written_calls s p)) (cut_here read p (suc n))
+          ∙ ap (says_to k j (written_calls s p)) (update_same read p (suc n))
           ∙ ap (says_with k j (fence_count k (take n (written_calls s p))) (says_to k j (written_calls s p) n)) is
           ∙ silent k j (fence_count k (take n (written_calls s p))) (says_to k j (written_calls s p) n)
-          ∙ ap (says_to k j (written_calls s p)) (sym (cut_here read p n))
+          ∙ ap (says_to k j (written_calls s p)) (sym (update_same read p n))
           ∙ ap (λ q. says_to k j (written_calls s q) (update read p n q)) (sym here)
-      | inr ne ↦ ap (says_to k j (written_calls s m)) (cut_other read p (suc n) m ne ∙ sym (cut_other read p n m ne))
+      | inr ne ↦ ap (says_to k j (written_calls s m)) (update_other read p (suc n) m ne ∙ sym (update_other read p n m ne))
     ])
     are
   where

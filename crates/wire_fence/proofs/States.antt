@@ -9,13 +9,13 @@ use Rattle.std.proofs.Math.ListN.{set}
 use Rattle.wire_runs.specs.Plan.{update}
 use Rattle.wire_types.specs.declared.Call.{Call}
 use Rattle.wire_types.specs.declared.Call.TheVariants.{Fence}
+use Rattle.wire_runs.proofs.Lists.{take_get}
+use Rattle.wire_runs.proofs.Basics.{update_same, update_other}
 use Rattle.wire_content.specs.Scripts.{Process, Scripts, IsSound, set_at, calls_in, call_count}
 use Rattle.wire_fence.specs.declared.register.FenceDraft.{FenceDraft}
 use Rattle.wire_fence.specs.FenceTable.{is_over, fence_count, written_calls}
 use Rattle.wire_fence.specs.Reading.{says_with}
 use Rattle.wire_fence.specs.Register.{HasRow, IsCalled, IsAfter, AreRead, IsNumber, AreNumbers, AreAllNumbers, read_to}
-use Rattle.wire_fence.proofs.Events.{take_get}
-use Rattle.wire_fence.proofs.Missing.{cut_here, cut_other}
 use Rattle.wire_fence.proofs.ReadRows.{count_call, read_fence, read_other, kept_row, row_of_call, few_rows}
 
 -- after the first n calls of a process
@@ -37,8 +37,8 @@ state_first rows sets calls counts numbers size size_is zeros none = record {
   kept = λ m k j has. has;
   read = λ s p read sound same_sets same_calls nothing are.
       let same : (m : ℕ) → read m ≡ update read p 0 m = λ m. elim (cases_eq m p) [
-        | inl here ↦ ap read here ∙ nothing ∙ sym (ap (update read p 0) here ∙ cut_here read p 0)
-        | inr ne ↦ sym (cut_other read p 0 m ne)
+        | inl here ↦ ap read here ∙ nothing ∙ sym (ap (update read p 0) here ∙ update_same read p 0)
+        | inr ne ↦ sym (update_other read p 0 m ne)
       ] in
       let path : read ≡ update read p 0 = λ i m. same m i in
       subst (λ (r : ℕ → ℕ). AreRead s r rows) path are;
@@ -251,11 +251,11 @@ all_more rows new sets processes numbers more n process all is few are kept read
           let same : (m : ℕ) → update (read_to s n) n (length process.calls) m ≡ read_to s (suc n) m = λ m. elim (cases_eq m n) [
             | inl here ↦
                 ap (update (read_to s n) n (length process.calls)) here
-                ∙ cut_here (read_to s n) n (length process.calls)
+                ∙ update_same (read_to s n) n (length process.calls)
                 ∙ ap length calls
                 ∙ ap (λ b. cond b (length (written_calls s n)) 0) (sym (lt-ltb n (suc n) (omega arith)))
                 ∙ ap (read_to s (suc n)) (sym here)
-            | inr ne ↦ cut_other (read_to s n) n (length process.calls) m ne ∙ ap (λ b. cond b (length (written_calls s m)) 0) (below_same m n ne)
+            | inr ne ↦ update_other (read_to s n) n (length process.calls) m ne ∙ ap (λ b. cond b (length (written_calls s m)) 0) (below_same m n ne)
           ] in
           let path : update (read_to s n) n (length process.calls) ≡ read_to s (suc n) = λ i m. same m i in
           subst (λ (r : ℕ → ℕ). AreRead s r new) path (read s n (read_to s n) sound same_sets calls nothing (all.read s sound same_sets same_processes));

@@ -1,8 +1,8 @@
 -- The distinct labels have each label, each once.
-use Rattle.std.proofs.Common.{◌≡◌, ◌∙◌, Bool, true, false, cond, ◌||◌, List, [], ◌∷◌, ◌++◌, fold, inl, inr, refl, sym, ap, true≢false}
+use Rattle.std.proofs.Common.{◌≡◌, ◌∙◌, Bool, true, false, cond, ◌||◌, List, [], ◌∷◌, ◌++◌, fold, inl, inr, refl, sym, ap}
 use Rattle.std.specs.Cmp.{IsEquivalence}
 use Rattle.std.specs.List.{list_any}
-use Rattle.std.proofs.lemmas.Bool.{cases_Bool}
+use Rattle.std.proofs.lemmas.Bool.{cases_Bool, or_parts}
 use Rattle.std.proofs.lemmas.List.Sums.{fold-append}
 use Rattle.indexmap.specs.IndexSet.{insert_key}
 use Rattle.wire_groups.specs.Tally.{distinct}
@@ -76,12 +76,8 @@ module _ {K : Type 0} (same : K → K → Bool) where
     apart_push : (ks : List K) (k : K) → AreApart ks → list_any (same k) ks ≡ false → AreApart (ks ++ k ∷ [])
     apart_push [] k apart none = (refl, tt)
     apart_push (x ∷ ks) k (first, rest) none =
-        let parts = none_of (same k x) (list_any (same k) ks) none in
+        let parts = or_parts (same k x) (list_any (same k) ks) none in
         (any_push (same x) ks k ∙ ap (λ b. b || same x k) first ∙ laws.symm x k ∙ parts.0, apart_push ks k rest parts.1)
-      where
-        none_of : (a b : Bool) → (a || b) ≡ false → (a ≡ false) × (b ≡ false)
-        none_of true b e = absurd (true≢false e)
-        none_of false b e = (refl, e)
 
     apart_insert : (ks : List K) (k : K) → AreApart ks → AreApart (insert_key same ks k)
     apart_insert ks k apart = elim (cases_Bool (list_any (same k) ks)) [

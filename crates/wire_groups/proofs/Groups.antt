@@ -5,7 +5,7 @@ use Rattle.std.specs.Prelude.{count_by}
 use Rattle.std.specs.Cmp.{IsEquivalence}
 use Rattle.std.specs.List.{list_any, position_or_len}
 use Rattle.std.proofs.Math.ListN.{set}
-use Rattle.std.proofs.lemmas.Bool.{cases_Bool}
+use Rattle.std.proofs.lemmas.Bool.{cases_Bool, or_parts}
 use Rattle.std.proofs.lemmas.List.{map-append}
 use Rattle.std.proofs.lemmas.List.Sums.{sum_by-append, sum_by-cons}
 use Rattle.wire_groups.specs.declared.Group.{Group}
@@ -84,12 +84,8 @@ module _ {K : Type 0} (same : K → K → Bool) (laws : IsEquivalence same) (lab
   other_groups : (ks : List K) → list_any (same x) ks ≡ false → AreAmong same labels ks → map (group_of same labels) ks ≡ map (group_of same after) ks
   other_groups [] none among = refl
   other_groups (k ∷ ks) none (first, rest) =
-      let parts = none_of (same x k) (list_any (same x) ks) none in
+      let parts = or_parts (same x k) (list_any (same x) ks) none in
       λ i. group_of_other k (laws.symm k x ∙ parts.0) first i ∷ other_groups ks parts.1 rest i
-    where
-      none_of : (a b : Bool) → (a || b) ≡ false → (a ≡ false) × (b ≡ false)
-      none_of true b e = absurd (true≢false e)
-      none_of false b e = (refl, e)
 
   pub groups_new : (ks : List K) → list_any (same x) ks ≡ false → AreAmong same labels ks → list_any (same x) labels ≡ false →
       map (group_of same labels) ks ++ record { first = length labels; count = 1 } ∷ [] ≡ map (group_of same after) (ks ++ x ∷ [])

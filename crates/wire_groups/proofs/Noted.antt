@@ -8,6 +8,7 @@ use Rattle.std.proofs.Math.Seq.{take-suc}
 use Rattle.std.proofs.lemmas.List.{length-map}
 use Rattle.std.proofs.lemmas.List.Sums.{sum_by-append, sum_by-set}
 use Rattle.indexmap.specs.IndexSet.{insert_key}
+use Rattle.std.proofs.lemmas.Bool.{not-true, not-false}
 use Rattle.wire_groups.specs.declared.Group.{Group}
 use Rattle.wire_groups.specs.declared.Tally.{Tally}
 use Rattle.wire_groups.specs.Groups.{group_of}
@@ -17,14 +18,6 @@ use Rattle.wire_groups.proofs.Groups.{more, groups_new, groups_again}
 
 abbrev count_in : List Group → ℕ
 count_in groups = sum_by (λ (g : Group). g.count) groups
-
-not_new : (b : Bool) → true ≡ not b → b ≡ false
-not_new true e = absurd (true≢false e)
-not_new false e = refl
-
-not_old : (b : Bool) → false ≡ not b → b ≡ true
-not_old true e = refl
-not_old false e = absurd (true≢false (sym e))
 
 module _ {K : Type 0} (same : K → K → Bool) (laws : IsEquivalence same) (x : K) where
   pub within : (ks : List K) → list_any (same x) ks ≡ true → position_or_len (same x) ks < length ks
@@ -96,7 +89,7 @@ module _ {K : Type 0} (same : K → K → Bool) (laws : IsEquivalence same) (x :
       new.groups.items ≡ old.groups.items ++ record { first = place; count = 1 } ∷ [] → IsTally same (take (suc place) labels) new
   noted_new labels place is_new old new below is was keys added fresh groups =
       subst (λ ls. IsTally same ls new) (sym (one_more_taken labels place below is))
-      (tally_new (take place labels) old new was keys (not_new (list_any (same x) old.labels.keys) (sym fresh ∙ added))
+      (tally_new (take place labels) old new was keys (not-true (list_any (same x) old.labels.keys) (sym added ∙ fresh))
       (groups ∙ ap (λ n. old.groups.items ++ record { first = n; count = 1 } ∷ []) (sym (length_taken labels place below))))
     where
       length_taken : (ls : List K) (n : ℕ) → n < length ls → length (take n ls) ≡ n
@@ -116,4 +109,4 @@ module _ {K : Type 0} (same : K → K → Bool) (laws : IsEquivalence same) (x :
       IsTally same (take (suc place) labels) new
   noted_again labels place number g is_new old new below is was keys added was_there at read groups =
       subst (λ ls. IsTally same ls new) (sym (one_more_taken labels place below is))
-      (tally_again (take place labels) old new number g was keys (not_old (list_any (same x) old.labels.keys) (sym was_there ∙ added)) at read groups)
+      (tally_again (take place labels) old new number g was keys (not-false (list_any (same x) old.labels.keys) (sym added ∙ was_there)) at read groups)

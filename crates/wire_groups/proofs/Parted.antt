@@ -7,7 +7,7 @@ use Rattle.std.specs.List.Sorted.{IsStrictlySortedBy}
 use Rattle.std.specs.declared.cmp.Ordering.{Ordering}
 use Rattle.std.specs.declared.cmp.Ordering.TheVariants.{Less, Equal, Greater}
 use Rattle.std.specs.Ordering.{is_lt, nat_cmp, ordering_then, ordering_reverse}
-use Rattle.std.proofs.lemmas.Bool.{cases_Bool, cases_eq, eqb-true, eq-eqb}
+use Rattle.std.proofs.lemmas.Bool.{cases_Bool, cases_eq, eqb-true, eq-eqb, or_parts}
 use Rattle.std.proofs.lemmas.Cmp.{ranked}
 use Rattle.std.proofs.lemmas.List.Elements.{All-tail, All-head, All-nil, All-map, All-contains_itself, All-weaker, All-push}
 use Rattle.std.proofs.lemmas.List.Sorted.{All-permutation, Contains-permutation}
@@ -77,12 +77,8 @@ module _ {K : Type 0} (same : K → K → Bool) (laws : IsEquivalence same) (lab
       AllByRecursion (λ h. begin_alike (group_of same labels k) h ≡ false) (map (group_of same labels) ks)
   apart_from k there [] none all = tt
   apart_from k there (x ∷ ks) none (first, rest) =
-      let parts = none_of (same k x) (list_any (same k) ks) none in
+      let parts = or_parts (same k x) (list_any (same k) ks) none in
       (other_place k x parts.0 there first, apart_from k there ks parts.1 rest)
-    where
-      none_of : (a b : Bool) → (a || b) ≡ false → (a ≡ false) × (b ≡ false)
-      none_of true b e = absurd (true≢false e)
-      none_of false b e = (refl, e)
 
   apart_groups : (ks : List K) → AreApart same ks → AreAmong same labels ks → IsDistinct begin_alike (map (group_of same labels) ks)
   unfolding IsDistinct

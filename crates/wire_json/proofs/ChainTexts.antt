@@ -15,7 +15,7 @@ use Rattle.wire_json.specs.declared.chains.Half.TheVariants.{Whole, Arrive, Leav
 use Rattle.wire_json.specs.Json.{quoted, bracketed, printed}
 use Rattle.wire_json.specs.Chains as json
 use Rattle.wire_json.specs.ChainTrees.{part_data, step_data, place_data, chain_data, unordered_data}
-use Rattle.wire_json.proofs.Texts.{text_is, list_is}
+use Rattle.wire_json.proofs.Texts.{text_is, list_is, of_findings}
 
 -- the same bytes, put together in two orders
 of_named : (a n b p c v d : List ℕ) → a ++ (n ++ (b ++ (p ++ (c ++ (v ++ d))))) ≡ a ++ n ++ [] ++ (b ++ p) ++ (c ++ v) ++ d
@@ -29,9 +29,6 @@ of_place a n b p d = simp (append_assoc) refl
 
 of_chain : (a w q b t c d : List ℕ) → (a ++ ((w ++ q) ++ (b ++ (t ++ c)))) ++ d ≡ a ++ w ++ (q ++ b) ++ t ++ (c ++ d)
 of_chain a w q b t c d = simp (append_assoc) refl
-
-of_unordered : (a t c d : List ℕ) → (a ++ (t ++ c)) ++ d ≡ a ++ t ++ (c ++ d)
-of_unordered a t c d = simp (append_assoc) refl
 
 -- a call with its verb, all of it or a half
 part_is : (half : Half) (n : ℕ) (proc verb : List ℕ) → compact_text (part_data half n (map printed proc) (map printed verb))
@@ -83,7 +80,7 @@ unfolding serde_json_on_literals
 unordered_is s dead =
     let all = list_is (map (place_data s) dead) ∙ ap bracketed (places_are s dead) in
     (λ i. (codes "{\"before\":null,\"dead\":" ++ (all i ++ codes "}")) ++ codes "\n")
-    ∙ of_unordered (codes "{\"before\":null,\"dead\":") (bracketed (map (json.json_place s) dead)) (codes "}") (codes "\n")
+    ∙ of_findings (codes "{\"before\":null,\"dead\":") (bracketed (map (json.json_place s) dead)) (codes "}") (codes "\n")
 
 -- no tree has a float
 pub part_plain : (half : Half) (n : ℕ) (proc verb : List ℕ) → has_float (part_data half n proc verb) ≡ false

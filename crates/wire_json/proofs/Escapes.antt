@@ -23,7 +23,7 @@ one_byte b h = rw (letter b h) (grind (arith, nat_tests))
 above : (b : ℕ) → 31 < printed b
 above b = grind (arith, nat_tests)
 
-kept_byte : (b : ℕ) → 31 < b → b < 127 → printed b ≡ b
+pub kept_byte : (b : ℕ) → 31 < b → b < 127 → printed b ≡ b
 kept_byte b l u = grind (arith, nat_tests)
 
 pub kept : PrintableKept

@@ -1,5 +1,5 @@
 -- Small replays as JSON: the definitions compute.
-use Rattle.std.proofs.Common.{◌≡◌, false, [], ◌∷◌, refl, codes}
+use Rattle.std.proofs.Common.{◌≡◌, false, [], ◌∷◌, ◌++◌, refl, codes}
 use Rattle.std.specs.Fmt.{digits}
 use Rattle.wire_types.specs.declared.Call.TheVariants.{Put, Commit, Get}
 use Rattle.wire_types.specs.declared.Scope.TheVariants.{Global}
@@ -37,12 +37,14 @@ unfoldable pub ends : Ends
 ends = record { rows = (done ∷ (done ∷ [])) ∷ ((Replied (record { status = Success; value = value.Put (record { proc = record { number = 0 }; call = 0 }) }) ∷ []) ∷ ([] ∷ [])); waiting = 0 }
 
 all_done : json_report row ends
-    ≡ codes "{\"ranks\":[{\"calls\":[{\"reply\":\"PMIX_SUCCESS\",\"verb\":\"put\"},{\"reply\":\"PMIX_SUCCESS\",\"verb\":\"commit\"}],\"proc\":\"app:0\"},{\"calls\":[{\"reply\":\"PMIX_SUCCESS\",\"value\":\"v\\\"\\\\\",\"verb\":\"get\"}],\"proc\":\"app:1\"},{\"calls\":[],\"proc\":\"app:2\"}],\"waiting\":0}\n"
+    ≡ codes "{\"ranks\":[{\"calls\":[{\"reply\":\"PMIX_SUCCESS\",\"verb\":\"put\"},{\"reply\":\"PMIX_SUCCESS\",\"verb\":\"commit\"}],\"proc\":\"app:0\"},"
+    ++ codes "{\"calls\":[{\"reply\":\"PMIX_SUCCESS\",\"value\":\"v\\\"\\\\\",\"verb\":\"get\"}],\"proc\":\"app:1\"},{\"calls\":[],\"proc\":\"app:2\"}],\"waiting\":0}\n"
 unfolding row done ends digits
 all_done = refl
 
 in_order : json_unsettled row (record { rows = (done ∷ (done ∷ [])) ∷ ((Waiting ∷ []) ∷ ([] ∷ [])); waiting = 1 }) (0 ∷ (0 ∷ []))
-    ≡ codes "{\"order\":[\"app:0\",\"app:0\"],\"ranks\":[{\"calls\":[{\"reply\":\"PMIX_SUCCESS\",\"verb\":\"put\"},{\"reply\":\"PMIX_SUCCESS\",\"verb\":\"commit\"}],\"proc\":\"app:0\"},{\"calls\":[{\"reply\":\"waiting\",\"verb\":\"get\"}],\"proc\":\"app:1\"},{\"calls\":[],\"proc\":\"app:2\"}],\"unsettled\":true,\"waiting\":1}\n"
+    ≡ codes "{\"order\":[\"app:0\",\"app:0\"],\"ranks\":[{\"calls\":[{\"reply\":\"PMIX_SUCCESS\",\"verb\":\"put\"},{\"reply\":\"PMIX_SUCCESS\",\"verb\":\"commit\"}],\"proc\":\"app:0\"},"
+    ++ codes "{\"calls\":[{\"reply\":\"waiting\",\"verb\":\"get\"}],\"proc\":\"app:1\"},{\"calls\":[],\"proc\":\"app:2\"}],\"unsettled\":true,\"waiting\":1}\n"
 unfolding row done digits
 in_order = refl
 

@@ -48,13 +48,13 @@ of_bare a r b c v d e = simp (append_assoc) refl
 of_valued : (a r b k q c v d e : List ℕ) → a ++ ((r ++ b) ++ (k ++ (q ++ (c ++ ((v ++ d) ++ e))))) ≡ a ++ r ++ b ++ (k ++ q) ++ c ++ v ++ (d ++ e)
 of_valued a r b k q c v d e = simp (append_assoc) refl
 
-of_rank : (a t b n c : List ℕ) → a ++ (t ++ (b ++ (n ++ c))) ≡ a ++ t ++ b ++ n ++ c
+pub of_rank : (a t b n c : List ℕ) → a ++ (t ++ (b ++ (n ++ c))) ≡ a ++ t ++ b ++ n ++ c
 of_rank a t b n c = simp (append_assoc) refl
 
 of_report : (a k t b m w c d : List ℕ) → ((a ++ k) ++ (t ++ ((b ++ m) ++ (w ++ c)))) ++ d ≡ a ++ (k ++ t) ++ b ++ (m ++ w) ++ (c ++ d)
 of_report a k t b m w c d = simp (append_assoc) refl
 
-of_findings : (a t b c : List ℕ) → (a ++ (t ++ b)) ++ c ≡ a ++ t ++ (b ++ c)
+pub of_findings : (a t b c : List ℕ) → (a ++ (t ++ b)) ++ c ≡ a ++ t ++ (b ++ c)
 of_findings a t b c = simp (append_assoc) refl
 
 of_unsettled : (a o b k t e m w c d : List ℕ) → (a ++ (o ++ ((b ++ k) ++ (t ++ ((e ++ m) ++ (w ++ c)))))) ++ d ≡ a ++ o ++ b ++ (k ++ t) ++ e ++ (m ++ w) ++ (c ++ d)

@@ -21,7 +21,7 @@ use Rattle.wire_json.specs.ChainTrees.{step_data}
 use Rattle.wire_json.specs.Witnesses as json
 use Rattle.wire_json.specs.WitnessTrees.{bare_run, valued_run, run_with, run_data, witness_data, unshown_data, shown_data, tried_with, tried_data, counts_data, races_data}
 use Rattle.wire_json.proofs.Escapes.{plain_end}
-use Rattle.wire_json.proofs.Texts.{text_is, list_is, steps_are, strings_plain}
+use Rattle.wire_json.proofs.Texts.{text_is, list_is, steps_are, strings_plain, of_rank}
 use Rattle.wire_json.proofs.ChainTexts.{step_is, place_is}
 
 -- the same bytes, put together in two orders
@@ -33,9 +33,6 @@ of_valued a t b r q k v e = simp (append_assoc) refl
 
 of_witness : (a x b y c z d e : List ℕ) → (a ++ (x ++ (b ++ (y ++ (c ++ (z ++ d)))))) ++ e ≡ a ++ x ++ b ++ y ++ c ++ z ++ (d ++ e)
 of_witness a x b y c z d e = simp (append_assoc) refl
-
-of_tried : (a w b c d : List ℕ) → a ++ (w ++ (b ++ (c ++ d))) ≡ a ++ w ++ b ++ c ++ d
-of_tried a w b c d = simp (append_assoc) refl
 
 of_counts : (a x b y c z d w e : List ℕ) → a ++ (x ++ (b ++ (y ++ (c ++ (z ++ (d ++ (w ++ e))))))) ≡ a ++ x ++ b ++ y ++ c ++ z ++ d ++ w ++ e
 of_counts a x b y c z d w e = simp (append_assoc) refl
@@ -99,7 +96,7 @@ tried_is : (s : Scripts) (words : List ℕ) (shown : Option CallAt) → compact_
 unfolding serde_json_on_literals
 tried_is s words shown =
     (λ i. codes "{\"finding\":" ++ (text_is words i ++ (codes ",\"shown\":" ++ (shown_is s shown i ++ codes "}"))))
-    ∙ of_tried (codes "{\"finding\":") (quoted words) (codes ",\"shown\":") (json.json_shown s shown) (codes "}")
+    ∙ of_rank (codes "{\"finding\":") (quoted words) (codes ",\"shown\":") (json.json_shown s shown) (codes "}")
 
 all_are : (s : Scripts) (findings : List (List ℕ)) (shown : List (Option CallAt)) → map compact_text (tried_data s findings shown) ≡ json.json_all_tried s findings shown
 all_are s (words ∷ others) (shown ∷ more) = ap₂ (λ x y. x ∷ y) (tried_is s words shown) (all_are s others more)

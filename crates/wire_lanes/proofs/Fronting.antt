@@ -1,14 +1,12 @@
 -- The same sources in another order.
-use Rattle.std.proofs.Common.{◌≡◌, ◌∙◌, ℕ, zero, suc, List, [], ◌∷◌, Option, Some, None, IfSome, map, ap, inl, inr}
-use Rattle.std.specs.Prelude.{slice_get, option_map}
+use Rattle.std.proofs.Common.{◌≡◌, ◌∙◌, ℕ, zero, suc, List, ◌∷◌, Option, Some, None, IfSome, map, inl, inr}
+use Rattle.std.specs.Prelude.{slice_get}
 use Rattle.wire_types.specs.declared.Event.{Event as CodeEvent}
 use Rattle.wire_runs.specs.Plan.{Plan, Event, event_of}
+use Rattle.wire_runs.proofs.Lists.{slice_get-map_kept}
 use Rattle.wire_plan.specs.Index.{source_list}
 use Rattle.wire_board.specs.Seats.{SeatIs}
 use Rattle.wire_lanes.specs.Lanes.{AreLeft, SameEvents}
-
-none_some : {A : Type 0} (x : A) → ◌≡◌ {A = Option A} None (Some x) → ⊥
-none_some x e = cc
 
 pub same_list : (xs : List Event) → SameEvents xs xs
 same_list xs = record { to = λ k x at. (k, at); from = λ k x at. (k, at) }
@@ -28,17 +26,12 @@ back e xs i is (suc k) x at = (k, at)
 in_front : (e : Event) (xs : List Event) (i : ℕ) → slice_get xs i ≡ Some e → SameEvents xs (e ∷ xs)
 in_front e xs i is = record { to = λ k x at. (suc k, at); from = back e xs i is }
 
-pub mapped : (cs : List CodeEvent) (k : ℕ) (e : CodeEvent) → slice_get cs k ≡ Some e → slice_get (map event_of cs) k ≡ Some (event_of e)
-mapped [] k e is = absurd (none_some e is)
-mapped (c ∷ cs) zero e is = ap (option_map event_of) is
-mapped (c ∷ cs) (suc k) e is = mapped cs k e is
-
 -- one of the arrivals in front of them
 pub fronted : (p o : Option CodeEvent) (cs : List CodeEvent) → IfSome o (λ e. (k : ℕ) × (slice_get cs k ≡ Some e)) → SameEvents (source_list p None cs) (source_list p o cs)
 fronted p None cs there = same_list (source_list p None cs)
-fronted None (Some e) cs there = in_front (event_of e) (map event_of cs) there.0 (mapped cs there.0 e there.1)
+fronted None (Some e) cs there = in_front (event_of e) (map event_of cs) there.0 (slice_get-map_kept event_of cs there.0 e there.1)
 fronted (Some q) (Some e) cs there =
-    behind (event_of q) (map event_of cs) (event_of e ∷ map event_of cs) (in_front (event_of e) (map event_of cs) there.0 (mapped cs there.0 e there.1))
+    behind (event_of q) (map event_of cs) (event_of e ∷ map event_of cs) (in_front (event_of e) (map event_of cs) there.0 (slice_get-map_kept event_of cs there.0 e there.1))
 
 -- such a list of what is left serves as well
 pub left_same : (plan : Plan) (seat : SeatIs) (xs ys : List Event) → SameEvents xs ys → AreLeft plan seat xs → AreLeft plan seat ys

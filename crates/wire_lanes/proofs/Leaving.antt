@@ -1,23 +1,21 @@
 -- The ends of one fence wait for the same arrivals.
-use Rattle.std.proofs.Common.{◌≡◌, ◌∙◌, ℕ, suc, ◌+◌, List, [], ◌<◌, true, Option, Some, None, map, ap, sym, subst, inl, inr, arith, ltb-true}
+use Rattle.std.proofs.Common.{◌≡◌, ◌∙◌, ℕ, suc, ◌+◌, List, [], ◌<◌, true, Option, Some, map, ap, sym, subst, inl, inr, arith, ltb-true}
 use Rattle.std.specs.Prelude.{slice_get, slice_index}
+use Rattle.std.proofs.lemmas.Option.{none-some}
 use Rattle.wire_types.specs.declared.Event.{Event as CodeEvent}
 use Rattle.wire_types.specs.declared.Proc.{Proc}
 use Rattle.wire_runs.specs.Plan.{Plan, Kind, Leave, Get, LookupWait, Event, kind, event_of}
 use Rattle.wire_runs.specs.Fences.{arrivals}
 use Rattle.wire_runs.specs.Order.{IsArrival, Edge, Follows, Meets, Feeds, Announces}
+use Rattle.wire_runs.proofs.Lists.{slice_get-map_kept}
 use Rattle.wire_plan.specs.Index.{AreArrivals}
 use Rattle.wire_races.proofs.First.{leave_next}
 use Rattle.wire_board.specs.Cuts.{shows_event, ImpliesSources}
 use Rattle.wire_board.specs.Seats.{SeatIs, next_of}
 use Rattle.wire_lanes.specs.Lanes.{WaitsForMore}
-use Rattle.wire_lanes.proofs.Fronting.{mapped}
-
-none_some : {A : Type 0} (x : A) → ◌≡◌ {A = Option A} None (Some x) → ⊥
-none_some x e = cc
 
 not_none : (xs : List CodeEvent) (k : ℕ) (a : CodeEvent) → slice_get xs k ≡ Some a → xs ≡ [] → ⊥
-not_none xs k a is none = none_some a (ap (λ ys. slice_get ys k) (sym none) ∙ is)
+not_none xs k a is none = none-some a (ap (λ ys. slice_get ys k) (sym none) ∙ is)
 
 -- the event z, after one of the arrivals for which y waits
 pub waits_for_more : (plan : Plan) (y : Event) (places : List CodeEvent) (a z : CodeEvent) (k : ℕ) → slice_get places k ≡ Some a → z.proc ≡ a.proc → z.at ≡ a.at + 1
@@ -25,7 +23,7 @@ pub waits_for_more : (plan : Plan) (y : Event) (places : List CodeEvent) (a z : 
     → (((members : List ℕ) → kind plan y ≡ Some (Leave members) → ⊥) → places ≡ []) → WaitsForMore plan y (event_of z)
 waits_for_more plan y places a z k there here next leave others x (Follows p n) = inl (p, n)
 waits_for_more plan y places a z k there here next leave others x (Meets members is arrival) =
-    let arrived = (leave members is).only k (event_of a) (mapped places k a there) in
+    let arrived = (leave members is).only k (event_of a) (slice_get-map_kept event_of places k a there) in
     let end = leave_next plan a.proc.number a.at members arrived.collect arrived.is in
     let edge : Edge plan x (record { proc = a.proc.number; at = suc a.at }) = Meets members end (subst (λ j. IsArrival plan members j x) (sym arrived.nth) arrival) in
     let later : z.at ≡ suc a.at = omega (arith, next) in

@@ -1,5 +1,5 @@
 -- What a lane's seat shows once it has read words.
-use Rattle.std.proofs.Common.{◌≡◌, ◌∙◌, ◌⊎◌, ap, sym, refl, subst, inl, inr, ℕ, zero, suc, ◌<◌, ◌≤◌, List, [], ◌∷◌, true, false, Option, Some, None, IfSome, get_or, set, length, arith, lt-ltb}
+use Rattle.std.proofs.Common.{◌≡◌, ◌∙◌, ◌⊎◌, ap, sym, refl, subst, inl, inr, ℕ, zero, suc, ◌<◌, ◌≤◌, List, [], ◌∷◌, true, false, Option, Some, None, IfSome, length, arith, lt-ltb}
 use Rattle.std.proofs.Common.{ltb-true}
 use Rattle.std.specs.Prelude.{◌≢◌, ◌↔◌, MatchOption, option_map, slice_get, slice_index, slice_set}
 use Rattle.std.proofs.lemmas.Bool.{cases_Bool, true≢false}
@@ -8,6 +8,7 @@ use Rattle.wire_types.specs.declared.Event.{Event as CodeEvent}
 use Rattle.wire_runs.specs.Plan.{Plan, Event, event_of, event_count}
 use Rattle.wire_runs.specs.Fate.{HasFate, Waits}
 use Rattle.wire_runs.specs.Order.{Edge}
+use Rattle.wire_runs.proofs.Lists.{set_raises, not_in_empty}
 use Rattle.wire_content.specs.Scripts.{Scripts}
 use Rattle.wire_content.specs.Planned.{plan_of}
 use Rattle.wire_plan.specs.Index.{AreSources}
@@ -33,13 +34,6 @@ read_twice one two three a b = record {
   rises = λ k. (let x = a.rises k in let y = b.rises k in omega (arith, x, y));
 }
 
-raised_set : (xs : List ℕ) (k n : ℕ) → get_or xs k 0 ≤ n → (j : ℕ) → get_or xs j 0 ≤ get_or (set xs k n) j 0
-raised_set [] k n le j = omega arith
-raised_set (x ∷ xs) zero n le zero = le
-raised_set (x ∷ xs) zero n le (suc j) = omega arith
-raised_set (x ∷ xs) (suc k) n le zero = omega arith
-raised_set (x ∷ xs) (suc k) n le (suc j) = raised_set xs k n le j
-
 -- one word was read
 pub read_word : (seat new : SeatIs) (trail : List Fate) (k n : ℕ) → new ≡ record { board = seat.board; rank = seat.rank; known = slice_set seat.known k n } → slice_index seat.known k ≤ n →
     (k ≡ seat.rank → n ≡ place_of seat) → HasRead (record { seat = seat; trail = trail }) (record { seat = new; trail = trail })
@@ -48,7 +42,7 @@ read_word seat new trail k n is rises own = subst (λ s. HasRead (record { seat 
   rank = refl;
   trail = refl;
   place = get_set seat.known k seat.rank n own;
-  rises = raised_set seat.known k n rises;
+  rises = set_raises seat.known k n rises;
 })
 
 -- what was shown stays shown
@@ -91,12 +85,6 @@ left_read plan old new xs r left = record {
   ];
 }
 
-nothing_at : {A B : Type 0} (i : ℕ) (x : A) → slice_get {X = A} [] i ≡ Some x → B
-nothing_at {A} i x e = absurd (none_some e)
-  where
-    none_some : ◌≡◌ {A = Option A} None (Some x) → ⊥
-    none_some e = cc
-
 in_skipped : (known : List ℕ) (xs : List Event) (k : ℕ) (x : Event) → slice_get (skip_shown known xs) k ≡ Some x → (j : ℕ) × (slice_get xs j ≡ Some x)
 in_skipped known [] k x at = (k, at)
 in_skipped known (y ∷ ys) k x at = elim (cases_Bool (shows_event known y)) [
@@ -105,7 +93,7 @@ in_skipped known (y ∷ ys) k x at = elim (cases_Bool (shows_event known y)) [
 ]
 
 skipped_in : (known : List ℕ) (xs : List Event) (k : ℕ) (x : Event) → slice_get xs k ≡ Some x → (shows_event known x ≡ true) ⊎ ((j : ℕ) × (slice_get (skip_shown known xs) j ≡ Some x))
-skipped_in known [] k x at = nothing_at k x at
+skipped_in known [] k x at = absurd (not_in_empty k x at)
 skipped_in known (y ∷ ys) zero x at = elim (cases_Bool (shows_event known y)) [
   | inl t ↦ inl (subst (λ z. shows_event known z ≡ true) (same_Some y x at) t)
   | inr f ↦ inr (0, ap (λ zs. slice_get zs 0) (skip_none known y ys f) ∙ at)
@@ -124,8 +112,8 @@ left_skipped plan seat xs ys left is = subst (AreLeft plan seat) (sym is) (recor
 
 -- where none is left, all sources are known to be done
 pub left_none : (plan : Plan) (seat : SeatIs) (xs : List Event) → slice_get xs 0 ≡ None → AreLeft plan seat xs → ShowsSources plan seat.known (next_of seat)
-left_none plan seat [] none left = λ x e. elim (left.all x e) [ inl s ↦ ltb-true x.at (slice_index seat.known x.proc) s | inr j ↦ nothing_at j.0 x j.1 ]
-left_none plan seat (y ∷ ys) none left = nothing_at 0 y (sym none)
+left_none plan seat [] none left = λ x e. elim (left.all x e) [ inl s ↦ ltb-true x.at (slice_index seat.known x.proc) s | inr j ↦ absurd (not_in_empty j.0 x j.1) ]
+left_none plan seat (y ∷ ys) none left = absurd (none-some y (sym none))
 
 -- where one that is left isn't done, they aren't
 pub left_head : (plan : Plan) (seat : SeatIs) (xs : List Event) (x : Event) → slice_get xs 0 ≡ Some x → shows_event seat.known x ≡ false → AreLeft plan seat xs →
@@ -142,7 +130,7 @@ skip_le known (y ∷ ys) = elim (cases_Bool (shows_event known y)) [
 ]
 
 pub skip_shorter : (known : List ℕ) (xs ys : List Event) (x : Event) → slice_get xs 0 ≡ Some x → shows_event known x ≡ true → ys ≡ skip_shown known xs → length ys < length xs
-skip_shorter known [] ys x at t is = nothing_at 0 x at
+skip_shorter known [] ys x at t is = absurd (not_in_empty 0 x at)
 skip_shorter known (y ∷ zs) ys x at t is =
     let e = ap length (is ∙ skip_one known y zs (subst (λ z. shows_event known z ≡ true) (sym (same_Some y x at)) t)) in
     let le = skip_le known zs in

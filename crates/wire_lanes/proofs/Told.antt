@@ -3,9 +3,10 @@ use Rattle.std.proofs.Common.{◌≡◌, ℕ, zero, suc, ◌+◌, List, [], ◌�
 use Rattle.std.proofs.Common.{length-append}
 use Rattle.std.specs.Prelude.{slice_get}
 use mathlib.Core.List.{reverse}
-use Rattle.std.proofs.lemmas.List.{reverse-append}
-use Rattle.std.proofs.lemmas.Option.{same_Some, slice_get_cases, slice_get_within}
+use Rattle.std.proofs.lemmas.List.{reverse-append, nil_from_length}
+use Rattle.std.proofs.lemmas.Option.{same_Some, slice_get_cases, slice_get_within, none-some}
 use Rattle.wire_runs.specs.Plan.{Plan, process_count}
+use Rattle.wire_runs.proofs.Lists.{not_in_empty, slice_get-append_kept, slice_get_push_last}
 use Rattle.wire_races.specs.declared.Fate.{Fate}
 use Rattle.wire_lanes.specs.Lanes.{LaneIs, AreFates, IsLaneOf, AreLanesOf, IsTrailOf, Tell, IsToldBy, AreTrails}
 
@@ -40,8 +41,7 @@ taking_more plan all left rest x trails new trail t is more of its = record {
 }
 
 get_last : (rest taken : List LaneIs) (x : LaneIs) → slice_get ((rest ++ x ∷ []) ++ taken) (length rest) ≡ Some x
-get_last [] taken x = refl
-get_last (y ∷ rest) taken x = get_last rest taken x
+get_last rest taken x = slice_get-append_kept (rest ++ x ∷ []) taken (length rest) x (slice_get_push_last rest x)
 
 -- the last lane that is left
 pub taking_at : (plan : Plan) (all left rest : List LaneIs) (x : LaneIs) (trails : List (Vec Fate Global)) → Taking plan all left trails → left ≡ rest ++ x ∷ [] → slice_get all (length rest) ≡ Some x
@@ -54,38 +54,25 @@ as_many plan r [] (t ∷ ts) told = absurd told
 as_many plan r (x ∷ xs) [] told = absurd told
 as_many plan r (x ∷ xs) (t ∷ ts) told = ap suc (as_many plan (suc r) xs ts told.1)
 
-nothing_at : {A B : Type 0} (i : ℕ) (x : A) → slice_get {X = A} [] i ≡ Some x → B
-nothing_at {A} i x e = absurd (none_some e)
-  where
-    none_some : ◌≡◌ {A = Option A} None (Some x) → ⊥
-    none_some e = cc
-
 lane_from : (plan : Plan) (r : ℕ) (xs : List LaneIs) (ts : List (Vec Fate Global)) → ToldFrom plan r xs ts → (i : ℕ) (lane : LaneIs) → slice_get xs i ≡ Some lane → IsLaneOf plan (r + i) lane
-lane_from plan r [] ts told i lane at = nothing_at i lane at
+lane_from plan r [] ts told i lane at = absurd (not_in_empty i lane at)
 lane_from plan r (x ∷ xs) [] told i lane at = absurd told
 lane_from plan r (x ∷ xs) (t ∷ ts) told zero lane at = let same : r ≡ r + 0 = omega arith in subst (λ n. IsLaneOf plan n lane) same (subst (IsLaneOf plan r) (same_Some x lane at) told.0.0)
 lane_from plan r (x ∷ xs) (t ∷ ts) told (suc i) lane at = let same : suc r + i ≡ r + suc i = omega arith in subst (λ n. IsLaneOf plan n lane) same (lane_from plan (suc r) xs ts told.1 i lane at)
 
 trail_from : (plan : Plan) (r : ℕ) (xs : List LaneIs) (ts : List (Vec Fate Global)) → ToldFrom plan r xs ts → (i : ℕ) (lane : LaneIs) (trail : Vec Fate Global) → slice_get xs i ≡ Some lane →
     slice_get ts i ≡ Some trail → IsTrailOf lane trail.items
-trail_from plan r [] ts told i lane trail at there = nothing_at i lane at
+trail_from plan r [] ts told i lane trail at there = absurd (not_in_empty i lane at)
 trail_from plan r (x ∷ xs) [] told i lane trail at there = absurd told
 trail_from plan r (x ∷ xs) (t ∷ ts) told zero lane trail at there = subst (λ (b : Vec Fate Global). IsTrailOf lane b.items) (same_Some t trail there)
     (subst (λ (a : LaneIs). IsTrailOf a t.items) (same_Some x lane at) told.0.1)
 trail_from plan r (x ∷ xs) (t ∷ ts) told (suc i) lane trail at there = trail_from plan (suc r) xs ts told.1 i lane trail at there
 
-some_ne : {A : Type 0} (x : A) → ◌≡◌ {A = Option A} (Some x) None → ⊥
-some_ne x e = cc
-
-nothing_left : (left : List LaneIs) → length left ≡ 0 → left ≡ []
-nothing_left [] e = refl
-nothing_left (x ∷ left) e = absurd (omega (arith, e))
-
 -- all trails were taken
 pub tells_all : (plan : Plan) (all left : List LaneIs) (trails : List (Vec Fate Global)) (told : Vec (Vec Fate Global) Global) → Taking plan all left trails → length left ≡ 0 →
     told.items ≡ reverse trails → length all ≡ process_count plan → Tell plan all (Some told)
 tells_all plan all left trails told t empty turned count =
-    let none = nothing_left left empty in
+    let none = nil_from_length left empty in
     let same : t.taken ≡ all = ap (λ (xs : List LaneIs). xs ++ t.taken) (sym none) ∙ t.all_are in
     let from = subst (λ (xs : List LaneIs). ToldFrom plan (length xs) t.taken (reverse trails)) none t.told in
     let whole : ToldFrom plan 0 all told.items = subst (ToldFrom plan 0 all) (sym turned) (subst (λ xs. ToldFrom plan 0 xs (reverse trails)) same from) in
@@ -96,7 +83,7 @@ tells_all plan all left trails told t empty turned count =
           each = λ r lane at. (let zero_more : 0 + r ≡ r = omega arith in
               subst (λ n. IsLaneOf plan n lane) zero_more (lane_from plan 0 all told.items whole r lane at));
         },
-        λ _. some_ne told,
+        λ _ e. none-some told (sym e),
       );
       trails = record { count = as_many plan 0 all told.items whole; each = trail_from plan 0 all told.items whole };
     }
@@ -110,7 +97,7 @@ pub told_trails : (plan : Plan) (count : ℕ) (told : Option (Vec (Vec Fate Glob
 told_trails plan count None by = tt
 told_trails plan count (Some told) by =
     let lanes = by.0 in
-    let are = by.2.some.0 (some_ne told) in
+    let are = by.2.some.0 (λ e. none-some told (sym e)) in
     let its = by.2.trails in
     record {
       count = its.count ∙ are.count;

@@ -1,5 +1,5 @@
 -- Trails that grow.
-use Rattle.std.proofs.Common.{◌≡◌, ℕ, zero, suc, ◌+◌, ◌-◌, ◌<◌, ◌≤◌, List, [], ◌∷◌, ◌++◌, Some, length, ◌⊎◌, inl, inr, get_or, set, refl, sym, ap, ◌∙◌, subst, arith, append-nil, append_assoc}
+use Rattle.std.proofs.Common.{◌≡◌, ℕ, zero, suc, ◌+◌, ◌-◌, ◌<◌, ◌≤◌, List, [], ◌∷◌, ◌++◌, Some, length, inl, inr, get_or, set, refl, sym, ap, ◌∙◌, subst, arith, append-nil, append_assoc}
 use Rattle.std.proofs.Common.{length-append}
 use Rattle.std.specs.Prelude.{◌≢◌, slice_get, slice_set}
 use Rattle.std.proofs.lemmas.Bool.{cases_lt}
@@ -7,6 +7,7 @@ use Rattle.std.proofs.lemmas.Option.{same_Some, slice_get-get_or}
 use Rattle.wire_runs.specs.Plan.{Plan, Event, event_count}
 use Rattle.wire_runs.specs.Races.{IsSettled}
 use Rattle.wire_runs.proofs.Fates.{one_fate}
+use Rattle.wire_runs.proofs.Lists.{slice_get_push_cases}
 use Rattle.wire_races.specs.declared.Fate.{Fate}
 use Rattle.wire_races.specs.declared.Fate.TheVariants.{Waits}
 use Rattle.wire_races.specs.Fates.{IsFateOf, fate_told}
@@ -15,12 +16,6 @@ use Rattle.wire_content.specs.Scripts.{Scripts}
 use Rattle.wire_content.specs.Planned.{plan_of}
 use Rattle.wire_board.specs.Seats.{BoardIs, SeatIs, place_of, next_of}
 use Rattle.wire_lanes.specs.Lanes.{AreFates, Grows, LaneIs, IsLane, IsTrail}
-
-pub get_push : {A : Type 0} (xs : List A) (v : A) (i : ℕ) (b : A) → slice_get (xs ++ v ∷ []) i ≡ Some b → (slice_get xs i ≡ Some b) ⊎ ((i ≡ length xs) × (b ≡ v))
-get_push [] v zero b h = inr (refl, same_Some _ _ (sym h))
-get_push [] v (suc i) b h = inl h
-get_push (x ∷ xs) v zero b h = inl h
-get_push (x ∷ xs) v (suc i) b h = elim (get_push xs v i b h) [ inl a ↦ inl a | inr e ↦ inr (ap suc e.0, e.1) ]
 
 pub fates_none : (plan : Plan) (rank : ℕ) (trail : List Fate) → trail ≡ [] → AreFates plan rank trail
 fates_none plan rank trail none = subst (AreFates plan rank) (sym none) (λ i fate is. absurd (nothing i fate is))
@@ -31,10 +26,10 @@ fates_none plan rank trail none = subst (AreFates plan rank) (sym none) (λ i fa
 -- the fate of the next event
 pub fates_push : (plan : Plan) (rank : ℕ) (old new : List Fate) (x : Fate) → AreFates plan rank old → IsFateOf plan (record { proc = rank; at = length old }) x × (x ≢ Waits) → new ≡ old ++ x ∷ [] →
     AreFates plan rank new
-fates_push plan rank old new x are next is = subst (AreFates plan rank) (sym is) (λ i fate at. elim (get_push old x i fate at) [
+fates_push plan rank old new x are next is = subst (AreFates plan rank) (sym is) (λ i fate at. elim (slice_get_push_cases old x i fate at) [
   | inl was ↦ are i fate was
   | inr e ↦ subst (λ n. IsFateOf plan (record { proc = rank; at = n }) fate × (fate ≢ Waits)) (sym e.0)
-      (subst (λ f. IsFateOf plan (record { proc = rank; at = length old }) f × (f ≢ Waits)) (sym e.1) next)
+      (subst (λ f. IsFateOf plan (record { proc = rank; at = length old }) f × (f ≢ Waits)) e.1 next)
 ])
 
 -- there are no more of them than the rank has events

@@ -1,12 +1,13 @@
 -- The chain that is shown, step by step.
-use Rattle.std.proofs.Common.{◌≡◌, ◌⊎◌, inl, inr, ⊎_elim, ℕ, zero, suc, List, [], ◌∷◌, ◌++◌, Option, Some, None, map, reverse, refl, sym, ap, ◌∙◌, subst, arith, append_assoc}
-use Rattle.std.specs.Prelude.{IsSome, slice_get, option_map}
-use Rattle.std.proofs.lemmas.Option.{slice_get_within, same_Some}
+use Rattle.std.proofs.Common.{◌≡◌, ◌⊎◌, inl, inr, ⊎_elim, List, [], ◌∷◌, ◌++◌, Option, Some, None, map, reverse, refl, sym, ap, ◌∙◌, subst, arith, append_assoc}
+use Rattle.std.specs.Prelude.{IsSome, option_map}
 use Rattle.std.proofs.lemmas.List.{map-append, reverse-append}
 use Rattle.wire_runs.specs.Plan.{Plan, Event, event_of}
 use Rattle.wire_types.specs.declared.place.Event.{Event as CodeEvent}
 use Rattle.wire_runs.specs.Order.{Before}
 use Rattle.wire_runs.specs.Fate.{IsIn}
+use Rattle.wire_runs.proofs.Members.{in_left, in_index, index_in}
+use Rattle.wire_runs.proofs.Lists.{reverse-map}
 use Rattle.wire_plan.specs.Index.{AreSources}
 use Rattle.wire_marks.specs.Clocks.{LeadsTo}
 use Rattle.wire_marks.specs.Chain.{AtMost, IsStepBack, IsShown, begins, goes_on, IsLowest, Lowest}
@@ -24,11 +25,6 @@ in_last [] y z (inr i) = absurd i
 in_last (x ∷ xs) y z (inl e) = inl (inl e)
 in_last (x ∷ xs) y z (inr i) = ⊎_elim (λ a. inl (inr a)) (λ e. inr e) (in_last xs y z i)
 
-in_front : (xs ys : List Event) (z : Event) → IsIn z xs → IsIn z (xs ++ ys)
-in_front [] ys z i = absurd i
-in_front (x ∷ xs) ys z (inl e) = inl e
-in_front (x ∷ xs) ys z (inr i) = inr (in_front xs ys z i)
-
 in_end : (xs : List Event) (y : Event) → IsIn y (xs ++ y ∷ [])
 in_end [] y = inl refl
 in_end (x ∷ xs) y = inr (in_end xs y)
@@ -39,7 +35,7 @@ lowest_skip plan x places z None not_led h = λ w i l. elim (in_last places z w 
   | inr e ↦ not_led (subst (λ v. LeadsTo plan x v) e l)
 ]
 lowest_skip plan x places z (Some v) not_led h = record {
-  source = in_front places (z ∷ []) v h.source;
+  source = in_left places (z ∷ []) v h.source;
   leads = h.leads;
   lowest = λ w i l. elim (in_last places z w i) [
     | inl was ↦ h.lowest w was l
@@ -50,7 +46,7 @@ lowest_skip plan x places z (Some v) not_led h = record {
 pub lowest_take : (plan : Plan) (x : Event) (places : List Event) (z new : Event) (lowest : Option Event) → LeadsTo plan x z → Lowest plan x places lowest → (lowest ≡ Some new) ⊎ (new ≡ z) →
     ((w : Event) → lowest ≡ Some w → AtMost new w) → AtMost new z → IsLowest plan x (places ++ z ∷ []) new
 lowest_take plan x places z new lowest l h one first second = record {
-  source = ⊎_elim (λ e. in_front places (z ∷ []) new (was e).source) (λ e. subst (λ v. IsIn v (places ++ z ∷ [])) (sym e) (in_end places z)) one;
+  source = ⊎_elim (λ e. in_left places (z ∷ []) new (was e).source) (λ e. subst (λ v. IsIn v (places ++ z ∷ [])) (sym e) (in_end places z)) one;
   leads = ⊎_elim (λ e. (was e).leads) (λ e. subst (λ v. LeadsTo plan x v) (sym e) l) one;
   lowest = λ w i m. elim (in_last places z w i) [
     | inl old ↦ below lowest refl h w old m
@@ -68,16 +64,6 @@ lowest_take plan x places z new lowest l h one first second = record {
 -- nothing was looked at
 pub none_lowest : (plan : Plan) (x : Event) → Lowest plan x [] None
 none_lowest plan x = λ w i l. i
-
-in_index : (xs : List Event) (z : Event) → IsIn z xs → (k : ℕ) × (slice_get xs k ≡ Some z)
-in_index [] z i = absurd i
-in_index (x ∷ xs) z (inl e) = (0, ap (λ v. Some v) (sym e))
-in_index (x ∷ xs) z (inr i) = let w = in_index xs z i in (suc w.0, w.1)
-
-index_in : (xs : List Event) (z : Event) (k : ℕ) → slice_get xs k ≡ Some z → IsIn z xs
-index_in [] z k e = absurd (let lt = slice_get_within {A = Event} [] k z e in omega (arith, lt))
-index_in (x ∷ xs) z zero e = inl (sym (same_Some _ _ e))
-index_in (x ∷ xs) z (suc k) e = inr (index_in xs z k e)
 
 -- a source leads on from x
 pub some_leads : (plan : Plan) (x y : Event) (sources : List Event) (lowest : Option Event) → AreSources plan y sources → Before plan x y → Lowest plan x sources lowest → IsSome lowest
@@ -101,13 +87,6 @@ rest_step plan x y at z chain rest back start shown =
     let e : (start ++ at ∷ []) ++ reverse chain ≡ start ++ reverse (chain ++ at ∷ []) = rw reverse-append (append_assoc start (at ∷ []) (reverse chain)) in
     subst (λ c. IsShown plan x y c) e (rest (start ++ at ∷ []) (goes_on shown back))
 
-map_reverse : {A B : Type 0} (f : A → B) (xs : List A) → map f (reverse xs) ≡ reverse (map f xs)
-map_reverse f [] = refl
-map_reverse f (x ∷ xs) =
-    ap (map f) (reverse-append (x ∷ []) xs)
-    ∙ (map-append f (reverse xs) (x ∷ [])
-    ∙ (ap (λ l. l ++ f x ∷ []) (map_reverse f xs) ∙ sym (reverse-append (f x ∷ []) (map f xs))))
-
 -- the same, of events
 pub rest_of : (plan : Plan) (x y : Event) (at z : CodeEvent) (chain : List CodeEvent) →
     ((start : List Event) → IsShown plan x (event_of at) start → IsShown plan x y (start ++ reverse (map event_of chain))) → IsStepBack plan x (event_of at) (event_of z) → (start : List Event) →
@@ -122,7 +101,7 @@ pub shown_whole : (plan : Plan) (x y : Event) (last : CodeEvent) (chain : List C
 shown_whole plan x y last chain rest e =
     let first : IsShown plan x (event_of last) (event_of last ∷ []) = subst (λ a. IsShown plan x a (a ∷ [])) e begins in
     let turned : map event_of (reverse (chain ++ last ∷ [])) ≡ event_of last ∷ reverse (map event_of chain) = ap (map event_of) (reverse-append chain (last ∷ []))
-    ∙ ap (λ l. event_of last ∷ l) (map_reverse event_of chain) in
+    ∙ ap (λ l. event_of last ∷ l) (sym (reverse-map event_of chain)) in
     subst (λ l. IsShown plan x y l) (sym turned) (rest (event_of last ∷ []) first)
 
 pub some_event : (o : Option CodeEvent) → IsSome (option_map event_of o) → IsSome o

@@ -1,14 +1,15 @@
 -- One more event is marked.
 use Rattle.std.proofs.Common.{◌≡◌, ◌⊎◌, ◌↔◌, inl, inr, ℕ, zero, suc, ◌-◌, ◌^◌, ◌<◌, ◌≤◌, [], ◌∷◌, true, max, Option, Some, None, length, refl, sym, ap, ◌∙◌, subst, arith, length-append}
 use Rattle.std.specs.Prelude.{slice_get}
-use Rattle.std.proofs.lemmas.Bool.{cases_eq, cases_lt, true≢false}
+use Rattle.std.proofs.lemmas.Bool.{cases_eq, cases_lt}
 use Rattle.std.proofs.lemmas.Option.{slice_get_past, slice_get_within, same_Some}
 use Rattle.wire_runs.specs.Plan.{Event}
-use Rattle.wire_runs.specs.Plan.{Plan, Kind, kind, event_count, process_count, kinds, process_kinds}
-use Rattle.wire_runs.specs.Order.{Edge, may_come, Live, Before, edge, further}
+use Rattle.wire_runs.specs.Plan.{Plan, kind, event_count, process_count, kinds, process_kinds}
+use Rattle.wire_runs.specs.Order.{Edge, may_come, Live, Before}
 use Rattle.wire_runs.proofs.Basics.{event_within}
-use Rattle.wire_runs.proofs.Due.{live_source, live_may, place_path}
-use Rattle.wire_runs.proofs.Histories.{no_cycle, before_live}
+use Rattle.wire_runs.proofs.Due.{live_source, live_may, place_path, coming_event}
+use Rattle.wire_runs.proofs.Histories.{no_cycle, before_live, after_live}
+use Rattle.wire_runs.proofs.Lists.{slice_get-append_left, slice_get_push_last}
 use Rattle.wire_marks.specs.Clocks.{items_at}
 use Rattle.wire_clocks.specs.ClockTrees.{says, IsRoot, Holds, HasZeros}
 use Rattle.wire_clocks.proofs.Staying.{clocks_stay_through, holds_kept, zeros_kept}
@@ -17,15 +18,9 @@ use Rattle.wire_marks.specs.Marking.{IsReady, IsStuck, AreBased, AreClocks, next
 use Rattle.wire_marks.specs.Updates.{updates_at, AreUpdates}
 use Rattle.wire_marks.proofs.Noting.{chain_within, updates_same, updates_more}
 use Rattle.wire_marks.proofs.Marking.{ready_live, live_marked, clock_step, leads_on}
-use Rattle.wire_marks.proofs.Tables.{slice_get-append_left, slice_get-append_last}
-
--- what may come is an event of the plan
-come_event : (plan : Plan) (y : Event) (o : Option Kind) → may_come plan y o ≡ true → (e : Kind) × (o ≡ Some e)
-come_event plan y None h = absurd (true≢false (sym h))
-come_event plan y (Some e) h = (e, refl)
 
 pub come_within : (plan : Plan) (y : Event) → may_come plan y (kind plan y) ≡ true → y.at < event_count plan y.proc
-come_within plan y h = let v = come_event plan y (kind plan y) h in event_within plan y.proc y.at v.0 v.1
+come_within plan y h = let v = coming_event plan y (kind plan y) h in event_within plan y.proc y.at v.0 v.1
 
 pub event_process : (plan : Plan) (p i : ℕ) → i < event_count plan p → p < process_count plan
 unfolding event_count kinds
@@ -131,7 +126,7 @@ module _ (plan : Plan) (old new : Clocks) (p n : ℕ) (there : p < process_count
   ]
 
   root_here : root_at new (next_of old p) ≡ Some n
-  root_here = ap (λ ns. slice_get ns (marked_count old p)) adds.here ∙ slice_get-append_last (items_at old.roots.items p) n (marked_count old p) refl
+  root_here = ap (λ ns. slice_get ns (marked_count old p)) adds.here ∙ slice_get_push_last (items_at old.roots.items p) n
 
   root_kept : (y : Event) → y.at < marked_count old y.proc → root_at new y ≡ root_at old y
   root_kept y lt = elim (cases_eq y.proc p) [
@@ -269,10 +264,6 @@ before_told plan clocks x y m ne lt =
 
 pub before_tells : (plan : Plan) (clocks : Clocks) (x y : Event) → AreMarks plan clocks → Live plan y → Before plan x y → x.at < clock_of clocks y x.proc
 before_tells plan clocks x y m l b = (m.told y l).all x (inr b)
-
-pub after_live : {plan : Plan} {x y : Event} → Before plan x y → Live plan y
-after_live (edge l e m) = m
-after_live (further b e m) = m
 
 pub never_self : (plan : Plan) (x y : Event) → x ≡ y → Before plan x y → ⊥
 never_self plan x y e b = no_cycle (before_live b) (subst (λ z. Before plan x z) (sym e) b)

@@ -1,14 +1,14 @@
 -- Lists of names: what is added to one of them, and that they have each name under which something stands.
-use Rattle.std.proofs.Common.{◌≡◌, ◌∙◌, ap, refl, sym, subst, ℕ, zero, suc, ◌<◌, List, [], ◌∷◌, ◌++◌, ◌-◌, ◌⊎◌, ⊎_elim}
-use Rattle.std.proofs.Common.{true, Option, Some, None, length, length-append, arith, inl, inr, map, get_or, eqb-true}
-use Rattle.std.specs.Prelude.{slice_get, slice_set, option_map, is_some, ◌≢◌, Vec, Result, Ok, Err, OnOk, OnErr}
-use Rattle.std.specs.declared.alloc.Global.{Global}
+use Rattle.std.proofs.Common.{◌≡◌, ◌∙◌, ap, sym, subst, ℕ, List, [], ◌∷◌, ◌++◌, ◌⊎◌, ⊎_elim}
+use Rattle.std.proofs.Common.{true, Option, Some, None, length, inl, inr, eqb-true}
+use Rattle.std.specs.Prelude.{slice_get, option_map, ◌≢◌, Result, Ok, Err, OnOk, OnErr}
 use Rattle.std.proofs.lemmas.Bool.{cases_Bool, cases_eq, true≢false, cond_both}
 use Rattle.wire_runs.specs.Plan.{Event, event_of}
 use Rattle.wire_runs.specs.Step.{is_publisher}
 use Rattle.wire_marks.specs.declared.updates.Update.{Update}
-use Rattle.wire_runs.proofs.EventLists.{in_front, at_end}
-use Rattle.wire_marks.specs.Updates.{updates_at, standing_after, standing_in, after_publish, after_unpublish, names_at, IsAmong, IsAppended, IsSwept, IsCleared, AreHeld}
+use Rattle.wire_runs.proofs.Lists.{slice_get_push_kept, slice_get_push_last}
+use Rattle.wire_marks.specs.Updates.{updates_at, standing_in, after_publish, after_unpublish, names_at, IsAmong, IsAppended, IsSwept, IsCleared, AreHeld}
+use Rattle.wire_marks.proofs.Noting.{standing_last}
 
 -- of one process names are added, or nothing
 module _ (lists : List (List Update)) (old new : List (List ℕ)) where
@@ -16,7 +16,7 @@ module _ (lists : List (List Update)) (old new : List (List ℕ)) where
   held_same same are = λ name p by. subst (IsAmong name) (sym (same p)) (are name p by)
 
   among_more : (name n : ℕ) (names : List ℕ) → IsAmong name names → IsAmong name (names ++ n ∷ [])
-  among_more name n names (k, is) = (k, in_front names n k name is)
+  among_more name n names (k, is) = (k, slice_get_push_kept names n k name is)
 
   pub held_more : (q n : ℕ) → names_at new q ≡ names_at old q ++ n ∷ [] → ((p : ℕ) → p ≢ q → names_at new p ≡ names_at old p) → AreHeld lists old → AreHeld lists new
   held_more q n here others are = λ name p by. elim (cases_eq p q) [
@@ -30,11 +30,6 @@ module _ (lists : List (List Update)) (old new : List (List ℕ)) where
     | inl e ↦ absurd (true≢false (sym (subst (λ r. is_publisher r (standing_in (updates_at lists name)) ≡ true) e by) ∙ cleared name))
     | inr ne ↦ subst (IsAmong name) (sym (others p ne)) (are name p by)
   ]
-
-standing_last : (us : List Update) (u : Update) → standing_in (us ++ u ∷ []) ≡ option_map event_of u.standing
-standing_last us u =
-    let last : length (us ++ u ∷ []) - 1 ≡ length us = omega (arith, length-append us (u ∷ [])) in
-    ap (λ i. standing_after (slice_get (us ++ u ∷ []) i)) last ∙ ap standing_after (at_end us u)
 
 -- a publish by a process stands after what came to a name, or its event is by that process
 by_publish : (x : Event) (o : Option Event) (p : ℕ) → is_publisher p (after_publish x o) ≡ true → (is_publisher p o ≡ true) ⊎ (x.proc ≡ p)
@@ -130,13 +125,8 @@ appended (Err e) old new n u z stands added it left = tt
 appended (Ok v) old new n u z stands added it left = record { update = u; it = it; left = left; list = added.0; others = added.1 }
 
 pub among_last : (name : ℕ) (old new : List ℕ) → new ≡ old ++ name ∷ [] → IsAmong name new
-among_last name old new is = (length old, ap (λ l. slice_get l (length old)) is ∙ at_end old name)
+among_last name old new is = (length old, ap (λ l. slice_get l (length old)) is ∙ slice_get_push_last old name)
 
 -- nothing stands in no lists
 pub none_held : (lists : List (List Update)) (held : List (List ℕ)) → lists ≡ [] → AreHeld lists held
 none_held lists held none = λ name p by. absurd (true≢false (sym by ∙ ap (λ l. is_publisher p (standing_in (updates_at l name))) none))
-
--- what holds anyway holds where it failed
-pub err_anyway : {A E : Type 0} (r : Result A E) (P : Type 0) → P → OnErr r P
-err_anyway (Ok v) P p = tt
-err_anyway (Err e) P p = p

@@ -10,6 +10,7 @@ use Rattle.wire_content.specs.Scripts.{Scripts}
 use Rattle.wire_content.specs.Planned.{plan_of}
 use Rattle.wire_fence.specs.FenceTable.{FenceInfo, FenceTable, fence_at}
 use Rattle.wire_runs.specs.Order.{Edge, IsArrival, may_come}
+use Rattle.wire_runs.proofs.Lists.{slice_get_push_cases}
 use Rattle.wire_plan.specs.Index.{AreSources, AreArrivals, AwaitsCommit, AwaitsPublish, Awaits, IsAwaited, previous_at, previous_of}
 use Rattle.wire_plan.specs.Meetings.{fence_members}
 use Rattle.wire_marks.specs.declared.joins.Meeting.{Meeting}
@@ -434,17 +435,11 @@ next_met s table old new p n number previous awaited xs based may are before wai
 pub added_none : (meetings : List Meeting) → AreAdded meetings meetings
 added_none meetings = λ n meeting e. inl e
 
-last_or_old : (xs : List Meeting) (x : Meeting) (n : ℕ) (v : Meeting) → slice_get (xs ++ x ∷ []) n ≡ Some v → (slice_get xs n ≡ Some v) ⊎ (x ≡ v)
-last_or_old [] x zero v e = inr (same_Some _ _ e)
-last_or_old [] x (suc n) v e = absurd (let lt = slice_get_within {A = Meeting} [] n v e in omega (arith, lt))
-last_or_old (y ∷ xs) x zero v e = inl e
-last_or_old (y ∷ xs) x (suc n) v e = last_or_old xs x n v e
-
 -- one more meeting is there
 pub added_push : (old meetings : List Meeting) (x : Meeting) → IsEmpty x → AreAdded old meetings → AreAdded old (meetings ++ x ∷ [])
-added_push old meetings x fresh h = λ n meeting e. elim (last_or_old meetings x n meeting e) [
+added_push old meetings x fresh h = λ n meeting e. elim (slice_get_push_cases meetings x n meeting e) [
   | inl was ↦ h n meeting was
-  | inr same ↦ inr (subst (λ m. IsEmpty m) same fresh)
+  | inr last ↦ inr (subst (λ m. IsEmpty m) last.1 fresh)
 ]
 
 -- what stands at the number of a fence is right, once there is something

@@ -7,7 +7,7 @@ use Rattle.wire_runs.specs.Plan.{Plan, kind}
 use Rattle.wire_runs.specs.Order.{Edge, Follows, may_come, Live, live, Before, edge, further}
 use Rattle.wire_runs.proofs.Marks.{live_least}
 use Rattle.wire_runs.proofs.Due.{live_source, place_path}
-use Rattle.wire_runs.proofs.Histories.{same_process}
+use Rattle.wire_runs.proofs.Histories.{same_process, joined}
 use Rattle.wire_marks.specs.Clocks.{own_of, LeadsTo, IsClock}
 use Rattle.wire_marks.specs.Marking.{IsReady, AllLive, IsStuck, IsBase}
 
@@ -41,17 +41,13 @@ pub last_source : {plan : Plan} {x y : Event} → Before plan x y → (z : Event
 last_source (edge {x} {y} l e m) = (x, e, inl refl)
 last_source (further {x} {y} {z} b e m) = (y, e, inr b)
 
-pub join_before : {plan : Plan} {x y z : Event} → Before plan x y → Before plan y z → Before plan x z
-join_before a (edge l e m) = further a e m
-join_before a (further b e m) = further (join_before a b) e m
-
 same_place : (x y : Event) → x.proc ≡ y.proc → x.at ≡ y.at → x ≡ y
 same_place x y a b = place_path x y.proc y.at a b
 
 pub leads_through : {plan : Plan} {x y z : Event} → LeadsTo plan x y → LeadsTo plan y z → LeadsTo plan x z
 leads_through {plan} {x} {y} {z} (inl e) l = subst (λ v. LeadsTo plan v z) (sym e) l
 leads_through {plan} {x} {y} {z} (inr b) (inl e) = inr (subst (λ v. Before plan x v) e b)
-leads_through (inr b) (inr c) = inr (join_before b c)
+leads_through (inr b) (inr c) = inr (joined b c)
 
 -- what an event counts of its own process
 pub own_here : (y : Event) → own_of y y.proc ≡ suc y.at

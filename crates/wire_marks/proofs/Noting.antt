@@ -1,22 +1,21 @@
 -- How the lists of publishes and unpublishes grow.
-use Rattle.std.proofs.Common.{◌≡◌, ◌∙◌, ◌⊎◌, ap, refl, sym, subst, ℕ, zero, suc, ◌<◌, ◌≤◌, ◌-◌, List, [], ◌∷◌, ◌++◌, true, false, Option}
-use Rattle.std.proofs.Common.{Some, None, length, length-append, arith, inl, inr, ⊎_elim, map, get_or, eq-eqb, eqb-true, ne_eqb}
-use Rattle.std.specs.Prelude.{slice_get, slice_set, option_map, if◌then◌else◌, ◌==◌, ◌≢◌, Vec}
-use Rattle.std.specs.declared.alloc.Global.{Global}
+use Rattle.std.proofs.Common.{◌≡◌, ◌∙◌, ◌⊎◌, ap, refl, sym, subst, ℕ, ◌<◌, ◌-◌, List, [], ◌∷◌, ◌++◌, true, false, Option}
+use Rattle.std.proofs.Common.{Some, None, length, length-append, arith, inl, inr, ⊎_elim, eq-eqb, eqb-true, ne_eqb}
+use Rattle.std.specs.Prelude.{slice_get, option_map, if◌then◌else◌, ◌==◌, ◌≢◌}
 use Rattle.std.proofs.lemmas.Bool.{cases_Bool, cases_eq, true≢false, cond-true, cond-false}
 use Rattle.wire_runs.specs.Plan.{Plan, Event, Kind, Publish, Unpublish, UnpublishAll, kind, event_of, event_count}
 use Rattle.wire_runs.specs.Names.{writes_name, publishes}
 use Rattle.wire_runs.specs.Step.{name_after, is_publisher}
 use Rattle.wire_runs.specs.Order.{Edge, Before, edge, further}
-use Rattle.wire_runs.specs.Fate.{IsIn, left_by}
-use Rattle.wire_runs.proofs.EventLists.{at_end}
+use Rattle.wire_runs.specs.Fate.{left_by}
 use Rattle.wire_runs.proofs.Due.{named_after}
+use Rattle.wire_runs.proofs.Lists.{slice_get_push_last}
 use Rattle.wire_plan.proofs.Published.{publisher}
 use Rattle.wire_plan.specs.Kinds.{kind_of}
 use Rattle.wire_plan.specs.declared.Kind.{Kind as CodeKind}
 use Rattle.wire_plan.specs.declared.Kind.TheVariants as code
 use Rattle.wire_marks.specs.declared.updates.Update.{Update}
-use Rattle.wire_marks.specs.Updates.{standing_after, standing_in, after_publish, after_unpublish, IsFalling, AreChanges, AreUpdates, IsNoted, IsSwept, IsCleared}
+use Rattle.wire_marks.specs.Updates.{standing_after, standing_in, after_publish, after_unpublish, AreChanges, AreUpdates, IsNoted, IsSwept, IsCleared}
 
 -- of what has its sources, all that is before it
 pub chain_within : {plan : Plan} (count : ℕ → ℕ) {x y : Event} → ((x y : Event) → Edge plan x y → y.at < count y.proc → x.at < count x.proc) → Before plan x y → y.at < count y.proc →
@@ -42,10 +41,10 @@ updates_same plan was now name us there back are = record {
   changes = are.changes;
 }
 
-standing_last : (us : List Update) (u : Update) → standing_in (us ++ u ∷ []) ≡ option_map event_of u.standing
+pub standing_last : (us : List Update) (u : Update) → standing_in (us ++ u ∷ []) ≡ option_map event_of u.standing
 standing_last us u =
     let last : length (us ++ u ∷ []) - 1 ≡ length us = omega (arith, length-append us (u ∷ [])) in
-    ap (λ i. standing_after (slice_get (us ++ u ∷ []) i)) last ∙ ap standing_after (at_end us u)
+    ap (λ i. standing_after (slice_get (us ++ u ∷ []) i)) last ∙ ap standing_after (slice_get_push_last us u)
 
 -- the last of the updates tells what stands
 pub standing_all : (plan : Plan) (name : ℕ) (calls : List Event) (us : List Update) → AreChanges plan name calls us → standing_in us ≡ left_by plan name calls

@@ -3,16 +3,8 @@ use Rattle.std.proofs.Common.{◌≡◌, ◌⊎◌, inl, inr, ℕ, zero, suc, Li
 use Rattle.std.specs.Prelude.{slice_get}
 use Rattle.std.proofs.lemmas.Option.{slice_get_within, same_Some}
 use Rattle.wire_runs.specs.Plan.{Event}
-use Rattle.wire_runs.specs.EventLists.{IsLower, AreAll}
-
-lower_both : (x y : Event) → IsLower x y → IsLower y x → ⊥
-lower_both x y (inl a) (inl b) = omega (arith, a, b)
-lower_both x y (inl a) (inr b) = let e = b.0 in omega (arith, a, e)
-lower_both x y (inr a) (inl b) = let e = a.0 in omega (arith, e, b)
-lower_both x y (inr a) (inr b) = let f = a.1 in let g = b.1 in omega (arith, f, g)
-
-lower_self : (x : Event) → IsLower x x → ⊥
-lower_self x l = lower_both x x l l
+use Rattle.wire_runs.specs.EventLists.{AreAll}
+use Rattle.wire_runs.proofs.EventLists.{lower_not_same, lower_one_way}
 
 pub at_head : (y z : Event) (ys : List Event) (k : ℕ) → slice_get (y ∷ ys) k ≡ Some z → (z ≡ y) ⊎ ((j : ℕ) × (k ≡ suc j) × (slice_get ys j ≡ Some z))
 at_head y z ys zero e = inl (sym (same_Some _ _ e))
@@ -27,13 +19,13 @@ same_head holds x y xs ys a b =
       | inl e ↦ e
       | inr behind ↦ elim (at_head x y xs there.0 there.1) [
         | inl e ↦ sym e
-        | inr after ↦ absurd (lower_both x y (a.rising 0 (suc after.0) x y (omega arith) refl after.2) (b.rising 0 (suc behind.0) y x (omega arith) refl behind.2))
+        | inr after ↦ absurd (lower_one_way x y (a.rising 0 (suc after.0) x y (omega arith) refl after.2) (b.rising 0 (suc behind.0) y x (omega arith) refl behind.2))
       ]
     ]
 
 rest_all : (holds : Event → Type 0) (x : Event) (xs : List Event) → AreAll holds (x ∷ xs) → AreAll (λ z. holds z × (z ≡ x → ⊥)) xs
 rest_all holds x xs a = record {
-  only = λ k z e. (a.only (suc k) z e, λ same. lower_self x (subst (λ v. IsLower x v) same (a.rising 0 (suc k) x z (omega arith) refl e)));
+  only = λ k z e. (a.only (suc k) z e, λ same. lower_not_same x z (a.rising 0 (suc k) x z (omega arith) refl e) same);
   all = λ z h. let w = a.all z h.0 in elim (at_head x z xs w.0 w.1) [ inl e ↦ absurd (h.1 e) | inr r ↦ (r.0, r.2) ];
   rising = λ k l y z lt e f. a.rising (suc k) (suc l) y z (omega (arith, lt)) e f;
 }

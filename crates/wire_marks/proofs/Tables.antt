@@ -1,5 +1,5 @@
 -- Lists of vectors, one place changed.
-use Rattle.std.proofs.Common.{◌≡◌, ℕ, zero, suc, ◌<◌, List, [], ◌∷◌, ◌++◌, Some, length, slice_set, refl, ap, arith}
+use Rattle.std.proofs.Common.{◌≡◌, ℕ, zero, suc, ◌<◌, List, [], ◌∷◌, Some, length, slice_set, refl, ap, arith}
 use Rattle.std.specs.Prelude.{slice_get}
 
 pub slice_get-set_same : {A : Type 0} (xs : List A) (i : ℕ) (v : A) → i < length xs → slice_get (slice_set xs i v) i ≡ Some v
@@ -13,14 +13,3 @@ slice_get-set_other (x ∷ xs) zero zero v ne = absurd (ne refl)
 slice_get-set_other (x ∷ xs) zero (suc j) v ne = refl
 slice_get-set_other (x ∷ xs) (suc i) zero v ne = refl
 slice_get-set_other (x ∷ xs) (suc i) (suc j) v ne = slice_get-set_other xs i j v (λ e. ne (ap suc e))
-
-pub slice_get-append_left : {A : Type 0} (xs ys : List A) (i : ℕ) → i < length xs → slice_get (xs ++ ys) i ≡ slice_get xs i
-slice_get-append_left [] ys i lt = absurd (omega (arith, lt))
-slice_get-append_left (x ∷ xs) ys zero lt = refl
-slice_get-append_left (x ∷ xs) ys (suc i) lt = slice_get-append_left xs ys i (omega (arith, lt))
-
-pub slice_get-append_last : {A : Type 0} (xs : List A) (v : A) (i : ℕ) → i ≡ length xs → slice_get (xs ++ v ∷ []) i ≡ Some v
-slice_get-append_last [] v zero e = refl
-slice_get-append_last [] v (suc i) e = absurd (omega (arith, e))
-slice_get-append_last (x ∷ xs) v zero e = absurd (omega (arith, e))
-slice_get-append_last (x ∷ xs) v (suc i) e = slice_get-append_last xs v i (omega (arith, e))

@@ -1,5 +1,5 @@
 -- The table of names, one name at a time.
-use Rattle.std.proofs.Common.{◌≡◌, ◌∙◌, ℕ, zero, suc, ◌+◌, ◌<◌, List, [], ◌∷◌, ◌++◌, length, map, take, drop, cond, ◌==◌, Option, Some, None, get_or, add-one, inl, inr, refl, sym, ap, arith}
+use Rattle.std.proofs.Common.{◌≡◌, ◌∙◌, ℕ, ◌<◌, List, length, cond, ◌==◌, Option, Some, None, get_or, inl, inr, refl, sym, ap}
 use Rattle.std.proofs.lemmas.Bool.{cases_eq, eq-eqb, ne_eqb}
 use Rattle.std.proofs.lemmas.List.{length-map, length-set, get_or-set_same, get_or-set_other}
 use Rattle.std.proofs.Math.ListN.{set, get_or-map}
@@ -34,17 +34,3 @@ names_follow call (Some UnpublishAll) names has = record {
   each = λ other. get_or-map (after_unpublish call.proc.number) names other None;
 }
 names_follow call _ names has = record { count = refl; each = λ other. refl }
-
--- one element more of a list is mapped
-set_mapped : {A : Type 0} (f : A → A) (xs : List A) (i : ℕ) (d : A) → i < length xs → set (map f (take i xs) ++ drop i xs) i (f (get_or (map f (take i xs) ++ drop i xs) i d)) ≡ map f (take (suc i) xs)
-    ++ drop (suc i) xs
-set_mapped f [] i d low = absurd (omega (arith, low))
-set_mapped f (x ∷ xs) zero d low = refl
-set_mapped f (x ∷ xs) (suc i) d low = ap (λ zs. f x ∷ zs) (set_mapped f xs i d (omega (arith, low)))
-
-pub map_step : {A : Type 0} (f : A → A) (xs ys : List A) (i : ℕ) (d : A) → i < length xs → ys ≡ map f (take i xs) ++ drop i xs → set ys i (f (get_or ys i d)) ≡ map f (take (i + 1) xs)
-    ++ drop (i + 1) xs
-map_step f xs ys i d low e =
-    ap (λ zs. set zs i (f (get_or zs i d))) e
-    ∙ set_mapped f xs i d low
-    ∙ ap (λ n. map f (take n xs) ++ drop n xs) (sym (add-one i))

@@ -1,22 +1,17 @@
 -- A table of processes by their texts, filled process by process.
-use Rattle.std.proofs.Common.{◌≡◌, ◌∙◌, ap, sym, refl, subst, ℕ, zero, suc, ◌+◌, ◌<◌, inl, inr, Bool, true, false, true≢false, cond, not, List, [], ◌∷◌, ◌++◌, length, take, get_or, add-one, position}
-use Rattle.std.proofs.Common.{Option, Some, None, option_map, is_some, if◌then◌else◌, arith}
+use Rattle.std.proofs.Common.{◌≡◌, ◌∙◌, ap, sym, refl, subst, ℕ, suc, ◌+◌, ◌<◌, inl, inr, Bool, true, false, true≢false, cond, not, List, [], ◌∷◌, ◌++◌, length, take, get_or, add-one, position}
+use Rattle.std.proofs.Common.{Option, Some, None, option_map, is_some, if◌then◌else◌, arith, take-suc}
 use Rattle.std.specs.Prelude.{nat_lt}
 use Rattle.std.specs.Option.{option_or}
 use Rattle.std.specs.List.{position_or_len}
 use Rattle.std.specs.Str.{bytes_eq}
 use Rattle.std.specs.HashMap.{HashMap, get_by, Updates}
 use Rattle.std.specs.Map.{lookup, IsKeyTest, AreApart, KeepsOthers}
-use Rattle.std.proofs.lemmas.Bool.{cases_Bool, cases_lt}
+use Rattle.std.proofs.lemmas.Bool.{cases_Bool}
 use Rattle.std.proofs.lemmas.List.{length-take}
 use Rattle.std.proofs.lemmas.Slice.Eq.{bytes_eq-Decides}
-use borrow.Author.Tests.{lt-ltb, le-ltb}
-
-less_both : (n m : ℕ) → nat_lt (1 + n) (suc m) ≡ nat_lt n m
-less_both n m = elim (cases_lt n m) [
-  | inl low ↦ lt-ltb (1 + n) (suc m) (omega (arith, low)) ∙ sym (lt-ltb n m low)
-  | inr high ↦ le-ltb (1 + n) (suc m) (omega (arith, high)) ∙ sym (le-ltb n m high)
-]
+use Rattle.wire_runs.proofs.Lists.{less_both}
+use borrow.Author.Tests.{lt-ltb}
 
 -- the first place is here, or one further than in the rest
 position_cons : {X : Type 0} (t : X → Bool) (x : X) (xs : List X) → position t (x ∷ xs) ≡ cond (t x) (Some 0) (option_map suc (position t xs))
@@ -52,18 +47,13 @@ position_push t (y ∷ ys) x =
     go false None c = last c (length ys)
     go false (Some n) c = refl
 
-take_more : {X : Type 0} (xs : List X) (i : ℕ) (d : X) → i < length xs → take (suc i) xs ≡ take i xs ++ get_or xs i d ∷ []
-take_more [] i d low = absurd (omega (arith, low))
-take_more (x ∷ xs) zero d low = refl
-take_more (x ∷ xs) (suc i) d low = ap (λ ys. x ∷ ys) (take_more xs i d (omega (arith, low)))
-
 -- what is found among one more
 pub position_more : {X : Type 0} (t : X → Bool) (xs : List X) (i : ℕ) (d : X) → i < length xs
     → position t (take (i + 1) xs) ≡ option_or (position t (take i xs)) (if t (get_or xs i d) then Some i else None)
 position_more t xs i d low =
     let all : length (take i xs) ≡ i = omega (arith, low, length-take i xs) in
     ap (λ n. position t (take n xs)) (add-one i)
-    ∙ ap (position t) (take_more xs i d low)
+    ∙ ap (position t) (take-suc xs i d low)
     ∙ position_push t (take i xs) (get_or xs i d)
     ∙ ap (λ n. option_or (position t (take i xs)) (if t (get_or xs i d) then Some n else None)) all
 
@@ -75,9 +65,6 @@ position_next t xs i x low here old new b n so_far same at e =
     ∙ (λ j. option_or (so_far j) (if same j then Some (at j) else None))
     ∙ ap (λ y. option_or (position t (take i xs)) (if t y then Some i else None)) here
     ∙ sym (position_more t xs i x low)
-
-is_same : (x y : List ℕ) → bytes_eq x y ≡ true → x ≡ y
-is_same x y e = (bytes_eq-Decides x y).0 e
 
 -- whether two keys have the same bytes
 abbrev same_bytes : {K : Type 0} → (K → List ℕ) → K → K → Bool
@@ -93,18 +80,18 @@ module _ {K X S : Type 0} (bytes : K → List ℕ) where
   pub found_after : (m n : HashMap K X S) (k : K) (v : X) → Updates (same_bytes bytes) m n k (Some v) → (text : List ℕ)
       → get_by (λ q. bytes_eq text (bytes q)) n ≡ (if bytes_eq text (bytes k) then Some v else get_by (λ q. bytes_eq text (bytes q)) m)
   found_after m n k v h text = elim (cases_Bool (bytes_eq text (bytes k))) [
-    | inl t ↦ rw t (subst (λ (w : List ℕ). get_by (λ q. bytes_eq w (bytes q)) n ≡ Some v) (sym (is_same text (bytes k) t)) h.1)
+    | inl t ↦ rw t (subst (λ (w : List ℕ). get_by (λ q. bytes_eq w (bytes q)) n ≡ Some v) (sym ((bytes_eq-Decides text (bytes k)).0 t)) h.1)
     | inr f ↦
         rw f (kept bytes (same_bytes bytes k) (λ q. bytes_eq text (bytes q)) m.entries n.entries h.3
-        (λ x y e. ap (λ t. bytes_eq t (bytes y)) (is_same text (bytes x) e))
-        (λ q e. ap (bytes_eq text) (sym (is_same (bytes k) (bytes q) e)) ∙ f))
+        (λ x y e. ap (λ t. bytes_eq t (bytes y)) ((bytes_eq-Decides text (bytes x)).0 e))
+        (λ q e. ap (bytes_eq text) (sym ((bytes_eq-Decides (bytes k) (bytes q)).0 e)) ∙ f))
   ]
 
 module _ {X : Type 0} (number : X → ℕ) (text word : List ℕ) where
   -- a word that has a process keeps it
   pub number_stays : (f : List ℕ → Option X) (v : ℕ) → is_some (f word) ≡ true
       → option_map number (f text) ≡ option_or (option_map number (f text)) (if bytes_eq text word then Some v else None)
-  number_stays f v there = go (f text) (bytes_eq text word) (λ t. ap (λ w. is_some (f w)) (is_same text word t) ∙ there)
+  number_stays f v there = go (f text) (bytes_eq text word) (λ t. ap (λ w. is_some (f w)) ((bytes_eq-Decides text word).0 t) ∙ there)
     where
       go : (o : Option X) (b : Bool) → (b ≡ true → is_some o ≡ true) → option_map number o ≡ option_or (option_map number o) (cond b (Some v) None)
       go (Some x) b h = refl
@@ -114,7 +101,7 @@ module _ {X : Type 0} (number : X → ℕ) (text word : List ℕ) where
   -- a word that has none is given one
   pub number_comes : (f : List ℕ → Option X) (found : Option X) (v : X) → is_some (f word) ≡ false → found ≡ (if bytes_eq text word then Some v else f text)
       → option_map number found ≡ option_or (option_map number (f text)) (if bytes_eq text word then Some (number v) else None)
-  number_comes f found v none e = ap (option_map number) e ∙ go (f text) (bytes_eq text word) (λ t. ap (λ w. is_some (f w)) (is_same text word t) ∙ none)
+  number_comes f found v none e = ap (option_map number) e ∙ go (f text) (bytes_eq text word) (λ t. ap (λ w. is_some (f w)) ((bytes_eq-Decides text word).0 t) ∙ none)
     where
       go : (o : Option X) (b : Bool) → (b ≡ true → is_some o ≡ false) → option_map number (cond b (Some v) o) ≡ option_or (option_map number o) (cond b (Some (number v)) None)
       go None true h = refl

@@ -1,10 +1,11 @@
 -- What trails tell is what became of the calls.
-use Rattle.std.proofs.Common.{◌≡◌, ◌∙◌, ap, sym, refl, ℕ, zero, suc, ◌-◌, ◌<◌, ◌≤◌, List, [], ◌∷◌, ◌++◌, ◌&&◌, length, map, cond, Bool, true, false, not, Option, Some, None, Vec, Global, arith, inl}
-use Rattle.std.proofs.Common.{inr, lt-ltb, ltb-true}
+use Rattle.std.proofs.Common.{◌≡◌, ◌∙◌, ap, sym, refl, ℕ, zero, suc, ◌-◌, ◌<◌, List, [], ◌∷◌, ◌++◌, ◌&&◌, length, map, cond, not, Option, Some, None, Vec, Global, arith, ◌+◌}
+use Rattle.std.proofs.Common.{lt-ltb}
 use Rattle.std.specs.Prelude.{slice_get, nat_lt, is_some}
-use Rattle.std.proofs.lemmas.Bool.{cases_lt, false_from_ne_true}
+use Rattle.std.proofs.lemmas.Bool.{le-ltb}
 use Rattle.std.proofs.lemmas.Option.{slice_get_past}
 use Rattle.std.proofs.lemmas.List.Concat.{flat_map-cons}
+use Rattle.std.proofs.Math.Bool.{and-true}
 use Rattle.wire_types.specs.declared.CallEnd.TheVariants.{Replied}
 use Rattle.wire_content.specs.Scripts.{Scripts}
 use Rattle.wire_content.specs.Planned.{plan_of}
@@ -15,6 +16,7 @@ use Rattle.wire_runs.specs.Ends.{given, replies_of, calls_of, unanswered, row, r
 use Rattle.wire_runs.specs.Races.{IsSettled}
 use Rattle.wire_runs.proofs.Known.{reachable_known}
 use Rattle.wire_runs.proofs.Fates.{fates_tell}
+use Rattle.wire_runs.proofs.Lists.{less_both}
 use Rattle.wire_races.specs.declared.Fate.{Fate}
 use Rattle.wire_races.specs.Fates.{answer_told, fate_told}
 use Rattle.wire_board.specs.Cuts.{IsReachedCut}
@@ -68,28 +70,18 @@ rows_are plan s trails (suc n) end said =
     let last : told_row (trail_of trails n) (length (calls_of plan n)) ≡ row plan s n = λ i. map Replied (same i) ++ unanswered (sym (end n) i) (length (calls_of plan n) - length (same i)) in
     λ i. before i ++ last i ∷ []
 
-not_lt : (i n : ℕ) → n ≤ i → nat_lt i n ≡ false
-not_lt i n ge = false_from_ne_true _ (λ h. let lt = ltb-true i n h in omega (arith, lt, ge))
-
 same_lt : (i n : ℕ) → nat_lt (suc i) (suc n) ≡ nat_lt i n
-same_lt i n = elim (cases_lt i n) [
-  | inl lt ↦ lt-ltb (suc i) (suc n) (omega (arith, lt)) ∙ sym (lt-ltb i n lt)
-  | inr ge ↦ not_lt (suc i) (suc n) (omega (arith, ge)) ∙ sym (not_lt i n ge)
-]
+same_lt i n = let one : suc i ≡ 1 + i = omega arith in ap (λ k. nat_lt k (suc n)) one ∙ less_both i n
 
 some_within : {A : Type 0} (xs : List A) (i : ℕ) → nat_lt i (length xs) ≡ is_some (slice_get xs i)
-some_within {A = A} [] i = let past : slice_get {X = A} [] i ≡ None = slice_get_past [] i (omega arith) in not_lt i 0 (omega arith) ∙ sym (ap (is_some {T = A}) past)
+some_within {A = A} [] i = let past : slice_get {X = A} [] i ≡ None = slice_get_past [] i (omega arith) in le-ltb i 0 (omega arith) ∙ sym (ap (is_some {T = A}) past)
 some_within (x ∷ xs) zero = lt-ltb 0 (suc (length xs)) (omega arith)
 some_within (x ∷ xs) (suc i) = same_lt i (length xs) ∙ some_within xs i
-
-and_true : (b : Bool) → b ≡ (b && true)
-and_true true = refl
-and_true false = refl
 
 short_waits : (plan : Plan) (s : State) (p done : ℕ) → IsEnd plan s → done ≡ s.done p → nat_lt done (event_count plan p) ≡ is_waiting plan s p
 unfolding event_count kind_at
 short_waits plan s p done end is =
-    ap (λ n. nat_lt n (event_count plan p)) is ∙ some_within (kinds plan p) (s.done p) ∙ and_true _ ∙ (λ i. is_some (kind_at plan p (s.done p)) && not (sym (end p) i))
+    ap (λ n. nat_lt n (event_count plan p)) is ∙ some_within (kinds plan p) (s.done p) ∙ sym (and-true _) ∙ (λ i. is_some (kind_at plan p (s.done p)) && not (sym (end p) i))
 
 waiting_is : (plan : Plan) (s : State) (trails : List (Vec Fate Global)) (n : ℕ) → IsEnd plan s → AsLong s trails n → told_waiting plan trails n ≡ waiting_below plan s n
 waiting_is plan s trails zero end long = refl

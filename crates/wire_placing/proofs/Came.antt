@@ -1,16 +1,12 @@
 -- What came from a reader that was asked for one byte more than a file may have, read with the lines of its calls.
-use Rattle.std.proofs.Common.{◌≡◌, ◌∙◌, subst, refl, ℕ, ◌+◌, List, take, ◌⊎◌, inl, inr, arith, Option, Some, None, Result, Ok, Err, IfSome, IfOk, IfErr}
+use Rattle.std.proofs.Common.{◌≡◌, ◌∙◌, subst, refl, ℕ, ◌+◌, List, take, inl, inr, arith, Option, Some, None, Result, Ok, Err, IfSome, IfOk}
 use Rattle.std.proofs.lemmas.List.{length-take, take_all}
 use Rattle.wire_types.specs.declared.Fault.{Fault}
-use Rattle.wire_types.specs.declared.Fault.TheVariants.{Memory, Read}
 use Rattle.wire_content.specs.Scripts.{Scripts}
 use Rattle.wire_script.specs.declared.Size.{Size}
 use Rattle.wire_script.specs.Limits.{file_bytes}
 use Rattle.wire_script.specs.Reads.{Reads}
 use Rattle.wire_script.specs.Located.{AreCallLines}
-use Rattle.wire_commands.specs.Plain.{Refuses}
-use Rattle.wire_commands.proofs.Came.{refuses}
-use Rattle.wire_commands.proofs.FileFaults.{not_read}
 use Rattle.wire_placing.specs.Placed.{ReadPlaced}
 use Rattle.wire_placing.proofs.Fits.{rows_fit}
 
@@ -39,19 +35,3 @@ pub placed_ok : {A : Type 0} (size : Size) (coming : Option (List ℕ)) (bytes s
     IfOk r (λ x. AreCallLines size shown (rows x.1)) → IfOk r (λ x. ReadPlaced size coming x.0 (rows x.1))
 placed_ok size coming bytes shown rows (Ok x) same front reads lines = read_placed coming bytes shown x.0 (rows x.1) same front reads lines
 placed_ok size coming bytes shown rows (Err e) same front reads lines = tt
-
-placed_fault : {size : Size} (coming : Option (List ℕ)) (bytes shown : List ℕ) (e : Fault) → shown ≡ bytes →
-    IfSome coming (λ all. bytes ≡ take (file_bytes size + 1) all) → (e ≡ Memory) ⊎ Reads size shown (Err e) → (e ≡ Memory)
-    ⊎ ((e ≡ Read) ⊎ Refuses size coming e)
-placed_fault coming bytes shown e same front (inl memory) = inl memory
-placed_fault coming bytes shown e same front (inr reads) = inr (inr (refuses coming bytes shown e same front reads))
-
-pub placed_err : {A : Type 0} (size : Size) (coming : Option (List ℕ)) (bytes shown : List ℕ) (r : Result A Fault) → shown ≡ bytes → IfSome coming (λ all. bytes ≡ take (file_bytes size + 1) all) →
-    IfErr r (λ e. (e ≡ Memory) ⊎ Reads size shown (Err e)) → IfErr r (λ e. (e ≡ Memory) ⊎ ((e ≡ Read) ⊎ Refuses size coming e))
-placed_err size coming bytes shown (Ok x) same front reads = tt
-placed_err size coming bytes shown (Err e) same front reads = placed_fault coming bytes shown e same front reads
-
--- a fault of a file is no failed read
-pub no_read_of_file : {A : Type 0} (size : Size) (bytes : List ℕ) (r : Result A Fault) → IfErr r (λ e. (e ≡ Memory) ⊎ Reads size bytes (Err e)) → r ≡ Err Read → ⊥
-no_read_of_file size bytes (Ok x) told is = let bad : Ok x ≡ Err Read = is in cc
-no_read_of_file size bytes (Err e) told is = let same : e ≡ Read = cc in not_read size bytes e told same

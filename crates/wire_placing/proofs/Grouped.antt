@@ -1,5 +1,5 @@
 -- From what the parts of a check in groups tell to what it tells.
-use Rattle.std.proofs.Common.{◌≡◌, ◌∙◌, ◌↔◌, sym, refl, subst, ap, ℕ, Bool, true, false, List, [], Option, Result, Ok, Err, IfOk}
+use Rattle.std.proofs.Common.{◌≡◌, ◌∙◌, ◌↔◌, sym, refl, subst, ap, ℕ, Bool, List, [], Option, Result, Ok, Err, IfOk}
 use Rattle.std.specs.Io.KnownBytes.{Appends}
 use Rattle.wire_types.specs.declared.Fault.{Fault}
 use Rattle.wire_content.specs.Scripts.{Scripts}

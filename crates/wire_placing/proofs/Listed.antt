@@ -1,23 +1,16 @@
 -- The texts of the first of a list, and of one more; and what is appended one after another.
-use Rattle.std.proofs.Common.{◌≡◌, ◌∙◌, ap, sym, refl, ℕ, zero, suc, ◌+◌, ◌<◌, List, [], ◌∷◌, ◌++◌, map, take, drop}
-use Rattle.std.proofs.Common.{length, append_assoc, slice_index_or, Some, Result, Ok, Err, OnOk, Vec, Global, arith}
+use Rattle.std.proofs.Common.{◌≡◌, ◌∙◌, ap, sym, refl, ℕ, suc, ◌+◌, List, [], ◌∷◌, ◌++◌, map, take}
+use Rattle.std.proofs.Common.{append_assoc, Some, Result, Ok, Err, OnOk, Vec, Global, arith}
 use Rattle.std.specs.Prelude.{slice_get}
 use Rattle.std.specs.declared.alloc.AllocError.{AllocError}
-use Rattle.std.proofs.Math.Seq.{drop-cons}
 use Rattle.std.proofs.lemmas.List.{map-append}
-use Rattle.std.proofs.lemmas.Option.{same_Some, slice_get_within}
-
--- one more of a list
-next : {X : Type 0} (xs : List X) (i : ℕ) (x : X) → slice_get xs i ≡ Some x → take (suc i) xs ≡ take i xs ++ x ∷ []
-next [] i x is = let within = slice_get_within [] i x is in absurd (omega (arith, within))
-next (y ∷ ys) zero x is = ap (λ z. z ∷ []) (same_Some y x is)
-next (y ∷ ys) (suc i) x is = ap (λ t. y ∷ t) (next ys i x is)
+use Rattle.wire_runs.proofs.Lists.{take_get}
 
 pub one_more_text : {X : Type 0} (f : X → List ℕ) (xs : List X) (i : ℕ) (x : X) (texts later : List (Vec ℕ Global)) (text : Vec ℕ Global) → slice_get xs i ≡ Some x →
     map (λ t. t.items) texts ≡ map f (take i xs) → later ≡ texts ++ text ∷ [] → text.items ≡ f x → map (λ t. t.items) later ≡ map f (take (i + 1) xs)
 one_more_text f xs i x texts later text there so_far at is =
     let more : suc i ≡ i + 1 = omega arith in
-    ap (map (λ t. t.items)) at ∙ map-append (λ t. t.items) texts (text ∷ []) ∙ (λ k. so_far k ++ is k ∷ []) ∙ sym (map-append f (take i xs) (x ∷ [])) ∙ ap (map f) (sym (next xs i x there))
+    ap (map (λ t. t.items)) at ∙ map-append (λ t. t.items) texts (text ∷ []) ∙ (λ k. so_far k ++ is k ∷ []) ∙ sym (map-append f (take i xs) (x ∷ [])) ∙ ap (map f) (sym (take_get xs i x there))
     ∙ ap (λ n. map f (take n xs)) more
 
 -- six texts, one after another

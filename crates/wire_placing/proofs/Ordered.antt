@@ -1,7 +1,7 @@
 -- From what the chains between two events tell to what is written of two calls, with their places.
-use Rattle.std.proofs.Common.{◌≡◌, sym, subst, ℕ, Bool, true, false, List}
+use Rattle.std.proofs.Common.{◌≡◌, ℕ, Bool, true, false, List}
 use Rattle.wire_types.specs.declared.CallAt.{CallAt}
-use Rattle.wire_runs.specs.Plan.{Plan, Event}
+use Rattle.wire_runs.specs.Plan.{Event}
 use Rattle.wire_runs.specs.Order.{Before}
 use Rattle.wire_runs.specs.Ends.{first_event}
 use Rattle.wire_content.specs.Scripts.{Scripts}

@@ -1,31 +1,22 @@
 -- The call that an event is part of.
-use Rattle.std.proofs.Common.{ltb, ◌≡◌, ◌∙◌, ap, sym, refl, subst, ℕ, zero, suc, ◌+◌, ◌-◌, ◌<◌, ◌≤◌, List, [], ◌∷◌, ◌++◌, length, map, take, Bool, true, false, cond, Option, Some, None, arith, ◌⊎◌}
+use Rattle.std.proofs.Common.{ltb, ◌≡◌, ◌∙◌, ap, sym, refl, subst, ℕ, zero, suc, ◌+◌, ◌-◌, ◌≤◌, List, [], ◌∷◌, ◌++◌, length, map, take, Bool, true, false, cond, Option, Some, None, arith, ◌⊎◌}
 use Rattle.std.proofs.Common.{inl, inr, length-append}
-use Rattle.std.specs.Prelude.{slice_get, option_map}
+use Rattle.std.specs.Prelude.{slice_get}
 use Rattle.std.proofs.lemmas.Bool.{cases_lt, cond_below, cond_above}
-use Rattle.std.proofs.lemmas.Option.{slice_get-map, slice_get_within, same_Some}
-use Rattle.wire_runs.specs.Plan.{Plan, Call, CallFixed, Kind, Arrive, Leave, Publish, Unpublish, kinds_of, kinds, kind_at, process_kinds, set_of}
+use Rattle.std.proofs.lemmas.Option.{slice_get_within, same_Some}
+use Rattle.wire_runs.specs.Plan.{Call, CallFixed, Kind, Arrive, Leave, Publish, Unpublish, kinds_of, kind_at, set_of}
 use Rattle.wire_runs.specs.Plan as plan
 use Rattle.wire_types.specs.declared.Call.{Call as Written}
 use Rattle.wire_types.specs.declared.Call.TheVariants as written
 use Rattle.wire_types.specs.declared.Reply.{Reply}
-use Rattle.wire_content.specs.Scripts.{Process, Scripts, calls_in, call_at, set_at, text_at, name_in}
-use Rattle.wire_content.specs.Planned.{planned_call, planned_process, plan_of}
+use Rattle.wire_content.specs.Scripts.{Scripts, calls_in, call_at, set_at, text_at, name_in}
+use Rattle.wire_content.specs.Planned.{planned_call, plan_of}
 use Rattle.wire_content.specs.Said.{is_reserved}
-use Rattle.wire_runs.specs.Ends.{call_number, call_size, calls_of, process_calls}
+use Rattle.wire_runs.specs.Ends.{call_number, call_size, calls_of}
+use Rattle.wire_runs.proofs.Lists.{slice_get-append_left, slice_get-append_right}
+use Rattle.wire_content.proofs.PlannedCalls.{events_are, calls_are}
 use Rattle.wire_plan.proofs.Planning.{events_first}
 use Rattle.wire_plan.specs.Meetings.{is_of_fence}
-
-get_left : {A : Type 0} (xs ys : List A) (i : ℕ) → i < length xs → slice_get (xs ++ ys) i ≡ slice_get xs i
-get_left [] ys i lt = absurd (omega (arith, lt))
-get_left (x ∷ xs) ys zero lt = refl
-get_left (x ∷ xs) ys (suc i) lt = get_left xs ys i (omega (arith, lt))
-
-get_right : {A : Type 0} (xs ys : List A) (i : ℕ) → slice_get (xs ++ ys) (length xs + i) ≡ slice_get ys i
-get_right [] ys i = let same : 0 + i ≡ i = omega arith in ap (slice_get ys) same
-get_right (x ∷ xs) ys i =
-    let same : length (x ∷ xs) + i ≡ suc (length xs + i) = omega arith in
-    ap (slice_get (x ∷ (xs ++ ys))) same ∙ get_right xs ys i
 
 -- how many events the first c calls are
 abbrev pub start_of : Scripts → List Written → ℕ → ℕ
@@ -60,14 +51,14 @@ behind s (call ∷ calls) at e is =
         i = at;
         call = call;
         is = refl;
-        here = sym (get_left (events_in s call) (kinds_of rest) at low) ∙ found;
+        here = sym (slice_get-append_left (events_in s call) (kinds_of rest) at low) ∙ found;
         place = omega arith;
         number = sym (cond_below at size 0 (suc (call_number rest (at - size))) low);
       }
       | inr high ↦
           let same : at ≡ size + (at - size) = omega (arith, high) in
           let later : slice_get (kinds_of rest) (at - size) ≡ Some e =
-          sym (get_right (events_in s call) (kinds_of rest) (at - size)) ∙ ap (slice_get (events_in s call ++ kinds_of rest)) (sym same) ∙ found in
+          sym (slice_get-append_right (events_in s call) (kinds_of rest) (at - size)) ∙ ap (slice_get (events_in s call ++ kinds_of rest)) (sym same) ∙ found in
           further s call calls at e size refl high (behind s calls (at - size) e later)
     ]
   where
@@ -114,14 +105,14 @@ stands s (x ∷ calls) zero i call e is here =
     let lt = slice_get_within (events_in s x) i e found in
     let none : 0 + i ≡ i = omega arith in
     ap (λ es. slice_get es (0 + i)) (split s x calls) ∙ ap (slice_get (events_in s x ++ kinds_of (map (planned_call s) calls))) none
-    ∙ get_left (events_in s x) (kinds_of (map (planned_call s) calls)) i lt ∙ found
+    ∙ slice_get-append_left (events_in s x) (kinds_of (map (planned_call s) calls)) i lt ∙ found
 stands s (x ∷ calls) (suc c) i call e is here =
     let short : start_of s (x ∷ calls) (suc c) ≡ call_size (planned_call s x) + start_of s calls c =
     ap length (split s x (take c calls)) ∙ length-append (events_in s x) (kinds_of (map (planned_call s) (take c calls))) in
     let place : start_of s (x ∷ calls) (suc c) + i ≡ length (events_in s x) + (start_of s calls c + i) = omega (arith, short) in
     ap (λ es. slice_get es (start_of s (x ∷ calls) (suc c) + i)) (split s x calls)
     ∙ ap (slice_get (events_in s x ++ kinds_of (map (planned_call s) calls))) place
-    ∙ get_right (events_in s x) (kinds_of (map (planned_call s) calls)) (start_of s calls c + i)
+    ∙ slice_get-append_right (events_in s x) (kinds_of (map (planned_call s) calls)) (start_of s calls c + i)
     ∙ stands s calls c i call e is here
 
 -- the name that an event changes, where that is one name
@@ -188,29 +179,14 @@ part s written.UnpublishAll i e is = other s _ i _ e refl (inl refl) (only _ _ i
 abbrev pub calls_by : Scripts → ℕ → List Written
 calls_by s p = calls_in (slice_get s.processes p)
 
-events_by : (s : Scripts) (p : ℕ) → kinds (plan_of s) p ≡ kinds_of (map (planned_call s) (calls_by s p))
-unfolding kinds
-events_by s p = ap process_kinds (slice_get-map (planned_process s) s.processes p) ∙ go (slice_get s.processes p)
-  where
-    go : (o : Option Process) → process_kinds (option_map (planned_process s) o) ≡ kinds_of (map (planned_call s) (calls_in o))
-    go None = refl
-    go (Some q) = refl
-
-calls_same : (s : Scripts) (p : ℕ) → calls_of (plan_of s) p ≡ map (planned_call s) (calls_by s p)
-calls_same s p = ap process_calls (slice_get-map (planned_process s) s.processes p) ∙ go (slice_get s.processes p)
-  where
-    go : (o : Option Process) → process_calls (option_map (planned_process s) o) ≡ map (planned_call s) (calls_in o)
-    go None = refl
-    go (Some q) = refl
-
 pub event_behind : (s : Scripts) (p at : ℕ) (e : Kind) → kind_at (plan_of s) p at ≡ Some e → IsBehind s (calls_by s p) at e
 unfolding kind_at
-event_behind s p at e is = behind s (calls_by s p) at e (ap (λ es. slice_get es at) (sym (events_by s p)) ∙ is)
+event_behind s p at e is = behind s (calls_by s p) at e (ap (λ es. slice_get es at) (sym (events_are s p)) ∙ is)
 
 pub event_stands : (s : Scripts) (p c i : ℕ) (call : Written) (e : Kind) → call_at s.processes p c ≡ Some call → slice_get (events_in s call) i ≡ Some e →
     kind_at (plan_of s) p (start_of s (calls_by s p) c + i) ≡ Some e
 unfolding kind_at
-event_stands s p c i call e is here = ap (λ es. slice_get es (start_of s (calls_by s p) c + i)) (events_by s p) ∙ stands s (calls_by s p) c i call e is here
+event_stands s p c i call e is here = ap (λ es. slice_get es (start_of s (calls_by s p) c + i)) (events_are s p) ∙ stands s (calls_by s p) c i call e is here
 
 pub number_behind : (s : Scripts) (p at : ℕ) (e : Kind) (b : IsBehind s (calls_by s p) at e) → call_number (calls_of (plan_of s) p) at ≡ b.c
-number_behind s p at e b = ap (λ calls. call_number calls at) (calls_same s p) ∙ b.number
+number_behind s p at e b = ap (λ calls. call_number calls at) (calls_are s p) ∙ b.number

@@ -1,6 +1,6 @@
 -- Which arrivals bring data, and a key, to a node.
-use Rattle.std.proofs.Common.{◌≡◌, ◌∙◌, ap, sym, subst, refl, ℕ, suc, ◌<◌, ◌≤◌, ◌↔◌, List, Bool, true, false, ◌&&◌, Option, Some, None, option_map, arith, inl, inr}
-use Rattle.std.proofs.lemmas.Bool.{true≢false, cases_lt, cases_eq}
+use Rattle.std.proofs.Common.{◌≡◌, ◌∙◌, ap, sym, subst, refl, ℕ, suc, ◌<◌, ◌≤◌, ◌↔◌, List, Bool, true, ◌&&◌, Option, Some, None, option_map, arith, inl, inr}
+use Rattle.std.proofs.lemmas.Bool.{cases_lt, cases_eq, and_parts, and_from}
 use Rattle.wire_runs.specs.Plan.{Plan, Event, Arrive, kind_at}
 use Rattle.wire_runs.specs.Fences.{arrivals, is_full, is_collecting, has_node}
 use Rattle.wire_types.specs.declared.Event.{Event as CodeEvent}
@@ -14,14 +14,6 @@ use Rattle.wire_plan.specs.Keys.{IsSent}
 use Rattle.wire_plan.specs.Bringing.{Brings, BringsTo, IsArrivalFrom, IsFirstFrom}
 use Rattle.wire_plan.specs.Meetings.{IsMet, fence_members}
 use Rattle.wire_runs.proofs.Basics.{arrivals_step, arrivals_rise}
-
-both_true : (a b : Bool) → (a && b) ≡ true → (a ≡ true) × (b ≡ true)
-both_true true b is = (refl, is)
-both_true false b is = absurd (true≢false (sym is))
-
-are_true : (a b : Bool) → a ≡ true → b ≡ true → (a && b) ≡ true
-are_true true b x y = y
-are_true false b x y = absurd (true≢false (sym x))
 
 abbrev pub here : ℕ → ℕ → Event
 here p at = record { proc = p; at = at }
@@ -142,7 +134,7 @@ module _ (s : Scripts) (table : FenceTable) (fences : AreFencesOf s table) (p at
   -- whether it brings data is what the table tells of its fence
   pub where_bringing : (full_in (fence_at table number) && collects_in (fence_at table number)) ≡ true → Brings (plan_of s) (here p at)
   where_bringing told =
-      let both = both_true (full_in (fence_at table number)) _ told in
+      let both = and_parts (full_in (fence_at table number)) _ told in
       record {
         members = m.fence.members;
         j = m.fence.nth;
@@ -158,7 +150,7 @@ module _ (s : Scripts) (table : FenceTable) (fences : AreFencesOf s table) (p at
   bringing_where d =
       let ms = same_members d.members d.arrival.collect d.arrival.is in
       let j : d.j ≡ m.fence.nth = sym d.arrival.nth ∙ ap (λ x. arrivals (plan_of s) p x (suc at)) ms ∙ m.nth in
-      are_true _ _ (full_is ∙ ap (is_full (plan_of s) m.fence.members) (sym j) ∙ ap (λ x. is_full (plan_of s) x d.j) (sym ms) ∙ d.full)
+      and_from _ _ (full_is ∙ ap (is_full (plan_of s) m.fence.members) (sym j) ∙ ap (λ x. is_full (plan_of s) x d.j) (sym ms) ∙ d.full)
       (collects_is ∙ ap (is_collecting (plan_of s) m.fence.members) (sym j) ∙ ap (λ x. is_collecting (plan_of s) x d.j) (sym ms) ∙ d.collecting)
 
   -- and whether it brings it to a node

@@ -1,16 +1,16 @@
 -- The arrivals that bring data, as the events are looked at one after the other, and the first of them from an event on.
-use Rattle.std.proofs.Common.{◌≡◌, ◌≢◌, ◌∙◌, ap, sym, subst, refl, ℕ, zero, suc, ◌+◌, ◌<◌, ◌≤◌, List, [], ◌∷◌, ◌++◌, length}
-use Rattle.std.proofs.Common.{map, Bool, true, false, ◌||◌, ◌==◌, Some, None, arith, inl, inr, get_or, nat_lt}
+use Rattle.std.proofs.Common.{◌≡◌, ◌≢◌, ◌∙◌, ap, sym, subst, ℕ, zero, suc, ◌+◌, ◌<◌, ◌≤◌, List, [], ◌∷◌, ◌++◌, length}
+use Rattle.std.proofs.Common.{map, true, ◌==◌, Some, None, arith, inl, inr, get_or, nat_lt}
 use Rattle.std.specs.Prelude.{slice_get, option_map}
 use Rattle.std.specs.List.Sorted.{IsPartitionedBy}
-use Rattle.std.proofs.lemmas.Bool.{true≢false, cases_lt, cases_eq, eq-eqb, eqb-true, lt-ltb, le-ltb, ltb-true, and_parts, and_from, or_cases}
+use Rattle.std.proofs.lemmas.Bool.{true≢false, cases_lt, cases_eq, eq-eqb, eqb-true, lt-ltb, le-ltb, ltb-true, and_parts, and_from, or_cases, or_left, or_right}
 use Rattle.std.proofs.lemmas.List.{map-append}
 use Rattle.std.proofs.lemmas.Option.{slice_get-get_or, slice_get-map, slice_get_within, same_Some, none-some}
 use Rattle.wire_runs.specs.Plan.{Plan, Event, event_of, event_count, process_count}
 use Rattle.wire_runs.specs.Fences.{has_node}
 use Rattle.wire_runs.specs.EventLists.{IsLower, AreAll}
 use Rattle.wire_types.specs.declared.Event.{Event as CodeEvent}
-use Rattle.wire_plan.specs.Bringing.{Brings, BringsTo, IsArrivalFrom, NoneInFront, IsFirstFrom, IsRising, is_below}
+use Rattle.wire_plan.specs.Bringing.{Brings, BringsTo, NoneInFront, IsFirstFrom, IsRising, is_below}
 use Rattle.wire_runs.proofs.Basics.{event_within, process_within}
 use Rattle.wire_plan.proofs.Grown.{place, Earlier, one_more, whole_process, whole_plan}
 
@@ -41,14 +41,6 @@ below_lower x y h = elim (or_cases (nat_lt x.proc y.proc) _ h) [
   | inl lt ↦ inl (ltb-true x.proc y.proc lt)
   | inr both ↦ let parts = and_parts (x.proc == y.proc) (nat_lt x.at y.at) both in inr (eqb-true x.proc y.proc parts.0, ltb-true x.at y.at parts.1)
 ]
-
-or_left : (a b : Bool) → a ≡ true → (a || b) ≡ true
-or_left true b h = refl
-or_left false b h = absurd (true≢false (sym h))
-
-or_right : (a b : Bool) → b ≡ true → (a || b) ≡ true
-or_right true b h = refl
-or_right false b h = h
 
 lower_below : (x y : Event) → IsLower x y → is_below x y ≡ true
 lower_below x y (inl lt) = or_left _ _ (lt-ltb x.proc y.proc lt)

@@ -2,14 +2,14 @@
 use Rattle.std.proofs.Common.{◌≡◌, ◌∙◌, ap, sym, refl, subst, ℕ, zero, suc, ◌<◌, List, [], ◌∷◌, ◌++◌, length, map, Bool, ◌==◌, Some, None, arith, ◌⊎◌, inl, inr, get_or, set}
 use Rattle.std.proofs.lemmas.Bool.{cases_eq, eq-eqb, ne_eqb, cond-true, cond-false, true≢false}
 use Rattle.std.specs.Prelude.{slice_get, option_map, true, false, if◌then◌else◌}
-use Rattle.std.proofs.lemmas.Option.{slice_get-get_or, slice_get-map, get_or_from_slice_get, same_Some, none-some}
+use Rattle.std.proofs.lemmas.Option.{slice_get-map, get_or_from_slice_get, same_Some, none-some}
 use Rattle.std.proofs.lemmas.List.{map-append, map-set, length-map, get_or-set_same, get_or-set_other}
 use Rattle.wire_runs.specs.Plan.{Plan, Kind, Arrive, Leave, Event, kind, kind_at, event_count, process_count, event_of}
 use Rattle.wire_runs.specs.Fences.{arrivals, arrivals_with, is_full}
 use Rattle.wire_types.specs.declared.Event.{Event as CodeEvent}
 use Rattle.wire_content.specs.Scripts.{Scripts, set_at}
 use Rattle.wire_content.specs.Planned.{plan_of}
-use Rattle.wire_fence.specs.FenceTable.{FenceInfo, FenceTable, AreFencesOf, fence_at, fence_over, full_in}
+use Rattle.wire_fence.specs.FenceTable.{FenceInfo, FenceTable, AreFencesOf, fence_at, full_in}
 use Rattle.wire_plan.specs.declared.kind.Kind.{Kind as CodeKind}
 use Rattle.wire_plan.specs.declared.kind.Kind.TheVariants as code
 use Rattle.wire_plan.specs.Kinds.{kind_of}
@@ -19,6 +19,7 @@ use Rattle.wire_plan.specs.Index.{AreArrivals}
 use Rattle.wire_plan.specs.Meetings.{fence_members, IsMet, arrivals_in, AreArrivalLists, AreArrivalListsTo, IsAdded}
 use Rattle.wire_runs.proofs.Basics.{event_within, process_within}
 use Rattle.wire_runs.proofs.EventLists.{all_of_none, all_same, all_and_one}
+use Rattle.wire_fence.proofs.Events.{same_fence}
 
 -- the place of an event by its two numbers
 abbrev here : ℕ → ℕ → Event
@@ -94,18 +95,6 @@ pub no_arrival : (s : Scripts) (table : FenceTable) (p at : ℕ) (lists : List (
 no_arrival s table p at lists never are number info there = other_event (plan_of s) info.members info.nth p at (arrivals_in lists number) (λ a. never info.members a.collect a.is)
     (are number info there)
 
--- fences with the same members and the same number among theirs are one
-same_fence : (s : Scripts) (table : FenceTable) → AreFencesOf s table → (m n : ℕ) (a b : FenceInfo) → fence_at table m ≡ Some a → fence_at table n ≡ Some b → a.members ≡ b.members → a.nth ≡ b.nth →
-    m ≡ n
-same_fence s table fences m n a b a_there b_there members nth =
-    let a_is = fences.each m a a_there in
-    let b_is = fences.each n b b_there in
-    let sets : set_at s.sets b.set ≡ set_at s.sets a.set = sym (ap (λ f. f.members) b_is.is) ∙ sym members ∙ ap (λ f. f.members) a_is.is in
-    let set_same : a.set ≡ b.set =
-    fences.sound.sets.once a.set b.set (set_at s.sets a.set) (slice_get-get_or s.sets a.set [] a_is.of_set) (slice_get-get_or s.sets b.set [] b_is.of_set ∙ ap Some sets) in
-    let same : b ≡ a = b_is.is ∙ (λ t. fence_over s (sym set_same t) (sym nth t)) ∙ sym a_is.is in
-    fences.once m n a a_there (b_there ∙ ap Some same)
-
 -- the arrival that an event of the plan is
 arrival_met : (s : Scripts) (table : FenceTable) (p at number : ℕ) (members : List ℕ) (collect : Bool) → kind_at (plan_of s) p at ≡ Some (Arrive members collect) →
     (m : IsMet s table (here p at) number) → IsArrival (plan_of s) m.fence.members m.fence.nth (here p at)
@@ -146,7 +135,7 @@ one_arrival s table e number lists new members collect fences is m told are n in
           other_event plan info.members info.nth p at (arrivals_in lists n) (λ a. other (
           let its : m.fence.members ≡ info.members = m.members ∙ ap fence_members a.is in
           let nth : info.nth ≡ m.fence.nth = sym a.nth ∙ ap (λ ms. arrivals plan p ms (suc at)) (sym its) ∙ m.nth in
-          same_fence s table fences n number info m.fence there m.there (sym its) nth
+          same_fence s table n number info m.fence fences there m.there (sym its) nth
           )) (are n info there)
           )
     ]

@@ -1,5 +1,5 @@
 -- The gets that bring a key to a node, as the events are looked at one after the other.
-use Rattle.std.proofs.Common.{◌≡◌, ◌≢◌, ◌∙◌, ap, sym, refl, subst, Bool, ℕ, zero, suc, ◌<◌, ◌≤◌, List, [], ◌∷◌, ◌++◌, Some, true, false, arith, inl, inr, eqb-true}
+use Rattle.std.proofs.Common.{◌≡◌, ◌≢◌, ◌∙◌, ap, sym, refl, subst, Bool, ℕ, suc, ◌≤◌, List, [], ◌∷◌, ◌++◌, Some, true, false, arith, inl, inr, eqb-true}
 use Rattle.std.proofs.lemmas.Bool.{cases_eq, cases_Bool, and_parts, true≢false}
 use Rattle.std.proofs.lemmas.Option.{same_Some}
 use Rattle.std.specs.Map.{lookup}
@@ -15,7 +15,8 @@ use Rattle.wire_plan.specs.Index.{AreGetDeliveries}
 use Rattle.wire_plan.specs.Keys.{IsSent}
 use Rattle.wire_plan.specs.Gets.{IsKeptGet, AreKeptGets, is_same, events_in, gets_under, AreGetLists, AreGetsTo}
 use Rattle.wire_runs.proofs.Basics.{event_within, process_within}
-use Rattle.wire_plan.proofs.Grown.{place, Earlier, all_same, all_nothing, none_yet, one_more, one_other, whole_process, whole_plan}
+use Rattle.wire_runs.proofs.EventLists.{all_same, all_of_none}
+use Rattle.wire_plan.proofs.Grown.{place, Earlier, none_yet, one_more, one_other, whole_process, whole_plan}
 
 -- other owners, keys or nodes
 abbrev pub IsOther : ℕ × ℕ × ℕ → ℕ × ℕ × ℕ → Type 0
@@ -44,7 +45,7 @@ kept_deliver plan p key node places sent are = all_same (IsKeptGet plan p key no
     (λ z d. record { keeps = d.keeps; is = d.is; there = d.there }) are
 
 pub none_deliver : (plan : Plan) (p key node : ℕ) → (IsSent plan p key (event_count plan p) → ⊥) → AreGetDeliveries plan p key node []
-none_deliver plan p key node never = all_nothing (GetDelivers plan p key node) (λ z d. never (record { put = d.put; committed = d.committed; admitted = d.admitted }))
+none_deliver plan p key node never = all_of_none (GetDelivers plan p key node) (λ z d. never (record { put = d.put; committed = d.committed; admitted = d.admitted }))
 
 abbrev asked_by : Kind → ℕ × ℕ
 asked_by (Get owner key) = (owner, key)
@@ -99,7 +100,7 @@ module _ (plan : Plan) where
   none_added table none = λ p key node. subst (AreAll (Earlier (IsKeptGet plan p key node) 0 0)) (sym (none (p, key, node))) (none_yet (IsKeptGet plan p key node))
 
   pub none_kept : (table : GetTable) → plan.keep ≡ false → ((asked : ℕ × ℕ × ℕ) → gets_under table asked ≡ []) → AreGetLists plan table
-  none_kept table off none = λ p key node. subst (AreKeptGets plan p key node) (sym (none (p, key, node))) (all_nothing (IsKeptGet plan p key node) (λ x h. true≢false (sym h.keeps ∙ off)))
+  none_kept table off none = λ p key node. subst (AreKeptGets plan p key node) (sym (none (p, key, node))) (all_of_none (IsKeptGet plan p key node) (λ x h. true≢false (sym h.keeps ∙ off)))
 
 abbrev is_get : Kind → Bool
 is_get (Get owner key) = true

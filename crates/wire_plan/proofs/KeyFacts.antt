@@ -2,11 +2,11 @@
 use Rattle.std.proofs.Common.{◌≡◌, ℕ, zero, suc, ◌<◌, ◌≤◌, Bool, true, false, Option, Some, None, is_some, inl, inr, refl, sym, ap, ◌∙◌, subst, arith, nat_lt}
 use Rattle.std.specs.Prelude.{◌==◌, MatchOption, ◌||◌}
 use Rattle.std.proofs.lemmas.Bool.{cond_both, cases_eq, cases_lt, true≢false, eqb-true, lt-ltb, ltb-true, le-ltb}
-use Rattle.std.proofs.lemmas.Option.{slice_get_past, same_Some}
+use Rattle.std.proofs.lemmas.Option.{same_Some}
 use Rattle.wire_types.specs.declared.Scope.{Scope}
 use Rattle.wire_types.specs.declared.Proc.{Proc}
 use Rattle.wire_types.specs.declared.Event.{Event as CodeEvent}
-use Rattle.wire_runs.specs.Plan.{Plan, Event, event_of, Kind, Put, Commit, kind_at, event_count, kinds, admits}
+use Rattle.wire_runs.specs.Plan.{Plan, Event, event_of, Kind, Put, Commit, kind_at, event_count, admits}
 use Rattle.wire_runs.specs.Puts.{own_with, own, stored_with, stored, put_count, scope_of}
 use Rattle.wire_runs.specs.Order.{Stores}
 use Rattle.wire_runs.specs.Races.{IsPutOnce}
@@ -14,7 +14,7 @@ use Rattle.wire_plan.specs.Index.{IsFirstPut}
 use Rattle.wire_plan.specs.Keys.{IsStore, IsRowOf, IsSent}
 use Rattle.wire_plan.specs.Bringing.{IsSentAfter}
 use Rattle.wire_plan.specs.declared.keys.KeyRow.{KeyRow}
-use Rattle.wire_runs.proofs.Basics.{stored_own, stored_stays, event_within}
+use Rattle.wire_runs.proofs.Basics.{stored_own, stored_stays, event_within, event_past}
 use Rattle.wire_runs.proofs.Due.{place_path}
 use Rattle.wire_plan.proofs.KeyRows.{own_none, own_stays, own_here, counts_rise, count_same, none_or_some}
 
@@ -25,10 +25,6 @@ none_always f end stays past h (suc n) = elim (cases_lt n end) [
   | inl lt ↦ none_or_some _ (λ s. true≢false (sym (stays (suc n) end (omega (arith, lt)) s) ∙ ap is_some h))
   | inr ge ↦ past n ge ∙ none_always f end stays past h n
 ]
-
-pub event_past : (plan : Plan) (p n : ℕ) → event_count plan p ≤ n → kind_at plan p n ≡ None
-unfolding kind_at event_count
-event_past plan p n le = slice_get_past (kinds plan p) n le
 
 -- a key that is never put
 pub never_put : (plan : Plan) (p key n : ℕ) → put_count plan p key (event_count plan p) ≡ 0 → own plan p key n ≡ None

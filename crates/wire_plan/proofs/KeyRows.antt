@@ -13,16 +13,13 @@ use Rattle.wire_plan.specs.Keys.{puts_in, row_in, IsStore, IsKeyRow, IsNextCommi
 use Rattle.wire_plan.specs.declared.keys.KeyRow.{KeyRow}
 use Rattle.wire_plan.specs.declared.kind.Kind.{Kind as CodeKind}
 use Rattle.wire_plan.specs.declared.kind.Kind.TheVariants as code
-use Rattle.wire_runs.proofs.Basics.{kept_on, rises}
+use Rattle.wire_runs.proofs.Basics.{kept_on, rises, own_with_kept}
+use Rattle.wire_runs.proofs.Lists.{slice_get-append_left, slice_get_push_last}
 
 own_none_with : (key n c : ℕ) (o : Option ℕ) (e : Option Kind) → (c ≡ 0 → o ≡ None) → put_count_with key c e ≡ 0 → own_with key n o e ≡ None
 own_none_with key n c o (Some (Put k scope)) ih =
     cond_both (k == key) _ _ (λ v. v ≡ 0 → own_with key n o (Some (Put k scope)) ≡ None) (λ t h. absurd (omega (arith, h))) (λ f h. cond-false _ _ _ f ∙ ih h)
 own_none_with key n c o _ ih = ih
-
-own_with_kept : (key n : ℕ) (before : Option ℕ) (e : Option Kind) → is_some before ≡ true → is_some (own_with key n before e) ≡ true
-own_with_kept key n before (Some (Put k scope)) h = cond_both (k == key) (Some n) before (λ o. is_some o ≡ true) (λ _. refl) (λ _. h)
-own_with_kept key n before _ h = h
 
 stored_none_with : (own before : Option ℕ) (e : Option Kind) → before ≡ None → (e ≡ Some Commit → own ≡ None) → stored_with own before e ≡ None
 stored_none_with own before (Some Commit) b h = h refl
@@ -216,23 +213,14 @@ rows_done plan p rows commit h key = go (rows key) (h.each key)
           store = stored_as plan p key row r first row.store r.store;
         }
 
-get_front : {A : Type 0} (xs ys : List A) (i : ℕ) → i < length xs → slice_get (xs ++ ys) i ≡ slice_get xs i
-get_front [] ys i h = absurd (omega (arith, h))
-get_front (x ∷ xs) ys zero h = refl
-get_front (x ∷ xs) ys (suc i) h = get_front xs ys i (omega (arith, h))
-
-get_last : {A : Type 0} (xs : List A) (y : A) → slice_get (xs ++ y ∷ []) (length xs) ≡ Some y
-get_last [] y = refl
-get_last (x ∷ xs) y = get_last xs y
-
 -- the table after the rows of one more process
 pub table_push : (plan : Plan) (rows : List (BTreeMap ℕ KeyRow)) (row : BTreeMap ℕ KeyRow) (n : ℕ) → length rows ≡ n → ((p key : ℕ) → p < n → IsKeyRow plan p key (row_in (slice_get rows p) key)) →
     ((key : ℕ) → IsKeyRow plan n key (get nat_cmp row key)) → (p key : ℕ) → p < n + 1 → IsKeyRow plan p key (row_in (slice_get (rows ++ row ∷ []) p) key)
 table_push plan rows row n len each last p key lt = elim (cases_eq p n) [
   | inl e ↦
       subst (λ q. IsKeyRow plan q key (row_in (slice_get (rows ++ row ∷ []) q) key)) (sym e)
-      (subst (λ o. IsKeyRow plan n key (row_in o key)) (sym (ap (slice_get (rows ++ row ∷ [])) (sym len) ∙ get_last rows row)) (last key))
-  | inr ne ↦ subst (λ o. IsKeyRow plan p key (row_in o key)) (sym (get_front rows (row ∷ []) p (omega (arith, lt, ne, len)))) (each p key (omega (arith, lt, ne)))
+      (subst (λ o. IsKeyRow plan n key (row_in o key)) (sym (ap (slice_get (rows ++ row ∷ [])) (sym len) ∙ slice_get_push_last rows row)) (last key))
+  | inr ne ↦ subst (λ o. IsKeyRow plan p key (row_in o key)) (sym (slice_get-append_left rows (row ∷ []) p (omega (arith, lt, ne, len)))) (each p key (omega (arith, lt, ne)))
 ]
 
 -- who isn't of the plan puts nothing

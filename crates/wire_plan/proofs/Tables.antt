@@ -14,10 +14,11 @@ use Rattle.wire_runs.specs.Names.{takes_name}
 use Rattle.wire_runs.specs.Names.{publishes as publishes_of}
 use Rattle.wire_plan.specs.Index.{AreSweeps}
 use Rattle.wire_plan.proofs.Published.{publisher, nothing_takes}
-use Rattle.wire_runs.specs.EventLists.{IsLower, AreAll}
+use Rattle.wire_runs.specs.EventLists.{AreAll}
 use Rattle.wire_plan.specs.Tables.{is_listed, is_number, events_listed, only_of, IsUnswept, AreListed, AreListedTo}
 use Rattle.wire_runs.proofs.Basics.{event_within, process_within}
-use Rattle.wire_plan.proofs.Grown.{place, Earlier, all_same, one_more, one_other, whole_process, whole_plan}
+use Rattle.wire_runs.proofs.EventLists.{all_same, lower_not_same}
+use Rattle.wire_plan.proofs.Grown.{place, Earlier, one_more, one_other, whole_process, whole_plan}
 
 abbrev pub places_in : Vec CodeEvent Global → List Event
 places_in list = map event_of list.items
@@ -97,10 +98,6 @@ publishes_listed plan name places are = all_same _ _ places
     (λ x h. ap (is_listed plan Publishes name x) h ∙ eq-eqb name name refl)
     are
 
-not_below_itself : (x : Event) → IsLower x x → ⊥
-not_below_itself x (inl lt) = omega (arith, lt)
-not_below_itself x (inr (e, lt)) = omega (arith, lt)
-
 take_is : (plan : Plan) (name : ℕ) (x : Event) (o : Option TheEvent) → kind plan x ≡ o → is_listed plan Takes name x o ≡ true → kind plan x ≡ Some (Unpublish name)
 take_is plan name x (Some (Unpublish n)) is h = is ∙ ap (λ m. Some (Unpublish m)) (eqb-true n name h)
 take_is plan name x _ is h = absurd (true≢false (sym h))
@@ -161,7 +158,7 @@ only_at plan name (a ∷ []) (b ∷ takes) ps ts = λ x once. once.stays (event_
 only_at plan name (a ∷ (b ∷ publishes)) takes ps ts = λ x once.
     let first : event_of a ≡ x = once.only (event_of a) (ps.only 0 (event_of a) refl) in
     let second : event_of b ≡ x = once.only (event_of b) (ps.only 1 (event_of b) refl) in
-    not_below_itself (event_of a) (subst (λ y. IsLower (event_of a) y) (second ∙ sym first) (ps.rising 0 1 (event_of a) (event_of b) (omega arith) refl refl))
+    lower_not_same (event_of a) (event_of b) (ps.rising 0 1 (event_of a) (event_of b) (omega arith) refl refl) (second ∙ sym first)
 
 -- no name has such a publish
 pub none_once : (plan : Plan) (name : ℕ) (publishes takes : List CodeEvent) → AreAll (λ x. kind plan x ≡ Some (Publish name)) (map event_of publishes) →

@@ -1,8 +1,8 @@
 -- The arrivals at a fence, and a get.
-use Rattle.std.proofs.Common.{◌≡◌, ◌∙◌, ap, refl, sym, subst, ℕ, suc, ◌<◌, ◌≤◌, List, [], length, map, Bool, true, false, Option, Some, None, arith, inl, inr}
-use Rattle.std.specs.Prelude.{slice_get, option_map, slice_index_or, is_some, not, IsTrue, ◌↔◌, MatchOption}
+use Rattle.std.proofs.Common.{◌≡◌, ◌∙◌, ap, refl, sym, subst, ℕ, suc, ◌<◌, ◌≤◌, List, [], length, Bool, true, false, Option, Some, None, arith, inl, inr}
+use Rattle.std.specs.Prelude.{slice_get, is_some, not, IsTrue, ◌↔◌, MatchOption}
 use Rattle.std.proofs.lemmas.Bool.{cases_eq, cases_lt, true≢false}
-use Rattle.std.proofs.lemmas.Option.{same_Some, slice_get-map, slice_get-get_or, slice_get_within}
+use Rattle.std.proofs.lemmas.Option.{same_Some, slice_get_within}
 use Rattle.wire_runs.specs.Plan.{Plan, Event, Kind, Arrive, Leave, kind, event_of}
 use Rattle.wire_runs.specs.Fences.{arrivals}
 use Rattle.wire_types.specs.declared.place.Event.{Event as CodeEvent}
@@ -60,13 +60,6 @@ late_once plan get arrival x y a b =
 pub ended : (plan : Plan) (arrival end : Event) (members : List ℕ) (j : ℕ) → IsArrival plan members j arrival → end.proc ≡ arrival.proc → end.at ≡ suc arrival.at →
     kind plan end ≡ Some (Leave members) → arrivals plan end.proc members end.at ≡ j
 ended plan arrival end members j a proc next is = ap (λ p. arrivals plan p members end.at) proc ∙ ap (arrivals plan arrival.proc members) next ∙ a.nth
-
--- what is shown of a list of events
-pub at_shown : (events : List CodeEvent) (k : ℕ) (x : CodeEvent) → slice_get events k ≡ Some x → slice_get (map event_of events) k ≡ Some (event_of x)
-at_shown events k x is = slice_get-map event_of events k ∙ ap (option_map event_of) is
-
-pub item : (events : List CodeEvent) (n : ℕ) (d : CodeEvent) → n < length events → slice_get (map event_of events) n ≡ Some (event_of (slice_index_or events n d))
-item events n d lt = at_shown events n (slice_index_or events n d) (slice_get-get_or events n d lt)
 
 -- one place more
 pub one_more : (holds : Event → Type 0) (places : List Event) (n m : ℕ) (x : Event) → m ≡ suc n → slice_get places n ≡ Some x → ((k : ℕ) (z : Event) → k < n → slice_get places k ≡ Some z → holds z) →

@@ -1,17 +1,18 @@
 -- Calls and their first events.
 use Rattle.std.proofs.Common.{◌≡◌, ◌∙◌, ap, sym, refl, ℕ, zero, suc, ◌+◌, ◌-◌, ◌<◌, List, [], ◌∷◌, ◌++◌, length, take, Bool, true, false, Option, Some, None, arith, inl, inr, length-append}
-use Rattle.std.specs.Prelude.{slice_get, is_some}
+use Rattle.std.specs.Prelude.{slice_get}
 use Rattle.std.proofs.lemmas.Bool.{cases_lt, cond_below, cond_above, true≢false}
 use Rattle.std.proofs.lemmas.Option.{slice_get_within, same_Some}
 use Rattle.wire_runs.specs.Plan.{Plan, Event, Process, Call, CallFence, Kind, Put, Commit, Arrive, Leave, Get, GetNow, Publish, Lookup, LookupWait, Unpublish, UnpublishAll}
 use Rattle.wire_runs.specs.Plan.{kinds_of, kinds, kind_at, kind, event_count, node_of, process_kinds}
-use Rattle.wire_runs.specs.Puts.{own, stored, stored_with}
 use Rattle.wire_types.specs.declared.CallAt.{CallAt}
-use Rattle.wire_runs.specs.Names.{writes_name, calls_name}
-use Rattle.wire_runs.specs.Order.{Stores}
+use Rattle.wire_runs.specs.Names.{calls_name}
 use Rattle.wire_runs.specs.Races.{IsNodeRace, IsDeliveryRace, Delivery, ByFence, ByGet, IsOf, Brings}
 use Rattle.wire_runs.specs.Findings.{Finding, Rewrite, KeyRace, NameRace, IsFound}
 use Rattle.wire_runs.specs.Ends.{call_number, call_size, calls_of, process_calls, call_of, first_event}
+use Rattle.wire_runs.proofs.Lists.{slice_get-append_left, slice_get-append_right}
+use Rattle.wire_runs.proofs.Diamond.{writes_calls}
+use Rattle.wire_runs.proofs.Basics.{stores_commit}
 use Rattle.wire_plan.proofs.Planning.{events_first}
 
 abbrev pub is_leave : Kind → Bool
@@ -26,17 +27,6 @@ pub record Starts (plan : Plan) (x : Event) : Type 0 where
 
 nothing : {A : Type 0} (n : ℕ) (e : A) → slice_get [] n ≡ Some e → {B : Type 0} → B
 nothing n e is = let lt = slice_get_within [] n e is in absurd (omega (arith, lt))
-
-pub get_left : {A : Type 0} (xs ys : List A) (i : ℕ) → i < length xs → slice_get (xs ++ ys) i ≡ slice_get xs i
-get_left [] ys i lt = absurd (omega (arith, lt))
-get_left (x ∷ xs) ys zero lt = refl
-get_left (x ∷ xs) ys (suc i) lt = get_left xs ys i (omega (arith, lt))
-
-pub get_right : {A : Type 0} (xs ys : List A) (i : ℕ) → slice_get (xs ++ ys) (length xs + i) ≡ slice_get ys i
-get_right [] ys i = let same : 0 + i ≡ i = omega arith in ap (slice_get ys) same
-get_right (x ∷ xs) ys i =
-    let same : length (x ∷ xs) + i ≡ suc (length xs + i) = omega arith in
-    ap (slice_get (x ∷ (xs ++ ys))) same ∙ get_right xs ys i
 
 -- of a call's events the first alone doesn't end a fence
 one_call : (call : Call) (at : ℕ) (e : Kind) → slice_get (kinds_of (call ∷ [])) at ≡ Some e → is_leave e ≡ false → at ≡ 0
@@ -57,12 +47,12 @@ starts_at (call ∷ calls) at e is h =
     let found : slice_get (kinds_of (call ∷ []) ++ kinds_of calls) at ≡ Some e = ap (λ es. slice_get es at) (sym (events_first call calls)) ∙ is in
     elim (cases_lt at size) [
       | inl low ↦
-          let none : at ≡ 0 = one_call call at e (sym (get_left (kinds_of (call ∷ [])) (kinds_of calls) at low) ∙ found) h in
+          let none : at ≡ 0 = one_call call at e (sym (slice_get-append_left (kinds_of (call ∷ [])) (kinds_of calls) at low) ∙ found) h in
           ap (λ n. length (kinds_of (take n (call ∷ calls)))) (sym (cond_below at size 0 rest low)) ∙ sym none
       | inr high ↦
           let same : at ≡ size + (at - size) = omega (arith, high) in
           let later : slice_get (kinds_of calls) (at - size) ≡ Some e =
-          sym (get_right (kinds_of (call ∷ [])) (kinds_of calls) (at - size)) ∙ ap (slice_get (kinds_of (call ∷ []) ++ kinds_of calls)) (sym same) ∙ found in
+          sym (slice_get-append_right (kinds_of (call ∷ [])) (kinds_of calls) (at - size)) ∙ ap (slice_get (kinds_of (call ∷ []) ++ kinds_of calls)) (sym same) ∙ found in
           let ih = starts_at calls (at - size) e later h in
           let more = longer call calls (call_number calls (at - size)) in
           ap (λ n. length (kinds_of (take n (call ∷ calls)))) (sym (cond_above at size 0 rest rest high refl)) ∙ omega (arith, ih, more, same)
@@ -73,7 +63,7 @@ in_calls [] n e is = nothing (length (kinds_of (take {A = Call} n []))) e is
 in_calls (call ∷ calls) zero e is = omega arith
 in_calls (call ∷ calls) (suc n) e is =
     let later : slice_get (kinds_of calls) (length (kinds_of (take n calls))) ≡ Some e =
-    sym (get_right (kinds_of (call ∷ [])) (kinds_of calls) (length (kinds_of (take n calls))))
+    sym (slice_get-append_right (kinds_of (call ∷ [])) (kinds_of calls) (length (kinds_of (take n calls))))
     ∙ ap (λ k. slice_get (kinds_of (call ∷ []) ++ kinds_of calls) k) (sym (longer call calls n))
     ∙ ap (λ es. slice_get es (length (kinds_of (take (suc n) (call ∷ calls))))) (sym (events_first call calls))
     ∙ is in
@@ -105,13 +95,6 @@ starts_within plan x s = slice_get_within (kinds plan x.proc) x.at s.what s.is
 pub call_within : (plan : Plan) (call : CallAt) → Starts plan (first_event plan call) → call.call < length (calls_of plan call.proc.number)
 call_within plan call s = in_calls (calls_of plan call.proc.number) call.call s.what (sym (event_called plan (first_event plan call)) ∙ s.is)
 
-stored_anew : (committed before : Option ℕ) (o : Option Kind) → before ≡ None → is_some (stored_with committed before o) ≡ true → o ≡ Some Commit
-stored_anew committed before (Some Commit) b h = refl
-stored_anew committed before _ b h = absurd (true≢false (sym h ∙ ap is_some b))
-
-pub stores_commit : (plan : Plan) (x : Event) (key : ℕ) → Stores plan x key → kind plan x ≡ Some Commit
-stores_commit plan x key s = stored_anew (own plan x.proc key x.at) (stored plan x.proc key x.at) (kind plan x) s.nothing_before s.something_after
-
 pub node_commit : (plan : Plan) (x y : Event) (key : ℕ) → IsNodeRace plan x y key → kind plan x ≡ Some Commit
 node_commit plan x y key r = stores_commit plan x key r.stores
 
@@ -126,12 +109,6 @@ source_of plan p key node (ByGet get) x b e = Getting p key (ap (kind plan) e �
 
 pub delivery_source : (plan : Plan) (x y : Event) (owner key : ℕ) → IsDeliveryRace plan x y owner key → ArrivesOrGets plan x
 delivery_source plan x y owner key r = source_of plan owner key (node_of plan y.proc) r.delivery x r.delivers.brings_it r.of_it
-
-pub writes_calls : (plan : Plan) (name : ℕ) (x : Event) (o : Option Kind) → writes_name plan name x o ≡ true → calls_name plan name x o ≡ true
-writes_calls plan name x (Some (Publish n)) h = h
-writes_calls plan name x (Some (Unpublish n)) h = h
-writes_calls plan name x (Some UnpublishAll) h = h
-writes_calls plan name x _ h = absurd (true≢false (sym h))
 
 -- a call on a name, by its event
 pub record IsNamed (o : Option Kind) : Type 0 where

@@ -1,25 +1,20 @@
 -- What an event does in the state of its past is its fate.
-use Rattle.std.proofs.Common.{◌≡◌, ◌∙◌, ap, refl, sym, subst, ℕ, ◌<◌, List, [], ◌∷◌, Bool, true, Option, Some, None, is_some, arith, ne_eqb}
+use Rattle.std.proofs.Common.{◌≡◌, ◌∙◌, ap, refl, sym, subst, ℕ, ◌<◌, List, [], ◌∷◌, true, Option, Some, is_some}
 use Rattle.std.specs.Prelude.{◌≢◌, ◌↔◌, if◌then◌else◌}
-use Rattle.std.proofs.lemmas.Bool.{cond-true, cond-false, cond_both}
+use Rattle.std.proofs.lemmas.Bool.{cond-true}
 use Rattle.wire_types.specs.declared.Reply.{Reply}
-use Rattle.wire_runs.specs.Puts.{stored, scope_of}
-use Rattle.wire_runs.specs.Sight.{Sight, Outside, Shown, served}
-use Rattle.wire_runs.specs.Plan.{Plan, Event, Kind, Get, Leave, same_node, admits, Publish, Lookup, LookupWait, Unpublish, kind, event_count}
+use Rattle.wire_runs.specs.Plan.{Plan, Event, Kind, Leave, Publish, Lookup, LookupWait, Unpublish, kind, event_count}
 use Rattle.wire_runs.specs.State.{Success, NotFound, Duplicate, State, next_event}
 use Rattle.wire_runs.specs.Fences.{arrivals}
-use Rattle.wire_runs.specs.Step.{is_seen, may_do, reply, lookup_reply, is_publisher}
+use Rattle.wire_runs.specs.Step.{may_do, reply, lookup_reply, is_publisher}
 use Rattle.wire_runs.specs.Order.{Edge, Meets, Live, Before, edge}
 use Rattle.wire_runs.specs.Races.{IsSettled}
 use Rattle.wire_runs.specs.Ends.{given}
 use Rattle.wire_runs.specs.Fate.{Fate, Waits, Says, fate_in, HasFate, dead, told, IsPast, left_by}
-use Rattle.wire_runs.proofs.Basics.{event_within}
 use Rattle.wire_runs.proofs.Due.{live_may, live_source}
-use Rattle.wire_runs.proofs.Brought.{complete_if_arrived, get_ready}
-use Rattle.wire_runs.proofs.Known.{get_answer}
-use Rattle.wire_runs.proofs.Getters.{last_answer}
+use Rattle.wire_runs.proofs.Brought.{complete_if_arrived}
 use Rattle.wire_runs.proofs.Histories.{one_history, before_live}
-use Rattle.wire_runs.proofs.Fates.{fates_tell, one_fate, live_event, past_closed, past_known, past_not_yet}
+use Rattle.wire_runs.proofs.Fates.{fates_tell, one_fate, live_within, get_fate}
 use Rattle.wire_runs.proofs.HaveFates.{have_fates}
 use Rattle.wire_marks.specs.Clocks.{Clocks, AreMarks}
 use Rattle.wire_races.specs.declared.fate.Fate.{Fate as Told}
@@ -63,30 +58,11 @@ stands plan y n found fate_of past st is_past =
     let h = is_past.names n in
     h.2 ∙ ap (left_by plan n) (one_history plan y n h.0 st.calls h.1 st.history) ∙ sym st.left
 
-pub live_within : (plan : Plan) (y : Event) → Live plan y → y.at < event_count plan y.proc
-live_within plan y l = let v = live_event plan y l in event_within plan y.proc y.at v.0 v.1
-
-served_is_seen : (plan : Plan) (t : ℕ) (same : Bool) (o : Option ℕ) → is_some o ≡ true → is_seen (served plan t same o) ≡ true
-served_is_seen plan t same None h = h
-served_is_seen plan t same (Some v) h = cond_both (admits (scope_of plan t v) same) (Shown v) Outside (λ (x : Sight). is_seen x ≡ true) (λ _. refl) (λ _. refl)
-
--- a get of another's key says what its owner has stored in the end
-get_says : (plan : Plan) → IsSettled plan → (z : Event) (fate : Fate) → Live plan z → (t key : ℕ) → kind plan z ≡ Some (Get t key) → (z.proc ≡ t → ⊥) → HasFate plan z fate →
-    fate ≡ Says (last_answer plan t key z.proc)
-get_says plan settled z fate l t key is other (dead no_ e) = absurd (no_ l)
-get_says plan settled z fate l t key is other (told m fate_of all past is_past e) =
-    let closed = past_closed plan settled z m fate_of past is_past in
-    let ready = get_ready plan settled past.done past.done z (λ n. omega arith) (past_known plan settled z m fate_of past is_past) closed
-    (past_not_yet plan settled z m fate_of past is_past) m t key is other in
-    let may : may_do plan past z (kind plan z) ≡ true =
-    ap (may_do plan past z) is ∙ ap is_seen (cond-false _ _ _ (ne_eqb z.proc t other)) ∙ served_is_seen plan t (same_node plan t z.proc) (stored plan t key (past.done t)) ready in
-    e ∙ cond-true _ _ _ may ∙ ap Says (get_answer plan settled past closed.within z t key is other may)
-
 past_got : (plan : Plan) → IsSettled plan → (y : Event) (fate_of : Event → Fate) → ((z : Event) → Before plan z y → HasFate plan z (fate_of z)) → (past : State) → IsPast plan y fate_of past →
     AreGot plan past
 past_got plan settled y fate_of all past is_past z t key d is other =
     let b = (is_past.cut z).0 d in
-    is_past.replies z _ b (get_says plan settled z (fate_of z) (before_live b) t key is other (all z b))
+    is_past.replies z _ b (get_fate plan settled z (fate_of z) (before_live b) t key is other (all z b))
 
 -- an event has the fate that it has in its past
 pub fate_of_live : (plan : Plan) (clocks : Clocks) (y : Event) (found : Told) → IsSettled plan → AreMarks plan clocks → Live plan y → IsFateInPast plan y found → IsFateOf plan y found

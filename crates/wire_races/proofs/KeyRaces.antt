@@ -1,16 +1,17 @@
 -- The races of a get that is answered at once.
-use Rattle.std.proofs.Common.{◌≡◌, ◌⊎◌, ◌∙◌, ap, refl, sym, subst, ℕ, ◌<◌, List, length, true, Option, Some, arith, is_some, inl, inr, eq-eqb}
-use Rattle.std.proofs.lemmas.Bool.{true≢false, cases_lt, cases_eq}
+use Rattle.std.proofs.Common.{◌≡◌, ◌∙◌, ap, sym, subst, ℕ, ◌<◌, List, length, true, Some, arith, inl, inr, eq-eqb}
+use Rattle.std.proofs.lemmas.Bool.{true≢false, cases_lt}
 use Rattle.std.proofs.lemmas.Option.{same_Some, slice_get_past}
 use Rattle.wire_runs.specs.Plan.{Plan, Event, Kind, Commit, Arrive, Leave, Get, GetNow, kind, kinds, event_count, process_count, process_kinds, node_of, same_node}
-use Rattle.wire_runs.specs.Puts.{stored, stored_with, own, put_count}
+use Rattle.wire_runs.specs.Puts.{put_count}
 use Rattle.wire_types.specs.declared.CallAt.{CallAt}
 use Rattle.wire_runs.specs.Order.{Stores, IsArrival}
 use Rattle.wire_runs.specs.EventLists.{IsLower}
 use Rattle.wire_runs.specs.Ends.{call_of, first_event}
 use Rattle.wire_runs.specs.Races.{IsUnordered, IsNodeRace, IsPutOnce, Delivery, ByFence, ByGet, IsOf, Brings}
 use Rattle.wire_runs.specs.Findings.{Finding, KeyRace, IsFound, IsKeyRace}
-use Rattle.wire_runs.proofs.Basics.{event_within}
+use Rattle.wire_runs.proofs.Basics.{event_within, stores_commit}
+use Rattle.wire_runs.proofs.EventLists.{one_lower, lower_one_way}
 use Rattle.wire_plan.proofs.KeyFacts.{stores_once}
 use Rattle.wire_races.specs.declared.finding.Finding.{Finding as Told}
 use Rattle.wire_races.specs.Collected.{AreFound, IsAdded}
@@ -18,17 +19,6 @@ use Rattle.wire_races.specs.Adding.{Adds}
 use Rattle.wire_races.specs.KeyRaces.{IsRaceOf, IsKeyRaceBy, IsOpen}
 use Rattle.wire_races.proofs.First.{first_of_call}
 use Rattle.wire_races.proofs.Growing.{adds_none, adds_one, adds_same}
-
--- what stores a key is a commit
-commit_or_kept : (a b : Option ℕ) (o : Option Kind) → (o ≡ Some Commit) ⊎ (stored_with a b o ≡ b)
-commit_or_kept a b (Some Commit) = inl refl
-commit_or_kept a b _ = inr refl
-
-store_is : (plan : Plan) (x : Event) (key : ℕ) → Stores plan x key → kind plan x ≡ Some Commit
-store_is plan x key s = elim (commit_or_kept (own plan x.proc key x.at) (stored plan x.proc key x.at) (kind plan x)) [
-  | inl is ↦ is
-  | inr kept ↦ absurd (true≢false (sym s.something_after ∙ ap is_some (kept ∙ s.nothing_before)))
-]
 
 -- an event that is a commit, an arrival, or a get that waits
 record IsSource (plan : Plan) (x : Event) : Type 0 where
@@ -48,7 +38,7 @@ delivery_source plan p key node (ByFence members j) x b a = arrival_source plan 
 delivery_source plan p key node (ByGet get) x b e = record { what = Get p key; is = ap (kind plan) e ∙ b.is; no_leave = λ members h. cc; no_get = λ owner other h. cc }
 
 source_is : (plan : Plan) (x y : Event) (owner key : ℕ) → IsKeyRace plan x y owner key → IsSource plan x
-source_is plan x y owner key (inl node) = commit_source plan x (store_is plan x key node.1.stores)
+source_is plan x y owner key (inl node) = commit_source plan x (stores_commit plan x key node.1.stores)
 source_is plan x y owner key (inr d) = delivery_source plan owner key (node_of plan y.proc) d.delivery x d.delivers.brings_it d.of_it
 
 -- the get of a race
@@ -88,26 +78,8 @@ differ plan x y owner key r e =
     s.no_get owner key (same_Some _ _ (sym s.is ∙ ap (kind plan) e ∙ (race_open plan x y owner key r).is))
 
 -- of two places one is lower
-one_lower : (x y : Event) → (x ≡ y → ⊥) → (IsLower x y → ⊥) → IsLower y x
-one_lower x y ne not_low = elim (cases_lt y.proc x.proc) [
-  | inl lt ↦ inl lt
-  | inr ge ↦ elim (cases_lt x.proc y.proc) [
-    | inl lt ↦ absurd (not_low (inl lt))
-    | inr le ↦ (let p : x.proc ≡ y.proc = omega (arith, ge, le) in elim (cases_lt y.at x.at) [
-      | inl lt ↦ inr (sym p, lt)
-      | inr high ↦ elim (cases_eq x.at y.at) [
-        | inl at ↦ absurd (ne (λ i. record { proc = p i; at = at i }))
-        | inr other ↦ absurd (not_low (inr (p, omega (arith, high, other))))
-      ]
-    ])
-  ]
-]
-
-lower_one_way : (x y : Event) → IsLower x y → IsLower y x → ⊥
-lower_one_way x y (inl a) (inl b) = omega (arith, a, b)
-lower_one_way x y (inl a) (inr b) = let e = b.0 in omega (arith, a, e)
-lower_one_way x y (inr a) (inl b) = let e = a.0 in omega (arith, b, e)
-lower_one_way x y (inr a) (inr b) = let i = a.1 in let j = b.1 in omega (arith, i, j)
+lower_other_way : (x y : Event) → (x ≡ y → ⊥) → (IsLower x y → ⊥) → IsLower y x
+lower_other_way x y ne not_low = elim (one_lower x y ne) [ inl low ↦ absurd (not_low low) | inr high ↦ high ]
 
 shown_pair : (plan : Plan) (x y : Event) (a b : CallAt) (owner key : ℕ) → a ≡ call_of plan x → b ≡ call_of plan y → first_event plan (call_of plan x) ≡ x → first_event plan (call_of plan y) ≡ y →
     KeyRace (first_event plan a) (first_event plan b) owner key ≡ KeyRace x y owner key
@@ -123,7 +95,7 @@ shown_low plan x y a b owner key r first second low = inl (low, shown_pair plan 
 pub shown_high : (plan : Plan) (x y : Event) (a b : CallAt) (owner key : ℕ) → IsKeyRace plan x y owner key → a ≡ call_of plan x → b ≡ call_of plan y → (IsLower x y → ⊥) →
     IsRaceOf x y owner key (KeyRace (first_event plan b) (first_event plan a) owner key)
 shown_high plan x y a b owner key r first second not_low =
-    inr (one_lower x y (differ plan x y owner key r) not_low, shown_pair plan y x b a owner key second first (get_stands plan x y owner key r) (source_stands plan x y owner key r))
+    inr (lower_other_way x y (differ plan x y owner key r) not_low, shown_pair plan y x b a owner key second first (get_stands plan x y owner key r) (source_stands plan x y owner key r))
 
 -- two events are one race at most
 one_race : (x y : Event) (owner key : ℕ) (f g : Finding) → IsRaceOf x y owner key f → IsRaceOf x y owner key g → g ≡ f

@@ -1,5 +1,5 @@
 -- Lists of places.
-use Rattle.std.proofs.Common.{◌≡◌, ◌⊎◌, inl, inr, ⊎_elim, ℕ, zero, suc, ◌+◌, ◌<◌, ◌≤◌, List, [], ◌∷◌, ◌++◌, Some, None, refl, map, take, drop, length, sym, ap, ◌∙◌, subst, arith}
+use Rattle.std.proofs.Common.{◌≡◌, inl, inr, ℕ, zero, suc, ◌+◌, ◌<◌, ◌≤◌, List, ◌++◌, Some, refl, map, take, drop, length, sym, ap, ◌∙◌, subst, arith}
 use Rattle.std.specs.Prelude.{slice_get, slice_index_or, option_map}
 use Rattle.std.proofs.lemmas.Option.{slice_get_within, same_Some, slice_get-map, slice_get-get_or}
 use Rattle.std.proofs.lemmas.List.{length-map, length-take-le, map-append, take-append-drop}
@@ -8,52 +8,20 @@ use Rattle.wire_types.specs.declared.place.Event.{Event as CodeEvent}
 use Rattle.wire_types.specs.declared.Proc.{Proc}
 use Rattle.wire_content.specs.Scripts.{numbers_of}
 use Rattle.wire_runs.specs.EventLists.{IsLower}
-use Rattle.wire_runs.specs.Fate.{IsIn}
+use Rattle.wire_runs.proofs.Lists.{slice_get-append_kept, slice_get-append_right}
 use Rattle.wire_races.specs.NameRaces.{AreCallsOn, AreOf, IsCut}
-
-pub in_index : (xs : List Event) (z : Event) → IsIn z xs → (k : ℕ) × (slice_get xs k ≡ Some z)
-in_index [] z i = absurd i
-in_index (x ∷ xs) z (inl e) = (0, ap (λ v. Some v) (sym e))
-in_index (x ∷ xs) z (inr i) = let w = in_index xs z i in (suc w.0, w.1)
-
-pub index_in : (xs : List Event) (z : Event) (k : ℕ) → slice_get xs k ≡ Some z → IsIn z xs
-index_in [] z k e = absurd (let lt = slice_get_within {A = Event} [] k z e in omega (arith, lt))
-index_in (x ∷ xs) z zero e = inl (sym (same_Some _ _ e))
-index_in (x ∷ xs) z (suc k) e = inr (index_in xs z k e)
 
 pub place_at : (run : List CodeEvent) (k : ℕ) (d : CodeEvent) → k < length run → slice_get (map event_of run) k ≡ Some (event_of (slice_index_or run k d))
 place_at run k d lt = slice_get-map event_of run k ∙ ap (option_map event_of) (slice_get-get_or run k d lt)
 
-pub in_left : (xs ys : List Event) (z : Event) → IsIn z xs → IsIn z (xs ++ ys)
-in_left [] ys z i = absurd i
-in_left (x ∷ xs) ys z (inl e) = inl e
-in_left (x ∷ xs) ys z (inr i) = inr (in_left xs ys z i)
-
-pub in_right : (xs ys : List Event) (z : Event) → IsIn z ys → IsIn z (xs ++ ys)
-in_right [] ys z i = i
-in_right (x ∷ xs) ys z i = inr (in_right xs ys z i)
-
-pub in_parts : (xs ys : List Event) (z : Event) → IsIn z (xs ++ ys) → IsIn z xs ⊎ IsIn z ys
-in_parts [] ys z i = inr i
-in_parts (x ∷ xs) ys z (inl e) = inl (inl e)
-in_parts (x ∷ xs) ys z (inr i) = ⊎_elim (λ a. inl (inr a)) (λ b. inr b) (in_parts xs ys z i)
-
-pub get_left : (xs ys : List Event) (k : ℕ) (z : Event) → slice_get xs k ≡ Some z → slice_get (xs ++ ys) k ≡ Some z
-get_left [] ys k z e = absurd (let lt = slice_get_within {A = Event} [] k z e in omega (arith, lt))
-get_left (x ∷ xs) ys zero z e = e
-get_left (x ∷ xs) ys (suc k) z e = get_left xs ys k z e
-
 pub get_right : (xs ys : List Event) (k : ℕ) (z : Event) → slice_get ys k ≡ Some z → slice_get (xs ++ ys) (length xs + k) ≡ Some z
-get_right [] ys k z e = let same : k ≡ 0 + k = omega arith in subst (λ n. slice_get ys n ≡ Some z) same e
-get_right (x ∷ xs) ys k z e =
-    let same : suc (length xs + k) ≡ suc (length xs) + k = omega arith in
-    subst (λ n. slice_get (x ∷ (xs ++ ys)) n ≡ Some z) same (get_right xs ys k z e)
+get_right xs ys k z e = slice_get-append_right xs ys k ∙ e
 
 -- the two parts of calls on a name
 pub first_calls : (plan : Plan) (name : ℕ) (xs ys : List Event) → AreCallsOn plan name (xs ++ ys) → AreCallsOn plan name xs
 first_calls plan name xs ys are = record {
-  each = λ k z e. are.each k z (get_left xs ys k z e);
-  rising = λ k l y z lt e f. are.rising k l y z lt (get_left xs ys k y e) (get_left xs ys l z f);
+  each = λ k z e. are.each k z (slice_get-append_kept xs ys k z e);
+  rising = λ k l y z lt e f. are.rising k l y z lt (slice_get-append_kept xs ys k y e) (slice_get-append_kept xs ys l z f);
 }
 
 pub other_calls : (plan : Plan) (name : ℕ) (xs ys : List Event) → AreCallsOn plan name (xs ++ ys) → AreCallsOn plan name ys
@@ -70,15 +38,11 @@ both_parts rest run others n front back =
     ∙ ap (λ l. map event_of l ++ map event_of (drop n rest)) (sym front)
     ∙ ap (λ l. map event_of run ++ map event_of l) (sym back)
 
-pub none_there : (calls : List CodeEvent) → slice_get calls 0 ≡ None → calls ≡ []
-none_there [] e = refl
-none_there (x ∷ calls) e = cc
-
 -- what stands in the front of a list
 in_front : (calls : List CodeEvent) (n k : ℕ) (z : Event) → n ≤ length calls → slice_get (map event_of (take n calls)) k ≡ Some z → (k < n) × (slice_get (map event_of calls) k ≡ Some z)
 in_front calls n k z le e = (
   subst (λ m. k < m) (length-map (take n calls) event_of ∙ length-take-le n calls le) (slice_get_within (map event_of (take n calls)) k z e),
-  subst (λ l. slice_get l k ≡ Some z) (sym (both_parts calls (take n calls) (drop n calls) n refl refl)) (get_left (map event_of (take n calls)) (map event_of (drop n calls)) k z e),
+  subst (λ l. slice_get l k ≡ Some z) (sym (both_parts calls (take n calls) (drop n calls) n refl refl)) (slice_get-append_kept (map event_of (take n calls)) (map event_of (drop n calls)) k z e),
 )
 
 -- calls of processes up to that of the first one, the lower first, are of that process

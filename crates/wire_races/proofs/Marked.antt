@@ -1,21 +1,13 @@
 -- Marks tell which events are live, and which are before which.
-use Rattle.std.proofs.Common.{◌≡◌, ◌⊎◌, inl, inr, ap, sym, Bool, true, false, ltb-true, lt-ltb}
+use Rattle.std.proofs.Common.{◌≡◌, ◌⊎◌, inl, inr, sym, Bool, true, false, ltb-true, lt-ltb}
 use Rattle.std.specs.Prelude.{◌↔◌, nat_lt}
-use Rattle.std.proofs.lemmas.Bool.{cases_eq, true≢false}
+use Rattle.std.proofs.lemmas.Bool.{true≢false}
 use Rattle.wire_runs.specs.Plan.{Plan, Event}
 use Rattle.wire_runs.specs.Order.{Before}
 use Rattle.wire_runs.specs.Laws.{Marks}
+use Rattle.wire_runs.proofs.Histories.{same_place}
 use Rattle.wire_marks.specs.Clocks.{Clocks, marked_count, clock_of, AreMarks}
 use Rattle.wire_marks.proofs.Growing.{before_iff, never_self}
-
-one_or_two : (x y : Event) → (x ≡ y) ⊎ (x ≡ y → ⊥)
-one_or_two x y = elim (cases_eq x.proc y.proc) [
-  | inl p ↦ elim (cases_eq x.at y.at) [
-    | inl at ↦ inl (λ t. record { proc = p t; at = at t })
-    | inr other ↦ inr (λ e. other (ap (λ (z : Event). z.at) e))
-  ]
-  | inr other ↦ inr (λ e. other (ap (λ (z : Event). z.proc) e))
-]
 
 abbrev is_before : (clocks : Clocks) (x y : Event) → (x ≡ y) ⊎ (x ≡ y → ⊥) → Bool
 is_before clocks x y (inl e) = false
@@ -30,10 +22,10 @@ tells plan clocks m x y (inr other) =
 pub marks_of : (plan : Plan) (clocks : Clocks) → AreMarks plan clocks → Marks plan
 marks_of plan clocks m = record {
   alive = λ y. nat_lt y.at (marked_count clocks y.proc);
-  before = λ x y. is_before clocks x y (one_or_two x y);
+  before = λ x y. is_before clocks x y (same_place x y);
   tells_live = λ y. (
     (λ t. (m.live y).0 (ltb-true y.at (marked_count clocks y.proc) t)),
     (λ l. lt-ltb y.at (marked_count clocks y.proc) ((m.live y).1 l)),
   );
-  tells_before = λ x y. tells plan clocks m x y (one_or_two x y);
+  tells_before = λ x y. tells plan clocks m x y (same_place x y);
 }

@@ -12,17 +12,16 @@ use Rattle.wire_runs.specs.Fate.{IsIn, IsInOrder, left_by}
 use Rattle.wire_runs.proofs.Due.{named_after}
 use Rattle.wire_runs.proofs.Diamond.{writes_calls, writes_no_lookup}
 use Rattle.wire_runs.proofs.Histories.{before_live, joined, same_process}
-use Rattle.wire_runs.proofs.EventLists.{not_in_empty, in_either, in_front, at_end}
+use Rattle.wire_runs.proofs.Lists.{not_in_empty, slice_get_push_cases, slice_get_push_kept, slice_get_push_last, slice_get-append_left}
+use Rattle.wire_runs.proofs.Fates.{live_within}
 use Rattle.wire_marks.specs.declared.Update.{Update}
 use Rattle.wire_marks.specs.Clocks.{Clocks, AreMarks}
 use Rattle.wire_marks.specs.Updates.{standing_after, standing_in, IsFalling, AreChanges, AreUpdates}
 use Rattle.wire_marks.proofs.Noting.{standing_all}
-use Rattle.wire_marks.proofs.Tables.{slice_get-append_left}
 use Rattle.wire_races.specs.NameRaces.{IsCut}
 use Rattle.wire_races.specs.Pasts.{events_in, IsStanding}
 use Rattle.wire_races.proofs.Marked.{marks_of}
 use Rattle.wire_races.proofs.NameRaces.{HoldsInFront}
-use Rattle.wire_races.proofs.Fates.{live_within}
 
 pub update_at : (us : List Update) (k : ℕ) (d : Update) → k < length us → slice_get us k ≡ Some (slice_index_or us k d)
 update_at us k d lt = slice_get-get_or us k d lt
@@ -82,7 +81,7 @@ module _ (plan : Plan) (settled : IsSettled plan) (clocks : Clocks) (m : AreMark
   update_in : (calls : List Event) (us : List Update) (k : ℕ) (u : Update) → AreChanges plan name calls us → slice_get us k ≡ Some u → IsIn (event_of u.event) calls
   update_in [] us k u none is = absurd (not_in_empty k u (ap (λ l. slice_get l k) (sym none) ∙ is))
   update_in (x ∷ xs) us k u (inl h) is = inr (update_in xs us k u h.1 is)
-  update_in (x ∷ xs) us k u (inr (v, others, are, it, stands, rest)) is = elim (in_either others v k u (ap (λ l. slice_get l k) (sym are) ∙ is)) [
+  update_in (x ∷ xs) us k u (inr (v, others, are, it, stands, rest)) is = elim (slice_get_push_cases others v k u (ap (λ l. slice_get l k) (sym are) ∙ is)) [
     | inl h ↦ inr (update_in xs others k u rest h)
     | inr e ↦ inl (ap (λ w. event_of w.event) (sym e.1) ∙ it)
   ]
@@ -95,12 +94,12 @@ module _ (plan : Plan) (settled : IsSettled plan) (clocks : Clocks) (m : AreMark
   in_chain (x ∷ xs) us (inr (w, others, are, it, stands, rest)) ordered k l u v lt first second =
       let front = ap (λ y. slice_get y k) (sym are) ∙ first in
       let back = ap (λ y. slice_get y l) (sym are) ∙ second in
-      elim (in_either others w k u front) [
-        | inl h ↦ elim (in_either others w l v back) [
+      elim (slice_get_push_cases others w k u front) [
+        | inl h ↦ elim (slice_get_push_cases others w l v back) [
           | inl g ↦ in_chain xs others rest ordered.1 k l u v lt h g
           | inr e ↦ subst (λ y. Before plan (event_of u.event) y) (sym it ∙ ap (λ y. event_of y.event) e.1) (ordered.0 (event_of u.event) (update_in xs others k u rest h))
         ]
-        | inr e ↦ elim (in_either others w l v back) [
+        | inr e ↦ elim (slice_get_push_cases others w l v back) [
           | inl g ↦ absurd (let within = slice_get_within others l v g in let end = e.0 in omega (arith, within, end, lt))
           | inr f ↦ absurd (let at = e.0 in let too = f.0 in omega (arith, at, too, lt))
         ]
@@ -175,7 +174,7 @@ module _ (plan : Plan) (settled : IsSettled plan) (clocks : Clocks) (m : AreMark
     few : n ≤ length others
     few =
         let size : length us ≡ length others + 1 = ap length is ∙ length-append others (u ∷ []) in
-        let last : slice_get us (length others) ≡ Some u = ap (λ l. slice_get l (length others)) is ∙ at_end others u in
+        let last : slice_get us (length others) ≡ Some u = ap (λ l. slice_get l (length others)) is ∙ slice_get_push_last others u in
         elim (cases_lt (length others) n) [
           | inl lt ↦ absurd (not_before (cut.below (length others) (event_of u.event) lt (event_at us (length others) u last)))
           | inr ge ↦ ge
@@ -184,7 +183,7 @@ module _ (plan : Plan) (settled : IsSettled plan) (clocks : Clocks) (m : AreMark
     longer : (k : ℕ) (z : Event) → slice_get (events_in others) k ≡ Some z → slice_get (events_in us) k ≡ Some z
     longer k z e =
         let v = update_of others k z e in
-        event_at us k v.0 (ap (λ l. slice_get l k) is ∙ in_front others u k v.0 v.1) ∙ ap Some v.2
+        event_at us k v.0 (ap (λ l. slice_get l k) is ∙ slice_get_push_kept others u k v.0 v.1) ∙ ap Some v.2
 
     shorter : IsCut (λ z. Before plan z y) (events_in others) n
     shorter = record {

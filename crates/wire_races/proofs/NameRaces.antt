@@ -16,6 +16,10 @@ use Rattle.wire_runs.specs.Findings.{Finding, NameRace, IsFound}
 use Rattle.wire_races.specs.declared.finding.Finding.{Finding as Told}
 use Rattle.wire_plan.specs.Index.{is_plain_call, AreNameCalls}
 use Rattle.wire_runs.proofs.Histories.{before_live, joined, same_process}
+use Rattle.wire_runs.proofs.Diamond.{writes_calls}
+use Rattle.wire_runs.proofs.Members.{in_index, index_in, in_left, in_right, in_parts}
+use Rattle.wire_runs.proofs.Lists.{slice_get-append_kept}
+use Rattle.wire_runs.proofs.Findings.{turned}
 use Rattle.wire_races.specs.Collected.{Tells, AreFound, IsAdded}
 use Rattle.wire_races.specs.FindingKinds.{IsOfName}
 use Rattle.wire_races.specs.Adding.{Adds}
@@ -24,8 +28,8 @@ use Rattle.wire_races.specs.NameRaces.{AreRivals, AreHigher, HasRivals, IsBelow,
 use Rattle.wire_races.specs.SweepRaces.{IsSweepRace}
 use Rattle.wire_races.specs.declared.call_races.Border.{Border}
 use Rattle.wire_races.specs.declared.call_races.Border.TheVariants.{FirstNotBefore, FirstAfter}
-use Rattle.wire_races.proofs.Lists.{in_index, index_in, in_left, in_right, in_parts, get_left, get_right, first_calls, other_calls}
-use Rattle.wire_races.proofs.Calls.{writes_calls, starts_within, starts_named}
+use Rattle.wire_races.proofs.Lists.{get_right, first_calls, other_calls}
+use Rattle.wire_races.proofs.Calls.{starts_within, starts_named}
 use Rattle.wire_races.proofs.Growing.{adds_one, adds_both}
 
 -- of the calls of a process those below a border are the first
@@ -84,9 +88,6 @@ above_not m p lt le = omega (arith, lt, le)
 
 pub processes : (plan : Plan) (name p : ℕ) (calls : List Event) → AreCallsOn plan name calls → HoldsInFront (λ z. z.proc ≤ p) calls
 processes plan name p calls are k l y z lt e f le = up_to p y z (are.rising k l y z lt e f) le
-
-pub turned : (plan : Plan) (x y : Event) → IsUnordered plan x y → IsUnordered plan y x
-turned plan x y u = record { live_x = u.live_y; live_y = u.live_x; not_before = u.not_after; not_after = u.not_before }
 
 -- the calls of a race are unordered
 pub race_unordered : (plan : Plan) (x y : Event) (name : ℕ) → IsFound plan (NameRace x y name) → IsUnordered plan x y
@@ -176,14 +177,14 @@ module _ (plan : Plan) (x : Event) (calls : List Event) (from to : ℕ) (live : 
   those_between front those rest parts low high z = (
     (λ i.
         let w = in_index those z i in
-        let at = subst (λ l. slice_get l (length front + w.0) ≡ Some z) (sym parts) (get_left (front ++ those) rest (length front + w.0) z (get_right front those w.0 z w.1)) in
+        let at = subst (λ l. slice_get l (length front + w.0) ≡ Some z) (sym parts) (slice_get-append_kept (front ++ those) rest (length front + w.0) z (get_right front those w.0 z w.1)) in
         let lt = slice_get_within those w.0 z w.1 in
         (index_in calls z (length front + w.0) at, unordered_at (length front + w.0) z at (omega (arith, low)) (omega (arith, low, high, lt)))),
     (λ h. elim (in_parts (front ++ those) rest z (subst (IsIn z) parts h.0)) [
       | inl near ↦ elim (in_parts front those z near) [
         | inl early ↦
             let w = in_index front z early in
-            let ge = past_first w.0 z (subst (λ l. slice_get l w.0 ≡ Some z) (sym parts) (get_left (front ++ those) rest w.0 z (get_left front those w.0 z w.1))) h.1 in
+            let ge = past_first w.0 z (subst (λ l. slice_get l w.0 ≡ Some z) (sym parts) (slice_get-append_kept (front ++ those) rest w.0 z (slice_get-append_kept front those w.0 z w.1))) h.1 in
             let lt = slice_get_within front w.0 z w.1 in
             absurd (omega (arith, ge, lt, low))
         | inr here ↦ here
@@ -240,8 +241,8 @@ module _ (plan : Plan) (name : ℕ) (x : Event) (calls those : List Event) (are 
 pub first_rivals : (plan : Plan) (name : ℕ) (x : Event) (xs ys : List Event) → AreRivals plan name x (xs ++ ys) → AreRivals plan name x xs
 first_rivals plan name x xs ys are = record {
   calls_on = first_calls plan name xs ys are.calls_on;
-  others = λ k z e. are.others k z (get_left xs ys k z e);
-  change = λ k z e. are.change k z (get_left xs ys k z e);
+  others = λ k z e. are.others k z (slice_get-append_kept xs ys k z e);
+  change = λ k z e. are.change k z (slice_get-append_kept xs ys k z e);
 }
 
 pub other_rivals : (plan : Plan) (name : ℕ) (x : Event) (xs ys : List Event) → AreRivals plan name x (xs ++ ys) → AreRivals plan name x ys

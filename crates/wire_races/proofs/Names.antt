@@ -1,27 +1,27 @@
 -- The names of calls are those of the scripts.
-use Rattle.std.proofs.Common.{◌≡◌, inl, inr, ⊎_elim, ℕ, zero, suc, ◌+◌, ◌-◌, ◌<◌, ◌≤◌, List, [], ◌∷◌, ◌++◌, Bool, true, Option, Some, None, map, length, refl, sym, ap, ◌∙◌, subst, arith, eq-eqb}
-use Rattle.std.specs.Prelude.{slice_get, option_map, if◌then◌else◌}
-use Rattle.std.proofs.lemmas.Option.{slice_get-map}
+use Rattle.std.proofs.Common.{◌≡◌, inl, inr, ⊎_elim, ℕ, zero, suc, ◌+◌, ◌-◌, ◌<◌, ◌≤◌, List, [], ◌∷◌, ◌++◌, Bool, true, Option, Some, map, length, refl, sym, ap, ◌∙◌, subst, arith, eq-eqb}
+use Rattle.std.specs.Prelude.{slice_get, if◌then◌else◌}
 use Rattle.std.proofs.lemmas.Bool.{true≢false, cases_lt, cond_both, eqb-true}
-use Rattle.wire_runs.specs.Plan.{Plan, Event, Kind, Call, kinds_of, set_of, kind, kind_at, kinds, event_count, process_kinds}
+use Rattle.wire_runs.specs.Plan.{Event, Kind, Call, kinds_of, set_of, kind, kind_at, kinds, event_count}
 use Rattle.wire_runs.specs.Plan.{CallPut, CallGet, CallGetNow, CallPublish, CallLookup, CallLookupWait, CallUnpublish, CallFixed}
 use Rattle.wire_runs.specs.Plan as plan
 use Rattle.wire_types.specs.declared.Call.{Call as Written}
 use Rattle.wire_types.specs.declared.Call.TheVariants.{Put, Commit, Fence, Get, GetNow, Publish, Lookup, LookupWait, Unpublish, UnpublishAll}
 use Rattle.wire_types.specs.declared.Reply.{Reply}
-use Rattle.wire_content.specs.Scripts.{Process, Scripts, IsSound, name_in, calls_in, set_at}
+use Rattle.wire_content.specs.Scripts.{Scripts, IsSound, name_in, calls_in, set_at}
 use Rattle.wire_content.specs.Apart.{AreApart}
-use Rattle.wire_content.specs.Planned.{plan_of, planned_call, planned_process}
+use Rattle.wire_content.specs.Planned.{plan_of, planned_call}
 use Rattle.wire_runs.specs.Names.{calls_name}
+use Rattle.wire_runs.proofs.Lists.{slice_get-append_left, slice_get-append_right}
+use Rattle.wire_content.proofs.PlannedCalls.{events_are}
 use Rattle.wire_plan.specs.Index.{is_plain_call}
 use Rattle.wire_plan.proofs.Planning.{events_first}
 use Rattle.wire_plan.proofs.Published.{published_at}
 use Rattle.wire_races.proofs.NameRaces.{plain_or_not}
 use Rattle.wire_races.specs.Standings.{AreNamesOf}
-use Rattle.wire_races.proofs.Calls.{get_left, get_right}
 
 get_late : {A : Type 0} (xs ys : List A) (k : ℕ) → length xs ≤ k → slice_get (xs ++ ys) k ≡ slice_get ys (k - length xs)
-get_late xs ys k le = let same : k ≡ length xs + (k - length xs) = omega (arith, le) in ap (slice_get (xs ++ ys)) same ∙ get_right xs ys (k - length xs)
+get_late xs ys k le = let same : k ≡ length xs + (k - length xs) = omega (arith, le) in ap (slice_get (xs ++ ys)) same ∙ slice_get-append_right xs ys (k - length xs)
 
 module _ (s : Scripts) (name : ℕ) (x : Event) where
   abbrev on_it : Option Kind → Bool
@@ -60,20 +60,16 @@ module _ (s : Scripts) (name : ℕ) (x : Event) where
       let first = kinds_of (planned_call s call ∷ []) in
       let others = kinds_of (map (planned_call s) calls) in
       elim (cases_lt i (length first)) [
-        | inl lt ↦ (0, call, refl, written_name call i (subst (λ o. on_it o ≡ true) (get_left first others i lt) split))
+        | inl lt ↦ (0, call, refl, written_name call i (subst (λ o. on_it o ≡ true) (slice_get-append_left first others i lt) split))
         | inr le ↦
             let w = written_call calls (i - length first) (subst (λ o. on_it o ≡ true) (get_late first others i le) split) in
             (suc w.0, w.1, w.2, w.3)
       ]
 
-  planned_calls : (o : Option Process) → process_kinds (option_map (planned_process s) o) ≡ kinds_of (map (planned_call s) (calls_in o))
-  planned_calls None = refl
-  planned_calls (Some q) = refl
-
   plain_within : IsSound s → on_it (kind (plan_of s) x) ≡ true → name < length s.names
   unfolding kind_at kinds
   plain_within sound h =
-      let es = ap process_kinds (slice_get-map (planned_process s) s.processes x.proc) ∙ planned_calls (slice_get s.processes x.proc) in
+      let es = events_are s x.proc in
       let w = written_call (calls_in (slice_get s.processes x.proc)) x.at (subst (λ l. on_it (slice_get l x.at) ≡ true) es h) in
       sound.names x.proc w.0 name w.1 w.2 w.3
 

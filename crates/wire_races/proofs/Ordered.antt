@@ -12,12 +12,13 @@ use Rattle.std.specs.List.Sorted as order
 use Rattle.std.specs.declared.cmp.Ordering.{Ordering}
 use Rattle.std.specs.declared.cmp.Ordering.TheVariants.{Less, Equal, Greater}
 use Rattle.std.specs.Ordering.{ordering_then, ordering_index, nat_cmp, bool_cmp, eq_by_cmp, is_eq, is_lt}
-use Rattle.wire_runs.specs.Plan.{Plan, Event, kinds_of}
+use Rattle.wire_runs.specs.Plan.{Plan, kinds_of}
 use Rattle.wire_types.specs.declared.CallAt.{CallAt}
 use Rattle.wire_types.specs.declared.Proc.{Proc}
 use Rattle.wire_runs.specs.EventLists.{IsLower}
 use Rattle.wire_runs.specs.Ends.{calls_of, first_event}
 use Rattle.wire_runs.specs.Findings.{Finding, IsPairLower, IsSooner, IsFound, IsSorted}
+use Rattle.wire_runs.proofs.EventLists.{lower_not_same}
 use Rattle.wire_races.specs.declared.finding.Finding.{Finding as Told}
 use Rattle.wire_races.specs.declared.finding.Finding.TheVariants.{Rewrite, KeyRace, NameRace}
 use Rattle.wire_races.specs.declared.found.Standing.{Standing}
@@ -88,10 +89,6 @@ call_lower plan v w within e = elim (less_either (nat_cmp v.proc.number w.proc.n
       inr (p, subst (λ (q : ℕ). length (kinds_of (take v.call (calls_of plan v.proc.number))) < length (kinds_of (take w.call (calls_of plan q)))) p start))
 ]
 
-lower_self : (x y : Event) → x ≡ y → IsLower x y → ⊥
-lower_self x y e (inl lt) = let p = ap (λ (z : Event). z.proc) e in omega (arith, lt, p)
-lower_self x y e (inr h) = let i = ap (λ (z : Event). z.at) e in let lt = h.1 in omega (arith, lt, i)
-
 module _ (plan : Plan) (names : List (List ℕ)) (of : AreNamesOf plan names) where
   pair_lower : (f g : Told) → IsFound plan (shown plan f) → ordering_then (call_cmp (low_call f) (low_call g)) (call_cmp (high_call f) (high_call g)) ≡ Less →
       IsPairLower (first_event plan (low_call f)) (first_event plan (high_call f)) (first_event plan (low_call g)) (first_event plan (high_call g))
@@ -108,8 +105,8 @@ module _ (plan : Plan) (names : List (List ℕ)) (of : AreNamesOf plan names) wh
     | inr l ↦ (
         let later = call_one w y l.0 in
         let there = subst (λ c. IsFound plan (shown plan (Rewrite x c))) (sym later) b in
-        absurd (lower_self (first_event plan v) (first_event plan x) (one_first plan (first_event plan v) (first_event plan x) (first_event plan w) a there)
-        (call_lower plan v x (shown_low plan (Rewrite v w) (Rewrite v w) refl a) l.1)))
+        absurd (lower_not_same (first_event plan v) (first_event plan x) (call_lower plan v x (shown_low plan (Rewrite v w) (Rewrite v w) refl a) l.1)
+        (sym (one_first plan (first_event plan v) (first_event plan x) (first_event plan w) a there))))
   ]
 
   -- without a name, one stands before another by their standings alone

@@ -20,9 +20,9 @@ use Rattle.wire_races.specs.Standings.{standing, told_cmp, entry_cmp, AreInOrder
 use Rattle.wire_races.specs.Packing.{race_on, told_of, told_by, all_told_by, AreWithin, HasMore}
 use Rattle.wire_runs.specs.Plan.{Plan}
 use Rattle.wire_runs.specs.Findings.{Finding, IsSorted}
+use Rattle.wire_runs.proofs.Lists.{slice_get-append_left}
 use Rattle.wire_races.specs.Findings.{all_shown, lower_name}
 use Rattle.wire_races.specs.Collected.{Tells, AreFound}
-use Rattle.wire_races.proofs.Calls.{get_left}
 use Rattle.wire_races.proofs.Ordered.{same_place, told_total, list_tells, list_sorted}
 
 of_same : (b : Bool) (o p : Option Subject) (v w : CallAt) → (b ≡ false → o ≡ p) → told_of b o v w ≡ told_of b p v w
@@ -35,7 +35,7 @@ more_told old new entry more within =
     of_same (entry.subject == 0) (slice_get new (entry.subject - 1)) (slice_get old (entry.subject - 1)) entry.by entry.then
     (λ race.
     let some = eqb-false entry.subject 0 race in
-    ap (λ l. slice_get l (entry.subject - 1)) more.1 ∙ get_left old more.0 (entry.subject - 1) (omega (arith, within, some)))
+    ap (λ l. slice_get l (entry.subject - 1)) more.1 ∙ slice_get-append_left old more.0 (entry.subject - 1) (omega (arith, within, some)))
 
 all_more : (old new : List Subject) (entries : List Packed) → HasMore old new → AreWithin old entries → all_told_by new entries ≡ all_told_by old entries
 all_more old new [] more within = refl

@@ -1,7 +1,7 @@
 -- Calls that race, and the races of two calls in a list of findings.
 use Rattle.std.proofs.Common.{◌≡◌, ◌≢◌, ◌⊎◌, ◌↔◌, inl, inr, ⊎_elim, ap, refl, sym, subst, ℕ, zero, suc, ◌<◌, List, [], ◌∷◌, true, false, Bool, Some, length, arith}
 use Rattle.std.specs.Prelude.{slice_get}
-use Rattle.std.proofs.lemmas.Bool.{cases_lt, true≢false, and_parts, and_from, or_cases, or_left, or_right}
+use Rattle.std.proofs.lemmas.Bool.{true≢false, and_parts, and_from, or_cases, or_left, or_right}
 use Rattle.std.proofs.lemmas.List.{take_all}
 use Rattle.std.proofs.lemmas.Option.{same_Some, none-some, slice_get_within}
 use Rattle.wire_types.specs.declared.CallAt.{CallAt}
@@ -9,9 +9,11 @@ use Rattle.wire_runs.specs.Plan.{Plan, Event, kind, kinds, kinds_of, event_count
 use Rattle.wire_runs.specs.Names.{writes_name, calls_name}
 use Rattle.wire_runs.specs.Order.{edge, Announces}
 use Rattle.wire_runs.specs.Ends.{calls_of, first_event}
-use Rattle.wire_runs.specs.EventLists.{IsLower}
 use Rattle.wire_runs.specs.Races.{IsUnordered, IsNameRace}
 use Rattle.wire_runs.specs.Findings.{Finding, Rewrite, KeyRace, NameRace, IsFound}
+use Rattle.wire_runs.proofs.Diamond.{writes_calls}
+use Rattle.wire_runs.proofs.EventLists.{one_lower}
+use Rattle.wire_runs.proofs.Findings.{turned}
 use Rattle.wire_content.specs.Scripts.{Scripts}
 use Rattle.wire_content.specs.Planned.{plan_of}
 use Rattle.wire_races.specs.declared.finding.Finding.{Finding as Told}
@@ -24,10 +26,9 @@ use Rattle.wire_races.specs.KeyRaces.{IsRaceOf, IsKeyRaceBy}
 use Rattle.wire_races.specs.Racing.{RaceOnKey, RaceOnName, AreRacing}
 use Rattle.wire_races.specs.Reported.{race_calls, IsReported}
 use Rattle.wire_races.specs.Contested.{is_disturbed, is_contested, IsOneContested, HasNamesOf}
-use Rattle.wire_races.proofs.Calls.{Starts, low_of, high_of, low_starts, high_starts, call_within, writes_calls, same_events}
+use Rattle.wire_races.proofs.Calls.{Starts, low_of, high_of, low_starts, high_starts, call_within, same_events}
 use Rattle.wire_races.proofs.KeyRaces.{differ}
 use Rattle.wire_races.proofs.Deliveries.{race_told}
-use Rattle.wire_races.proofs.NameRaces.{turned}
 use Rattle.wire_races.proofs.OneList.{same_call, rising}
 
 -- what a list tells stands somewhere in it
@@ -120,22 +121,6 @@ has_reported plan found x y f r tells =
     let ends = subst (λ g. ((low_of g ≡ first_event plan x) × (high_of g ≡ first_event plan y)) ⊎ ((low_of g ≡ first_event plan y) × (high_of g ≡ first_event plan x))) w.3 r.ends in
     record { at = w.0; finding = t; there = w.2; races = ⊎_elim (λ e. inl (calls_told plan t x y is race e.0 e.1)) (λ e. inr (calls_told plan t y x is race e.0 e.1)) ends }
 
--- of two events one is lower
-lower_or_higher : (x y : Event) → (x ≡ y → ⊥) → IsLower x y ⊎ IsLower y x
-lower_or_higher x y ne = elim (cases_lt x.proc y.proc) [
-  | inl lt ↦ inl (inl lt)
-  | inr ge ↦ elim (cases_lt y.proc x.proc) [
-    | inl gt ↦ inr (inl gt)
-    | inr le ↦ (let p : x.proc ≡ y.proc = omega (arith, ge, le) in elim (cases_lt x.at y.at) [
-      | inl lt ↦ inl (inr (p, lt))
-      | inr high ↦ elim (cases_lt y.at x.at) [
-        | inl gt ↦ inr (inr (sym p, gt))
-        | inr low ↦ absurd (ne (let at : x.at ≡ y.at = omega (arith, high, low) in λ t. record { proc = p t; at = at t }))
-      ]
-    ])
-  ]
-]
-
 module _ (plan : Plan) (x y : Event) where
   on_key_differ : RaceOnKey plan x y → x ≡ y → ⊥
   on_key_differ r e = ⊎_elim (λ a. differ plan x y r.0 r.1 a e) (λ b. differ plan y x r.0 r.1 b (sym e)) r.2
@@ -148,7 +133,7 @@ module _ (plan : Plan) (x y : Event) where
 
   -- a race on a key is a finding
   key_race : RaceOnKey plan x y → (f : Finding) × IsRaceOfThem plan x y f × (IsKeyRaceBy plan x f ⊎ IsKeyRaceBy plan y f)
-  key_race r = elim (lower_or_higher x y (on_key_differ r)) [
+  key_race r = elim (one_lower x y (on_key_differ r)) [
     | inl low ↦ (
       KeyRace x y r.0 r.1,
       record { found = (low, r.2); race = refl; ends = inl (refl, refl) },
@@ -165,7 +150,7 @@ module _ (plan : Plan) (x y : Event) where
   on_name_apart r = ⊎_elim (λ a. a.others) (λ b e. b.others (sym e)) r.1
 
   name_race : RaceOnName plan x y → (f : Finding) × IsRaceOfThem plan x y f
-  name_race r = elim (lower_or_higher x y (λ e. on_name_apart r (ap (λ (v : Event). v.proc) e))) [
+  name_race r = elim (one_lower x y (λ e. on_name_apart r (ap (λ (v : Event). v.proc) e))) [
     | inl low ↦ (NameRace x y r.0, record { found = (low, r.1); race = refl; ends = inl (refl, refl) })
     | inr high ↦ (NameRace y x r.0, record { found = (high, ⊎_elim (λ a. inr a) (λ b. inl b) r.1); race = refl; ends = inr (refl, refl) })
   ]

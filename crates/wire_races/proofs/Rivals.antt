@@ -9,8 +9,10 @@ use Rattle.wire_runs.specs.EventLists.{AreAll}
 use Rattle.wire_runs.specs.Fate.{IsIn}
 use Rattle.wire_plan.specs.Index.{is_plain_call, AreNameCalls}
 use Rattle.wire_runs.proofs.EventLists.{all_same, all_and_one}
+use Rattle.wire_runs.proofs.Members.{in_index, index_in, in_parts}
+use Rattle.wire_runs.proofs.Lists.{slice_get-append_kept}
 use Rattle.wire_races.specs.NameRaces.{AreCallsOn, AreRivals, AreHigher, HasRivals, AreWriters, IsAbove, IsCut}
-use Rattle.wire_races.proofs.Lists.{in_index, index_in, in_parts, get_left, get_right, other_calls}
+use Rattle.wire_races.proofs.Lists.{get_right, other_calls}
 use Rattle.wire_races.proofs.NameRaces.{plain_calls, caller_in, race_lower, one_changes}
 
 -- calls in two parts, where the first ones are of processes up to p
@@ -18,7 +20,7 @@ pub cut_above : (p : ℕ) (calls front rest : List Event) (n : ℕ) → calls �
 cut_above p calls front rest n parts size cut = record {
   front = front;
   parts = parts;
-  lower = λ k z e. cut.below k z (let lt = slice_get_within front k z e in omega (arith, lt, size)) (subst (λ l. slice_get l k ≡ Some z) (sym parts) (get_left front rest k z e));
+  lower = λ k z e. cut.below k z (let lt = slice_get_within front k z e in omega (arith, lt, size)) (subst (λ l. slice_get l k ≡ Some z) (sym parts) (slice_get-append_kept front rest k z e));
   higher = λ k z e. (
       let never = cut.above (length front + k) z (omega (arith, size)) (subst (λ l. slice_get l (length front + k) ≡ Some z) (sym parts) (get_right front rest k z e)) in
       over z.proc p never);

@@ -2,15 +2,13 @@
 use Rattle.std.proofs.Common.{◌≡◌, sym, refl, subst, ℕ, suc, ◌<◌, List, Some, arith, inl, inr}
 use Rattle.std.proofs.lemmas.Bool.{cases_eq}
 use Rattle.wire_runs.specs.Plan.{Plan, Event, Leave, kind}
-use Rattle.wire_runs.specs.Order.{IsArrival, Live, live, Edge, Meets, Before, edge}
+use Rattle.wire_runs.specs.Order.{IsArrival, Live, Edge, Meets, Before, edge}
 use Rattle.wire_runs.proofs.Histories.{before_live, joined, same_process}
+use Rattle.wire_runs.proofs.Due.{live_source}
 use Rattle.wire_races.proofs.First.{leave_next}
 
 abbrev at_place : ℕ → ℕ → Event
 at_place p at = record { proc = p; at = at }
-
-source_live : {plan : Plan} {x y : Event} → Live plan y → Edge plan x y → Live plan x
-source_live {plan} {x} (live may sources) e = sources x e
 
 module _ (plan : Plan) (p a b : ℕ) (members : List ℕ) (j : ℕ) (arrival : IsArrival plan members j (at_place p a)) (lt : a < b) (later : Live plan (at_place p b)) where
   abbrev end : Event
@@ -30,7 +28,7 @@ module _ (plan : Plan) (p a b : ℕ) (members : List ℕ) (j : ℕ) (arrival : I
   meets_end z h = Meets members end_is (subst (λ i. IsArrival plan members i z) (sym arrival.nth) h)
 
   pub sooner_live : (z : Event) → IsArrival plan members j z → Live plan z
-  sooner_live z h = source_live end_live (meets_end z h)
+  sooner_live z h = live_source end_live (meets_end z h)
 
   before_end : (z : Event) → IsArrival plan members j z → Before plan z end
   before_end z h = edge (sooner_live z h) (meets_end z h) end_live

@@ -17,7 +17,9 @@ use Rattle.wire_runs.specs.Order.{Live}
 use Rattle.wire_runs.specs.Fate.{IsIn}
 use Rattle.wire_runs.specs.Findings.{Finding, NameRace, IsFound}
 use Rattle.wire_runs.proofs.Basics.{process_within}
-use Rattle.wire_runs.proofs.EventLists.{not_in_empty, in_either, in_front, at_end}
+use Rattle.wire_runs.proofs.Lists.{not_in_empty, slice_get_push_cases, slice_get_push_kept, slice_get_push_last}
+use Rattle.wire_runs.proofs.Diamond.{writes_calls}
+use Rattle.wire_runs.proofs.Members.{in_index, index_in, in_left, in_right, in_parts}
 use Rattle.wire_plan.specs.Index.{AreSweeps}
 use Rattle.wire_races.specs.declared.finding.Finding.{Finding as Told}
 use Rattle.wire_races.specs.declared.sweep_races.Share.{Share}
@@ -25,8 +27,6 @@ use Rattle.wire_races.specs.Adding.{Adds}
 use Rattle.wire_races.specs.NameRaces.{IsRaceWith, AllRace, AreUnordered, IsStretch, IsOneOf, AreSweepers}
 use Rattle.wire_races.specs.SweepRaces.{IsSweepRaceOf, IsSweepRaceBelow, IsSweepRace, ArePublished, AddsShares, AreShares, AreShared, AreSharesOf}
 use Rattle.wire_races.specs.SweepRaces.{IsRaceOnOne, IsSweepRaceWith, IsSharedRace}
-use Rattle.wire_races.proofs.Calls.{writes_calls}
-use Rattle.wire_races.proofs.Lists.{in_index, index_in, in_left, in_right, in_parts}
 use Rattle.wire_races.proofs.Growing.{adds_both, adds_same}
 use Rattle.wire_races.proofs.NameRaces.{between_lower, race_lower, race_unordered, low_calls, high_calls, all_race, only_one}
 use Rattle.wire_races.proofs.Swept.{sweep_writes, sweep_publishes, facing_all, facing_rivals}
@@ -107,19 +107,19 @@ module _ (p name : ℕ) where
       AddsShares p name qs old now → AddsShares p name all old (now ++ s ∷ [])
   one_share qs q all old now s is of_it named lt a = record {
     kept = λ t h. Contains-append_left now (s ∷ []) t (a.kept t h);
-    all = λ r one above. elim (in_either qs q one.0 r (subst (λ l. slice_get l one.0 ≡ Some r) is one.1)) [
+    all = λ r one above. elim (slice_get_push_cases qs q one.0 r (subst (λ l. slice_get l one.0 ≡ Some r) is one.1)) [
       | inl was ↦ (let w = a.all r (one.0, was) above in (w.0, Contains-append_left now (s ∷ []) w.0 w.1, w.2, w.3))
       | inr e ↦ (s, Contains-push now s, of_it ∙ e.1, named)
     ];
     only = λ t h. elim (Contains-push_cases now s t h) [
       | inl was ↦ elim (a.only t was) [
         | inl first ↦ inl first
-        | inr here ↦ inr (here.0, here.1, (here.2.0, subst (λ l. slice_get l here.2.0 ≡ Some t.proc.number) (sym is) (in_front qs q here.2.0 t.proc.number here.2.1)))
+        | inr here ↦ inr (here.0, here.1, (here.2.0, subst (λ l. slice_get l here.2.0 ≡ Some t.proc.number) (sym is) (slice_get_push_kept qs q here.2.0 t.proc.number here.2.1)))
       ]
       | inr e ↦ inr (subst (λ (v : Share). (v.name ≡ name) × (p < v.proc.number) × IsOneOf v.proc.number all) e (
         named,
         subst (λ r. p < r) (sym of_it) lt,
-        subst (λ r. IsOneOf r all) (sym of_it) (length qs, subst (λ l. slice_get l (length qs) ≡ Some q) (sym is) (at_end qs q)),
+        subst (λ r. IsOneOf r all) (sym of_it) (length qs, subst (λ l. slice_get l (length qs) ≡ Some q) (sym is) (slice_get_push_last qs q)),
       ))
     ];
   }
@@ -128,13 +128,13 @@ module _ (p name : ℕ) where
   pub same_shares : (qs : List ℕ) (q : ℕ) (old now : List Share) → (p < q → ⊥) → AddsShares p name qs old now → AddsShares p name (qs ++ q ∷ []) old now
   same_shares qs q old now never a = record {
     kept = a.kept;
-    all = λ r is above. elim (in_either qs q is.0 r is.1) [
+    all = λ r is above. elim (slice_get_push_cases qs q is.0 r is.1) [
       | inl was ↦ a.all r (is.0, was) above
       | inr e ↦ absurd (never (subst (λ v. p < v) (sym e.1) above))
     ];
     only = λ t h. elim (a.only t h) [
       | inl first ↦ inl first
-      | inr here ↦ inr (here.0, here.1, (here.2.0, in_front qs q here.2.0 t.proc.number here.2.1))
+      | inr here ↦ inr (here.0, here.1, (here.2.0, slice_get_push_kept qs q here.2.0 t.proc.number here.2.1))
     ];
   }
 
@@ -249,10 +249,6 @@ IsRaceOfOne plan done shares f = (x : Event) × IsIn x done × IsSweepRaceWith p
 -- one more of the same process
 pub one_of_it : (q : ℕ) (done : List Share) (s : Share) → s.proc.number ≡ q → AreSharesOf q done → AreSharesOf q (done ++ s ∷ [])
 one_of_it q done s same are t h = elim (Contains-push_cases done s t h) [ inl was ↦ are t was | inr e ↦ subst (λ (v : Share). v.proc.number ≡ q) e same ]
-
-pub no_first : (shares : List Share) → slice_get shares 0 ≡ None → shares ≡ []
-no_first [] e = refl
-no_first (s ∷ shares) e = cc
 
 module _ (plan : Plan) where
   -- those of one sweep more

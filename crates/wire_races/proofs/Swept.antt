@@ -1,9 +1,9 @@
 -- Races on a name of calls on it alone with calls that take away all names of their processes.
-use Rattle.std.proofs.Common.{◌≡◌, ◌≢◌, ◌∙◌, inl, inr, ⊎_elim, ap, refl, sym, subst, ℕ, ◌+◌, ◌<◌, ◌≤◌, List, [], ◌∷◌, ◌++◌, length, Bool, true, false, Some, arith}
-use Rattle.std.specs.Prelude.{slice_get, option_map, not}
+use Rattle.std.proofs.Common.{◌≡◌, ◌≢◌, ◌∙◌, inl, inr, ⊎_elim, ap, refl, sym, subst, ℕ, ◌+◌, ◌<◌, ◌≤◌, List, [], ◌∷◌, ◌++◌, length, true, false, Some, arith}
+use Rattle.std.specs.Prelude.{slice_get, option_map}
 use Rattle.wire_types.specs.declared.Proc.{Proc}
 use Rattle.wire_content.specs.Scripts.{numbers_of}
-use Rattle.std.proofs.lemmas.Bool.{cases_Bool, cases_eq, true≢false}
+use Rattle.std.proofs.lemmas.Bool.{cases_Bool, cases_eq}
 use Rattle.std.proofs.lemmas.Option.{same_Some, slice_get_within, slice_get-map}
 use Rattle.wire_runs.specs.Plan.{Plan, Event, UnpublishAll, kind, event_count}
 use Rattle.wire_runs.specs.Names.{publishes, writes_name, calls_name}
@@ -11,13 +11,13 @@ use Rattle.wire_runs.specs.Order.{Live}
 use Rattle.wire_runs.specs.Findings.{Finding, IsFound}
 use Rattle.wire_plan.specs.Index.{is_plain_call, AreNameCalls, ArePublishes, AreSweeps}
 use Rattle.wire_plan.proofs.Published.{published_at, publisher}
-use Rattle.wire_runs.proofs.EventLists.{not_in_empty, in_either, in_front, at_end}
+use Rattle.wire_runs.proofs.Lists.{not_in_empty, slice_get_push_cases, slice_get_push_kept, slice_get_push_last}
+use Rattle.wire_runs.proofs.Diamond.{writes_calls}
+use Rattle.wire_runs.proofs.Members.{in_index, index_in, in_left, in_right, in_parts}
 use Rattle.wire_races.specs.declared.finding.Finding.{Finding as Told}
 use Rattle.wire_races.specs.Adding.{Adds}
 use Rattle.wire_races.specs.NameRaces.{IsRaceOn, IsPlainRaceOn, IsRaceWith, IsStretch, AreRivals, AreFacing, IsOneOf, AreSweepers}
 use Rattle.wire_races.specs.NameRaces.{IsSweptRace, IsSweptAmong, IsSweptRaceOn}
-use Rattle.wire_races.proofs.Calls.{writes_calls}
-use Rattle.wire_races.proofs.Lists.{in_index, index_in, in_left, in_right, in_parts}
 use Rattle.wire_races.proofs.Growing.{adds_both}
 use Rattle.wire_races.proofs.NameRaces.{between, between_lower, between_higher, between_others, plain_or_not, caller_in, low_calls, high_calls}
 use Rattle.wire_races.proofs.NameRaces.{race_lower, unordered_between, only_one}
@@ -54,12 +54,12 @@ module _ (plan : Plan) (name : ℕ) where
         Adds plan old new (IsSweptRace plan name x (done ++ p ∷ []))
     swept_more done old now new =
         adds_both plan old now new (IsSweptRace plan name x done) (IsRaceWith plan name x calls) (IsSweptRace plan name x (done ++ p ∷ []))
-        (λ f r. record { y = r.y; sweeps = r.sweeps; there = (r.there.0, in_front done p r.there.0 r.y.proc r.there.1); is = r.is; found = r.found })
+        (λ f r. record { y = r.y; sweeps = r.sweeps; there = (r.there.0, slice_get_push_kept done p r.there.0 r.y.proc r.there.1); is = r.is; found = r.found })
         (λ f r.
         let w = in_index calls r.y r.there in
         let o = are.only w.0 r.y w.1 in
-        record { y = r.y; sweeps = o.1; there = (length done, at_end done p ∙ ap Some (sym o.0)); is = r.is; found = r.found })
-        (λ f r. elim (in_either done p r.there.0 r.y.proc r.there.1) [
+        record { y = r.y; sweeps = o.1; there = (length done, slice_get_push_last done p ∙ ap Some (sym o.0)); is = r.is; found = r.found })
+        (λ f r. elim (slice_get_push_cases done p r.there.0 r.y.proc r.there.1) [
           | inl h ↦ inl (record { y = r.y; sweeps = r.sweeps; there = (r.there.0, h); is = r.is; found = r.found })
           | inr e ↦ (
               let w = are.all r.y (sym e.1, r.sweeps, between_others plan x r.y name (subst (IsFound plan) r.is r.found)) in
@@ -163,13 +163,13 @@ module _ (plan : Plan) (name : ℕ) where
 
     pub sweepers_more : (n : ℕ) (ps : List ℕ) (x : Event) → slice_get publishes_ n ≡ Some x → AreSweepersTo publishes_ n ps → AreSweepersTo publishes_ (n + 1) (ps ++ x.proc ∷ [])
     sweepers_more n ps x at old = record {
-      each = λ k p e. elim (in_either ps x.proc k p e) [
+      each = λ k p e. elim (slice_get_push_cases ps x.proc k p e) [
         | inl h ↦ old.each k p h
         | inr h ↦ subst (λ q. publishes plan q name (event_count plan q) ≡ true) h.1 (publisher plan x name (are.only n x at))
       ];
       all = λ j y z lt is same sweeps. elim (cases_eq j n) [
-        | inl e ↦ (let one = same_Some x y (sym at ∙ ap (slice_get publishes_) (sym e) ∙ is) in (length ps, at_end ps x.proc ∙ ap (λ (v : Event). Some v.proc) one))
-        | inr ne ↦ (let w = old.all j y z (omega (arith, lt, ne)) is same sweeps in (w.0, in_front ps x.proc w.0 y.proc w.1))
+        | inl e ↦ (let one = same_Some x y (sym at ∙ ap (slice_get publishes_) (sym e) ∙ is) in (length ps, slice_get_push_last ps x.proc ∙ ap (λ (v : Event). Some v.proc) one))
+        | inr ne ↦ (let w = old.all j y z (omega (arith, lt, ne)) is same sweeps in (w.0, slice_get_push_kept ps x.proc w.0 y.proc w.1))
       ];
     }
 
@@ -217,7 +217,3 @@ facing_none plan x p same = record {
 -- the number of one of these
 pub last_number : (procs : List Proc) (k : ℕ) (d : Proc) (p : ℕ) → slice_get procs k ≡ Some d → d.number ≡ p → IsOneOf p (numbers_of procs)
 last_number procs k d p is same = (k, slice_get-map (λ (q : Proc). q.number) procs k ∙ ap (option_map (λ (q : Proc). q.number)) is ∙ ap Some same)
-
-pub not_false : (b : Bool) → not b ≡ false → b ≡ true
-not_false true f = refl
-not_false false f = absurd (true≢false f)

@@ -17,7 +17,7 @@ use Rattle.wire_races.specs.KeyRaces.{IsKeyRaceOf}
 use Rattle.wire_races.specs.NameRaces.{IsRaceOn}
 use Rattle.wire_races.specs.SweepRaces.{IsSweepRace}
 use Rattle.wire_races.specs.Pieces.{IsPiece, ArePieces, IsInSome, AreAllFound}
-use Rattle.wire_runs.proofs.EventLists.{in_either, in_front, at_end}
+use Rattle.wire_runs.proofs.Lists.{slice_get_push_cases, slice_get_push_kept, slice_get_push_last}
 use Rattle.wire_races.proofs.Growing.{adds_none, adds_both, adds_same, all_added}
 use Rattle.wire_races.proofs.Names.{named_within}
 use Rattle.wire_races.proofs.NameRaces.{low_calls, on_name, race_on}
@@ -42,9 +42,9 @@ pub some_more : (plan : Plan) (done : List (List Told)) (piece : List Told) (old
     Adds plan old new (IsInSome plan (done ++ piece ∷ []))
 some_more plan done piece old now new =
     adds_both plan old now new (IsInSome plan done) (Tells plan piece) (IsInSome plan (done ++ piece ∷ []))
-    (λ f t. (t.0, t.1, in_front done piece t.0 t.1 t.2, t.3))
-    (λ f t. (length done, piece, at_end done piece, t))
-    (λ f t. elim (in_either done piece t.0 t.1 t.2) [
+    (λ f t. (t.0, t.1, slice_get_push_kept done piece t.0 t.1 t.2, t.3))
+    (λ f t. (length done, piece, slice_get_push_last done piece, t))
+    (λ f t. elim (slice_get_push_cases done piece t.0 t.1 t.2) [
       | inl there ↦ inl (t.0, t.1, there, t.3)
       | inr last ↦ inr (subst (λ (p : List Told). Tells plan p f) (sym last.1) t.3)
     ])

@@ -12,13 +12,14 @@ use Rattle.wire_plan.specs.Index.{IsFirstPut}
 use Rattle.wire_runs.specs.Findings.{Finding, KeyRace, NameRace, IsFound}
 use Rattle.wire_runs.specs.Findings as findings
 use Rattle.wire_runs.specs.Ends.{calls_of, first_event}
+use Rattle.wire_runs.proofs.Diamond.{writes_calls}
 use Rattle.wire_plan.proofs.KeyFacts.{put_exactly}
 use Rattle.wire_races.specs.Findings.{shown}
 use Rattle.wire_races.specs.Standings.{standing, race_name, AreNamesOf}
 use Rattle.wire_races.specs.declared.found.Standing.{Standing}
 use Rattle.wire_races.specs.declared.finding.Finding.{Finding as Told}
 use Rattle.wire_races.specs.declared.finding.Finding.TheVariants as told_as
-use Rattle.wire_races.proofs.Calls.{call_within, low_starts, high_starts, ArrivesOrGets, Arriving, Getting, node_commit, delivery_source, writes_calls}
+use Rattle.wire_races.proofs.Calls.{call_within, low_starts, high_starts, ArrivesOrGets, Arriving, Getting, node_commit, delivery_source}
 
 -- the name that an event is a call on
 abbrev pub name_of : Option Kind → ℕ

@@ -1,56 +1,42 @@
 -- The events of a shown chain are the plan's, and two calls have one text.
-use Rattle.std.proofs.Common.{◌≡◌, ◌∙◌, ap, sym, refl, subst, Bool, true, false, ℕ, zero, suc, ◌<◌, List, [], ◌∷◌, ◌++◌, map, Option, Some, None, Result, Ok, Err, append_assoc, ◌⊎◌, inl, inr, arith}
-use Rattle.std.specs.Prelude.{slice_get, option_map, IfOk, OnOk, IfErr, MatchOption}
-use Rattle.std.proofs.lemmas.Option.{slice_get-map, slice_get_within, same_Some}
-use Rattle.wire_runs.specs.Plan.{Plan, Event, event_of, event_count}
+use Rattle.std.proofs.Common.{◌≡◌, ◌∙◌, ap, sym, refl, subst, Bool, true, false, ℕ, List, [], ◌++◌, map, Option, Some, None, append_assoc, inl, inr, arith}
+use Rattle.std.specs.Prelude.{slice_get, MatchOption}
+use Rattle.std.proofs.lemmas.Option.{slice_get_within}
+use Rattle.wire_runs.specs.Plan.{Plan, Event, event_of}
 use Rattle.wire_types.specs.declared.CallAt.{CallAt}
 use Rattle.wire_types.specs.declared.Event.{Event as CodeEvent}
 use Rattle.wire_content.specs.Scripts.{Scripts}
 use Rattle.wire_content.specs.Planned.{plan_of}
-use Rattle.wire_runs.specs.Order.{Live, Before, edge, further}
-use Rattle.wire_runs.proofs.Basics.{event_within}
-use Rattle.wire_runs.proofs.Fates.{live_event}
-use Rattle.wire_runs.proofs.Histories.{before_live}
+use Rattle.wire_runs.specs.Order.{Live, Before}
+use Rattle.wire_runs.proofs.Fates.{live_within}
+use Rattle.wire_runs.proofs.Histories.{before_live, after_live}
 use Rattle.wire_marks.specs.Clocks.{LeadsTo}
 use Rattle.wire_marks.specs.Chain.{IsShown, begins, goes_on, OneShown}
 use Rattle.wire_runs.specs.Ends.{first_event}
+use Rattle.wire_runs.proofs.Lists.{slice_get_push_cases, slice_get-map_kept}
 use Rattle.wire_report.specs.Chain.{chain_form, unordered_form, IsCallBefore, IsDeadPart, Dead, Alive, AreDead, OfOne, OfTwo}
 use Rattle.wire_report.specs.Chain.{IsCallChain, IsChainText, TellsBefore, TellsAfter, TellsUnordered, OneChainText}
 use Rattle.wire_report.specs.There.{AreThere}
 
--- the last of a chain, or one before it
-one_of : {A : Type 0} (xs : List A) (y w : A) (k : ℕ) → slice_get (xs ++ y ∷ []) k ≡ Some w → (slice_get xs k ≡ Some w) ⊎ (w ≡ y)
-one_of [] y w zero is = inr (sym (same_Some _ _ is))
-one_of [] y w (suc k) is = let lt = slice_get_within [] k w is in absurd (omega (arith, lt))
-one_of (x ∷ xs) y w zero is = inl is
-one_of (x ∷ xs) y w (suc k) is = one_of xs y w k is
-
-live_end : {plan : Plan} {x y : Event} → Before plan x y → Live plan y
-live_end (edge l e m) = m
-live_end (further b e m) = m
-
 live_on : {plan : Plan} {x y : Event} → Live plan x → LeadsTo plan x y → Live plan y
 live_on {plan} l (inl e) = subst (Live plan) e l
-live_on l (inr b) = live_end b
+live_on l (inr b) = after_live b
 
 -- each event of a shown chain is live
 all_live : {plan : Plan} {x y : Event} {chain : List Event} → IsShown plan x y chain → Live plan x → Live plan y → (k : ℕ) (z : Event) → slice_get chain k ≡ Some z → Live plan z
-all_live {plan} {x} begins l m k v is = elim (one_of [] x v k is) [
+all_live {plan} {x} begins l m k v is = elim (slice_get_push_cases [] x k v is) [
   | inl h ↦ let lt = slice_get_within [] k v h in absurd (omega (arith, lt))
-  | inr e ↦ subst (Live plan) (sym e) l
+  | inr last ↦ subst (Live plan) last.1 l
 ]
-all_live {plan} {x} (goes_on {y} {z} {chain} s t) l m k v is = elim (one_of chain y v k is) [
+all_live {plan} {x} (goes_on {y} {z} {chain} s t) l m k v is = elim (slice_get_push_cases chain y k v is) [
   | inl h ↦ all_live s l (live_on l t.leads) k v h
-  | inr e ↦ subst (Live plan) (sym e) m
+  | inr last ↦ subst (Live plan) last.1 m
 ]
-
-live_there : (plan : Plan) (z : Event) → Live plan z → z.at < event_count plan z.proc
-live_there plan z l = let v = live_event plan z l in event_within plan z.proc z.at v.0 v.1
 
 pub shown_there : (plan : Plan) (x y : Event) (chain : List CodeEvent) → IsShown plan x y (map event_of chain) → Before plan x y → AreThere plan chain
 shown_there plan x y chain s b k e is =
-    live_there plan (event_of e)
-    (all_live s (before_live b) (live_end b) k (event_of e) (slice_get-map event_of chain k ∙ ap (option_map event_of) is))
+    live_within plan (event_of e)
+    (all_live s (before_live b) (after_live b) k (event_of e) (slice_get-map_kept event_of chain k e is))
 
 dead_once : {plan : Plan} {x : CallAt} {a b : List CallAt} → IsDeadPart plan x a → IsDeadPart plan x b → a ≡ b
 dead_once (Dead n e) (Dead m f) = e ∙ sym f
@@ -109,19 +95,6 @@ pub two_dead : (plan : Plan) (x y : CallAt) (old mid new first second : List Cal
     → (dead : List CallAt) × AreDead plan x y dead × (new ≡ old ++ dead)
 two_dead plan x y old mid new first second apart d is_mid e is_new =
     (first ++ second, OfTwo apart first second d e refl, is_new ∙ ap (λ t. t ++ second) is_mid ∙ append_assoc old first second)
-
--- what holds of a result whose value, or whose fault, is known
-pub if_ok : {T E : Type 0} {P Q : T → Type 0} (r : Result T E) → ((t : T) → P t → Q t) → IfOk r P → IfOk r Q
-if_ok (Ok t) f h = f t h
-if_ok (Err e) f h = h
-
-pub on_ok : {T E : Type 0} {P Q : Type 0} (r : Result T E) → (P → Q) → OnOk r P → OnOk r Q
-on_ok (Ok t) f h = f h
-on_ok (Err e) f h = h
-
-pub if_err : {T E : Type 0} {P Q : E → Type 0} (r : Result T E) → ((e : E) → P e → Q e) → IfErr r P → IfErr r Q
-if_err (Ok t) f h = h
-if_err (Err e) f h = f e h
 
 pub none_of : {A N : Type 0} (S : A → Type 0) (o : Option A) → ((x : A) → o ≡ Some x → ⊥) → MatchOption o N S → N
 none_of S None h m = m

@@ -1,13 +1,14 @@
 -- Laws of the definitions, one process at a time.
-use Rattle.std.proofs.Common.{◌≡◌, ℕ, zero, suc, ◌<◌, ◌≤◌, List, [], ◌∷◌, length, Bool, true, ◌==◌, Option, Some, is_some, inl, inr, refl, sym, ap, ◌∙◌, subst, arith, eq-eqb, ne_eqb, eqb-true}
-use Rattle.std.proofs.lemmas.Bool.{cond-true, cond-false, cond_both, cases_eq, cases_lt, or_cases, and_parts, and_from, true≢false}
+use Rattle.std.proofs.Common.{◌≡◌, ℕ, zero, suc, ◌<◌, ◌≤◌, List, [], ◌∷◌, length, Bool, true, ◌==◌, Option, Some, is_some, inl, inr, refl, sym, ap, ◌∙◌, subst, arith, eq-eqb, ne_eqb, eqb-true, None}
+use Rattle.std.proofs.lemmas.Bool.{cond-true, cond-false, cond_both, cases_eq, cases_lt, or_cases, and_parts, true≢false}
 use Rattle.std.specs.List.{list_all}
-use Rattle.wire_runs.specs.Plan.{Plan, Kind, Put, Commit, Arrive, kind_at, event_count, process_count, process_kinds, kinds, update}
+use Rattle.wire_runs.specs.Plan.{Plan, Kind, Put, Commit, Arrive, kind_at, event_count, process_count, process_kinds, kinds, update, Event, kind}
 use Rattle.std.specs.Prelude.{bytes_eq as same_members}
 use Rattle.std.proofs.lemmas.Slice.Eq.{bytes_eq-Decides}
 use Rattle.wire_runs.specs.Puts.{own_with, own, stored_with, stored}
 use Rattle.wire_runs.specs.Fences.{arrivals_with, arrivals, is_member}
 use Rattle.std.proofs.lemmas.Option.{slice_get_past, slice_get_within}
+use Rattle.wire_runs.specs.Order.{Stores}
 
 pub update_same : {A : Type 0} (f : ℕ → A) (p : ℕ) (v : A) → update f p v p ≡ v
 update_same f p v = cond-true _ _ _ (eq-eqb p p refl)
@@ -24,10 +25,6 @@ pub rises : (f : ℕ → ℕ) → ((n : ℕ) → f n ≤ f (suc n)) → (n m : �
 rises f up n zero le = let e : n ≡ 0 = omega arith in subst (λ k. f k ≤ f 0) (sym e) (omega arith)
 rises f up n (suc m) le = elim (cases_eq n (suc m)) [ inl e ↦ subst (λ k. f k ≤ f (suc m)) (sym e) (omega arith) | inr ne ↦ omega (arith, rises f up n m (omega arith), up m) ]
 
-pub list_all_kept : (f g : ℕ → Bool) (xs : List ℕ) → ((x : ℕ) → f x ≡ true → g x ≡ true) → list_all f xs ≡ true → list_all g xs ≡ true
-list_all_kept f g [] up h = refl
-list_all_kept f g (x ∷ xs) up h = let b = and_parts _ _ h in and_from _ _ (up x b.0) (list_all_kept f g xs up b.1)
-
 pub list_all_at_member : (f : ℕ → Bool) (xs : List ℕ) (m : ℕ) → list_all f xs ≡ true → is_member xs m ≡ true → f m ≡ true
 list_all_at_member f [] m h i = absurd (true≢false (sym i))
 list_all_at_member f (x ∷ xs) m h i =
@@ -38,7 +35,12 @@ pub event_within : (plan : Plan) (p i : ℕ) (e : Kind) → kind_at plan p i ≡
 unfolding kind_at event_count
 event_within plan p i e h = slice_get_within (kinds plan p) i e h
 
-own_with_kept : (key n : ℕ) (before : Option ℕ) (e : Option Kind) → is_some before ≡ true → is_some (own_with key n before e) ≡ true
+-- past its last event a process has none
+pub event_past : (plan : Plan) (p n : ℕ) → event_count plan p ≤ n → kind_at plan p n ≡ None
+unfolding kind_at event_count
+event_past plan p n past = slice_get_past (kinds plan p) n past
+
+pub own_with_kept : (key n : ℕ) (before : Option ℕ) (e : Option Kind) → is_some before ≡ true → is_some (own_with key n before e) ≡ true
 own_with_kept key n before (Some (Put k scope)) h = cond_both (k == key) (Some n) before (λ o. is_some o ≡ true) (λ _. refl) (λ _. h)
 own_with_kept key n before _ h = h
 
@@ -55,6 +57,14 @@ stored_own plan p key (suc n) h = stored_with_own key n _ _ (kind_at plan p n) (
 stored_with_kept : (o s : Option ℕ) (e : Option Kind) → (is_some s ≡ true → is_some o ≡ true) → is_some s ≡ true → is_some (stored_with o s e) ≡ true
 stored_with_kept o s (Some Commit) ih h = ih h
 stored_with_kept o s _ ih h = h
+
+stored_anew : (committed before : Option ℕ) (o : Option Kind) → before ≡ None → is_some (stored_with committed before o) ≡ true → o ≡ Some Commit
+stored_anew committed before (Some Commit) b h = refl
+stored_anew committed before _ b h = absurd (true≢false (sym h ∙ ap is_some b))
+
+-- what stores a key is a commit
+pub stores_commit : (plan : Plan) (x : Event) (key : ℕ) → Stores plan x key → kind plan x ≡ Some Commit
+stores_commit plan x key s = stored_anew (own plan x.proc key x.at) (stored plan x.proc key x.at) (kind plan x) s.nothing_before s.something_after
 
 -- a key that is stored stays stored
 pub stored_stays : (plan : Plan) (p key n m : ℕ) → n ≤ m → is_some (stored plan p key n) ≡ true → is_some (stored plan p key m) ≡ true

@@ -11,9 +11,10 @@ use Rattle.wire_runs.specs.Fences.{arrivals_with, arrivals, is_member, is_comple
 use Rattle.wire_runs.specs.Sight.{held, served, has_brought, stored_at_with, delivered_with, delivered, get_sees}
 use Rattle.wire_runs.specs.Order.{IsArrival, Edge, Feeds, may_come, Live, Before, edge}
 use Rattle.wire_runs.specs.Races.{IsSettled}
-use Rattle.wire_runs.proofs.Basics.{list_all_kept, list_all_at_member, arrivals_rise, stored_own, stored_stays}
+use Rattle.wire_runs.proofs.Basics.{list_all_at_member, arrivals_rise, stored_own, stored_stays}
 use Rattle.wire_runs.proofs.Due.{ClosedCut, chain_in, live_may, live_source}
 use Rattle.wire_runs.proofs.Puts.{stored_fixed, put_once, put_at_most_once, first_stores}
+use Rattle.wire_runs.proofs.Lists.{list_all_weaker}
 
 -- the arrival whose fence brought this put
 pub record Bringer (plan : Plan) (cut : ℕ → ℕ) (t node key n u : ℕ) : Type 0 where
@@ -84,7 +85,7 @@ module _ (plan : Plan) (settled : IsSettled plan) where
 
 pub complete_more : (plan : Plan) (cut cut' : ℕ → ℕ) (members : List ℕ) (j : ℕ) → ((m : ℕ) → cut m ≤ cut' m) → is_complete plan cut members j ≡ true → is_complete plan cut' members j ≡ true
 complete_more plan cut cut' members j up =
-    list_all_kept _ _ members (λ m t. le-leb _ _ (let a = leb-true _ _ t in let b = arrivals_rise plan m members (cut m) (cut' m) (up m) in omega (arith, a, b)))
+    list_all_weaker _ _ members (λ m t. le-leb _ _ (let a = leb-true _ _ t in let b = arrivals_rise plan m members (cut m) (cut' m) (up m) in omega (arith, a, b)))
 
 pub brings_more : (plan : Plan) (cut cut' : ℕ → ℕ) (t node : ℕ) (members : List ℕ) (j : ℕ) → ((m : ℕ) → cut m ≤ cut' m) → has_brought plan cut t node members j ≡ true →
     has_brought plan cut' t node members j ≡ true

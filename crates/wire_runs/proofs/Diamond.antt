@@ -12,11 +12,12 @@ use Rattle.wire_runs.specs.Order.{Live}
 use Rattle.wire_runs.specs.Names.{is_publish, publishes, calls_name, writes_name}
 use Rattle.wire_runs.specs.Races.{IsSettled}
 use Rattle.wire_runs.specs.Laws.{Commute}
-use Rattle.wire_runs.proofs.Basics.{event_within, list_all_kept, arrivals_rise}
+use Rattle.wire_runs.proofs.Basics.{event_within, arrivals_rise}
 use Rattle.wire_runs.proofs.Due.{named_after, sound_step, closed_cut, due, done_same, done_other, done_up, place_path, unordered}
 use Rattle.wire_runs.proofs.Brought.{get_same}
 use Rattle.wire_runs.proofs.Came.{now_same}
 use Rattle.wire_runs.proofs.Known.{replies_same, replies_other, Known, known_step}
+use Rattle.wire_runs.proofs.Lists.{list_all_weaker}
 
 -- what a script publishes, it publishes somewhere
 pub publishes_from : (plan : Plan) (p name i n : ℕ) → i < n → kind_at plan p i ≡ Some (Publish name) → publishes plan p name n ≡ true
@@ -110,7 +111,7 @@ module _ (plan : Plan) (settled : IsSettled plan) (s : State) (p q : ℕ) (k : K
 
   complete_after : (members : List ℕ) (j : ℕ) → is_complete plan s.done members j ≡ true → is_complete plan (step plan s p).done members j ≡ true
   complete_after members j =
-      list_all_kept _ _ members (λ m t. le-leb _ _ (let a = leb-true _ _ t in let b = arrivals_rise plan m members (s.done m) ((step plan s p).done m) (done_up plan s p m) in omega (arith, a, b)))
+      list_all_weaker _ _ members (λ m t. le-leb _ _ (let a = leb-true _ _ t in let b = arrivals_rise plan m members (s.done m) ((step plan s p).done m) (done_up plan s p m) in omega (arith, a, b)))
 
   still : (o : Option Kind) → kind plan (next_event s q) ≡ o → may_do plan s (next_event s q) o ≡ true → may_do plan (step plan s p) (next_event s q) o ≡ true
   still None e h = h

@@ -12,7 +12,8 @@ use Rattle.wire_runs.specs.Step.{may_do, is_seen, is_enabled, name_after, is_pub
 use Rattle.wire_runs.specs.Order.{IsArrival, Edge, Follows, Meets, Feeds, Announces, may_come, Live, live, Before, edge, further}
 use Rattle.wire_runs.specs.Races.{IsUnordered}
 use Rattle.wire_runs.specs.Laws.{IsDue, EnabledIsDue}
-use Rattle.wire_runs.proofs.Basics.{update_same, update_other, list_all_kept, list_all_at_member, event_within, stored_stays, arrivals_rise, arrivals_step}
+use Rattle.wire_runs.proofs.Basics.{update_same, update_other, list_all_at_member, event_within, stored_stays, arrivals_rise, arrivals_step}
+use Rattle.wire_runs.proofs.Lists.{list_all_weaker}
 
 -- a cut with the sources of all that is in it, all of it live
 pub record ClosedCut (plan : Plan) (cut : ℕ → ℕ) : Type 0 where
@@ -26,6 +27,11 @@ chain_in c (further b e m) d = chain_in c b (c.closed _ _ e d)
 
 pub live_may : {plan : Plan} {y : Event} → Live plan y → may_come plan y (kind plan y) ≡ true
 live_may (live may from) = may
+
+-- what may come is an event of the plan
+pub coming_event : (plan : Plan) (y : Event) (o : Option Kind) → may_come plan y o ≡ true → (e : Kind) × (o ≡ Some e)
+coming_event plan y None h = absurd (true≢false (sym h))
+coming_event plan y (Some e) h = (e, refl)
 
 pub live_source : {plan : Plan} {x y : Event} → Live plan y → Edge plan x y → Live plan x
 live_source (live may from) e = from _ e
@@ -69,7 +75,7 @@ comes plan s p (Some (Get owner key)) k h =
     (λ f. or_left _ _ (stored_stays plan owner key (s.done owner) (event_count plan owner) (k.within owner)
     (other_seen plan s.done p (s.done p) owner key (λ e. true≢false (sym (eq-eqb p owner e) ∙ f)) h)))
 comes plan s p (Some (Leave members)) k h =
-    list_all_kept _ _ members (λ m t. le-leb _ _ (let a = leb-true _ _ t in let b = arrivals_rise plan m members (s.done m) (event_count plan m) (k.within m) in omega (arith, a, b))) h
+    list_all_weaker _ _ members (λ m t. le-leb _ _ (let a = leb-true _ _ t in let b = arrivals_rise plan m members (s.done m) (event_count plan m) (k.within m) in omega (arith, a, b))) h
 comes plan s p (Some _) k h = refl
 
 -- each arrival at a complete fence has happened

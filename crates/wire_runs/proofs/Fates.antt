@@ -2,7 +2,7 @@
 use Rattle.std.proofs.Common.{◌≢◌, ◌≡◌, ℕ, ◌<◌, ◌≤◌, List, [], ◌∷◌, ◌++◌, Bool, true, cond, Option, Some, None, is_some, inl, inr, refl, sym, ap, ◌∙◌, subst, arith, eq-eqb, ne_eqb}
 use Rattle.std.specs.Prelude.{slice_get}
 use Rattle.std.proofs.lemmas.Option.{slice_get-get_or}
-use Rattle.std.proofs.lemmas.Bool.{cond-true, cond-false, cond_both, cases_eq, cases_lt, cases_Bool, true≢false}
+use Rattle.std.proofs.lemmas.Bool.{cond-true, cond-false, cond_both, cases_eq, cases_lt, cases_Bool}
 use Rattle.wire_runs.specs.Plan.{Plan, Kind, Leave, Get, GetNow, Publish, Lookup, LookupWait, Unpublish, kind, event_count, same_node, admits, Event}
 use Rattle.wire_runs.specs.State.{Answer, Duplicate, Success, NotFound, State, start, next_event, IsDone}
 use Rattle.wire_runs.specs.Names.{calls_name}
@@ -10,17 +10,18 @@ use Rattle.wire_runs.specs.Puts.{stored, scope_of}
 use Rattle.wire_runs.specs.Fences.{arrivals, is_complete}
 use Rattle.wire_runs.specs.Sight.{Sight, Outside, Shown, served}
 use Rattle.wire_runs.specs.Step.{is_seen, may_do, is_enabled, sight_reply, lookup_reply, reply, is_publisher, step, IsInterleaving, run_from, IsReachable}
-use Rattle.wire_runs.specs.Order.{Edge, Meets, may_come, Live, Before, edge}
+use Rattle.wire_runs.specs.Order.{Edge, Meets, Live, Before, edge}
 use Rattle.wire_runs.specs.Races.{IsSettled}
 use Rattle.wire_runs.specs.Fate.{IsPast, Fate, Waits, Says, fate_in, HasFate, dead, told, left_by}
 use Rattle.wire_runs.specs.Laws.{FatesTell, OneFate, RunsAreSound}
 use Rattle.wire_runs.proofs.Basics.{event_within}
-use Rattle.wire_runs.proofs.Due.{ClosedCut, closed_cut, due, chain_to_next, live_may, live_source}
+use Rattle.wire_runs.proofs.Due.{ClosedCut, closed_cut, due, chain_to_next, live_may, live_source, place_path, coming_event}
 use Rattle.wire_runs.proofs.Brought.{complete_if_arrived, get_same, get_ready}
 use Rattle.wire_runs.proofs.Getters.{last_answer, Answered}
 use Rattle.wire_runs.proofs.Came.{now_same}
-use Rattle.wire_runs.proofs.Known.{Known, known_start, known_step, replies_same, replies_other, slice_get_push, get_answer}
+use Rattle.wire_runs.proofs.Known.{Known, known_start, known_step, replies_same, replies_other, get_answer}
 use Rattle.wire_runs.proofs.Histories.{Written, written_start, written_step, name_is_past, one_history, no_cycle, before_live, prepend}
+use Rattle.wire_runs.proofs.Lists.{slice_get_push_cases}
 
 -- Two states that both have all that is before y, and not y, with the same under the names that y asks for: y does the same in both
 module _ (plan : Plan) (settled : IsSettled plan) (s r : State) (y : Event) (up : (m : ℕ) → s.done m ≤ r.done m) (known : (z : Event) → Before plan z y → IsDone s z) (closed : ClosedCut plan r.done)
@@ -57,15 +58,14 @@ module _ (plan : Plan) (settled : IsSettled plan) (s r : State) (y : Event) (up 
       ap (λ b. cond b (Says (reply plan r y (kind plan y))) Waits) (may_same (kind plan y) refl)
       ∙ ap (λ a. cond (may_do plan s y (kind plan y)) (Says a) Waits) (said_same (kind plan y) refl)
 
-coming_event : (plan : Plan) (y : Event) (o : Option Kind) → may_come plan y o ≡ true → (e : Kind) × (o ≡ Some e)
-coming_event plan y None h = absurd (true≢false (sym h))
-coming_event plan y (Some e) h = (e, refl)
-
 -- a live event is one of the plan
 pub live_event : (plan : Plan) (y : Event) → Live plan y → (e : Kind) × (kind plan y ≡ Some e)
 live_event plan y l = coming_event plan y (kind plan y) (live_may l)
 
-served_is_seen : (plan : Plan) (t : ℕ) (same : Bool) (o : Option ℕ) → is_some o ≡ true → is_seen (served plan t same o) ≡ true
+pub live_within : (plan : Plan) (y : Event) → Live plan y → y.at < event_count plan y.proc
+live_within plan y l = let v = live_event plan y l in event_within plan y.proc y.at v.0 v.1
+
+pub served_is_seen : (plan : Plan) (t : ℕ) (same : Bool) (o : Option ℕ) → is_some o ≡ true → is_seen (served plan t same o) ≡ true
 served_is_seen plan t same None h = h
 served_is_seen plan t same (Some v) h = cond_both (admits (scope_of plan t v) same) (Shown v) Outside (λ (x : Sight). is_seen x ≡ true) (λ _. refl) (λ _. refl)
 
@@ -102,7 +102,7 @@ module _ (plan : Plan) (settled : IsSettled plan) (y : Event) (live_y : Live pla
       ap (may_do plan past y) is ∙ ap is_seen (cond-false _ _ _ (ne_eqb y.proc t other)) ∙ served_is_seen plan t (same_node plan t y.proc) (stored plan t key (past.done t)) ready in
       cond-true _ _ _ may ∙ ap Says (get_answer plan settled past past_closed.within y t key is other may)
 
-get_fate : (plan : Plan) → IsSettled plan → (z : Event) (fate : Fate) → Live plan z → (t key : ℕ) → kind plan z ≡ Some (Get t key) → (z.proc ≡ t → ⊥) → HasFate plan z fate →
+pub get_fate : (plan : Plan) → IsSettled plan → (z : Event) (fate : Fate) → Live plan z → (t key : ℕ) → kind plan z ≡ Some (Get t key) → (z.proc ≡ t → ⊥) → HasFate plan z fate →
     fate ≡ Says (last_answer plan t key z.proc)
 get_fate plan settled z fate l t key is other (dead no_ e) = absurd (no_ l)
 get_fate plan settled z fate l t key is other (told m fate_of all past is_past e) = e ∙ get_says plan settled z m fate_of past is_past t key is other
@@ -153,9 +153,6 @@ pub record Kept (plan : Plan) (s : State) : Type 0 where
 pub kept_start : (plan : Plan) → Kept plan start
 kept_start plan = record { known = known_start plan; written = written_start plan; answers = λ z a f h. cc }
 
-place_is : (z : Event) (p i : ℕ) → z.proc ≡ p → z.at ≡ i → z ≡ record { proc = p; at = i }
-place_is z p i a b = λ t. record { proc = a t; at = b t }
-
 pub kept_step : (plan : Plan) → IsSettled plan → (s : State) (p : ℕ) → Kept plan s → is_enabled plan s p ≡ true → Kept plan (step plan s p)
 kept_step plan settled s p k h = record {
   known = known_step plan settled s p k.known h;
@@ -165,13 +162,13 @@ kept_step plan settled s p k h = record {
     | inl e ↦
         (let there : slice_get (s.replies p ++ reply plan s (next_event s p) (kind plan (next_event s p)) ∷ []) z.at ≡ Some a =
         ap (λ xs. slice_get xs z.at) (sym (ap (step plan s p).replies e ∙ replies_same plan s p)) ∙ r in
-        elim (slice_get_push (s.replies p) (reply plan s (next_event s p) (kind plan (next_event s p))) z.at a there) [
+        elim (slice_get_push_cases (s.replies p) (reply plan s (next_event s p) (kind plan (next_event s p))) z.at a there) [
           | inl old ↦ k.answers z a fate (ap (λ q. slice_get (s.replies q) z.at) e ∙ old) f
           | inr now ↦
-              (let is : z ≡ next_event s p = place_is z p (s.done p) e (now.0 ∙ k.known.lengths p) in
+              (let is : z ≡ next_event s p = place_path z p (s.done p) e (now.0 ∙ k.known.lengths p) in
               let d = due plan s p k.known.sound h in
               told_in plan settled s k.known k.written (next_event s p) (omega arith) fate d.is_live d.earlier_done (subst (λ v. HasFate plan v fate) is f)
-              ∙ cond-true _ _ _ h ∙ ap Says (sym now.1))
+              ∙ cond-true _ _ _ h ∙ ap Says now.1)
         ])
   ];
 }

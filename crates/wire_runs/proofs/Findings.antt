@@ -1,36 +1,10 @@
 -- The list of the findings.
-use Rattle.std.proofs.Common.{◌≡◌, ℕ, List, [], ◌∷◌, Bool, Some, ◌⊎◌, inl, inr, refl, sym, ap, ◌∙◌, subst, arith}
-use Rattle.std.proofs.lemmas.Bool.{cases_lt}
+use Rattle.std.proofs.Common.{◌≡◌, ℕ, List, [], ◌∷◌, Bool, Some, inl, inr, refl, sym, ap, ◌∙◌, subst}
 use Rattle.wire_runs.specs.Plan.{Plan, GetNow, kind, Event}
 use Rattle.wire_runs.specs.Races.{Delivery, ByFence, ByGet, IsOf, Brings, IsUnordered, IsSettled}
 use Rattle.wire_runs.specs.Findings.{Finding, Rewrite, KeyRace, NameRace, IsKeyRace, IsFound, IsPairLower, IsSooner, Has, IsSorted}
-use Rattle.wire_runs.specs.EventLists.{IsLower}
 use Rattle.wire_runs.specs.Laws.{NoFindings, IsOneWay, OneList, RacesAreUnordered}
-
--- of two events one is lower
-one_lower : (x y : Event) → (x ≡ y → ⊥) → IsLower x y ⊎ IsLower y x
-one_lower x y ne = elim (cases_lt x.proc y.proc) [
-  | inl lt ↦ inl (inl lt)
-  | inr ge ↦ elim (cases_lt y.proc x.proc) [
-    | inl gt ↦ inr (inl gt)
-    | inr le ↦ (let e : x.proc ≡ y.proc = omega (arith, ge, le) in elim (cases_lt x.at y.at) [
-      | inl lt ↦ inl (inr (e, lt))
-      | inr ge' ↦ elim (cases_lt y.at x.at) [
-        | inl gt ↦ inr (inr (sym e, gt))
-        | inr le' ↦ absurd (ne (let i : x.at ≡ y.at = omega (arith, ge', le') in λ t. record { proc = e t; at = i t }))
-      ]
-    ])
-  ]
-]
-
-lower_one_way : (x y : Event) → IsLower x y → IsLower y x → ⊥
-lower_one_way x y (inl a) (inl b) = omega (arith, a, b)
-lower_one_way x y (inl a) (inr b) = let e = b.0 in omega (arith, a, e)
-lower_one_way x y (inr a) (inl b) = let e = a.0 in omega (arith, b, e)
-lower_one_way x y (inr a) (inr b) = let i = a.1 in let j = b.1 in omega (arith, i, j)
-
-lower_not_same : (x y : Event) → IsLower x y → y ≡ x → ⊥
-lower_not_same x y l e = let m = subst (λ v. IsLower x v) e l in lower_one_way x x m m
+use Rattle.wire_runs.proofs.EventLists.{one_lower, lower_one_way, lower_not_same}
 
 pair_one_way : (x y v w : Event) → IsPairLower x y v w → IsPairLower v w x y → ⊥
 pair_one_way x y v w (inl a) (inl b) = lower_one_way x v a b
@@ -116,7 +90,7 @@ no_findings plan lower_name = (
     found plan s (NameRace x y name) (low, inl r) = s.no_name_race x y name r
     found plan s (NameRace x y name) (low, inr r) = s.no_name_race y x name r
 
-turned : (plan : Plan) (x y : Event) → IsUnordered plan x y → IsUnordered plan y x
+pub turned : (plan : Plan) (x y : Event) → IsUnordered plan x y → IsUnordered plan y x
 turned plan x y u = record { live_x = u.live_y; live_y = u.live_x; not_before = u.not_after; not_after = u.not_before }
 
 of_key : (plan : Plan) (x y : Event) (owner key : ℕ) → IsKeyRace plan x y owner key → IsUnordered plan x y

@@ -11,10 +11,10 @@ use Rattle.wire_runs.specs.Races.{IsSettled}
 use Rattle.wire_runs.specs.Fate.{IsIn, IsInOrder, left_by, IsNameHistory, IsPast, Fate, Waits, Says, fate_in, HasFate, dead, told}
 use Rattle.wire_runs.specs.Laws.{Marks, HaveFates}
 use Rattle.wire_runs.proofs.Basics.{event_within, process_within}
-use Rattle.wire_runs.proofs.Known.{push_keeps, push_last}
 use Rattle.wire_runs.proofs.Diamond.{writes_calls, writes_no_lookup}
 use Rattle.wire_runs.proofs.Histories.{before_live, same_process, joined, same_place}
 use Rattle.wire_runs.proofs.Fates.{live_event}
+use Rattle.wire_runs.proofs.Lists.{slice_get_push_kept, slice_get_push_last}
 
 -- one more than the last number below n at which f holds
 up_to : (ℕ → Bool) → ℕ → ℕ
@@ -54,8 +54,8 @@ table_at : (f : ℕ → Answer) (n i : ℕ) → i < n → slice_get (table f n) 
 unfolding table
 table_at f zero i lt = absurd (omega (arith, lt))
 table_at f (suc n) i lt = elim (cases_eq i n) [
-  | inl e ↦ subst (λ k. slice_get (table f n ++ f n ∷ []) k ≡ Some (f i)) (table_length f n ∙ sym e) (push_last (table f n) (f n) ∙ ap (λ k. Some (f k)) (sym e))
-  | inr ne ↦ push_keeps (table f n) (f n) i (f i) (table_at f n i (omega (arith, lt, ne)))
+  | inl e ↦ subst (λ k. slice_get (table f n ++ f n ∷ []) k ≡ Some (f i)) (table_length f n ∙ sym e) (slice_get_push_last (table f n) (f n) ∙ ap (λ k. Some (f k)) (sym e))
+  | inr ne ↦ slice_get_push_kept (table f n) (f n) i (f i) (table_at f n i (omega (arith, lt, ne)))
 ]
 
 abbrev answer_of : Fate → Answer

@@ -24,6 +24,10 @@ pub before_live : {plan : Plan} {x y : Event} → Before plan x y → Live plan 
 before_live (edge l e m) = l
 before_live (further b e m) = before_live b
 
+pub after_live : {plan : Plan} {x y : Event} → Before plan x y → Live plan y
+after_live (edge l e m) = m
+after_live (further b e m) = m
+
 pub joined : {plan : Plan} {x y z : Event} → Before plan x y → Before plan y z → Before plan x z
 joined b (edge l e m) = further b e m
 joined b (further c e m) = further (joined b c) e m

@@ -1,8 +1,7 @@
 -- What each state of a settled plan's run keeps of its replies.
-use Rattle.std.proofs.Common.{◌≡◌, ℕ, zero, suc, ◌≤◌, List, [], ◌∷◌, ◌++◌, true, length, Some, ◌⊎◌, inl, inr, refl, sym, ap, ◌∙◌, subst, arith, ne_eqb}
+use Rattle.std.proofs.Common.{◌≡◌, ℕ, ◌≤◌, List, [], ◌∷◌, ◌++◌, true, length, Some, inl, inr, refl, sym, ap, ◌∙◌, subst, arith, ne_eqb}
 use Rattle.std.specs.Prelude.{slice_get}
 use Rattle.std.proofs.lemmas.List.{length_push}
-use Rattle.std.proofs.lemmas.Option.{same_Some}
 use Rattle.std.proofs.lemmas.Bool.{cond-false, cases_eq}
 use Rattle.wire_runs.specs.Plan.{Plan, Event, Get, kind, event_count, same_node}
 use Rattle.wire_runs.specs.State.{Answer, State, start, next_event, next_kind}
@@ -13,6 +12,7 @@ use Rattle.wire_runs.proofs.Basics.{update_same, update_other}
 use Rattle.wire_runs.proofs.Due.{Sound, sound_start, sound_step, done_same, done_other, done_was, other_seen}
 use Rattle.wire_runs.proofs.Puts.{stored_fixed}
 use Rattle.wire_runs.proofs.Getters.{last_answer, Answered}
+use Rattle.wire_runs.proofs.Lists.{slice_get_push_kept, slice_get_push_last}
 
 pub replies_same : (plan : Plan) (s : State) (p : ℕ) → (step plan s p).replies p ≡ s.replies p ++ reply plan s (next_event s p) (kind plan (next_event s p)) ∷ []
 replies_same plan s p = update_same s.replies p (s.replies p ++ reply plan s (next_event s p) (next_kind plan s p) ∷ [])
@@ -20,27 +20,12 @@ replies_same plan s p = update_same s.replies p (s.replies p ++ reply plan s (ne
 pub replies_other : (plan : Plan) (s : State) (p q : ℕ) → (q ≡ p → ⊥) → (step plan s p).replies q ≡ s.replies q
 replies_other plan s p q ne = update_other s.replies p (s.replies p ++ reply plan s (next_event s p) (next_kind plan s p) ∷ []) q ne
 
-pub slice_get_push : (xs : List Answer) (v : Answer) (i : ℕ) (b : Answer) → slice_get (xs ++ v ∷ []) i ≡ Some b → (slice_get xs i ≡ Some b) ⊎ ((i ≡ length xs) × (b ≡ v))
-slice_get_push [] v zero b h = inr (refl, same_Some _ _ (sym h))
-slice_get_push [] v (suc i) b h = inl h
-slice_get_push (x ∷ xs) v zero b h = inl h
-slice_get_push (x ∷ xs) v (suc i) b h = elim (slice_get_push xs v i b h) [ inl a ↦ inl a | inr e ↦ inr (ap suc e.0, e.1) ]
-
-pub push_keeps : (xs : List Answer) (v : Answer) (i : ℕ) (b : Answer) → slice_get xs i ≡ Some b → slice_get (xs ++ v ∷ []) i ≡ Some b
-push_keeps [] v i b h = cc
-push_keeps (x ∷ xs) v zero b h = h
-push_keeps (x ∷ xs) v (suc i) b h = push_keeps xs v i b h
-
-pub push_last : (xs : List Answer) (v : Answer) → slice_get (xs ++ v ∷ []) (length xs) ≡ Some v
-push_last [] v = refl
-push_last (x ∷ xs) v = push_last xs v
-
 -- a reply stays
 pub reply_kept : (plan : Plan) (s : State) (p : ℕ) (z : Event) (a : Answer) → slice_get (s.replies z.proc) z.at ≡ Some a → slice_get ((step plan s p).replies z.proc) z.at ≡ Some a
 reply_kept plan s p z a h = elim (cases_eq z.proc p) [
   | inl e ↦
       (let here : slice_get (s.replies p) z.at ≡ Some a = ap (λ q. slice_get (s.replies q) z.at) (sym e) ∙ h in
-      ap (λ q. slice_get ((step plan s p).replies q) z.at) e ∙ ap (λ xs. slice_get xs z.at) (replies_same plan s p) ∙ push_keeps (s.replies p) _ z.at a here)
+      ap (λ q. slice_get ((step plan s p).replies q) z.at) e ∙ ap (λ xs. slice_get xs z.at) (replies_same plan s p) ∙ slice_get_push_kept (s.replies p) _ z.at a here)
   | inr ne ↦ ap (λ xs. slice_get xs z.at) (replies_other plan s p z.proc ne) ∙ h
 ]
 
@@ -57,7 +42,7 @@ pub reply_now : (plan : Plan) (s : State) (p : ℕ) → length (s.replies p) ≡
 reply_now plan s p l =
     ap (λ xs. slice_get xs (s.done p)) (replies_same plan s p)
     ∙ ap (slice_get (s.replies p ++ reply plan s (next_event s p) (kind plan (next_event s p)) ∷ [])) (sym l)
-    ∙ push_last (s.replies p) (reply plan s (next_event s p) (kind plan (next_event s p)))
+    ∙ slice_get_push_last (s.replies p) (reply plan s (next_event s p) (kind plan (next_event s p)))
 
 -- what a get of another's key is answered with
 pub get_answer : (plan : Plan) → IsSettled plan → (s : State) → ((p : ℕ) → s.done p ≤ event_count plan p) → (y : Event) (t key : ℕ) → kind plan y ≡ Some (Get t key) → (y.proc ≡ t → ⊥) →

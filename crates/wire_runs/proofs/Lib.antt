@@ -1,4 +1,5 @@
 pub mod Confluence
+pub mod Lists
 pub mod Basics
 pub mod Due
 pub mod Length
@@ -15,6 +16,8 @@ pub mod Histories
 pub mod Fates
 pub mod WithoutKeep
 pub mod EventLists
+pub mod Members
+pub mod Runs
 pub mod Findings
 pub mod Marks
 pub mod HaveFates

@@ -8,14 +8,7 @@ use Rattle.wire_runs.specs.Step.{is_enabled, reply, step, IsInterleaving, run_fr
 use Rattle.wire_runs.proofs.Due.{Sound, sound_step, done_other, done_up, done_now, done_kept}
 use Rattle.wire_runs.proofs.Known.{replies_same, replies_other}
 use Rattle.wire_runs.proofs.Diamond.{name_kept}
-
-pub run_append : (plan : Plan) (s : State) (v w : List ℕ) → run_from plan s (v ++ w) ≡ run_from plan (run_from plan s v) w
-run_append plan s [] w = refl
-run_append plan s (p ∷ v) w = run_append plan (step plan s p) v w
-
-pub legal_append : (plan : Plan) (s : State) (v w : List ℕ) → IsInterleaving plan s v → IsInterleaving plan (run_from plan s v) w → IsInterleaving plan s (v ++ w)
-legal_append plan s [] w h on = on
-legal_append plan s (p ∷ v) w h on = (h.0, legal_append plan (step plan s p) v w h.1 on)
+use Rattle.wire_runs.proofs.Runs.{run_append, legal_append}
 
 pub reached_on : (plan : Plan) (s : State) (w : List ℕ) → IsReachable plan s → IsInterleaving plan s w → IsReachable plan (run_from plan s w)
 reached_on plan s w r h =

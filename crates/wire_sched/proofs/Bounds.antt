@@ -1,5 +1,5 @@
 -- No pass takes more pieces than its round has.
-use Rattle.std.proofs.Common.{◌≡◌, inl, inr, ℕ, zero, suc, ◌+◌, ◌<◌, ◌≤◌, List, [], ◌∷◌, length, map, set, sym, ap, ◌∙◌, subst, arith, length-append}
+use Rattle.std.proofs.Common.{◌≡◌, inl, inr, ℕ, zero, suc, ◌+◌, ◌<◌, ◌≤◌, List, [], ◌∷◌, length, set, sym, ap, ◌∙◌, subst, arith, length-append}
 use Rattle.std.proofs.lemmas.Bool.{cases_lt}
 use Rattle.std.proofs.lemmas.List.{length-map}
 use mathlib.Core.Option.{some, some-ne-none, some-injective}
@@ -16,7 +16,7 @@ use Rattle.wire_sched.specs.Rounds.{Permit, IsPassOf, workers_of, worker_of, sha
 use Rattle.wire_sched.specs.Taken.{all_of, taken_by, taken_at, TookNoMore, TookOneMore, TakesAreBounded}
 use Rattle.wire_sched.proofs.Deals.{weigh_ones}
 use Rattle.wire_sched.proofs.EachOnce.{sum_to, by_place}
-use Rattle.wire_sched.proofs.Rows.{get_there}
+use Rattle.wire_sched.proofs.Rows.{get_there, taken_there}
 use Rattle.wire_sched.proofs.Sharing.{shares, shares_zero, shares_suc, shares_all, length_deal}
 
 pub within_nothing : (v : DequeView) → v.taken ≡ [] → v.below ≡ 0 → TookWithin v
@@ -88,18 +88,13 @@ within_shares own w (suc m) workers round n vs each none mine =
       ],
     )
 
-taken_is : (ts : List Permit) (k : ℕ) (t : Permit) → get_elem? ts k ≡ some t → taken_at k (map (λ (u : Permit). deque.view u) ts) ≡ (deque.view t).taken
-taken_is [] k t e = absurd (some-ne-none t (sym e))
-taken_is (u ∷ ts) zero t e = ap (λ (y : Permit). (deque.view y).taken) (some-injective u t e)
-taken_is (u ∷ ts) (suc k) t e = taken_is ts k t e
-
 within_at : (r : Round) (p : Pass) → IsPassOf r p → (k : ℕ) → k < workers_of r → length (taken_at k (permit_views p)) ≤ length (share_at r k)
 within_at r p is k less =
     let t = get_there p.tokens.items k (omega (arith, is.count)) in
     let s = get_there r.thieves.items k less in
     let token = is.tokens k s.0 t.0 s.1 t.1 in
     let dealt : length (deque.view t.0).dealt ≡ length (share_at r k) = ap length token.2 in
-    let took : length (taken_at k (permit_views p)) ≡ length (deque.view t.0).taken = ap length (taken_is p.tokens.items k t.0 t.1) in
+    let took : length (taken_at k (permit_views p)) ≡ length (deque.view t.0).taken = ap length (taken_there p.tokens.items k t.0 t.1) in
     let within = token.4.0 in
     let below = token.4.1 in
     omega (arith, dealt, took, within, below)
@@ -107,7 +102,7 @@ within_at r p is k less =
 pub takes_are_bounded : TakesAreBounded
 takes_are_bounded r p is =
     let t = get_there p.tokens.items (worker_of p) (omega (arith, is.count, is.within)) in
-    let none : length (taken_at (worker_of p) (permit_views p)) ≡ 0 = ap length (taken_is p.tokens.items (worker_of p) t.0 t.1 ∙ is.unused t.0 t.1) in
+    let none : length (taken_at (worker_of p) (permit_views p)) ≡ 0 = ap length (taken_there p.tokens.items (worker_of p) t.0 t.1 ∙ is.unused t.0 t.1) in
     let dealt : length (own_view p).dealt ≡ length (share_at r (worker_of p)) = ap length is.dealt in
     let within = is.bounded.0 in
     let below = is.bounded.1 in

@@ -3,6 +3,7 @@ use Rattle.std.proofs.Common.{◌≡◌, ℕ, zero, suc, ◌+◌, ◌<◌, ◌==
 use Rattle.std.proofs.lemmas.Bool.{eqb-true, eq-eqb, and_parts, and_from, cases_Bool}
 use Rattle.std.proofs.lemmas.List.Sorted.{IsPermutation-refl, IsPermutation-sym, IsPermutation-trans, IsPermutation-cons, IsPermutation-middle}
 use Rattle.std.specs.List.Sorted.{IsPermutation}
+use Rattle.std.proofs.lemmas.List.{nil_from_length}
 use mathlib.Core.Option.{some}
 use lib.ListN.{get_elem?}
 use Rattle.wire_sched.specs.declared.rule.Piece.{Piece}
@@ -48,14 +49,10 @@ found x (y ∷ ys) more =
       | inr other ↦ (let rest = found x ys (omega (arith, none_for x y other)) in (y ∷ rest.0, rest.1, ap (λ l. y ∷ l) rest.2))
     ]
 
-nothing_in : (xs : List Piece) → length xs ≡ 0 → xs ≡ []
-nothing_in [] e = refl
-nothing_in (x ∷ xs) e = absurd (omega arith)
-
 -- lists of the same weight, however their pieces are weighed, are permutations
 pub same_weights : (xs ys : List Piece) → ((h : Piece → ℕ) → weigh h xs ≡ weigh h ys) → IsPermutation xs ys
 same_weights [] ys same =
-    let none : ys ≡ [] = nothing_in ys (sym (weigh_ones ys) ∙ sym (same (λ _. 1))) in
+    let none : ys ≡ [] = nil_from_length ys (sym (weigh_ones ys) ∙ sym (same (λ _. 1))) in
     subst (IsPermutation []) (sym none) (IsPermutation-refl [])
 same_weights (x ∷ xs) ys same =
     let at = found x ys (omega (arith, same (one_for x), one_for_itself x)) in

@@ -1,5 +1,5 @@
 -- The tokens of all passes come back to the workers of their deques.
-use Rattle.std.proofs.Common.{◌≡◌, ◌≢◌, ℕ, zero, suc, ◌+◌, ◌<◌, ◌≤◌, List, [], ◌∷◌, ◌++◌, length, set, take, map, sym, refl, ap, ◌∙◌, subst, ⊎_elim, arith, length-set, length-append, append_assoc}
+use Rattle.std.proofs.Common.{◌≡◌, ◌≢◌, ℕ, zero, suc, ◌+◌, ◌<◌, ◌≤◌, List, [], ◌∷◌, ◌++◌, length, set, take, sym, refl, ap, ◌∙◌, subst, ⊎_elim, arith, length-set, length-append, append_assoc}
 use Rattle.std.proofs.Common.{append-nil, add-one}
 use mathlib.Core.Option.{some, some-ne-none, some-injective}
 use lib.ListN.{get_elem?}
@@ -14,7 +14,7 @@ use Rattle.wire_sched.specs.Rules.{joined}
 use Rattle.wire_sched.specs.Rounds.{Owner, Permit, ArePassesOf, own_view, permit_views}
 use Rattle.wire_sched.specs.Taken.{taken_at, stolen}
 use Rattle.wire_sched.specs.Deques.{EachPair, SameDeque, CanTake, IsJoined, AreJoined, CanJoinAll, AreGathered}
-use Rattle.wire_sched.proofs.Rows.{get_within, get_there, get_same}
+use Rattle.wire_sched.proofs.Rows.{get_within, get_there, get_same, get_longer, get_last, taken_there}
 
 -- the tokens of the last deques have been joined, and the first ones are left
 pub record Rowing (first now : List Pass) (all left : List Permit) : Type 0 where
@@ -33,15 +33,6 @@ rowing_nothing first all same = record {
   undone = λ k a b _ x y. get_same first k b a y x;
 }
 
-last_of : (left : List Permit) (t : Permit) → get_elem? (left ++ t ∷ []) (length left) ≡ some t
-last_of [] t = refl
-last_of (x ∷ left) t = last_of left t
-
-earlier : (left : List Permit) (t u : Permit) (k : ℕ) → get_elem? left k ≡ some u → get_elem? (left ++ t ∷ []) k ≡ some u
-earlier [] t u k at = absurd (some-ne-none u (sym at))
-earlier (x ∷ left) t u zero at = at
-earlier (x ∷ left) t u (suc k) at = earlier left t u k at
-
 -- what is known of the deque whose token comes next
 pub rowing_next : (first now : List Pass) (all left : List Permit) (t : Permit) (p : Pass) → Rowing first now all (left ++ t ∷ []) → EachPair CanTake first all → get_elem? now (length left) ≡ some p →
     CanTake p t
@@ -50,20 +41,20 @@ rowing_next first now all left t p h can at =
     let a = get_there first (length left) (omega (arith, h.same_length)) in
     let len = length-append left (t ∷ []) in
     let same : p ≡ a.0 = h.undone (length left) a.0 p (omega (arith, len)) a.1 at in
-    subst (λ z. CanTake z t) (sym same) (can.1 (length left) a.0 t a.1 (h.left_is (length left) t (last_of left t)))
+    subst (λ z. CanTake z t) (sym same) (can.1 (length left) a.0 t a.1 (h.left_is (length left) t (get_last left t)))
 
 pub rowing_more : (first now : List Pass) (all left : List Permit) (t : Permit) (p q : Pass) → Rowing first now all (left ++ t ∷ []) → get_elem? now (length left) ≡ some p → IsJoined p t q
     → Rowing first (set now (length left) q) all left
 rowing_more first now all left t p q h at join = record {
   same_length = length-set now (length left) q ∙ h.same_length;
   fewer = (let f = h.fewer in let l = length-append left (t ∷ []) in omega arith);
-  left_is = λ k u here. h.left_is k u (earlier left t u k here);
+  left_is = λ k u here. h.left_is k u (get_longer left (t ∷ []) k u here);
   done = λ k a b u past x y z.
       let len = length-append left (t ∷ []) in
       ⊎_elim (λ (is : (k ≡ length left) × (q ≡ b)).
       let there : get_elem? now k ≡ some p = subst (λ j. get_elem? now j ≡ some p) (sym is.0) at in
       let pa : p ≡ a = h.undone k a p (omega (arith, is.0, len)) x there in
-      let tu : t ≡ u = get_same all k t u (h.left_is k t (subst (λ j. get_elem? (left ++ t ∷ []) j ≡ some t) (sym is.0) (last_of left t))) y in
+      let tu : t ≡ u = get_same all k t u (h.left_is k t (subst (λ j. get_elem? (left ++ t ∷ []) j ≡ some t) (sym is.0) (get_last left t))) y in
       subst (λ v. IsJoined a u v) is.1 (subst (λ v. IsJoined a v q) tu (subst (λ v. IsJoined v t q) pa join)))
       (λ (is : (k ≢ length left) × (get_elem? now k ≡ some b)). let n = is.0 in h.done k a b u (omega (arith, len)) x y is.1) (at_set now (length left) k q b z);
   undone = λ k a b early x y.
@@ -104,11 +95,6 @@ stolen_suc k (suc n) (x ∷ ps) p at =
 
 stolen_more : (k n : ℕ) (ps : List Pass) (p : Pass) → get_elem? ps n ≡ some p → stolen k (take (n + 1) ps) ≡ stolen k (take n ps) ++ taken_at k (permit_views p)
 stolen_more k n ps p at = rw add-one (stolen_suc k n ps p at)
-
-pub taken_there : (ts : List Permit) (k : ℕ) (t : Permit) → get_elem? ts k ≡ some t → taken_at k (map (λ (u : Permit). deque.view u) ts) ≡ (deque.view t).taken
-taken_there [] k t at = absurd (some-ne-none t (sym at))
-taken_there (x ∷ ts) zero t at = ap (λ (u : Permit). (deque.view u).taken) (some-injective x t at)
-taken_there (x ∷ ts) (suc k) t at = taken_there ts k t at
 
 -- a pass keeps its deque when its tokens are taken from it
 mid_is : (now : List Pass) (n : ℕ) (p q : Pass) (k : ℕ) (o m : Pass) → get_elem? now n ≡ some p → q.worker ≡ p.worker → q.own ≡ p.own → get_elem? now k ≡ some o → get_elem? (set now n q) k ≡ some m

@@ -1,11 +1,13 @@
 -- Tokens that are cut from each worker in turn.
-use Rattle.std.proofs.Common.{◌≡◌, ◌≢◌, ℕ, zero, suc, ◌+◌, ◌<◌, ◌≤◌, List, [], ◌∷◌, ◌++◌, length, set, sym, refl, ap, ◌∙◌, subst, ⊎_elim, arith, length-set, length-append, ◌⊎◌, inl, inr, ◌≤◌}
+use Rattle.std.proofs.Common.{◌≡◌, ◌≢◌, ℕ, zero, suc, ◌+◌, ◌<◌, ◌≤◌, List, [], ◌∷◌, ◌++◌, length, set, sym, refl, ap, ◌∙◌, subst, ⊎_elim, arith, length-set, length-append, ◌⊎◌, inl, inr, ◌≤◌, map}
 use mathlib.Core.Option.{some, some-ne-none, some-injective}
 use lib.ListN.{get_elem?}
+use Rattle.crossbeam_deque.specs.Handles as deque
 use Rattle.crossbeam_deque.proofs.Lists.{at_set}
 use Rattle.wire_sched.specs.declared.round.Pass.{Pass}
 use Rattle.wire_sched.specs.Rounds.{Permit}
 use Rattle.wire_sched.specs.Deques.{EachPair, IsCut, IsPermitOf}
+use Rattle.wire_sched.specs.Taken.{taken_at}
 
 -- what stands in a longer list at a place
 pub get_snoc : {A : Type 0} → (xs : List A) (x y : A) (k : ℕ) → get_elem? (xs ++ x ∷ []) k ≡ some y → (get_elem? xs k ≡ some y) ⊎ ((k ≡ length xs) × (x ≡ y))
@@ -13,6 +15,15 @@ get_snoc [] x y zero e = inr (refl, some-injective x y e)
 get_snoc [] x y (suc k) e = absurd (some-ne-none y (sym e))
 get_snoc (z ∷ xs) x y zero e = inl e
 get_snoc (z ∷ xs) x y (suc k) e = ⊎_elim (λ h. inl h) (λ (h : (k ≡ length xs) × (x ≡ y)). inr (ap suc h.0, h.1)) (get_snoc xs x y k e)
+
+pub get_last : {A : Type 0} (xs : List A) (x : A) → get_elem? (xs ++ x ∷ []) (length xs) ≡ some x
+get_last [] x = refl
+get_last (y ∷ xs) x = get_last xs x
+
+pub get_longer : {A : Type 0} (xs ys : List A) (k : ℕ) (x : A) → get_elem? xs k ≡ some x → get_elem? (xs ++ ys) k ≡ some x
+get_longer [] ys k x e = absurd (some-ne-none x (sym e))
+get_longer (y ∷ xs) ys zero x e = e
+get_longer (y ∷ xs) ys (suc k) x e = get_longer xs ys k x e
 
 pub get_within : {A : Type 0} → (xs : List A) (k : ℕ) (x : A) → get_elem? xs k ≡ some x → k < length xs
 get_within [] k x e = absurd (some-ne-none x (sym e))
@@ -71,3 +82,9 @@ row_next before now row i p h at =
     let there = get_there before i (omega (arith, h.same_length)) in
     let e : i ≤ i = omega arith in
     there.1 ∙ ap some (sym ((h.cut i there.0 p there.1 at).1 e))
+
+-- what is taken at a deque is what its token tells
+pub taken_there : (ts : List Permit) (k : ℕ) (t : Permit) → get_elem? ts k ≡ some t → taken_at k (map (λ (u : Permit). deque.view u) ts) ≡ (deque.view t).taken
+taken_there [] k t at = absurd (some-ne-none t (sym at))
+taken_there (x ∷ ts) zero t at = ap (λ (u : Permit). (deque.view u).taken) (some-injective x t at)
+taken_there (x ∷ ts) (suc k) t at = taken_there ts k t at

@@ -7,6 +7,7 @@ use Rattle.wire_types.specs.declared.Fault.{Fault}
 use Rattle.wire_types.specs.declared.Fault.TheVariants.{UnknownName, NotMember}
 use Rattle.wire_types.specs.declared.Call.{Call as Numbered}
 use Rattle.wire_types.specs.declared.Call.TheVariants as call
+use Rattle.wire_runs.proofs.Lists.{slice_get-map_back, slice_get-map_kept}
 use Rattle.wire_lines.specs.Said.{Item, One, Every, Set, Own, Listed, Call, Put, Commit, Fence, Get, GetNow, Publish, Lookup, LookupWait, Unpublish, UnpublishAll}
 use Rattle.wire_content.specs.Scripts.{Process, Scripts}
 use Rattle.wire_content.specs.Canonical.{call_said}
@@ -193,12 +194,14 @@ scripts_changed f d e =
 abbrev pub IsMet : Declared → Started → Call → Type 0
 IsMet d p c = (is_declared_call d c ≡ true) × (is_with_caller d p c ≡ true)
 
-no_fault : (a b : Bool) (line : ℕ) → (if not a then Some (UnknownName line) else if not b then Some (NotMember line) else None) ≡ None → (a ≡ true) × (b ≡ true)
+-- a call without a fault names what is declared, and has its caller in its set
+pub no_fault : (a b : Bool) (line : ℕ) → (if not a then Some (UnknownName line) else if not b then Some (NotMember line) else None) ≡ None → (a ≡ true) × (b ≡ true)
 no_fault true true line h = (refl, refl)
 no_fault true false line h = absurd (cc)
 no_fault false b line h = absurd (cc)
 
-both_none : (a b : Option Fault) → first_of a b ≡ None → (a ≡ None) × (b ≡ None)
+-- where the first of two faults is none, both are
+pub both_none : (a b : Option Fault) → first_of a b ≡ None → (a ≡ None) × (b ≡ None)
 both_none None b h = (refl, h)
 both_none (Some e) b h = absurd (cc)
 
@@ -232,22 +235,11 @@ module _ (d : Declared) where
   none_met (p ∷ ps) h =
       none_both (fault_in d p p.calls) (first_fault d ps) (met_none p p.calls (λ i c at. h zero p i c (refl, at))) (none_met ps (λ k q i c at. h (suc k) q i c at))
 
-module _ {A B : Type 0} (g : A → B) where
-  get_back : (xs : List A) (k : ℕ) (y : B) → slice_get (map g xs) k ≡ Some y → (x : A) × (slice_get xs k ≡ Some x) × (g x ≡ y)
-  get_back [] k y at = absurd (cc)
-  get_back (x ∷ xs) zero y at = (x, refl, cc)
-  get_back (x ∷ xs) (suc k) y at = get_back xs k y at
-
-  get_map : (xs : List A) (k : ℕ) (x : A) → slice_get xs k ≡ Some x → slice_get (map g xs) k ≡ Some (g x)
-  get_map [] k x at = absurd (cc)
-  get_map (y ∷ xs) zero x at = let is : y ≡ x = cc in ap (λ z. Some (g z)) is
-  get_map (y ∷ xs) (suc k) x at = get_map xs k x at
-
 -- nor does it find a fault after the change
 pub met_changed : (f : Change) (d : Declared) → IsSameChange d f → first_fault d d.processes ≡ None → first_fault (changed_declaration f d) (changed_declaration f d).processes ≡ None
 met_changed f d e h = none_met (changed_declaration f d) (changed_declaration f d).processes (λ k q i b at.
-    let p = get_back (changed_process f) d.processes k q at.0 in
-    let c = get_back (changed_call f p.0.job) p.0.calls i b (subst (λ x. slice_get x.calls i ≡ Some b) (sym p.2) at.1) in
+    let p = slice_get-map_back (changed_process f) d.processes k q at.0 in
+    let c = slice_get-map_back (changed_call f p.0.job) p.0.calls i b (subst (λ x. slice_get x.calls i ≡ Some b) (sym p.2) at.1) in
     let there : CallAt d.processes k p.0 i c.0 = (p.1, c.1) in
     let m = all_met d d.processes k p.0 i c.0 h there in
     let a = e k p.0 i c.0 there in
@@ -262,5 +254,5 @@ scripts_bare d = scripts_changed no_change d (λ k p i c at. same_again d p.job 
 pub met_full : (d : Declared) → first_fault (bare_declaration d) (bare_declaration d).processes ≡ None → first_fault d d.processes ≡ None
 met_full d h = none_met d d.processes (λ k p i c at.
     let m = all_met (bare_declaration d) (bare_declaration d).processes k (changed_process no_change p) i (changed_call no_change p.job c) h
-    (get_map (changed_process no_change) d.processes k p at.0, get_map (changed_call no_change p.job) p.calls i c at.1) in
+    (slice_get-map_kept (changed_process no_change) d.processes k p at.0, slice_get-map_kept (changed_call no_change p.job) p.calls i c at.1) in
     (sym (declared_changed no_change d c.1) ∙ m.0, sym (caller_changed no_change d p c.1) ∙ m.1))

@@ -24,7 +24,8 @@ use Rattle.wire_script.specs.Reads.{fault_in, first_fault, keys_in, names_in, va
 use Rattle.wire_script.specs.Back.{MigratedReadsBack}
 use Rattle.wire_lines.proofs.Colon.{and_left, and_right}
 use Rattle.wire_script.proofs.Changed.{IsTaken, Runs, first_run, kept_header}
-use Rattle.wire_script.proofs.ReadBack.{second_ok, declared_back}
+use Rattle.wire_script.proofs.ReadBack.{declared_back}
+use Rattle.wire_script.proofs.Once.{second_ok}
 
 -- what is declared, under another version and within other limits
 abbrev pub moved : Version → Limits → Declared → Declared

@@ -1,5 +1,5 @@
 -- A text reads as one value.
-use Rattle.std.proofs.Common.{◌≡◌, ◌∙◌, ap, sym, subst, ℕ, List, [], ◌∷◌, length, Result, Ok, Err, MatchResult, inl, inr, arith}
+use Rattle.std.proofs.Common.{◌≡◌, ◌∙◌, ap, sym, subst, ℕ, List, [], ◌∷◌, length, Result, Ok, Err, MatchResult, inl, inr, arith, Option, Some, None, refl}
 use Rattle.wire_types.specs.declared.Fault.{Fault}
 use Rattle.wire_lines.proofs.SaysOnce.{says_once}
 use Rattle.wire_lines.specs.Text.{lines_of}
@@ -9,7 +9,7 @@ use Rattle.wire_content.specs.Scripts.{Scripts}
 use Rattle.wire_lines.specs.declared.Version.{Version}
 use Rattle.wire_lines.specs.Said.{Said, Header}
 use Rattle.wire_script.specs.declared.limits.Size.{Size}
-use Rattle.wire_script.specs.Reads.{second_pass, ReadsShort, ReadsOnce}
+use Rattle.wire_script.specs.Reads.{second_pass, ReadsShort, ReadsOnce, scripts_of, unless_fault}
 
 judges_once : (d : Declared) (line : Statement) (q r : Result Declared Fault) → Judges d line q → Judges d line r → q ≡ r
 judges_once d line q r (inl a) (inl b) = a.1 ∙ sym b.1
@@ -55,3 +55,8 @@ reads_once size bytes r s (inl a) (inl b) = a.1 ∙ sym b.1
 reads_once size bytes r s (inl a) (inr b) = absurd (let h = a.0 in let k = b.0 in omega arith)
 reads_once size bytes r s (inr a) (inl b) = absurd (let h = a.0 in let k = b.0 in omega arith)
 reads_once size bytes r s (inr a) (inr b) = short_once size bytes r s a.1 b.1
+
+-- the second pass that answers with scripts found no fault, and they are those that are declared
+pub second_ok : (d : Declared) (s : Scripts) (u : Option Fault) → Ok s ≡ unless_fault d u → (u ≡ None) × (s ≡ scripts_of d)
+second_ok d s None h = (refl, cc)
+second_ok d s (Some f) h = absurd (cc)

@@ -3,6 +3,7 @@ use Rattle.std.proofs.Common.{◌≡◌, ◌∙◌, ap, sym, subst, refl, ℕ, z
 use Rattle.std.specs.Prelude.{nat_lt, ◌==◌, ◌||◌, slice_get}
 use Rattle.std.specs.List.{list_all}
 use Rattle.std.proofs.lemmas.Bool.{lt-ltb}
+use Rattle.std.proofs.Math.Bool.{or-true}
 use borrow.Author.Tests.{eq-eqb}
 use Rattle.wire_runs.specs.Plan.{with_member, set_of}
 use Rattle.wire_runs.specs.Fences.{is_member}
@@ -45,10 +46,6 @@ places_canonical f n (p ∷ ps) =
       | false ↦ rest
     ]
 
-or_true : (b : Bool) → (b || true) ≡ true
-or_true true = refl
-or_true false = refl
-
 -- a process that passes is among them
 pub places_hold : (f : Started → Bool) (n : ℕ) (ps : List Started) (i : ℕ) (p : Started) → slice_get ps i ≡ Some p → f p ≡ true → is_member (places_from f n ps) (n + i) ≡ true
 places_hold f n [] i p at h = absurd (cc)
@@ -61,6 +58,6 @@ places_hold f n (x ∷ ps) (suc i) p at h =
     let rest : is_member (places_from f (n + 1) ps) (n + 1 + i) ≡ true = places_hold f (n + 1) ps i p at h in
     let one : n + suc i ≡ n + 1 + i = omega arith in
     elim (f x) as (λ t. is_member (if t then n ∷ places_from f (n + 1) ps else places_from f (n + 1) ps) (n + suc i) ≡ true) [
-      | true ↦ subst (λ m. is_member (n ∷ places_from f (n + 1) ps) m ≡ true) (sym one) (ap (λ b. (n == n + 1 + i) || b) rest ∙ or_true (n == n + 1 + i))
+      | true ↦ subst (λ m. is_member (n ∷ places_from f (n + 1) ps) m ≡ true) (sym one) (ap (λ b. (n == n + 1 + i) || b) rest ∙ or-true (n == n + 1 + i))
       | false ↦ subst (λ m. is_member (places_from f (n + 1) ps) m ≡ true) (sym one) rest
     ]

@@ -1,10 +1,11 @@
 -- What is declared: jobs have names of their own, processes stand in the order of their jobs, and the ranks of each job's
 -- processes count from 0.
-use Rattle.std.proofs.Common.{◌≡◌, ◌∙◌, ap, sym, subst, refl, ℕ, zero, suc, ◌+◌, ◌-◌, ◌<◌, ◌≤◌, List, [], ◌∷◌, ◌++◌, Bool, true, false, cond, Some, length, IsTrue, arith, length-append, true≢false}
+use Rattle.std.proofs.Common.{◌≡◌, ◌∙◌, ap, sym, subst, refl, ℕ, zero, suc, ◌+◌, ◌-◌, ◌<◌, ◌≤◌, List, [], ◌∷◌, ◌++◌, true, false, cond, Some, length, IsTrue, arith, length-append, true≢false}
 use Rattle.std.proofs.Common.{if◌then◌else◌}
 use Rattle.std.specs.Prelude.{◌==◌, ◌||◌, not, ⊤, slice_get}
 use Rattle.std.specs.Str.{bytes_eq}
 use Rattle.std.proofs.lemmas.Slice.Eq.{bytes_eq-Decides}
+use Rattle.std.proofs.lemmas.Bool.{or_from, or_parts}
 use borrow.Author.Tests.{ltb-true, eqb-true, eq-eqb, ne_eqb}
 use Rattle.wire_lines.specs.Said.{Call, Said, Header, Keep, Node, Job, Rank, Calls, IsLawful, is_name}
 use Rattle.wire_content.specs.Scripts.{text_at}
@@ -30,44 +31,30 @@ abbrev pub AreApart : List Name → Type 0
 AreApart [] = ⊤
 AreApart (x ∷ xs) = (is_among xs x ≡ false) × AreApart xs
 
-or_both : (a b : Bool) → a ≡ false → b ≡ false → (a || b) ≡ false
-or_both a b h k = rw (h, k) refl
-
-or_left : (a b : Bool) → (a || b) ≡ false → a ≡ false
-or_left true b h = h
-or_left false b h = refl
-
-or_right : (a b : Bool) → (a || b) ≡ false → b ≡ false
-or_right true b h = absurd (true≢false h)
-or_right false b h = h
-
 none_push : (xs : List Name) (x y : Name) → is_among xs x ≡ false → bytes_eq x y ≡ false → is_among (xs ++ y ∷ []) x ≡ false
-none_push [] x y h k = or_both (bytes_eq x y) false k refl
-none_push (z ∷ xs) x y h k = or_both (bytes_eq x z) (is_among (xs ++ y ∷ []) x) (or_left (bytes_eq x z) (is_among xs x) h) (none_push xs x y (or_right (bytes_eq x z) (is_among xs x) h) k)
+none_push [] x y h k = or_from (bytes_eq x y) false k refl
+none_push (z ∷ xs) x y h k = or_from (bytes_eq x z) (is_among (xs ++ y ∷ []) x) (or_parts (bytes_eq x z) (is_among xs x) h).0 (none_push xs x y (or_parts (bytes_eq x z) (is_among xs x) h).1 k)
 
 apart_push : (xs : List Name) (y : Name) → AreApart xs → is_among xs y ≡ false → AreApart (xs ++ y ∷ [])
 apart_push [] y h k = (refl, tt)
 apart_push (x ∷ xs) y h k =
-    (none_push xs x y h.0 (differ x y (or_left (bytes_eq y x) (is_among xs y) k)), apart_push xs y h.1 (or_right (bytes_eq y x) (is_among xs y) k))
-
-among_at : (xs : List Name) (j : ℕ) → j < length xs → is_among xs (text_at xs j) ≡ true
-among_at [] j h = absurd (omega arith)
-among_at (x ∷ xs) zero h = rw (same_self x) refl
-among_at (x ∷ xs) (suc j) h =
-    elim (bytes_eq (text_at xs j) x) as (λ t. (t || is_among xs (text_at xs j)) ≡ true) [
-      | true ↦ refl
-      | false ↦ among_at xs j (omega arith)
-    ]
+    (none_push xs x y h.0 (differ x y (or_parts (bytes_eq y x) (is_among xs y) k).0), apart_push xs y h.1 (or_parts (bytes_eq y x) (is_among xs y) k).1)
 
 pub text_among : (xs : List Name) (j : ℕ) → j < length xs → is_among xs (text_at xs j) ≡ true
-text_among = among_at
+text_among [] j h = absurd (omega arith)
+text_among (x ∷ xs) zero h = rw (same_self x) refl
+text_among (x ∷ xs) (suc j) h =
+    elim (bytes_eq (text_at xs j) x) as (λ t. (t || is_among xs (text_at xs j)) ≡ true) [
+      | true ↦ refl
+      | false ↦ text_among xs j (omega arith)
+    ]
 
 -- the number of a name is its place
 pub number_at : (xs : List Name) (j : ℕ) → AreApart xs → j < length xs → number_or_count xs (text_at xs j) ≡ j
 number_at [] j h small = absurd (omega arith)
 number_at (x ∷ xs) zero h small = rw (same_self x) refl
 number_at (x ∷ xs) (suc j) h small =
-    let there : is_among xs (text_at xs j) ≡ true = among_at xs j (omega arith) in
+    let there : is_among xs (text_at xs j) ≡ true = text_among xs j (omega arith) in
     let rest : number_or_count xs (text_at xs j) ≡ j = number_at xs j h.1 (omega arith) in
     elim (bytes_eq (text_at xs j) x) as (λ t. bytes_eq (text_at xs j) x ≡ t → cond (not t) (1 + number_or_count xs (text_at xs j)) 0 ≡ suc j) [
       | true ↦ λ e. absurd (true≢false (sym there ∙ ap (is_among xs) ((bytes_eq-Decides (text_at xs j) x).0 e) ∙ h.0))

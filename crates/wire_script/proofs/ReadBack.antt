@@ -1,5 +1,5 @@
 -- The canonical text of what was read reads as the same.
-use Rattle.std.proofs.Common.{◌≡◌, ◌∙◌, ap, sym, subst, refl, ℕ, ◌-◌, List, [], ◌∷◌, ◌++◌, length, arith, Option, Some, None, Result, Ok, Err, MatchResult, inl, inr}
+use Rattle.std.proofs.Common.{◌≡◌, ◌∙◌, ap, sym, subst, refl, ℕ, ◌-◌, List, [], ◌∷◌, ◌++◌, length, arith, None, Result, Ok, Err, MatchResult, inl, inr}
 use Rattle.std.specs.List.{flat_map}
 use Rattle.wire_types.specs.declared.Fault.{Fault}
 use Rattle.wire_lines.specs.Text.{lines_of}
@@ -16,7 +16,7 @@ use Rattle.wire_script.proofs.Recut.{AllLawful, numbered_lines, said_again}
 use Rattle.wire_script.proofs.Changed.{IsTaken, IsFit, CallsAre, AllCalls, Runs, Takes, changed_declaration, first_run, run_header, lines_changed, lines_judged}
 use Rattle.wire_script.proofs.Order.{lines_added, nothing_shaped}
 use Rattle.wire_script.proofs.Ranked.{run_good}
-use Rattle.wire_script.proofs.Once.{short_once}
+use Rattle.wire_script.proofs.Once.{short_once, second_ok}
 use Rattle.wire_script.proofs.Again.{canonical_call, scripts_changed, scripts_bare, met_changed, met_full}
 use Rattle.wire_script.proofs.Said.{again_same, again_fits, scripts_lines}
 
@@ -49,10 +49,6 @@ fit_run (l ∷ ls) d e r h = fit_run ls (after d l.0 l.1) e r.2 (fit_kept d l.0 
 all_lawful : (xs : List Said) (d e : Declared) → Takes xs d e → AllLawful xs
 all_lawful [] d e t = tt
 all_lawful (a ∷ xs) d e t = (t.0, all_lawful xs (after d 0 a) e t.2)
-
-pub second_ok : (d : Declared) (s : Scripts) (u : Option Fault) → Ok s ≡ unless_fault d u → (u ≡ None) × (s ≡ scripts_of d)
-second_ok d s None h = (refl, cc)
-second_ok d s (Some f) h = absurd (cc)
 
 -- scripts of what some lines declare
 pub declared_back : (size : Size) (v : Version) (d : Declared) (s : Scripts) (ls : List (ℕ × Said)) (n : ℕ) → Runs ls (nothing size v) d → first_fault d d.processes ≡ None → s ≡ scripts_of d

@@ -5,9 +5,11 @@ use Rattle.std.specs.Prelude.{◌==◌, not, ◌&&◌, nat_le, slice_index, ⊤}
 use Rattle.std.specs.List.{list_all, slice_split, onto_first, join_with_byte}
 use Rattle.std.specs.Str.Lines.{strip_carriage_return}
 use Rattle.std.proofs.lemmas.Fmt.{decimal_by_steps}
+use Rattle.std.proofs.lemmas.Bool.{and_from}
 use borrow.Author.Tests.{leb-true, le-leb, not-true, ne_eqb}
 use Rattle.wire_types.specs.declared.Scope.{Scope}
 use Rattle.wire_types.specs.declared.Scope.TheVariants.{Local, Remote, Global}
+use Rattle.wire_runs.proofs.Lists.{list_all_weaker}
 use Rattle.wire_lines.specs.declared.Version.TheVariants as version
 use Rattle.wire_lines.specs.Text.{pieces_of, lines_of, is_blank, words_of}
 use Rattle.wire_lines.specs.Said.{Item, One, Every, Set, Own, Listed, Put, Commit, Fence, Get, GetNow, Publish, Lookup, LookupWait, Unpublish, UnpublishAll}
@@ -17,16 +19,9 @@ use Rattle.wire_lines.proofs.Colon.{and_left, and_right}
 use Rattle.wire_script.specs.Statements.{Statement, is_skipped, statements_from, statements}
 use Rattle.wire_content.specs.Canonical.{line_text}
 
-pub both : (a b : Bool) → a ≡ true → b ≡ true → (a && b) ≡ true
-both a b p q = rw (p, q) refl
-
-pub all_weaker : (p q : ℕ → Bool) → ((b : ℕ) → p b ≡ true → q b ≡ true) → (xs : List ℕ) → list_all p xs ≡ true → list_all q xs ≡ true
-all_weaker p q f [] h = refl
-all_weaker p q f (x ∷ xs) h = both (q x) (list_all q xs) (f x (and_left _ _ h)) (all_weaker p q f xs (and_right _ _ h))
-
 pub all_append : (p : ℕ → Bool) (xs ys : List ℕ) → list_all p xs ≡ true → list_all p ys ≡ true → list_all p (xs ++ ys) ≡ true
 all_append p [] ys h k = k
-all_append p (x ∷ xs) ys h k = both (p x) (list_all p (xs ++ ys)) (and_left _ _ h) (all_append p xs ys (and_right _ _ h) k)
+all_append p (x ∷ xs) ys h k = and_from (p x) (list_all p (xs ++ ys)) (and_left _ _ h) (all_append p xs ys (and_right _ _ h) k)
 
 -- a byte of a word is none below 33
 differs : (k b : ℕ) → k < 33 → is_word_byte b ≡ true → (b == k) ≡ false
@@ -56,10 +51,10 @@ AreWords (w ∷ ws) = IsTrue (is_word w) × AreWords ws
 
 -- what holds of the bytes of words and of a space holds of those of a line
 line_all : (p : ℕ → Bool) → ((b : ℕ) → is_word_byte b ≡ true → p b ≡ true) → p 32 ≡ true → (w : List ℕ) (ws : List (List ℕ)) → AreWords (w ∷ ws) → list_all p (join_with_byte 32 (w ∷ ws)) ≡ true
-line_all p f s w [] h = all_weaker is_word_byte p f w (and_right _ _ h.0)
+line_all p f s w [] h = list_all_weaker is_word_byte p w f (and_right _ _ h.0)
 line_all p f s w (v ∷ vs) h =
-    all_append p w (32 ∷ join_with_byte 32 (v ∷ vs)) (all_weaker is_word_byte p f w (and_right _ _ h.0))
-    (both (p 32) (list_all p (join_with_byte 32 (v ∷ vs))) s (line_all p f s v vs h.1))
+    all_append p w (32 ∷ join_with_byte 32 (v ∷ vs)) (list_all_weaker is_word_byte p w f (and_right _ _ h.0))
+    (and_from (p 32) (list_all p (join_with_byte 32 (v ∷ vs))) s (line_all p f s v vs h.1))
 
 -- a line that ends in a line feed is the first piece
 pub pieces_line : (xs ys : List ℕ) → list_all no_feed xs ≡ true → pieces_of (xs ++ 10 ∷ ys) ≡ xs ∷ pieces_of ys
@@ -97,7 +92,7 @@ blank_front (x ∷ xs) ys h =
     ] h
 
 no_blanks : (w : List ℕ) → IsTrue (is_word w) → list_all no_blank w ≡ true
-no_blanks w h = all_weaker is_word_byte no_blank blank_byte w (and_right _ _ h)
+no_blanks w h = list_all_weaker is_word_byte no_blank w blank_byte (and_right _ _ h)
 
 split_words : (w : List ℕ) (ws : List (List ℕ)) → AreWords (w ∷ ws) → slice_split is_blank (join_with_byte 32 (w ∷ ws)) ≡ w ∷ ws
 split_words w [] h = blank_none w (no_blanks w h.0)
@@ -112,13 +107,13 @@ pub words_line : (w : List ℕ) (ws : List (List ℕ)) → AreWords (w ∷ ws) �
 words_line w ws h = ap (filter (λ x. not (length x == 0))) (split_words w ws h) ∙ keep_words (w ∷ ws) h
 
 pub name_word : (xs : List ℕ) → IsTrue (is_name xs) → IsTrue (is_word xs)
-name_word xs h = both (not (length xs == 0)) (list_all is_word_byte xs) (and_left _ _ h) (all_weaker is_name_byte is_word_byte (λ b k. and_left _ _ k) xs (and_right _ _ h))
+name_word xs h = and_from (not (length xs == 0)) (list_all is_word_byte xs) (and_left _ _ h) (list_all_weaker is_name_byte is_word_byte xs (λ b k. and_left _ _ k) (and_right _ _ h))
 
 digit_byte : (d : ℕ) → d < 10 → is_word_byte (48 + d) ≡ true
-digit_byte d h = both (nat_le 33 (48 + d)) (nat_le (48 + d) 126) (le-leb 33 (48 + d) (omega arith)) (le-leb (48 + d) 126 (omega arith))
+digit_byte d h = and_from (nat_le 33 (48 + d)) (nat_le (48 + d) 126) (le-leb 33 (48 + d) (omega arith)) (le-leb (48 + d) 126 (omega arith))
 
 digit_word : (d : ℕ) → d < 10 → list_all is_word_byte ((48 + d) ∷ []) ≡ true
-digit_word d h = both (is_word_byte (48 + d)) true (digit_byte d h) refl
+digit_word d h = and_from (is_word_byte (48 + d)) true (digit_byte d h) refl
 
 digits_word : (n : ℕ) → n < 10 ^ 9 → list_all is_word_byte (decimal n) ≡ true
 digits_word n small =
@@ -132,7 +127,7 @@ some_bytes xs ys b =
 
 pub proc_word : (job : List ℕ) (rank : ℕ) → IsTrue (is_name job) → rank < 10 ^ 9 → IsTrue (is_word (spelled_proc job rank))
 proc_word job rank h small =
-    both (not (length (spelled_proc job rank) == 0)) (list_all is_word_byte (spelled_proc job rank)) (some_bytes job (decimal rank) 58)
+    and_from (not (length (spelled_proc job rank) == 0)) (list_all is_word_byte (spelled_proc job rank)) (some_bytes job (decimal rank) 58)
     (all_append is_word_byte job (58 ∷ decimal rank) (and_right _ _ (name_word job h)) (digits_word rank small))
 
 scope_word : (s : Scope) → IsTrue (is_word (spelled_scope s))
@@ -143,14 +138,14 @@ scope_word Global = refl
 item_word : (i : Item) → IsLawfulItem i → IsTrue (is_word (spelled_item i))
 item_word (One job rank) h = proc_word job rank h.0 h.1
 item_word (Every job) h =
-    both (not (length (spelled_item (Every job)) == 0)) (list_all is_word_byte (spelled_item (Every job))) (some_bytes job (codes "*") 58)
+    and_from (not (length (spelled_item (Every job)) == 0)) (list_all is_word_byte (spelled_item (Every job))) (some_bytes job (codes "*") 58)
     (all_append is_word_byte job (58 ∷ codes "*") (and_right _ _ (name_word job h)) refl)
 
 -- items with commas between them are a word
 items_word : (i : Item) (is : List Item) → IsLawfulItem i → AreLawful is → IsTrue (is_word (join_with_byte 44 (map spelled_item (i ∷ is))))
 items_word i [] h k = item_word i h
 items_word i (j ∷ js) h k =
-    both (not (length (join_with_byte 44 (map spelled_item (i ∷ j ∷ js))) == 0)) (list_all is_word_byte (join_with_byte 44 (map spelled_item (i ∷ j ∷ js))))
+    and_from (not (length (join_with_byte 44 (map spelled_item (i ∷ j ∷ js))) == 0)) (list_all is_word_byte (join_with_byte 44 (map spelled_item (i ∷ j ∷ js))))
     (some_bytes (spelled_item i) (join_with_byte 44 (map spelled_item (j ∷ js))) 44)
     (all_append is_word_byte (spelled_item i) (44 ∷ join_with_byte 44 (map spelled_item (j ∷ js))) (and_right _ _ (item_word i h)) (and_right _ _ (items_word j js k.0 k.1)))
 

@@ -3,7 +3,6 @@ use Rattle.std.proofs.Common.{◌≡◌, ◌∙◌, ap, sym, subst, refl, ℕ, z
 use Rattle.std.specs.Prelude.{◌==◌, ◌||◌, ◌⊎◌, not, slice_get}
 use Rattle.std.specs.List.{flat_map, position_or_len}
 use Rattle.std.specs.Str.{bytes_eq}
-use Rattle.std.proofs.lemmas.Slice.Eq.{bytes_eq-Decides}
 use borrow.Author.Tests.{ltb-true, eqb-true}
 use Rattle.wire_types.specs.declared.Scope.{Scope}
 use Rattle.wire_types.specs.declared.Call as call
@@ -16,7 +15,7 @@ use Rattle.wire_lines.specs.declared.Version.{Version}
 use Rattle.wire_script.specs.FirstPass.{Name, Started, Declared, is_among, number_or_count, has_call}
 use Rattle.wire_script.specs.Reads.{Seen, is_proc, proc_number, has_proc, is_in, set_members, is_declared_call, is_with_caller, first_fault, keys_in, names_in, values_in, sets_in, in_calls}
 use Rattle.wire_script.specs.Reads.{first_seen, seen_in, numbered, process_of, scripts_with, scripts_of}
-use Rattle.wire_script.proofs.Seen.{seen_among, among_flat, text_at_number}
+use Rattle.wire_script.proofs.Seen.{seen_among, among_flat, text_at_number, alone}
 use Rattle.wire_script.proofs.Changed.{changed_call, changed_process, changed_declaration, IsFit, IsFitFor, CallsAre, AllCalls}
 use Rattle.wire_script.proofs.Order.{process_lines, of_job, jobs_lines, declared_lines}
 use Rattle.wire_script.proofs.Ranked.{IsGood, below_at}
@@ -43,9 +42,6 @@ names_call d k p i c at = record {
   values = λ x e. in_seen (λ job. values_in) d.processes k p i c x at e;
   sets = λ x e. in_seen (sets_in d) d.processes k p i c x at e;
 }
-
-alone : (x : List ℕ) → is_among (x ∷ []) x ≡ true
-alone x = let e : bytes_eq x x ≡ true = (bytes_eq-Decides x x).1 refl in rw e refl
 
 -- the text of the number of a text
 text_back : (t : List (List ℕ)) (xs : List (List ℕ)) (x : List ℕ) → ((y : List ℕ) → is_among xs y ≡ true → is_among t y ≡ true) → is_among xs x ≡ true → text_at t (number_or_count t x) ≡ x

@@ -5,15 +5,17 @@ use Rattle.std.specs.Prelude.{◌==◌, ◌||◌, ◌&&◌, not, slice_get, slic
 use Rattle.std.specs.List.{list_any, list_all, flat_map, position_or_len}
 use Rattle.std.specs.Str.{bytes_eq}
 use Rattle.std.proofs.lemmas.Slice.Eq.{bytes_eq-Decides}
-use Rattle.std.proofs.lemmas.Bool.{lt-ltb}
+use Rattle.std.proofs.lemmas.Bool.{lt-ltb, and_from, or_right}
 use Rattle.std.proofs.lemmas.List.Folds.{list_any-append}
+use Rattle.std.proofs.Math.Bool.{or-false}
 use borrow.Author.Tests.{eqb-true, eq-eqb, ne_eqb}
 use Rattle.wire_runs.specs.Fences.{is_member}
+use Rattle.wire_runs.proofs.Basics.{list_all_at_member}
 use Rattle.wire_lines.specs.Said.{Item, One, Every, Set, Own, Listed, AreLawful, IsLawfulSet, is_name}
 use Rattle.wire_lines.proofs.Colon.{and_left, and_right}
 use Rattle.wire_content.specs.Scripts.{Process, Scripts, text_at}
 use Rattle.wire_content.specs.Canonical as text
-use Rattle.wire_content.specs.Canonical.{process_at, job_of, members_from, is_whole, process_items, member_items, set_items, set_said}
+use Rattle.wire_content.specs.Canonical.{members_from, is_whole, member_items, set_items, set_said}
 use Rattle.wire_script.specs.FirstPass.{Name, Started, Declared, is_among, number_or_count, is_short_name, is_short_item, is_short_set}
 use Rattle.wire_script.specs.Reads.{Seen, is_proc, proc_number, has_proc, names_it, is_in, places_from, set_members, is_declared_item, is_declared_set, process_of, scripts_with}
 use Rattle.wire_script.proofs.Ranked.{IsGood, text_among, number_at, name_at, below_at, rank_most, one_process, first_process}
@@ -23,17 +25,6 @@ same_bools true b f g = sym (f refl)
 same_bools false true f g = g refl
 same_bools false false f g = refl
 
-both : (a b : Bool) → a ≡ true → b ≡ true → (a && b) ≡ true
-both a b p q = rw (p, q) refl
-
-or_true : (a b : Bool) → b ≡ true → (a || b) ≡ true
-or_true true b h = refl
-or_true false b h = h
-
-or_false : (b : Bool) → (b || false) ≡ b
-or_false true = refl
-or_false false = refl
-
 module _ {A B : Type 0} where
   any_flat : (q : B → Bool) (g : A → List B) (xs : List A) → list_any q (flat_map g xs) ≡ list_any (λ x. list_any q (g x)) xs
   any_flat q g [] = refl
@@ -42,7 +33,7 @@ module _ {A B : Type 0} where
 module _ {B : Type 0} (q : B → Bool) where
   all_both : (xs ys : List B) → list_all q xs ≡ true → list_all q ys ≡ true → list_all q (xs ++ ys) ≡ true
   all_both [] ys h k = k
-  all_both (x ∷ xs) ys h k = both (q x) (list_all q (xs ++ ys)) (and_left (q x) (list_all q xs) h) (all_both xs ys (and_right (q x) (list_all q xs) h) k)
+  all_both (x ∷ xs) ys h k = and_from (q x) (list_all q (xs ++ ys)) (and_left (q x) (list_all q xs) h) (all_both xs ys (and_right (q x) (list_all q xs) h) k)
 
   any_some : (xs : List B) → list_any q xs ≡ true → 0 < length xs
   any_some [] h = absurd (true≢false (sym h))
@@ -54,7 +45,7 @@ some_member h [] e = absurd (true≢false (sym e))
 some_member h (x ∷ xs) e =
     elim (h x) as (λ t. h x ≡ t → (t || list_any h xs) ≡ true → (m : ℕ) × (is_member (x ∷ xs) m ≡ true) × (h m ≡ true)) [
       | true ↦ λ f k. let one : (x == x) ≡ true = eq-eqb x x refl in (x, rw one refl, f)
-      | false ↦ λ f k. let r = some_member h xs k in (r.0, or_true (x == r.0) (is_member xs r.0) r.1, r.2)
+      | false ↦ λ f k. let r = some_member h xs k in (r.0, or_right (x == r.0) (is_member xs r.0) r.1, r.2)
     ] refl e
 
 member_some : (h : ℕ → Bool) (xs : List ℕ) (m : ℕ) → is_member xs m ≡ true → h m ≡ true → list_any h xs ≡ true
@@ -62,15 +53,7 @@ member_some h [] m e k = absurd (true≢false (sym e))
 member_some h (x ∷ xs) m e k =
     elim (x == m) as (λ t. (x == m) ≡ t → (t || is_member xs m) ≡ true → (h x || list_any h xs) ≡ true) [
       | true ↦ λ f g. let same : h x ≡ true = ap h (eqb-true x m f) ∙ k in rw same refl
-      | false ↦ λ f g. or_true (h x) (list_any h xs) (member_some h xs m g k)
-    ] refl e
-
-all_member : (h : ℕ → Bool) (xs : List ℕ) (m : ℕ) → list_all h xs ≡ true → is_member xs m ≡ true → h m ≡ true
-all_member h [] m a e = absurd (true≢false (sym e))
-all_member h (x ∷ xs) m a e =
-    elim (x == m) as (λ t. (x == m) ≡ t → (t || is_member xs m) ≡ true → h m ≡ true) [
-      | true ↦ λ f g. sym (ap h (eqb-true x m f)) ∙ and_left (h x) (list_all h xs) a
-      | false ↦ λ f g. all_member h xs m (and_right (h x) (list_all h xs) a) g
+      | false ↦ λ f g. or_right (h x) (list_any h xs) (member_some h xs m g k)
     ] refl e
 
 -- numbers of places start where they are counted from
@@ -159,7 +142,7 @@ all_items : (q : Item → Bool) (f : ℕ → List Item) (xs : List ℕ) → ((m 
 all_items q f [] h = refl
 all_items q f (x ∷ xs) h =
     all_both q (f x) (flat_map f xs) (h x (let one : (x == x) ≡ true = eq-eqb x x refl in rw one refl))
-    (all_items q f xs (λ m e. h m (or_true (x == m) (is_member xs m) e)))
+    (all_items q f xs (λ m e. h m (or_right (x == m) (is_member xs m) e)))
 
 lawful_both : (xs ys : List Item) → AreLawful xs → AreLawful ys → AreLawful (xs ++ ys)
 lawful_both [] ys h k = k
@@ -169,7 +152,7 @@ lawful_items : (f : ℕ → List Item) (xs : List ℕ) → ((m : ℕ) → is_mem
 lawful_items f [] h = tt
 lawful_items f (x ∷ xs) h =
     lawful_both (f x) (flat_map f xs) (h x (let one : (x == x) ≡ true = eq-eqb x x refl in rw one refl))
-    (lawful_items f xs (λ m e. h m (or_true (x == m) (is_member xs m) e)))
+    (lawful_items f xs (λ m e. h m (or_right (x == m) (is_member xs m) e)))
 
 -- a process of this rank in a job of this name, or all of the job at its first process
 abbrev parts : Bool → ℕ → Name → List Item
@@ -179,20 +162,20 @@ parts_named : (d : Declared) (whole : Bool) (rank j : ℕ) (name : Name) (p : St
     → list_any (λ i. names_it d i p) (parts whole rank name) ≡ (if whole then ((rank == 0) && (p.job == j)) else ((p.job == j) && (p.rank == rank)))
 parts_named d true rank j name p e =
     elim (rank == 0) as (λ t. list_any (λ i. names_it d i p) (if t then Every name ∷ [] else []) ≡ (t && (p.job == j))) [
-      | true ↦ or_false (p.job == number_or_count d.jobs name) ∙ ap (λ n. p.job == n) e
+      | true ↦ or-false (p.job == number_or_count d.jobs name) ∙ ap (λ n. p.job == n) e
       | false ↦ refl
     ]
-parts_named d false rank j name p e = or_false (is_proc (number_or_count d.jobs name) rank p) ∙ ap (λ n. (p.job == n) && (p.rank == rank)) e
+parts_named d false rank j name p e = or-false (is_proc (number_or_count d.jobs name) rank p) ∙ ap (λ n. (p.job == n) && (p.rank == rank)) e
 
 parts_declared : (d : Declared) (whole : Bool) (rank : ℕ) (name : Name) → is_among d.jobs name ≡ true → has_proc d name rank ≡ true → list_all (is_declared_item d) (parts whole rank name) ≡ true
 parts_declared d true rank name h k =
-    elim (rank == 0) as (λ t. list_all (is_declared_item d) (if t then Every name ∷ [] else []) ≡ true) [ true ↦ both (is_among d.jobs name) true h refl | false ↦ refl ]
-parts_declared d false rank name h k = both (has_proc d name rank) true k refl
+    elim (rank == 0) as (λ t. list_all (is_declared_item d) (if t then Every name ∷ [] else []) ≡ true) [ true ↦ and_from (is_among d.jobs name) true h refl | false ↦ refl ]
+parts_declared d false rank name h k = and_from (has_proc d name rank) true k refl
 
 parts_short : (whole : Bool) (rank : ℕ) (name : Name) → is_short_name name ≡ true → list_all is_short_item (parts whole rank name) ≡ true
 parts_short true rank name h =
-    elim (rank == 0) as (λ t. list_all is_short_item (if t then Every name ∷ [] else []) ≡ true) [ true ↦ both (is_short_name name) true h refl | false ↦ refl ]
-parts_short false rank name h = both (is_short_name name) true h refl
+    elim (rank == 0) as (λ t. list_all is_short_item (if t then Every name ∷ [] else []) ≡ true) [ true ↦ and_from (is_short_name name) true h refl | false ↦ refl ]
+parts_short false rank name h = and_from (is_short_name name) true h refl
 
 parts_lawful : (whole : Bool) (rank : ℕ) (name : Name) → IsTrue (is_name name) → rank < 10 ^ 9 → AreLawful (parts whole rank name)
 parts_lawful true rank name h small =
@@ -204,7 +187,7 @@ unfolding has_proc
 proc_has d m q name at e =
     lt-ltb (proc_number d name q.rank) (length d.processes)
     (position_there (is_proc (number_or_count d.jobs name) q.rank) d.processes m q at
-    (both (q.job == number_or_count d.jobs name) (q.rank == q.rank) (eq-eqb q.job (number_or_count d.jobs name) (sym e)) (eq-eqb q.rank q.rank refl)))
+    (and_from (q.job == number_or_count d.jobs name) (q.rank == q.rank) (eq-eqb q.job (number_or_count d.jobs name) (sym e)) (eq-eqb q.rank q.rank refl)))
 
 -- a set that a process of a job says
 module _ (d : Declared) (s : Seen) (g : IsGood d) (job : ℕ) (set : Set) where
@@ -234,7 +217,7 @@ module _ (d : Declared) (s : Seen) (g : IsGood d) (job : ℕ) (set : Set) where
   -- a job that is whole in the set has its processes there
   whole_there : (j m : ℕ) (q : Started) → is_whole_job j ≡ true → slice_get d.processes m ≡ Some q → q.job ≡ j → is_member members m ≡ true
   whole_there j m q w at e =
-      all_member (is_member members) (text.job_members scripts.processes j) m w
+      list_all_at_member (is_member members) (text.job_members scripts.processes j) m w
       (ap (λ l. is_member l m) (members_places d s 0 j d.processes) ∙ place_at (λ p. p.job == j) d.processes m q at ∙ eq-eqb q.job j e)
 
   forward : (k m : ℕ) (p q : Started) → slice_get d.processes k ≡ Some p → slice_get d.processes m ≡ Some q → is_member members m ≡ true

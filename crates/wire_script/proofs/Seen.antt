@@ -1,5 +1,5 @@
 -- Texts as they are first seen, one by one and at once.
-use Rattle.std.proofs.Common.{◌≡◌, ◌∙◌, ap, sym, subst, refl, ℕ, zero, suc, ◌+◌, ◌<◌, ◌≤◌, List, [], ◌∷◌, ◌++◌, Bool, true, false, cond, Some, inl, inr, length, filter, append_assoc, arith}
+use Rattle.std.proofs.Common.{◌≡◌, ◌∙◌, ap, sym, subst, refl, ℕ, zero, suc, ◌+◌, ◌<◌, ◌≤◌, List, [], ◌∷◌, ◌++◌, Bool, true, false, cond, Some, length, filter, append_assoc, arith}
 use Rattle.std.proofs.Common.{true≢false, if◌then◌else◌}
 use Rattle.std.specs.Prelude.{not, nat_lt, ◌||◌, slice_get, slice_index_or, ⊤}
 use Rattle.std.specs.List.{list_any, position_or_len, flat_map}
@@ -7,9 +7,10 @@ use Rattle.std.specs.Str.{bytes_eq}
 use Rattle.std.proofs.lemmas.List.{append-nil}
 use Rattle.std.proofs.lemmas.List.Folds.{list_any-append}
 use Rattle.std.proofs.lemmas.List.Concat.{flat_map-cons}
-use Rattle.std.proofs.lemmas.Bool.{cases_Bool, lt-ltb, le-ltb}
-use borrow.Author.Tests.{ltb-true, ltb-false}
+use Rattle.std.proofs.lemmas.Bool.{lt-ltb, le-ltb}
 use Rattle.std.proofs.lemmas.Slice.Eq.{bytes_eq-Decides}
+use Rattle.std.proofs.Math.Bool.{or-false, or-true}
+use Rattle.wire_runs.proofs.Lists.{less_both}
 use Rattle.wire_script.specs.FirstPass.{is_among, number_or_count}
 use Rattle.wire_script.specs.Reads.{first_seen}
 use Rattle.wire_script.specs.Tabled.{with_text, GoesOn}
@@ -34,22 +35,17 @@ same_swap x y = elim (bytes_eq x y) as (λ t. bytes_eq x y ≡ t → t ≡ bytes
     other true e f = absurd (true≢false (sym ((bytes_eq-Decides x y).1 (sym (same_is y x e))) ∙ f))
     other false e f = refl
 
-or_false : (b : Bool) → (b || false) ≡ b
-or_false true = refl
-or_false false = refl
-
-or_true : (b : Bool) → (b || true) ≡ true
-or_true true = refl
-or_true false = refl
+pub alone : (x : List ℕ) → is_among (x ∷ []) x ≡ true
+alone x = rw (same_self x) refl
 
 -- the texts of a table with one more
 among_push : (t : Texts) (x u : List ℕ) → is_among (t ++ x ∷ []) u ≡ (is_among t u || bytes_eq u x)
-among_push t x u = list_any-append (bytes_eq u) t (x ∷ []) ∙ ap (λ b. is_among t u || b) (or_false (bytes_eq u x))
+among_push t x u = list_any-append (bytes_eq u) t (x ∷ []) ∙ ap (λ b. is_among t u || b) (or-false (bytes_eq u x))
 
 pub among_with : (t : Texts) (x : List ℕ) → is_among (with_text t x) x ≡ true
 among_with t x = elim (is_among t x) as (λ b. is_among t x ≡ b → is_among (if b then t else t ++ x ∷ []) x ≡ true) [
   | true ↦ λ e. e
-  | false ↦ λ e. among_push t x x ∙ ap (λ b. is_among t x || b) (same_self x) ∙ or_true (is_among t x)
+  | false ↦ λ e. among_push t x x ∙ ap (λ b. is_among t x || b) (same_self x) ∙ or-true (is_among t x)
 ] refl
 
 -- a table with one text more goes on
@@ -101,7 +97,7 @@ number_with t x = elim (is_among t x) as (λ b. is_among t x ≡ b → number_or
 pub number_pushed : (t later : Texts) (x : List ℕ) → is_among t x ≡ false → GoesOn (t ++ x ∷ []) later → number_or_count t x ≡ number_or_count later x
 number_pushed t later x none g =
     sym (place_pushed (bytes_eq x) t x none (same_self x))
-    ∙ number_kept (t ++ x ∷ []) later x (among_push t x x ∙ ap (λ b. is_among t x || b) (same_self x) ∙ or_true (is_among t x)) g
+    ∙ number_kept (t ++ x ∷ []) later x (among_push t x x ∙ ap (λ b. is_among t x || b) (same_self x) ∙ or-true (is_among t x)) g
 
 -- texts, one by one
 abbrev pub texts_after : Texts → Texts → Texts
@@ -134,8 +130,8 @@ drop_pushed t x (u ∷ us) =
     ap (λ b. if not b then u ∷ new_in (t ++ x ∷ []) us else new_in (t ++ x ∷ []) us) (among_push t x u ∙ ap (λ b. is_among t u || b) (same_swap u x))
     ∙ elim (bytes_eq x u) as (λ b. (if not (is_among t u || b) then u ∷ new_in (t ++ x ∷ []) us else new_in (t ++ x ∷ []) us) ≡ new_in t
     (if not b then u ∷ filter (λ u. not (bytes_eq x u)) us else filter (λ u. not (bytes_eq x u)) us)) [
-      | true ↦ rw (or_true (is_among t u)) (drop_pushed t x us)
-      | false ↦ rw (or_false (is_among t u)) (ap (λ l. if not (is_among t u) then u ∷ l else l) (drop_pushed t x us))
+      | true ↦ rw (or-true (is_among t u)) (drop_pushed t x us)
+      | false ↦ rw (or-false (is_among t u)) (ap (λ l. if not (is_among t u) then u ∷ l else l) (drop_pushed t x us))
     ]
 
 after_first : (t xs : Texts) → texts_after t xs ≡ t ++ new_in t (first_seen xs)
@@ -217,7 +213,7 @@ seen_apart (x ∷ xs) = (dropped x (first_seen xs), apart_filter (λ u. not (byt
 among_at : (xs : Texts) (n : ℕ) (x : List ℕ) → slice_get xs n ≡ Some x → is_among xs x ≡ true
 among_at [] n x at = absurd (cc)
 among_at (y ∷ ys) zero x at = let same : y ≡ x = cc in let e : bytes_eq x y ≡ true = rw same (same_self x) in rw e refl
-among_at (y ∷ ys) (suc n) x at = rw (among_at ys n x at) (or_true (bytes_eq x y))
+among_at (y ∷ ys) (suc n) x at = rw (among_at ys n x at) (or-true (bytes_eq x y))
 
 -- a text that is there once has one number
 pub apart_once : (xs : Texts) (m n : ℕ) (x : List ℕ) → AreApart xs → slice_get xs m ≡ Some x → slice_get xs n ≡ Some x → m ≡ n
@@ -253,7 +249,7 @@ pub among_both_left : (xs ys : Texts) (x : List ℕ) → is_among xs x ≡ true 
 among_both_left xs ys x h = list_any-append (bytes_eq x) xs ys ∙ rw h refl
 
 pub among_both_right : (xs ys : Texts) (x : List ℕ) → is_among ys x ≡ true → is_among (xs ++ ys) x ≡ true
-among_both_right xs ys x h = list_any-append (bytes_eq x) xs ys ∙ rw h (or_true (is_among xs x))
+among_both_right xs ys x h = list_any-append (bytes_eq x) xs ys ∙ rw h (or-true (is_among xs x))
 
 module _ {A : Type 0} (f : A → Texts) where
   -- what one element gives is among what all give
@@ -278,18 +274,12 @@ text_at_number (y ∷ ys) x h = elim (bytes_eq x y) as (λ b. bytes_eq x y ≡ b
           (let l = r.0 in omega arith, rw one r.1)
     ] refl h
 
-one_up : (m n : ℕ) → nat_lt (1 + m) (suc n) ≡ nat_lt m n
-one_up m n = elim (cases_Bool (nat_lt m n)) [
-  | inl t ↦ lt-ltb (1 + m) (suc n) (let h = ltb-true m n t in omega arith) ∙ sym t
-  | inr f ↦ le-ltb (1 + m) (suc n) (let h = ltb-false m n f in omega arith) ∙ sym f
-]
-
 -- a text is there where its number is below that of all
 pub number_below : (names : List (List ℕ)) (x : List ℕ) → nat_lt (number_or_count names x) (length names) ≡ is_among names x
 number_below [] x = refl
 number_below (y ∷ ys) x = elim (bytes_eq x y) as (λ b. nat_lt (cond (not b) (1 + number_or_count ys x) 0) (length (y ∷ ys)) ≡ (b || is_among ys x)) [
   | true ↦ lt-ltb 0 (length (y ∷ ys)) (omega arith)
-  | false ↦ one_up (number_or_count ys x) (length ys) ∙ number_below ys x
+  | false ↦ less_both (number_or_count ys x) (length ys) ∙ number_below ys x
 ]
 
 -- a text whose number is below that of all is there

@@ -1,34 +1,32 @@
 -- What is read is sound: processes have their ranks, each owner of a get is a process, each set is one of processes, and each
 -- caller of a fence is a member.
-use Rattle.std.proofs.Common.{◌≡◌, ◌∙◌, ap, sym, subst, refl, ℕ, zero, suc, ◌+◌, ◌<◌, List, [], ◌∷◌, Bool, true, false, Option, Some, None, Err, ◌⊎◌, inl, inr, length, map, option_map, arith}
-use Rattle.std.proofs.Common.{if◌then◌else◌}
-use Rattle.std.specs.Prelude.{not, slice_get, nat_lt}
+use Rattle.std.proofs.Common.{◌≡◌, ◌∙◌, ap, sym, subst, refl, ℕ, zero, suc, ◌+◌, ◌<◌, List, [], ◌∷◌, Bool, true, Option, Some, None, Err, ◌⊎◌, inl, inr, length, map, option_map, arith}
+use Rattle.std.specs.Prelude.{slice_get, nat_lt}
 use Rattle.std.specs.List.{flat_map, list_all}
-use Rattle.std.specs.Str.{bytes_eq}
 use Rattle.std.proofs.lemmas.List.{length-map}
 use Rattle.std.proofs.lemmas.Option.{slice_get-map}
-use Rattle.std.proofs.lemmas.Slice.Eq.{bytes_eq-Decides}
 use borrow.Author.Tests.{ltb-true}
 use Rattle.wire_runs.specs.Plan.{set_of}
 use Rattle.wire_runs.specs.Fences.{is_member}
 use Rattle.wire_types.specs.declared.Fault.{Fault}
-use Rattle.wire_types.specs.declared.Fault.TheVariants.{Memory, UnknownName, NotMember}
+use Rattle.wire_types.specs.declared.Fault.TheVariants.{Memory}
 use Rattle.wire_types.specs.declared.Call.{Call}
 use Rattle.wire_types.specs.declared.Call.TheVariants.{Fence}
 use Rattle.wire_lines.specs.Said as said
 use Rattle.wire_content.specs.Scripts.{Process, call_at, calls_in, set_at, name_in, owner_in, AreOwned, AreSets, AreMembers, AreNamed, IsSound}
 use Rattle.wire_script.specs.FirstPass.{Started, Declared, is_among, number_or_count}
-use Rattle.wire_script.specs.Reads.{Seen, seen_in, in_calls, names_in, sets_in, set_members, places_from, is_in, proc_number, has_proc, is_declared_call, is_with_caller, call_fault, first_of}
+use Rattle.wire_script.specs.Reads.{Seen, seen_in, in_calls, names_in, sets_in, set_members, places_from, is_in, proc_number, has_proc, is_declared_call, is_with_caller, call_fault}
 use Rattle.wire_script.specs.Reads.{fault_in, first_fault, numbered, process_of, scripts_with, scripts_of, unless_fault, second_pass}
 use Rattle.wire_script.specs.Within.{IsWithinLimits, IsDeclared}
 use Rattle.wire_script.proofs.Places.{places_canonical, places_within, places_hold}
-use Rattle.wire_script.proofs.Seen.{Each, each_seen, each_at, each_flat, seen_apart, apart_once, seen_among, among_flat, text_at_number}
+use Rattle.wire_script.proofs.Seen.{Each, each_seen, each_at, each_flat, seen_apart, apart_once, seen_among, among_flat, text_at_number, alone}
 use Rattle.wire_script.specs.Tabled.{nothing_seen, all_seen}
 use Rattle.wire_script.proofs.Tables.{all_seen_is}
 use Rattle.wire_script.proofs.Within.{counted_processes}
 use Rattle.wire_script.proofs.Changed.{first_run}
 use Rattle.wire_script.proofs.Ranked.{run_good}
 use Rattle.wire_script.proofs.Numbered.{ranked}
+use Rattle.wire_script.proofs.Again.{both_none, no_fault}
 
 -- a set of processes that pass some test
 abbrev IsOfTest : Declared → List ℕ → Type 0
@@ -67,26 +65,15 @@ sound_sets d = record {
   once = λ m n set a b. apart_once (seen_in d).sets m n set (seen_apart (in_calls (sets_in d) d.processes)) a b;
 }
 
--- where the first of two faults is none, both are
-first_none : (a b : Option Fault) → first_of a b ≡ None → (a ≡ None) × (b ≡ None)
-first_none None b e = (refl, e)
-first_none (Some f) b e = absurd (cc)
-
 none_of_process : (d : Declared) (ps : List Started) (i : ℕ) (p : Started) → first_fault d ps ≡ None → slice_get ps i ≡ Some p → fault_in d p p.calls ≡ None
 none_of_process d [] i p h at = absurd (cc)
-none_of_process d (q ∷ qs) zero p h at = let same : q ≡ p = cc in subst (λ x. fault_in d x x.calls ≡ None) same (first_none _ _ h).0
-none_of_process d (q ∷ qs) (suc i) p h at = none_of_process d qs i p (first_none _ _ h).1 at
+none_of_process d (q ∷ qs) zero p h at = let same : q ≡ p = cc in subst (λ x. fault_in d x x.calls ≡ None) same (both_none _ _ h).0
+none_of_process d (q ∷ qs) (suc i) p h at = none_of_process d qs i p (both_none _ _ h).1 at
 
 none_of_call : (d : Declared) (p : Started) (cs : List (ℕ × said.Call)) (i : ℕ) (c : ℕ × said.Call) → fault_in d p cs ≡ None → slice_get cs i ≡ Some c → call_fault d p c.0 c.1 ≡ None
 none_of_call d p [] i c h at = absurd (cc)
-none_of_call d p (b ∷ bs) zero c h at = let same : b ≡ c = cc in subst (λ x. call_fault d p x.0 x.1 ≡ None) same (first_none _ _ h).0
-none_of_call d p (b ∷ bs) (suc i) c h at = none_of_call d p bs i c (first_none _ _ h).1 at
-
--- a call without a fault names what is declared, and has its caller in its set
-no_fault : (a b : Bool) (line : ℕ) → (if not a then Some (UnknownName line) else if not b then Some (NotMember line) else None) ≡ None → (a ≡ true) × (b ≡ true)
-no_fault true true line e = (refl, refl)
-no_fault true false line e = absurd (cc)
-no_fault false b line e = absurd (cc)
+none_of_call d p (b ∷ bs) zero c h at = let same : b ≡ c = cc in subst (λ x. call_fault d p x.0 x.1 ≡ None) same (both_none _ _ h).0
+none_of_call d p (b ∷ bs) (suc i) c h at = none_of_call d p bs i c (both_none _ _ h).1 at
 
 -- what a fence with numbers was said as
 fence_said : (d : Declared) (s : Seen) (job : ℕ) (c : said.Call) (set : ℕ) (collect : Bool) → numbered d s job c ≡ Fence set collect → (said_set : said.Set) × (said_collect : Bool)
@@ -101,9 +88,6 @@ fence_said d s own (said.Lookup name) n b e = absurd (cc)
 fence_said d s own (said.LookupWait name) n b e = absurd (cc)
 fence_said d s own (said.Unpublish name) n b e = absurd (cc)
 fence_said d s own said.UnpublishAll n b e = absurd (cc)
-
-alone : (x : List ℕ) → is_among (x ∷ []) x ≡ true
-alone x = let same : bytes_eq x x ≡ true = (bytes_eq-Decides x x).1 refl in rw same refl
 
 -- the set of a fence of a caller that is in it: it is in the table, and the caller is a member
 member : (d : Declared) (i j : ℕ) (p : Started) (line : ℕ) (set : said.Set) (collect : Bool) → slice_get d.processes i ≡ Some p → slice_get p.calls j ≡ Some (line, said.Fence set collect)

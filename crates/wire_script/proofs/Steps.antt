@@ -1,6 +1,6 @@
 -- One call, and one process, after another.
-use Rattle.std.proofs.Common.{◌≡◌, ◌∙◌, ap, sym, refl, ℕ, zero, suc, ◌+◌, ◌*◌, ◌<◌, ◌≤◌, List, [], ◌∷◌, ◌++◌, Option, None, length, map, take, drop, get_or, arith}
-use Rattle.std.proofs.lemmas.List.{length-map}
+use Rattle.std.proofs.Common.{◌≡◌, ◌∙◌, ap, sym, ℕ, zero, suc, ◌+◌, ◌*◌, ◌<◌, ◌≤◌, List, [], ◌∷◌, ◌++◌, Option, None, length, map, take, drop, get_or, arith}
+use Rattle.std.proofs.lemmas.List.{length-map, map_more, take_all}
 use Rattle.std.proofs.lemmas.Grind.{common_steps}
 use Rattle.wire_types.specs.declared.Fault.{Fault}
 use Rattle.wire_lines.specs.Shown.{call_by}
@@ -24,34 +24,18 @@ grown : {A B C : Type 0} (f : B → C) (g : A → B) (out : List C) (xs : List A
     → out ≡ map f (map g (take i xs)) → y ≡ f (g (get_or xs i d)) → out ++ y ∷ [] ≡ map f (map g (take (i + 1) xs))
 grown f g out xs i y d lt e last = grind (arith, common_steps)
 
-taken : {A B : Type 0} (f : A → B) (xs : List A) (i : ℕ) (d : A) → i < length xs → map f (take (i + 1) xs) ≡ map f (take i xs) ++ f (get_or xs i d) ∷ []
-taken f xs i d lt = grind (arith, common_steps)
-
 -- what was taken ends with the next element
 pub take_at : {A B : Type 0} (f : A → B) (xs : List A) (i : ℕ) (x : A) → i < length xs → x ≡ get_or xs i x → map f (take (i + 1) xs) ≡ map f (take i xs) ++ f x ∷ []
-take_at f xs i x lt is = taken f xs i x lt ∙ ap (λ z. map f (take i xs) ++ f z ∷ []) (sym is)
-
-pub take_on : {A : Type 0} (xs : List A) (i : ℕ) (d : A) → i < length xs → take (i + 1) xs ≡ take i xs ++ get_or xs i d ∷ []
-take_on [] i d lt = absurd (omega arith)
-take_on (x ∷ xs) zero d lt = refl
-take_on (x ∷ xs) (suc i) d lt =
-    let one : suc i + 1 ≡ suc (i + 1) = omega arith in
-    rw one (ap (λ l. x ∷ l) (take_on xs i d (omega arith)))
+take_at f xs i x lt is = map_more f xs i x lt ∙ ap (λ z. map f (take i xs) ++ f z ∷ []) (sym is)
 
 -- one element more is made
 pub made_on : {A B C : Type 0} (f : B → C) (g : A → B) (out new : List C) (xs : List A) (i : ℕ) (x : A) (y : C) → i < length xs → x ≡ get_or xs i x
     → new ≡ out ++ y ∷ [] → out ≡ map f (map g (take i xs)) → y ≡ f (g x) → new ≡ map f (map g (take (i + 1) xs))
 made_on f g out new xs i x y lt is pushed so_far made = pushed ∙ grown f g out xs i y x lt so_far (made ∙ ap (λ z. f (g z)) is)
 
-take_past : {A : Type 0} (xs : List A) (i : ℕ) → length xs ≤ i → take i xs ≡ xs
-take_past [] zero h = refl
-take_past [] (suc i) h = refl
-take_past (x ∷ xs) zero h = absurd (omega arith)
-take_past (x ∷ xs) (suc i) h = ap (λ l. x ∷ l) (take_past xs i (omega arith))
-
 -- all are made
 pub made_all : {A B C : Type 0} (f : B → C) (g : A → B) (out : List C) (xs : List A) (i : ℕ) → length xs ≤ i → out ≡ map f (map g (take i xs)) → out ≡ map f (map g xs)
-made_all f g out xs i past so_far = so_far ∙ ap (λ l. map f (map g l)) (take_past xs i past)
+made_all f g out xs i past so_far = so_far ∙ ap (λ l. map f (map g l)) (take_all i xs past)
 
 pub calls_on : (d : Declared) (all s t : Seen) (job : ℕ) (cs : List Placed) (i : ℕ) (x : Placed) → i < length cs → x ≡ get_or cs i x
     → all ≡ seen_after d s job (map placed_of (drop i cs)) → t ≡ seen_with d s job (call_by x.call) → all ≡ seen_after d t job (map placed_of (drop (i + 1) cs))

@@ -4,6 +4,8 @@ use Rattle.std.specs.Prelude.{◌||◌, ◌&&◌, ◌==◌}
 use Rattle.std.specs.List.{list_any, list_all}
 use borrow.Author.Tests.{eqb-true, eq-eqb}
 use Rattle.std.proofs.lemmas.List.Folds.{list_any-append}
+use Rattle.std.proofs.Math.Bool.{or-false}
+use Rattle.std.proofs.lemmas.List.{take_more}
 use Rattle.wire_lines.specs.Said as said
 use Rattle.wire_script.specs.FirstPass.{Started, Declared}
 use Rattle.wire_script.specs.Reads.{names_it, is_in, has_proc, is_declared_item, is_declared_set, set_members}
@@ -13,7 +15,6 @@ use Rattle.wire_script.specs.declared.members.Target.TheVariants.{One, Every}
 use Rattle.wire_script.specs.contracts.members.TargetPartialEq.TheImpl as targets
 use Rattle.wire_script.proofs.Places.{places_same}
 use Rattle.wire_script.proofs.Seen.{number_below}
-use Rattle.wire_script.proofs.Steps.{take_on}
 
 item_named : (d : Declared) (i : said.Item) (p : Started) → is_target (target_by d i) p ≡ names_it d i p
 item_named d (said.One job rank) p = refl
@@ -34,10 +35,6 @@ items_named : (d : Declared) (items : List said.Item) (p : Started) → is_any_t
 items_named d [] p = refl
 items_named d (i ∷ items) p = ap (λ b. b || is_any_target (map (target_by d) items) p) (item_named d i p) ∙ ap (λ b. names_it d i p || b) (items_named d items p)
 
-or_false : (b : Bool) → (b || false) ≡ b
-or_false true = refl
-or_false false = refl
-
 -- what the items of a set name
 module _ (d : Declared) (set : said.Set) (items : List said.Item) (ts : List Target) (is : set ≡ said.Listed items) (named : ts ≡ map (target_by d) items) where
   pub set_declared : list_all (is_declared_target d) ts ≡ is_declared_set d set
@@ -51,7 +48,7 @@ module _ (d : Declared) (set : said.Set) (items : List said.Item) (ts : List Tar
 
 -- the members of the caller's job
 pub own_members : (d : Declared) (job : ℕ) (set : said.Set) → set ≡ said.Own → named_in d (Every job ∷ []) ≡ set_members d job set
-own_members d job set is = places_same (is_any_target (Every job ∷ [])) (λ p. p.job == job) (λ p. or_false (p.job == job)) 0 d.processes ∙ ap (set_members d job) (sym is)
+own_members d job set is = places_same (is_any_target (Every job ∷ [])) (λ p. p.job == job) (λ p. or-false (p.job == job)) 0 d.processes ∙ ap (set_members d job) (sym is)
 
 -- what names the same processes has the same members
 pub same_members : (d : Declared) (ts us : List Target) → ((p : Started) → is_any_target ts p ≡ is_any_target us p) → named_in d ts ≡ named_in d us
@@ -81,7 +78,7 @@ there_names (u ∷ us) t p h = first (same_target t u) refl h (there_names us t 
   where
     again : (a b : Bool) → (a || b) ≡ ((a || b) || a)
     again true b = refl
-    again false b = sym (or_false b)
+    again false b = sym (or-false b)
 
     inner : (a b c : Bool) → b ≡ (b || c) → (a || b) ≡ ((a || b) || c)
     inner true b c e = refl
@@ -100,16 +97,16 @@ kept_on kept new ts t p is same =
     ap (λ l. is_any_target l p) is
     ∙ elim (list_any (same_target t) kept) as (λ b. list_any (same_target t) kept ≡ b → is_any_target (if b then kept else kept ++ t ∷ []) p ≡ (is_any_target kept p || is_target t p)) [
       | true ↦ λ e. there_names kept t p e
-      | false ↦ λ e. list_any-append (λ u. is_target u p) kept (t ∷ []) ∙ ap (λ b. is_any_target kept p || b) (or_false (is_target t p))
+      | false ↦ λ e. list_any-append (λ u. is_target u p) kept (t ∷ []) ∙ ap (λ b. is_any_target kept p || b) (or-false (is_target t p))
     ] refl
     ∙ ap (λ b. b || is_target t p) same
-    ∙ sym (list_any-append (λ u. is_target u p) ts (t ∷ []) ∙ ap (λ b. is_any_target ts p || b) (or_false (is_target t p)))
+    ∙ sym (list_any-append (λ u. is_target u p) ts (t ∷ []) ∙ ap (λ b. is_any_target ts p || b) (or-false (is_target t p)))
 
 pub kept_next : (kept new ts : List Target) (i : ℕ) (d : Target) (p : Started) → i < length ts → new ≡ (if list_any (same_target (get_or ts i d)) kept then kept else kept ++ get_or ts i d ∷ []) →
     is_any_target kept p ≡ is_any_target (take i ts) p
     → is_any_target new p ≡ is_any_target (take (i + 1) ts) p
 kept_next kept new ts i d p lt is same =
-    kept_on kept new (take i ts) (get_or ts i d) p is same ∙ ap (λ l. is_any_target l p) (sym (take_on ts i d lt))
+    kept_on kept new (take i ts) (get_or ts i d) p is same ∙ ap (λ l. is_any_target l p) (sym (take_more ts i d lt))
 
 -- a process is named by itself or with its job
 pub kept_named : (ts : List Target) (p : Started) → (list_any (same_target (One p.job p.rank)) ts || list_any (same_target (Every p.job)) ts) ≡ is_any_target ts p
@@ -123,7 +120,7 @@ kept_named (t ∷ ts) p = first t ∙ ap (λ b. is_target t p || b) (kept_named 
     shuffle false false c d = refl
 
     one : (u : Target) → (same_target (One p.job p.rank) u || same_target (Every p.job) u) ≡ is_target u p
-    one (One j r) = or_false ((p.job == j) && (p.rank == r))
+    one (One j r) = or-false ((p.job == j) && (p.rank == r))
     one (Every j) = refl
 
     first : (u : Target) → ((same_target (One p.job p.rank) u || list_any (same_target (One p.job p.rank)) ts) || (same_target (Every p.job) u || list_any (same_target (Every p.job)) ts))

@@ -20,7 +20,7 @@ use Rattle.wire_script.specs.declared.limits.Size.{Size}
 use Rattle.wire_script.specs.declared.limits.Size.TheVariants.{OfVersion, Large}
 use Rattle.wire_script.specs.Limits.{limits_of, largest}
 use Rattle.wire_script.specs.Within.{started_calls, IsWithin, IsWithinLimits}
-use Rattle.wire_script.proofs.Changed.{first_run, run_header}
+use Rattle.wire_script.proofs.Changed.{first_run, run_header, ranks_with}
 
 one_process : (ps : List Started) (p : Started) → started_calls (ps ++ p ∷ []) ≡ started_calls ps + length p.calls
 one_process [] p = omega arith
@@ -30,11 +30,6 @@ one_call : (ps : List Started) (c : ℕ × Call) → 0 < length ps → started_c
 one_call [] c h = absurd (omega arith)
 one_call (p ∷ []) c h = omega (arith, length-append p.calls (c ∷ []))
 one_call (p ∷ q ∷ ps) c h = let more = one_call (q ∷ ps) c (omega arith) in omega arith
-
-same_length : (ps : List Started) (c : ℕ × Call) → length (with_call ps c) ≡ length ps
-same_length [] c = refl
-same_length (p ∷ []) c = refl
-same_length (p ∷ q ∷ ps) c = let more = same_length (q ∷ ps) c in omega arith
 
 -- a line that is taken is in its place, and has room
 taken : (a b c f g : Bool) (d e : Declared) (n : ℕ)
@@ -70,7 +65,7 @@ kept d n (Rank node) p r w =
 kept d n (Calls call) p r w =
     let room = ltb-true _ _ r in
     let placed = ltb-true 0 d.ranks (and_left (nat_lt 0 d.ranks) (has_call d.version call) p) in
-    let same = same_length d.processes (n, call) in
+    let same = ranks_with d.processes (n, call) in
     let ranks = w.few_ranks in
     let processes = w.few_processes in
     record {

@@ -1,20 +1,14 @@
 -- The races among the first findings, as one more finding is met.
 use Rattle.std.proofs.Common.{◌≡◌, ◌∙◌, ap, sym, refl, ℕ, zero, suc, ◌+◌, ◌<◌, ◌≤◌, Bool, true, false, List, [], ◌∷◌, ◌++◌, take, filter, length, length-append, Some, arith}
 use Rattle.std.specs.Prelude.{slice_get}
-use Rattle.std.proofs.lemmas.List.{append-nil, take-append-le}
+use Rattle.std.proofs.lemmas.List.{append-nil}
 use Rattle.std.proofs.lemmas.List.Elements.{filter-append}
-use Rattle.std.proofs.lemmas.Option.{same_Some, slice_get_within}
-
--- one more of a list
-pub next : {X : Type 0} (xs : List X) (i : ℕ) (x : X) → slice_get xs i ≡ Some x → take (suc i) xs ≡ take i xs ++ x ∷ []
-next [] i x is = let within = slice_get_within [] i x is in absurd (omega (arith, within))
-next (y ∷ ys) zero x is = ap (λ z. z ∷ []) (same_Some y x is)
-next (y ∷ ys) (suc i) x is = ap (λ t. y ∷ t) (next ys i x is)
+use Rattle.wire_runs.proofs.Lists.{take_get}
 
 one_more : {X : Type 0} (p : X → Bool) (xs : List X) (i : ℕ) (x : X) → slice_get xs i ≡ Some x → filter p (take (i + 1) xs) ≡ filter p (take i xs) ++ filter p (x ∷ [])
 one_more p xs i x is =
     let later : i + 1 ≡ suc i = omega arith in
-    ap (λ k. filter p (take k xs)) later ∙ ap (filter p) (next xs i x is) ∙ filter-append p (take i xs) (x ∷ [])
+    ap (λ k. filter p (take k xs)) later ∙ ap (filter p) (take_get xs i x is) ∙ filter-append p (take i xs) (x ∷ [])
 
 chosen : {X : Type 0} (p : X → Bool) (x : X) (b : Bool) → p x ≡ b → b ≡ true → filter p (x ∷ []) ≡ x ∷ []
 chosen p x b is holds = let at : p x ≡ true = is ∙ holds in rw at refl

@@ -4,6 +4,7 @@ use Rattle.std.specs.Prelude.{slice_get}
 use Rattle.std.specs.declared.alloc.AllocError.{AllocError}
 use Rattle.std.proofs.lemmas.List.{map-append}
 use Rattle.wire_types.specs.declared.CallAt.{CallAt}
+use Rattle.wire_runs.proofs.Lists.{take_get}
 use Rattle.wire_content.specs.Scripts.{Scripts}
 use Rattle.wire_races.specs.declared.finding.Finding.{Finding}
 use Rattle.wire_witness.specs.Witness.{IsWitness}
@@ -11,7 +12,6 @@ use Rattle.wire_witness.specs.declared.witness.Witness.{Witness}
 use Rattle.wire_races.specs.Reported.{race_calls}
 use Rattle.wire_showing.specs.Tried.{IsShownBy, IsTried, AreTried}
 use Rattle.wire_showing.specs.declared.tried.TriedRace.{TriedRace}
-use Rattle.wire_showing.proofs.Fronts.{next}
 
 with_one : (scripts : Scripts) (tried : List TriedRace) (one : TriedRace) → AreTried scripts tried → IsTried scripts one → AreTried scripts (tried ++ one ∷ [])
 with_one scripts [] one are is = (is, tt)
@@ -25,7 +25,7 @@ pub races_on : (tried later : List TriedRace) (one : TriedRace) (races : List Fi
     slice_get races i ≡ Some race → map (λ t. t.race) later ≡ take (i + 1) races
 races_on tried later one races i race so_far at same there =
     let more : suc i ≡ i + 1 = omega arith in
-    ap (map (λ t. t.race)) at ∙ map-append (λ t. t.race) tried (one ∷ []) ∙ (λ k. so_far k ++ same k ∷ []) ∙ sym (next races i race there) ∙ ap (λ n. take n races) more
+    ap (map (λ t. t.race)) at ∙ map-append (λ t. t.race) tried (one ∷ []) ∙ (λ k. so_far k ++ same k ∷ []) ∙ sym (take_get races i race there) ∙ ap (λ n. take n races) more
 
 -- a witness of the calls of a race shows it
 pub shown_race : (scripts : Scripts) (race : Finding) (calls : CallAt × CallAt) (witness : Witness) → Some calls ≡ race_calls race → IsWitness scripts calls.0 calls.1 witness →

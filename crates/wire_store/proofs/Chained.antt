@@ -1,19 +1,16 @@
 -- What a walk back over the slots of a key finds.
-use Rattle.std.proofs.Common.{◌≡◌, ◌∙◌, ℕ, zero, suc, ◌<◌, ◌≤◌, Bool, true, false, List, [], ◌∷◌, map, take, length, reverse, find, ◌&&◌, ◌==◌, is_some, Option, Some, None, option_map, slice_get}
+use Rattle.std.proofs.Common.{◌≡◌, ◌∙◌, ℕ, zero, suc, ◌<◌, ◌≤◌, true, false, List, [], ◌∷◌, map, take, length, reverse, find, ◌&&◌, ◌==◌, is_some, Option, Some, None, option_map, slice_get}
 use Rattle.std.proofs.Common.{inl, inr, refl, sym, ap, arith}
 use Rattle.std.proofs.lemmas.Bool.{cases_Bool, cases_eq, le-ltb, true≢false, eq-eqb}
 use Rattle.std.proofs.lemmas.Option.{none-some, same_Some, slice_get-map, slice_get_within}
 use Rattle.std.proofs.lemmas.List.{reverse-append, length-map, take_all}
+use Rattle.std.proofs.Math.Bool.{and-false}
+use Rattle.wire_runs.proofs.Lists.{take_get}
 use Rattle.wire_store.specs.declared.chain.Slot.{Slot}
 use Rattle.wire_store.specs.Kept.{KeptPut, is_stored_before, last_stored_before}
 use Rattle.wire_store.specs.Slots.{put_in, put_at, last_slot_with, last_slot, IsStoredTo, IsNamed, IsChained}
-use Rattle.wire_store.proofs.Elements.{take_get}
 use Rattle.wire_store.proofs.Linked.{last_slot_below, last_slot_there}
 use Rattle.wire_store.proofs.Found.{find_front}
-
-and_false : (b : Bool) → (b && false) ≡ false
-and_false true = refl
-and_false false = refl
 
 -- what is found among the first slots
 abbrev pub found_before : List Slot → ℕ → ℕ → ℕ → Option KeptPut
@@ -71,7 +68,7 @@ chained_back slots key event i slot is later named =
     find_front (λ put. put.key == key && is_stored_before event put.stored_by) slots named.among (suc i)
     (λ j other high low there.
     ap (λ o. other.key == key && is_stored_before event o) (named.together j other there high (omega (arith, low)))
-    ∙ ap (λ b. other.key == key && b) later ∙ and_false (other.key == key))
+    ∙ ap (λ b. other.key == key && b) later ∙ and-false (other.key == key))
     (omega (arith, below)) (omega (arith, within))
 
 -- where a walk stands that began at the last of the first n slots
@@ -146,7 +143,7 @@ pub found_stored : (slots : List Slot) (key event committed : ℕ) → IsStoredT
 found_stored slots key event committed stored within =
     sym (
     find_front (λ put. put.key == key && is_stored_before event put.stored_by) slots committed (length slots)
-    (λ i slot high low is. ap (λ b. slot.key == key && b) (not_stored event slot.stored_by (stored i slot is ∙ le-ltb i committed high)) ∙ and_false (slot.key == key))
+    (λ i slot high low is. ap (λ b. slot.key == key && b) (not_stored event slot.stored_by (stored i slot is ∙ le-ltb i committed high)) ∙ and-false (slot.key == key))
     within (omega arith)
     )
     ∙ ap (last_stored_before key event) (take_all (length slots) (map put_in slots) (let len = length-map slots put_in in omega (arith, len)))

@@ -4,21 +4,15 @@ use Rattle.std.proofs.Common.{slice_get, get_or, inl, inr, refl, sym, ap, arith}
 use Rattle.std.proofs.lemmas.Bool.{cases_Bool, cases_eq, le-ltb, lt-ltb}
 use Rattle.std.proofs.lemmas.Option.{slice_get-map, slice_get-get_or}
 use Rattle.std.proofs.lemmas.List.{reverse-append, length-map, take_all}
+use Rattle.std.proofs.Math.Bool.{and-true, and-false}
 use Rattle.wire_runs.specs.Plan.{admits}
+use Rattle.wire_runs.proofs.Lists.{take_get}
 use Rattle.wire_store.specs.declared.chain.Slot.{Slot}
 use Rattle.wire_store.specs.declared.seen.Seen.TheVariants.{Value, Outside}
 use Rattle.wire_store.specs.Kept.{KeptPut, last_put, last_stored, seen}
 use Rattle.wire_store.specs.Slots.{put_in, put_at, last_slot_with, last_slot, IsStoredTo, IsSlotIndex}
-use Rattle.wire_store.proofs.Elements.{take_get, missing_within}
+use Rattle.wire_store.proofs.Elements.{missing_within}
 use Rattle.wire_store.proofs.Linked.{last_slot_below}
-
-and_true : (b : Bool) → (b && true) ≡ b
-and_true true = refl
-and_true false = refl
-
-and_false : (b : Bool) → (b && false) ≡ false
-and_false true = refl
-and_false false = refl
 
 find_back : (test : KeptPut → Bool) (slots : List Slot) (key n : ℕ) → ((i : ℕ) (slot : Slot) → i < n → slice_get slots i ≡ Some slot → test (put_in slot) ≡ (slot.key == key)) → n ≤ length slots →
     find test (reverse (take n (map put_in slots))) ≡ put_at slots (last_slot slots key n)
@@ -69,10 +63,10 @@ last_stored_in slots key committed stored within =
     let test : KeptPut → Bool = λ p. p.key == key && is_some p.stored_by in
     ap (λ xs. find test (reverse xs)) (sym (take_all (length slots) (map put_in slots) (let len = length-map slots put_in in omega (arith, len))))
     ∙ find_front test slots committed (length slots)
-    (λ i slot high low is. ap (λ b. slot.key == key && b) (stored i slot is ∙ le-ltb i committed high) ∙ and_false (slot.key == key))
+    (λ i slot high low is. ap (λ b. slot.key == key && b) (stored i slot is ∙ le-ltb i committed high) ∙ and-false (slot.key == key))
     within (omega arith)
     ∙ find_back test slots key committed
-    (λ i slot low is. ap (λ b. slot.key == key && b) (stored i slot is ∙ lt-ltb i committed low) ∙ and_true (slot.key == key))
+    (λ i slot low is. ap (λ b. slot.key == key && b) (stored i slot is ∙ lt-ltb i committed low) ∙ and-true (slot.key == key))
     within
 
 -- what is looked up

@@ -3,9 +3,9 @@ use Rattle.std.proofs.Common.{◌≡◌, ◌∙◌, ℕ, suc, ◌<◌, ◌≤◌
 use Rattle.std.proofs.Common.{length-append}
 use Rattle.std.proofs.lemmas.Bool.{le-ltb, true≢false}
 use Rattle.std.proofs.lemmas.Option.{slice_get_within}
+use Rattle.wire_runs.proofs.Lists.{slice_get-append_left, slice_get_push_last, slice_get_push_cases}
 use Rattle.wire_store.specs.declared.chain.Slot.{Slot}
 use Rattle.wire_store.specs.Slots.{last_slot_with, last_slot, IsNamed, IsSlotIndex}
-use Rattle.wire_store.proofs.Elements.{slice_get-append_left, slice_get-append_seam, slice_get_push}
 use Rattle.wire_store.proofs.Linked.{last_slot_same}
 
 -- an old slot of the chain
@@ -17,7 +17,7 @@ chained_old slots slot i x named within same =
       among = named.among;
       below = named.below;
       names = named.names ∙ sym (same x.key named.among (omega (arith, below, within)));
-      together = λ j other is high low. elim (slice_get_push slots slot j other is) [
+      together = λ j other is high low. elim (slice_get_push_cases slots slot j other is) [
         | inl old ↦ named.together j other old high low
         | inr here ↦ let last = here.0 in absurd (omega (arith, last, low, within))
       ];
@@ -37,7 +37,7 @@ chained_new slots slot committed i x index none previous last same same_last =
       among = committed;
       below = omega (arith, within, last);
       names = ap (λ s. s.stored_before) (sym same) ∙ previous ∙ sym same_last ∙ ap (λ k. last_slot (slots ++ slot ∷ []) k committed) (ap (λ s. s.key) same);
-      together = λ j other is high low. elim (slice_get_push slots slot j other is) [
+      together = λ j other is high low. elim (slice_get_push_cases slots slot j other is) [
         | inl old ↦ not_stored other.stored_by (index.stored j other old ∙ le-ltb j committed high) ∙ sym none ∙ ap (λ s. s.stored_by) same
         | inr here ↦ ap (λ s. s.stored_by) (sym here.1) ∙ ap (λ s. s.stored_by) same
       ];
@@ -53,7 +53,7 @@ indexed_push slots committed before after slot index none previous puts =
     let one_more : length (slots ++ slot ∷ []) ≡ suc (length slots) = omega (arith, length-append slots (slot ∷ [])) in
     record {
       within = let was = index.within in omega (arith, was, one_more);
-      stored = λ i x is. elim (slice_get_push slots slot i x is) [
+      stored = λ i x is. elim (slice_get_push_cases slots slot i x is) [
         | inl old ↦ index.stored i x old
         | inr here ↦
             let within = index.within in
@@ -63,16 +63,16 @@ indexed_push slots committed before after slot index none previous puts =
       newest = λ key.
           puts key
           ∙ ap (cond (nat_eq slot.key key) (Some (length slots))) (index.newest key ∙ sym (low_same key (length slots) (omega arith)))
-          ∙ sym (ap (last_slot_with key (length slots) (last_slot (slots ++ slot ∷ []) key (length slots))) (slice_get-append_seam slots slot))
+          ∙ sym (ap (last_slot_with key (length slots) (last_slot (slots ++ slot ∷ []) key (length slots))) (slice_get_push_last slots slot))
           ∙ ap (last_slot (slots ++ slot ∷ []) key) (sym one_more);
-      linked = λ i x is high. elim (slice_get_push slots slot i x is) [
+      linked = λ i x is high. elim (slice_get_push_cases slots slot i x is) [
         | inl old ↦ index.linked i x old high ∙ sym (low_same x.key committed index.within)
         | inr here ↦
             ap (λ s. s.stored_before) (sym here.1) ∙ previous
             ∙ sym (low_same slot.key committed index.within)
             ∙ ap (λ k. last_slot (slots ++ slot ∷ []) k committed) (ap (λ s. s.key) here.1)
       ];
-      chained = λ i x is. elim (slice_get_push slots slot i x is) [
+      chained = λ i x is. elim (slice_get_push_cases slots slot i x is) [
         | inl old ↦ chained_old slots slot i x (index.chained i x old) (slice_get_within slots i x old) (λ key n le. low_same key n le)
         | inr here ↦ chained_new slots slot committed i x index none previous here.0 here.1 (low_same slot.key committed index.within)
       ];

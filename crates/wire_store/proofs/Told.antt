@@ -3,11 +3,13 @@ use Rattle.std.proofs.Common.{◌≡◌, ◌∙◌, ℕ, zero, suc, ◌≤◌, B
 use Rattle.std.proofs.Common.{ap, subst, arith}
 use Rattle.std.specs.Prelude.{⊤}
 use Rattle.std.proofs.lemmas.Bool.{cases_Bool, cases_eq, ltb-true, lt-ltb, le-ltb}
-use Rattle.std.proofs.lemmas.List.{reverse-append, map-append}
+use Rattle.std.proofs.lemmas.List.{reverse-append}
+use Rattle.std.proofs.Math.Bool.{and-true}
 use Rattle.wire_runs.specs.Plan.{Kind, Put, Commit, admits}
 use Rattle.wire_runs.specs.Puts.{own_with, own_put, stored_with, stored_put, scope_in}
 use Rattle.wire_types.specs.declared.Scope.{Scope}
 use Rattle.wire_types.specs.declared.CallAt.{CallAt}
+use Rattle.wire_runs.proofs.Lists.{reverse-map}
 use Rattle.wire_store.specs.declared.seen.Seen.{Seen}
 use Rattle.wire_store.specs.declared.seen.Seen.TheVariants.{Value, Outside, Nothing}
 use Rattle.wire_store.specs.Kept.{Kept, KeptPut, first_commit, store_by, last_put, last_stored, is_stored_before, last_stored_before, seen, kept_with, kept_after}
@@ -32,14 +34,6 @@ find_map_same test before f same (x ∷ xs) = elim (cases_Bool (before x)) [
   | inr n ↦ rw (same x, n) (find_map_same test before f same xs)
 ]
 
-reverse-map : {A : Type 0} (f : A → A) (xs : List A) → reverse (map f xs) ≡ map f (reverse xs)
-reverse-map f [] = refl
-reverse-map f (x ∷ xs) =
-    reverse-append (f x ∷ []) (map f xs)
-    ∙ ap (λ ys. ys ++ f x ∷ []) (reverse-map f xs)
-    ∙ sym (map-append f (reverse xs) (x ∷ []))
-    ∙ ap (map f) (sym (reverse-append (x ∷ []) xs))
-
 -- a commit stores the last put of each key
 pub last_put-store : (key at : ℕ) (puts : List KeptPut) → last_put key (map (store_by at) puts) ≡ option_map (store_by at) (last_put key puts)
 last_put-store key at puts =
@@ -50,15 +44,11 @@ stored_then : (o : Option ℕ) (at : ℕ) → is_some (first_commit o at) ≡ tr
 stored_then None at = refl
 stored_then (Some earlier) at = refl
 
-and_true : (b : Bool) → (b && true) ≡ b
-and_true true = refl
-and_true false = refl
-
 pub last_stored-store : (key at : ℕ) (puts : List KeptPut) → last_stored key (map (store_by at) puts) ≡ option_map (store_by at) (last_put key puts)
 last_stored-store key at puts =
     ap (find (λ p. p.key == key && is_some p.stored_by)) (reverse-map (store_by at) puts)
     ∙ find_map_same (λ p. p.key == key && is_some p.stored_by) (λ p. p.key == key) (store_by at)
-    (λ p. ap (λ b. p.key == key && b) (stored_then p.stored_by at) ∙ and_true (p.key == key)) (reverse puts)
+    (λ p. ap (λ b. p.key == key && b) (stored_then p.stored_by at) ∙ and-true (p.key == key)) (reverse puts)
 
 -- what an event adds to what was stored before an earlier one
 pub last_before-push : (key event : ℕ) (puts : List KeptPut) (put : KeptPut) → put.stored_by ≡ None → last_stored_before key event (puts ++ put ∷ []) ≡ last_stored_before key event puts

@@ -3,11 +3,12 @@ use Rattle.std.proofs.Common.{◌≡◌, ◌∙◌, ap, sym, refl, ℕ, List, []
 use Rattle.std.specs.Prelude.{◌==◌, not, ◌&&◌, ◌||◌}
 use Rattle.std.specs.List.{list_all}
 use Rattle.std.specs.Str.Lines.{strip_carriage_return}
+use Rattle.wire_runs.proofs.Lists.{list_all_weaker}
 use Rattle.wire_lines.specs.Text.{lines_of, words_of}
 use Rattle.wire_lines.specs.Said.{is_word_byte, is_name_byte, is_word, is_name, spelled_proc}
 use Rattle.wire_lines.proofs.Colon.{and_left, and_right}
 use Rattle.wire_script.specs.Statements.{is_skipped}
-use Rattle.wire_script.proofs.Recut.{no_feed, no_return, all_weaker, feed_byte, return_byte, pieces_line, kept_end, words_line}
+use Rattle.wire_script.proofs.Recut.{no_feed, no_return, feed_byte, return_byte, pieces_line, kept_end, words_line}
 
 module _ (w : List ℕ) (is : IsTrue (is_word w)) where
   bytes : list_all is_word_byte w ≡ true
@@ -16,8 +17,8 @@ module _ (w : List ℕ) (is : IsTrue (is_word w)) where
   -- a word and a line feed are the first line
   pub line_again : (rest : List ℕ) → lines_of (w ++ 10 ∷ rest) ≡ w ∷ lines_of rest
   line_again rest =
-      ap (map strip_carriage_return) (pieces_line w rest (all_weaker is_word_byte no_feed feed_byte w bytes))
-      ∙ ap (λ x. x ∷ lines_of rest) (kept_end w (all_weaker is_word_byte no_return return_byte w bytes))
+      ap (map strip_carriage_return) (pieces_line w rest (list_all_weaker is_word_byte no_feed w feed_byte bytes))
+      ∙ ap (λ x. x ∷ lines_of rest) (kept_end w (list_all_weaker is_word_byte no_return w return_byte bytes))
 
   -- and the only word of it
   pub words_again : words_of w ≡ w ∷ []

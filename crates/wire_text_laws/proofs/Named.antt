@@ -7,6 +7,7 @@ use Rattle.std.specs.Str.{bytes_eq}
 use Rattle.std.proofs.lemmas.Fmt.{decimal_injective, length-decimal-le}
 use Rattle.std.proofs.lemmas.Option.{slice_get-map, slice_get_within}
 use Rattle.std.proofs.lemmas.Slice.Eq.{bytes_eq-Decides}
+use Rattle.wire_runs.proofs.Lists.{slice_get-map_back}
 use borrow.Author.Tests.{lt-ltb, leb-true}
 use Rattle.wire_lines.specs.Said.{is_word, is_name, is_name_byte, spelled_proc}
 use Rattle.wire_lines.proofs.Colon.{plain, and_right, names_plain, cut_once}
@@ -39,12 +40,6 @@ position_is t xs p x at h only =
     let place = place_is t xs p x at h only in
     let low = slice_get_within xs p x at in
     rw (place, lt-ltb p (length xs) low) refl
-
-module _ {A B : Type 0} (g : A → B) where
-  get_back : (xs : List A) (k : ℕ) (y : B) → slice_get (map g xs) k ≡ Some y → (x : A) × (slice_get xs k ≡ Some x) × (g x ≡ y)
-  get_back [] k y at = absurd (cc)
-  get_back (x ∷ xs) zero y at = (x, refl, cc)
-  get_back (x ∷ xs) (suc k) y at = get_back xs k y at
 
 pub get_some : {X : Type 0} (xs : List X) (k : ℕ) → k < length xs → (x : X) × (slice_get xs k ≡ Some x)
 get_some [] k h = absurd (omega (arith, h))
@@ -103,7 +98,7 @@ module _ (d : Declared) (g : IsGood d) where
       (slice_get-map (process_of d (seen_in d)) d.processes k ∙ ap (option_map (process_of d (seen_in d))) at)
       ((bytes_eq-Decides (text p) (text p)).1 refl)
       (λ m y there same.
-      let q = get_back (process_of d (seen_in d)) d.processes m y there in
+      let q = slice_get-map_back (process_of d (seen_in d)) d.processes m y there in
       let is : text q.0 ≡ text p = ap (process_text (scripts_of d)) q.2 ∙ sym ((bytes_eq-Decides (text p) (process_text (scripts_of d) y)).0 same) in
       text_once m k q.0 p q.1 at is)
 

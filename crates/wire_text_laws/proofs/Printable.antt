@@ -7,7 +7,7 @@ use Rattle.std.proofs.lemmas.List.{map-append}
 use borrow.Author.Tests.{leb-true, lt-ltb}
 use Rattle.wire_lines.specs.Said.{Call, Put, Commit, Fence, Get, GetNow, Publish, Lookup, LookupWait, Unpublish, UnpublishAll}
 use Rattle.wire_lines.specs.Said.{Said, Header, Keep, Node, Job, Rank, Calls, IsLawful, IsLawfulCall, is_word_byte}
-use Rattle.wire_lines.specs.Said.{is_name_byte, is_word, is_name, is_key}
+use Rattle.wire_lines.specs.Said.{is_word, is_name, is_key}
 use Rattle.wire_lines.proofs.Colon.{and_left, and_right}
 use Rattle.wire_content.specs.Scripts.{Scripts, text_at}
 use Rattle.wire_lines.specs.declared.Version.{Version}
@@ -19,10 +19,8 @@ use Rattle.wire_script.proofs.Changed.{Runs, CallsAre, AllCalls}
 use Rattle.wire_script.proofs.Ranked.{AreNames, IsGood}
 use Rattle.wire_script.proofs.Recut.{name_word}
 use Rattle.wire_json.specs.Json.{printed}
+use Rattle.wire_json.proofs.Escapes.{kept_byte}
 use Rattle.wire_text_laws.specs.Kept.{IsKept}
-
-kept_byte : (b : ℕ) → 31 < b → b < 127 → printed b ≡ b
-kept_byte b low high = rw (lt-ltb 31 b low, lt-ltb b 127 high) refl
 
 word_byte : (b : ℕ) → is_word_byte b ≡ true → printed b ≡ b
 word_byte b h =

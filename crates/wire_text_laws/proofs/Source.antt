@@ -1,5 +1,5 @@
 -- What a file that was read declares.
-use Rattle.std.proofs.Common.{◌≡◌, ℕ, List, Option, Some, None, Result, Ok, Err, MatchResult, length, inl, inr}
+use Rattle.std.proofs.Common.{◌≡◌, ℕ, List, Result, Ok, Err, MatchResult, length, inl, inr}
 use Rattle.wire_types.specs.declared.Fault.{Fault}
 use Rattle.wire_lines.specs.Text.{lines_of}
 use Rattle.wire_lines.specs.Said.{Said}
@@ -9,11 +9,12 @@ use Rattle.wire_script.specs.declared.Size.{Size}
 use Rattle.wire_script.specs.Limits.{limits_of}
 use Rattle.wire_script.specs.Statements.{statements}
 use Rattle.wire_script.specs.FirstPass.{Declared, nothing, FirstPass}
-use Rattle.wire_script.specs.Reads.{Reads, first_fault, scripts_of, unless_fault, second_pass}
+use Rattle.wire_script.specs.Reads.{Reads, first_fault, scripts_of, second_pass}
 use Rattle.wire_script.specs.Within.{IsWithin}
 use Rattle.wire_script.proofs.Changed.{Runs, first_run}
 use Rattle.wire_script.proofs.Within.{first_of_version}
 use Rattle.wire_script.proofs.Ranked.{IsGood, run_good}
+use Rattle.wire_script.proofs.Once.{second_ok}
 
 pub record IsDeclaredBy (size : Size) (s : Scripts) : Type 0 where
   pub version : Version
@@ -23,10 +24,6 @@ pub record IsDeclaredBy (size : Size) (s : Scripts) : Type 0 where
   pub good : IsGood d
   pub within : IsWithin (limits_of size d.version) d
   pub is : s ≡ scripts_of d
-
-second_ok : (d : Declared) (s : Scripts) (u : Option Fault) → Ok s ≡ unless_fault d u → s ≡ scripts_of d
-second_ok d s None h = cc
-second_ok d s (Some f) h = absurd (cc)
 
 declared_short : (size : Size) (bytes : List ℕ) (s : Scripts) (q : Result Declared Fault) → FirstPass size (statements bytes) (length (lines_of bytes)) q
     → MatchResult q (λ d. Ok s ≡ second_pass d) (λ f. Ok s ≡ Err f) → IsDeclaredBy size s
@@ -40,7 +37,7 @@ declared_short size bytes s (Ok d) first m =
       runs = t.2;
       good = run_good size t.0 t.1 d t.2;
       within = first_of_version size (statements bytes) (length (lines_of bytes)) d first;
-      is = second_ok d s (first_fault d d.processes) m;
+      is = (second_ok d s (first_fault d d.processes) m).1;
     }
 
 pub declared_by : (size : Size) (bytes : List ℕ) (s : Scripts) → Reads size bytes (Ok s) → IsDeclaredBy size s

@@ -1,5 +1,5 @@
 -- From what went out of the parts of a rehearsal to what went out of it.
-use Rattle.std.proofs.Common.{◌≡◌, ◌≢◌, ◌↔◌, ◌⊎◌, inl, inr, subst, refl, ℕ, List, [], Option, Result, Ok, Err, IfOk, IfErr, OnOk}
+use Rattle.std.proofs.Common.{◌≡◌, ◌≢◌, ◌↔◌, ◌⊎◌, inl, inr, subst, refl, ℕ, List, [], Option, Result, Ok, Err, IfOk, IfErr}
 use Rattle.wire_types.specs.declared.Fault.{Fault}
 use Rattle.wire_types.specs.declared.Fault.TheVariants.{Memory, Read, Write}
 use Rattle.wire_types.specs.Front.{WritesFront}
@@ -67,11 +67,6 @@ breaks_off workers mode coming old new s A B (Ok v) may read stops = tt
 breaks_off workers mode coming old new s A B (Err e) may read (inl (memory, none)) = inl (inr (may, inl memory), none)
 breaks_off workers mode coming old new s A B (Err e) may read (inr (front, failed)) =
     inr (record { scripts = s; read = read; ended = front.ended; text = front.text; rehearsal = front.rehearsal; wrote = front.wrote }, failed)
-
--- neither the reader nor the writer failed
-pub both_quiet : (P Q : Type 0) (r : Result Rehearsed Fault) → P → OnOk r Q → OnOk r (P × Q)
-both_quiet P Q (Ok v) p q = (p, q)
-both_quiet P Q (Err e) p q = tt
 
 -- the writing is no failed read
 pub no_failed_read : (mode : Mode) (s : Scripts) (old new : Option (List ℕ)) (A B : Type 0) (r : Result Rehearsed Fault) → IfErr r (Stops mode s old new A B) → r ≡ Err Read → ⊥

@@ -1,15 +1,14 @@
 -- Two runs that are laid beside each other.
 use Rattle.std.proofs.Common.{◌≡◌, ◌∙◌, ◌⊎◌, ap, sym, subst, ℕ, length}
-use Rattle.std.proofs.lemmas.List.{length-map}
-use Rattle.std.proofs.lemmas.Option.{slice_get-map}
-use Rattle.std.specs.Prelude.{slice_get, option_map}
-use Rattle.wire_content.specs.Scripts.{Scripts, Process, calls_in}
-use Rattle.wire_content.specs.Planned.{plan_of, planned_call, planned_process}
+use Rattle.std.specs.Prelude.{slice_get}
+use Rattle.wire_content.specs.Scripts.{Scripts, calls_in}
+use Rattle.wire_content.specs.Planned.{plan_of}
 use Rattle.wire_words.specs.Words.{end_text}
-use Rattle.wire_runs.specs.Ends.{calls_of, process_calls}
-use Rattle.std.proofs.Common.{Option, Some, None, refl}
+use Rattle.wire_runs.specs.Ends.{calls_of}
+use Rattle.std.proofs.Common.{Some}
 use Rattle.wire_types.specs.declared.CallAt.{CallAt}
 use Rattle.wire_content.specs.Scripts.{numbers_of}
+use Rattle.wire_content.proofs.PlannedCalls.{as_many_planned}
 use Rattle.wire_witness.specs.declared.witness.Witness.{Witness}
 use Rattle.wire_witness.specs.declared.runs.Run.{Run}
 use Rattle.wire_witness.specs.declared.search.Difference.{Difference}
@@ -17,12 +16,8 @@ use Rattle.wire_witness.specs.Witness.{IsRunWithFirst, IsWitness, end_after}
 use Rattle.wire_witness.specs.Runs.{IsRunOf, AreApart}
 
 -- how many calls a process makes
-made_in : (s : Scripts) (o : Option Process) → length (calls_in o) ≡ length (process_calls (option_map (planned_process s) o))
-made_in s None = refl
-made_in s (Some p) = sym (length-map p.calls (planned_call s))
-
 pub made : (s : Scripts) (p : ℕ) → length (calls_in (slice_get s.processes p)) ≡ length (calls_of (plan_of s) p)
-made s p = made_in s (slice_get s.processes p) ∙ ap (λ o. length (process_calls o)) (sym (slice_get-map (planned_process s) s.processes p))
+made = as_many_planned
 
 -- two runs, in which a call ends differently, are a witness
 pub laid : (scripts : Scripts) (x y : CallAt) (first second : Run) (apart : Difference) (w : Witness) → IsRunOf scripts x y first → IsRunOf scripts y x second →

@@ -2,7 +2,7 @@
 use Rattle.std.proofs.Common.{◌≡◌, ◌∙◌, ap, sym, ℕ, ◌+◌, ◌<◌, List, [], ◌++◌, take, length, Option, append-nil, length-append, arith, subst}
 use Rattle.std.proofs.Math.Seq.{take-append-add}
 use Rattle.std.specs.Io.KnownBytes.{Appends}
-use Rattle.wire_types.proofs.Known.{Appends-twice}
+use Rattle.std.proofs.KnownBytes.{Appends-trans}
 use Rattle.wire_words.specs.declared.chunks.Chunk.{Chunk}
 use Rattle.wire_words.specs.Chunks.{StaysOnItsWay, IsCutOff}
 
@@ -12,7 +12,7 @@ pub went_out : (old new : Option (List ℕ)) (before after : Chunk) (shown : Lis
     → StaysOnItsWay old new before after
 went_out old new before after shown is out empty count start text way = record {
   front = way.front ++ before.waiting.items;
-  went = Appends-twice start old new way.front before.waiting.items way.went (subst (λ t. Appends old new t) is out);
+  went = Appends-trans start old new way.front before.waiting.items way.went (subst (λ t. Appends old new t) is out);
   counted = count ∙ ap (λ n. n + length before.waiting.items) way.counted ∙ sym (length-append way.front before.waiting.items);
   whole = way.whole ∙ sym (append-nil (way.front ++ before.waiting.items)) ∙ ap (λ t. (way.front ++ before.waiting.items) ++ t) (sym empty);
 }
@@ -25,4 +25,4 @@ cut_off old new before shown n is short out start text way =
     let cut : take (before.gone + n) text ≡ way.front ++ take n before.waiting.items =
     (λ i. take (way.counted i + n) (way.whole i)) ∙ take-append-add way.front before.waiting.items n in
     let less : before.gone + n < length text = omega (arith, way.counted, ap length is, ap length way.whole, length-append way.front before.waiting.items) in
-    (less, subst (λ t. Appends start new t) (sym cut) (Appends-twice start old new way.front (take n before.waiting.items) way.went appended))
+    (less, subst (λ t. Appends start new t) (sym cut) (Appends-trans start old new way.front (take n before.waiting.items) way.went appended))

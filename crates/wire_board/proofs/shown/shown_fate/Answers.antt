@@ -1,5 +1,6 @@
-use Rattle.std.proofs.Common.{◌≡◌, ◌∙◌, sym, refl, subst, Option, Some, None}
+use Rattle.std.proofs.Common.{◌∙◌, sym, refl, subst}
 use Rattle.std.proofs.lemmas.Bool.{true≢false}
+use Rattle.std.proofs.lemmas.Option.{none-some}
 use Rattle.wire_runs.specs.Plan.{event_of}
 use Rattle.wire_runs.specs.Fate.{Waits, HasFate}
 use Rattle.wire_content.specs.Planned.{plan_of}
@@ -7,9 +8,6 @@ use Rattle.wire_races.specs.Fates.{IsFateOf}
 use Rattle.wire_board.specs.Positions.{hold}
 use Rattle.wire_board.proofs.Showing.{shown_from, shown_sources}
 use Rattle.wire_board.proofs.shown.shown_fate.Goals as goal
-
-something : {A : Type 0} (x : A) → ◌≡◌ {A = Option A} (Some x) None → ⊥
-something x e = cc
 
 pub returns-then-not-shows_sources-clause-ready : goal.returns-then-not-shows_sources-clause-ready
 returns-then-not-shows_sources-clause-ready c =
@@ -28,7 +26,7 @@ returns-in_default c =
     record {
       ready = (
         λ _. shown_from c.args.settled.now plan h event of c.in_ok-event.ensures.0 c.in_ok-event.ensures.1 (c.shows_sources.ensures.0 c.if-not-shows_sources.false) comes,
-        λ _. something c.fate.result,
+        λ _ e. none-some c.fate.result (sym e),
       );
       fate = (subst (λ y. IsFateOf (plan_of c.args.settled.now) y c.fate.result) c.in_ok-event.ensures.0 c.fate.ensures.fate, c.in_default.not-Waits);
     }

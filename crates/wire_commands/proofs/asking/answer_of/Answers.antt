@@ -1,6 +1,6 @@
 use Rattle.std.proofs.Common.{inl, map}
+use Rattle.std.proofs.lemmas.Result.{IfErr-weaker}
 use Rattle.wire_commands.proofs.Replayed.{handed_on, not_ok}
-use Rattle.wire_commands.proofs.Followed.{err_too}
 use Rattle.wire_commands.proofs.Texts.{there_too}
 use Rattle.wire_commands.proofs.Questioned.{answered, asked_too, refused_too}
 use Rattle.wire_commands.proofs.asking.answer_of.Goals as goal
@@ -27,4 +27,4 @@ returns-clause-ok c =
     c.text_between.ensures.ok
 
 pub returns-clause-err : goal.returns-clause-err
-returns-clause-err c = err_too c.text_between.result _ _ (λ e memory. inl memory) c.text_between.ensures.err
+returns-clause-err c = IfErr-weaker c.text_between.result _ _ (λ e memory. inl memory) c.text_between.ensures.err

@@ -1,12 +1,13 @@
+use Rattle.std.proofs.lemmas.Result.{on_ok_weaker}
 use Rattle.wire_commands.proofs.Followed.{err_always}
-use Rattle.wire_commands.proofs.Checked.{writes_findings, both_quiet, breaks_off, no_failed_read, clean_one_end}
+use Rattle.wire_commands.proofs.Checked.{writes_findings, breaks_off, no_failed_read, clean_one_end}
 use Rattle.wire_commands.proofs.checking.check_in_form.Goals as goal
 
 pub returns-clause-ok : goal.returns-clause-ok
 returns-clause-ok g c = writes_findings c.args.form.json _ _ _ c.in_ok-scripts.scripts c.check_scripts.result c.in_ok-scripts.ensures.ok c.check_scripts.ensures.ok
 
 pub returns-clause-quiet : goal.returns-clause-quiet
-returns-clause-quiet g c = both_quiet _ _ c.check_scripts.result c.in_ok-scripts.ensures.quiet c.check_scripts.ensures.quiet
+returns-clause-quiet g c = on_ok_weaker c.check_scripts.result (λ quiet. (c.in_ok-scripts.ensures.quiet, quiet)) c.check_scripts.ensures.quiet
 
 pub returns-clause-one_end : goal.returns-clause-one_end
 returns-clause-one_end g c = clean_one_end c.args.form.json _ (g.W.Sink.written c.args.writer.now) (g.W.Sink.written c.check_scripts.new.writer) c.in_ok-scripts.scripts c.check_scripts.result

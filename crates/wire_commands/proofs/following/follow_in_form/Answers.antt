@@ -1,7 +1,8 @@
 use Rattle.std.proofs.Common.{inl, inr, ap, refl, Err}
+use Rattle.std.proofs.lemmas.Result.{on_ok_weaker}
 use Rattle.wire_types.specs.declared.Fault.TheVariants.{Read}
 use Rattle.wire_commands.proofs.Replayed.{handed_on, not_on_ok, same_error, no_read_writing}
-use Rattle.wire_commands.proofs.Followed.{of_file, of_order, of_steps, no_read_of_steps, on_ok_too, followed_ok, followed_err, err_always}
+use Rattle.wire_commands.proofs.Followed.{of_file, of_order, of_steps, no_read_of_steps, followed_ok, followed_err, err_always}
 use Rattle.wire_commands.proofs.following.follow_in_form.Goals as goal
 
 pub returns-in_err-scripts-clause-ok : goal.returns-in_err-scripts-clause-ok
@@ -60,7 +61,7 @@ returns-clause-ok g c =
     c.in_ok-scripts.ensures.ok c.in-Ok.ensures.ok c.in_ok-text.ensures.ok c.as_slice-2.ensures.value c.write_text.ensures.ok
 
 pub returns-clause-quiet : goal.returns-clause-quiet
-returns-clause-quiet g c = on_ok_too c.write_text.result _ _ (λ quiet. (c.in_ok-scripts.ensures.quiet, c.in-Ok.ensures.quiet, quiet)) c.write_text.ensures.quiet
+returns-clause-quiet g c = on_ok_weaker c.write_text.result (λ quiet. (c.in_ok-scripts.ensures.quiet, c.in-Ok.ensures.quiet, quiet)) c.write_text.ensures.quiet
 
 pub returns-clause-err : goal.returns-clause-err
 returns-clause-err g c =

@@ -1,8 +1,8 @@
 use Rattle.std.proofs.Common.{inl}
+use Rattle.std.proofs.lemmas.Result.{IfErr-weaker}
 use Rattle.wire_types.specs.Outcome.{ends_of}
 use Rattle.wire_content.specs.Scripts.{numbers_of}
 use Rattle.wire_commands.proofs.Replayed.{handed_on, not_ok}
-use Rattle.wire_commands.proofs.Followed.{err_too}
 use Rattle.wire_commands.proofs.Texts.{followed_told}
 use Rattle.wire_commands.proofs.following.report_of.Goals as goal
 
@@ -19,4 +19,4 @@ returns-clause-ok c =
     c.report_text.ensures.ok
 
 pub returns-clause-err : goal.returns-clause-err
-returns-clause-err c = err_too c.report_text.result _ _ (λ e memory. inl memory) c.report_text.ensures.err
+returns-clause-err c = IfErr-weaker c.report_text.result _ _ (λ e memory. inl memory) c.report_text.ensures.err

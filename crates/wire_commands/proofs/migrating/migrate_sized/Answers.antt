@@ -1,6 +1,7 @@
 use Rattle.std.proofs.Common.{inl, refl, ap, Err}
+use Rattle.std.proofs.lemmas.Result.{on_ok_weaker}
 use Rattle.wire_commands.proofs.Replayed.{handed_on, not_on_ok, same_error, no_read_writing, memory_no_read}
-use Rattle.wire_commands.proofs.Followed.{on_ok_too, err_always}
+use Rattle.wire_commands.proofs.Followed.{err_always}
 use Rattle.wire_commands.proofs.Written.{writes_migrated, migrated_err}
 use Rattle.wire_commands.proofs.migrating.migrate_sized.Goals as goal
 
@@ -51,7 +52,7 @@ returns-clause-ok g c =
     c.as_slice.ensures.value c.write_text.ensures.ok
 
 pub returns-clause-quiet : goal.returns-clause-quiet
-returns-clause-quiet g c = on_ok_too c.write_text.result _ _ (λ quiet. (c.in_ok-scripts.ensures.quiet, quiet)) c.write_text.ensures.quiet
+returns-clause-quiet g c = on_ok_weaker c.write_text.result (λ quiet. (c.in_ok-scripts.ensures.quiet, quiet)) c.write_text.ensures.quiet
 
 pub returns-clause-err : goal.returns-clause-err
 returns-clause-err g c =

@@ -1,6 +1,8 @@
 use Rattle.std.proofs.Common.{◌∙◌, ap, refl, Err}
-use Rattle.wire_commands.proofs.Replayed.{handed_on, not_on_ok, on_error, only_refused, same_error, before_writing, memory_no_read, memory_no_write, writes_report, breaks_off, no_read_writing}
-use Rattle.wire_commands.proofs.Replayed.{not_refused, untouched, at_error, both_quiet}
+use Rattle.std.proofs.lemmas.Result.{on_ok_weaker}
+use Rattle.wire_types.proofs.Results.{on_err_anyway}
+use Rattle.wire_commands.proofs.Replayed.{handed_on, not_on_ok, only_refused, same_error, before_writing, memory_no_read, memory_no_write, writes_report, breaks_off, no_read_writing}
+use Rattle.wire_commands.proofs.Replayed.{not_refused, untouched, at_error}
 use Rattle.wire_commands.proofs.Followed.{err_always}
 use Rattle.wire_commands.proofs.plain_run.plain.Goals as goal
 
@@ -25,7 +27,7 @@ returns-in_err-scripts-clause-refused g c =
     handed_on c.from_residual.result c.in_err-scripts.field-0.0 _ c.from_residual.ensures.1 (only_refused _ _ c.in_err-scripts.ensures.err)
 
 pub returns-in_err-scripts-clause-untouched : goal.returns-in_err-scripts-clause-untouched
-returns-in_err-scripts-clause-untouched g c = on_error c.from_residual.result _ (λ none. refl)
+returns-in_err-scripts-clause-untouched g c = on_err_anyway c.from_residual.result _ (λ none. refl)
 
 pub returns-in_err-text-clause-ok : goal.returns-in_err-text-clause-ok
 returns-in_err-text-clause-ok g c =
@@ -40,7 +42,7 @@ returns-in_err-text-clause-unfailed g c =
     handed_on c.from_residual-in_err-text.result c.in_err-text.field-0.0 _ c.from_residual-in_err-text.ensures.1 (λ memory read. c.in_ok-scripts.ensures.quiet)
 
 pub returns-in_err-text-clause-untouched : goal.returns-in_err-text-clause-untouched
-returns-in_err-text-clause-untouched g c = on_error c.from_residual-in_err-text.result _ (λ none. refl)
+returns-in_err-text-clause-untouched g c = on_err_anyway c.from_residual-in_err-text.result _ (λ none. refl)
 
 pub returns-clause-unfailed : goal.returns-clause-unfailed
 returns-clause-unfailed g c = err_always c.write_text.result _ (λ e memory read. c.in_ok-scripts.ensures.quiet)
@@ -74,7 +76,7 @@ returns-clause-ok g c =
     writes_report _ _ _ _ c.as_slice.result.now c.write_text.result c.in_ok-scripts.ensures.ok (c.as_slice.ensures.value ∙ c.in_ok-text.ensures.ok) c.write_text.ensures.ok
 
 pub returns-clause-quiet : goal.returns-clause-quiet
-returns-clause-quiet g c = both_quiet _ _ c.write_text.result c.in_ok-scripts.ensures.quiet c.write_text.ensures.quiet
+returns-clause-quiet g c = on_ok_weaker c.write_text.result (λ quiet. (c.in_ok-scripts.ensures.quiet, quiet)) c.write_text.ensures.quiet
 
 pub returns-clause-refused : goal.returns-clause-refused
 returns-clause-refused g c =

@@ -1,6 +1,7 @@
 use Rattle.std.proofs.Common.{◌∙◌, sym, refl, ◌&&◌}
+use Rattle.std.proofs.Math.Bool.{and-false, and-true}
 use Rattle.wire_fence.specs.FenceTable.{fence_at, collects_in, reaches_in}
-use Rattle.wire_core.proofs.Bring.{brings_told, and_none, and_all}
+use Rattle.wire_core.proofs.Bring.{brings_told}
 use Rattle.wire_core.proofs.met.brings.Goals as goal
 
 pub returns-then-not-complete : goal.returns-then-not-complete
@@ -18,7 +19,7 @@ returns-then-not-reaches c cut told =
     let collects = collects_in (fence_at c.args.fences.now c.fence_of-fence.result.number) in
     let complete = c.complete.ensures.complete c.args.plan.now cut c.args.fences.now met.fence told met.there in
     let whole = brings_told c.args.plan.now c.args.fences.now cut c.args.event.proc.number c.args.event.at c.fence_of-fence.result.number c.args.node _ _ c.requires.fences c.in-Arrive.ensures met in
-    sym (and_none collects)
+    sym (and-false collects)
     ∙ (λ i. sym c.if-not-complete.false i && (collects && sym c.if-not-reaches.true i))
     ∙ whole c.complete.result collects c.reaches.result complete refl c.reaches.ensures.told
 
@@ -27,6 +28,6 @@ returns-else-not-reaches c cut told =
     let met = c.fence_of-fence.ensures in
     let complete = c.complete.ensures.complete c.args.plan.now cut c.args.fences.now met.fence told met.there in
     let whole = brings_told c.args.plan.now c.args.fences.now cut c.args.event.proc.number c.args.event.at c.fence_of-fence.result.number c.args.node _ _ c.requires.fences c.in-Arrive.ensures met in
-    sym (and_all c.collects.result)
+    sym (and-true c.collects.result)
     ∙ (λ i. sym c.if-not-complete.false i && (c.collects.result && sym c.if-not-reaches.false i))
     ∙ whole c.complete.result c.collects.result c.reaches.result complete c.collects.ensures c.reaches.ensures.told

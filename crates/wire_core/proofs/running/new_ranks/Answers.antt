@@ -1,8 +1,9 @@
-use Rattle.std.proofs.Common.{◌≡◌, ◌∙◌, ◌+◌, ap, sym, subst, arith, length, inl, inr}
+use Rattle.std.proofs.Common.{◌≡◌, ◌∙◌, ◌+◌, ap, subst, arith, length, inl, inr, sym}
 use Rattle.wire_content.specs.Planned.{plan_of}
 use Rattle.wire_runs.specs.State.{start}
+use Rattle.wire_runs.proofs.Lists.{slice_get_push_cases}
 use Rattle.wire_core.specs.Ranks.{IsRankOf}
-use Rattle.wire_core.proofs.Steps.{get_push, new_rank}
+use Rattle.wire_core.proofs.Steps.{new_rank}
 use Rattle.wire_core.proofs.running.new_ranks.Goals as goal
 
 pub loop-number-preserved : goal.loop-number-preserved
@@ -18,8 +19,8 @@ loop-number-preserved c =
     record {
       count = c.push_reserved.ensures.len ∙ ap (λ n. n + 1) count;
       space = c.push_reserved.ensures.capacity ∙ c.loop-number.invariant.space;
-      each = λ p rank is. elim (get_push c.loop-number.ranks.items c.in_ok-rank.rank p rank (rw c.push_reserved.ensures.items at is)) [
+      each = λ p rank is. elim (slice_get_push_cases c.loop-number.ranks.items c.in_ok-rank.rank p rank (rw c.push_reserved.ensures.items at is)) [
         | inl old ↦ c.loop-number.invariant.each p rank old
-        | inr last ↦ subst (λ n. IsRankOf (plan_of c.args.plan.now) start n rank) (sym (last.0 ∙ here)) (subst (λ r. IsRankOf (plan_of c.args.plan.now) start c.loop-number.number r) (sym last.1) new)
+        | inr last ↦ subst (λ n. IsRankOf (plan_of c.args.plan.now) start n rank) (sym (last.0 ∙ here)) (subst (λ r. IsRankOf (plan_of c.args.plan.now) start c.loop-number.number r) last.1 new)
       ];
     }

@@ -1,6 +1,6 @@
 use Rattle.std.proofs.Common.{◌∙◌, ◌<◌, ap, length, arith}
 use Rattle.std.proofs.Math.ListN.{set}
-use Rattle.wire_store.proofs.Elements.{map_step}
+use Rattle.wire_runs.proofs.Lists.{map_step}
 use Rattle.wire_core.specs.Waiting.{after}
 use Rattle.wire_core.proofs.waits.forget.Goals as goal
 

@@ -1,9 +1,10 @@
 use Rattle.std.proofs.Common.{◌+◌, ◌∙◌, sym, subst, arith}
 use Rattle.std.specs.Prelude.{replicate}
 use Rattle.std.proofs.lemmas.List.{replicate_more}
+use Rattle.wire_runs.proofs.Lists.{one_longer}
 use Rattle.wire_core.specs.Course.{plan_in}
 use Rattle.wire_core.specs.Following.{Follows}
-use Rattle.wire_core.proofs.Steps.{step_history, length_push}
+use Rattle.wire_core.proofs.Steps.{step_history}
 use Rattle.wire_core.proofs.Following.{follows_push, legal_still}
 use Rattle.wire_locked.proofs.advance.advance_far.Goals as goal
 
@@ -13,7 +14,7 @@ steps-smaller c =
     let p = c.args.proc.number in
     let legal = legal_still c.args.core.now now (replicate c.steps.invariant.0 p) c.steps.invariant.1 c.history-before.ensures.legal in
     let room = step_history (plan_in now) now.history p legal (sym c.ready.ensures ∙ c.steps-test.true) in
-    let longer = length_push now.history p in
+    let longer = one_longer now.history p in
     rw c.step.ensures (omega (arith, room, longer))
 
 pub steps-preserved : goal.steps-preserved

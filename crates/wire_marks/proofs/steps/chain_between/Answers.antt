@@ -4,7 +4,8 @@ use Rattle.std.proofs.lemmas.Bool.{true≢false}
 use Rattle.wire_runs.specs.Plan.{event_of}
 use Rattle.wire_content.specs.Planned.{plan_of}
 use Rattle.wire_runs.specs.Order.{Live}
-use Rattle.wire_marks.proofs.Growing.{after_live, clock_falls}
+use Rattle.wire_runs.proofs.Histories.{after_live}
+use Rattle.wire_marks.proofs.Growing.{clock_falls}
 use Rattle.wire_marks.specs.Chain.{IsShown}
 use Rattle.wire_marks.proofs.Back.{rest_of, shown_whole}
 use Rattle.wire_marks.proofs.steps.chain_between.Goals as goal

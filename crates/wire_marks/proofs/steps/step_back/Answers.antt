@@ -2,7 +2,8 @@ use Rattle.std.proofs.Common.{[], append_assoc}
 use Rattle.wire_runs.specs.Plan.{event_of}
 use Rattle.wire_content.specs.Planned.{plan_of}
 use Rattle.wire_runs.proofs.Due.{live_may}
-use Rattle.wire_marks.proofs.Growing.{come_within, after_live}
+use Rattle.wire_runs.proofs.Histories.{after_live}
+use Rattle.wire_marks.proofs.Growing.{come_within}
 use Rattle.wire_marks.proofs.Back.{none_lowest, some_leads, some_event, is_step_back}
 use Rattle.wire_marks.proofs.steps.step_back.Goals as goal
 

@@ -1,7 +1,7 @@
 use Rattle.std.proofs.Common.{◌∙◌, ◌<◌, ap, length, arith}
 use Rattle.std.proofs.Math.ListN.{set}
+use Rattle.wire_runs.proofs.Lists.{map_step}
 use Rattle.wire_names.specs.Names.{after_unpublish}
-use Rattle.wire_names.proofs.Changes.{map_step}
 use Rattle.wire_names.proofs.names.unpublish_each.Goals as goal
 
 pub loop-standing-preserved : goal.loop-standing-preserved

@@ -1,10 +1,11 @@
 use Rattle.std.proofs.Common.{inl, refl, ap, Err, map}
-use Rattle.wire_commands.proofs.Replayed.{handed_on, not_ok, not_on_ok, same_error}
-use Rattle.wire_commands.proofs.Followed.{on_ok_too, err_always}
+use Rattle.std.proofs.lemmas.Result.{on_ok_weaker}
+use Rattle.wire_commands.proofs.Replayed.{handed_on, not_ok, not_on_ok, same_error, no_read_writing}
+use Rattle.wire_commands.proofs.Followed.{err_always}
 use Rattle.wire_commands.proofs.Questioned.{file_stops, no_read_of_words}
 use Rattle.wire_commands.specs.Why.{StopsBeforeAnswer}
 use Rattle.wire_placing.specs.Asked.{AnswersPlaced}
-use Rattle.wire_placing.proofs.Written.{wrote_all, wrote_front, no_read_writing, wrong_word}
+use Rattle.wire_placing.proofs.Written.{wrote_all, wrote_front, wrong_word}
 use Rattle.wire_placing.proofs.asking.why_located.Goals as goal
 
 pub returns-in_err-scripts-clause-ok : goal.returns-in_err-scripts-clause-ok
@@ -51,7 +52,7 @@ returns-clause-ok g c =
     c.in_ok-scripts.ensures.ok (rw c.as_slice.ensures.value at c.in_ok-answer.ensures.ok) c.write_answer.ensures.ok
 
 pub returns-clause-quiet : goal.returns-clause-quiet
-returns-clause-quiet g c = on_ok_too c.write_answer.result _ _ (λ quiet. (c.in_ok-scripts.ensures.quiet, quiet)) c.write_answer.ensures.quiet
+returns-clause-quiet g c = on_ok_weaker c.write_answer.result (λ quiet. (c.in_ok-scripts.ensures.quiet, quiet)) c.write_answer.ensures.quiet
 
 pub returns-clause-err : goal.returns-clause-err
 returns-clause-err g c =

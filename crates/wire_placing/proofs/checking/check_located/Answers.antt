@@ -1,9 +1,10 @@
 use Rattle.std.proofs.Common.{inl, refl, ap, Err}
-use Rattle.wire_commands.proofs.Replayed.{handed_on, not_ok, not_on_ok, same_error}
-use Rattle.wire_commands.proofs.Followed.{on_ok_too, err_always}
+use Rattle.std.proofs.lemmas.Result.{on_ok_weaker}
+use Rattle.wire_commands.proofs.Replayed.{handed_on, not_ok, not_on_ok, same_error, no_read_writing, memory_is_no_read}
+use Rattle.wire_commands.proofs.Followed.{err_always}
 use Rattle.wire_commands.specs.Check.{StopsBeforeFindings}
 use Rattle.wire_placing.specs.Grouped.{IsGroupedVerdict}
-use Rattle.wire_placing.proofs.Written.{wrote_all, wrote_front, no_read_writing, memory_no_read}
+use Rattle.wire_placing.proofs.Written.{wrote_all, wrote_front}
 use Rattle.wire_placing.proofs.Grouped.{clean_one_end}
 use Rattle.wire_placing.proofs.checking.check_located.Goals as goal
 
@@ -38,7 +39,7 @@ returns-in_err-answer-clause-err g c =
 
 pub returns-in_err-answer-clause-read_failed : goal.returns-in_err-answer-clause-read_failed
 returns-in_err-answer-clause-read_failed g c is =
-    absurd (memory_no_read _ c.in_err-answer.ensures.err (same_error _ _ _ c.from_residual-in_err-answer.ensures.1 is))
+    absurd (memory_is_no_read _ c.in_err-answer.ensures.err (same_error _ _ _ c.from_residual-in_err-answer.ensures.1 is))
 
 pub returns-in_err-answer-clause-unfailed : goal.returns-in_err-answer-clause-unfailed
 returns-in_err-answer-clause-unfailed g c =
@@ -55,7 +56,7 @@ returns-clause-one_end g c =
     c.in_ok-answer.answer.ended c.write_answer.result c.in_ok-scripts.ensures.ok (rw c.as_slice.ensures.value at c.in_ok-answer.ensures.ok) c.write_answer.ensures.ok
 
 pub returns-clause-quiet : goal.returns-clause-quiet
-returns-clause-quiet g c = on_ok_too c.write_answer.result _ _ (λ quiet. (c.in_ok-scripts.ensures.quiet, quiet)) c.write_answer.ensures.quiet
+returns-clause-quiet g c = on_ok_weaker c.write_answer.result (λ quiet. (c.in_ok-scripts.ensures.quiet, quiet)) c.write_answer.ensures.quiet
 
 pub returns-clause-err : goal.returns-clause-err
 returns-clause-err g c =

@@ -1,5 +1,6 @@
 use Rattle.std.proofs.Common.{map}
-use Rattle.wire_placing.proofs.Came.{placed_ok, placed_err, no_read_of_file}
+use Rattle.wire_commands.proofs.Came.{scripts_err, no_read_of_file}
+use Rattle.wire_placing.proofs.Came.{placed_ok}
 use Rattle.wire_placing.proofs.reading.read_placed.Goals as goal
 
 pub returns-clause-ok : goal.returns-clause-ok
@@ -9,7 +10,7 @@ returns-clause-ok g c =
 
 pub returns-clause-err : goal.returns-clause-err
 returns-clause-err g c =
-    placed_err c.args.size (g.R.Source.coming c.args.reader.now) c.in_ok-bytes.bytes.items c.as_slice.result.now c.read_located.result c.as_slice.ensures.value
+    scripts_err c.args.size (g.R.Source.coming c.args.reader.now) c.in_ok-bytes.bytes.items c.as_slice.result.now c.read_located.result c.as_slice.ensures.value
     (rw c.file_bytes.ensures at c.in_ok-bytes.ensures.front) c.read_located.ensures.err
 
 pub returns-clause-read : goal.returns-clause-read

@@ -1,9 +1,10 @@
 use Rattle.std.proofs.Common.{◌∙◌, ◌∷◌, [], ap, refl, sym, Some, inl, inr}
 use Rattle.std.specs.Prelude.{option_map}
 use Rattle.wire_runs.specs.Plan.{event_of}
+use Rattle.wire_runs.proofs.Fates.{live_within}
 use Rattle.wire_content.specs.Planned.{plan_of}
 use Rattle.wire_plan.specs.Kinds.{kind_of}
-use Rattle.wire_races.proofs.Fates.{says, publish_says, lookup_says, unpublish_says, waiting_is, leave_may, stands, live_within}
+use Rattle.wire_races.proofs.Fates.{says, publish_says, lookup_says, unpublish_says, waiting_is, leave_may, stands}
 use Rattle.wire_races.proofs.fate.live_fate.Goals as goal
 
 pub kind-requires : goal.kind-requires

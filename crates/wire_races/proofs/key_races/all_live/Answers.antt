@@ -3,18 +3,19 @@ use Rattle.std.proofs.lemmas.List.{length-map}
 use Rattle.std.proofs.lemmas.Bool.{true≢false}
 use Rattle.wire_runs.specs.Plan.{event_of}
 use Rattle.wire_runs.specs.Order.{Live}
-use Rattle.wire_races.proofs.Arrivals.{item, one_more, all_places}
+use Rattle.wire_races.proofs.Arrivals.{one_more, all_places}
 use Rattle.wire_races.proofs.key_races.all_live.Goals as goal
+use Rattle.wire_races.proofs.Lists.{place_at}
 
 pub returns-then-not-live : goal.returns-then-not-live
 returns-then-not-live c = λ plan m. (
   (λ t. absurd (true≢false (sym t))),
-  (λ alive. absurd (true≢false (sym ((c.live.ensures plan m).1 (alive c.loop-x.x-index _ (item c.args.events.now c.loop-x.x-index _ c.loop-x-test.true))) ∙ c.if-not-live.true))),
+  (λ alive. absurd (true≢false (sym ((c.live.ensures plan m).1 (alive c.loop-x.x-index _ (place_at c.args.events.now c.loop-x.x-index _ c.loop-x-test.true))) ∙ c.if-not-live.true))),
 )
 
 pub loop-x-preserved : goal.loop-x-preserved
 loop-x-preserved c = λ plan m.
-    one_more (Live plan) (map event_of c.args.events.now) c.loop-x.x-index (c.loop-x.x-index + 1) _ (omega arith) (item c.args.events.now c.loop-x.x-index _ c.loop-x-test.true)
+    one_more (Live plan) (map event_of c.args.events.now) c.loop-x.x-index (c.loop-x.x-index + 1) _ (omega arith) (place_at c.args.events.now c.loop-x.x-index _ c.loop-x-test.true)
     (c.loop-x.invariant plan m) ((c.live.ensures plan m).0 c.if-not-live.false)
 
 pub returns : goal.returns

@@ -3,19 +3,20 @@ use Rattle.std.proofs.lemmas.List.{length-map}
 use Rattle.std.proofs.lemmas.Bool.{true≢false}
 use Rattle.wire_runs.specs.Plan.{event_of}
 use Rattle.wire_runs.specs.Order.{Before}
-use Rattle.wire_races.proofs.Arrivals.{item, one_more, all_places}
+use Rattle.wire_races.proofs.Arrivals.{one_more, all_places}
 use Rattle.wire_races.proofs.key_races.is_before_none.Goals as goal
+use Rattle.wire_races.proofs.Lists.{place_at}
 
 pub returns-then-before : goal.returns-then-before
 returns-then-before c = λ plan m. (
   (λ t. absurd (true≢false (sym t))),
-  (λ none_after. absurd (none_after c.loop-x.x-index _ (item c.args.events.now c.loop-x.x-index _ c.loop-x-test.true) ((c.before-in-loop-x.ensures plan m).0 c.if-before.true))),
+  (λ none_after. absurd (none_after c.loop-x.x-index _ (place_at c.args.events.now c.loop-x.x-index _ c.loop-x-test.true) ((c.before-in-loop-x.ensures plan m).0 c.if-before.true))),
 )
 
 pub loop-x-preserved : goal.loop-x-preserved
 loop-x-preserved c = λ plan m.
     one_more (λ z. ¬ (Before plan (event_of c.args.get_now) z)) (map event_of c.args.events.now) c.loop-x.x-index (c.loop-x.x-index + 1) _ (omega arith)
-    (item c.args.events.now c.loop-x.x-index _ c.loop-x-test.true) (c.loop-x.invariant plan m) (λ b. true≢false (sym ((c.before-in-loop-x.ensures plan m).1 b) ∙ c.if-before.false))
+    (place_at c.args.events.now c.loop-x.x-index _ c.loop-x-test.true) (c.loop-x.invariant plan m) (λ b. true≢false (sym ((c.before-in-loop-x.ensures plan m).1 b) ∙ c.if-before.false))
 
 pub returns : goal.returns
 returns c = λ plan m. (

@@ -1,6 +1,6 @@
 use Rattle.std.proofs.Common.{◌+◌, ◌-◌, ◌/◌, ◌<◌, length, arith, ltb-true}
-use Rattle.wire_races.proofs.Arrivals.{item}
 use Rattle.wire_races.proofs.key_races.is_behind_own.Goals as goal
+use Rattle.wire_races.proofs.Lists.{place_at}
 
 pub returns-then-arrival-event : goal.returns-then-arrival-event
 returns-then-arrival-event c = λ t.
@@ -12,7 +12,7 @@ returns-then-arrival-event c = λ t.
     record {
       k = low + (high - low) / 2;
       own = _;
-      is = item c.args.arrivals.now (low + (high - low) / 2) _ fits;
+      is = place_at c.args.arrivals.now (low + (high - low) / 2) _ fits;
       same = c.if-arrival-event.true;
       earlier = ltb-true _ _ t;
     }

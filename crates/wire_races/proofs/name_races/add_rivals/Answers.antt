@@ -1,8 +1,9 @@
 use Rattle.std.proofs.Common.{◌∙◌, ap, sym, refl, map, subst, option_copied, arith}
 use Rattle.wire_runs.specs.Plan.{event_of}
+use Rattle.wire_runs.proofs.Lists.{nil_from_no_first}
 use Rattle.wire_content.specs.Planned.{plan_of}
 use Rattle.wire_races.specs.NameRaces.{AreOf, AreRivals}
-use Rattle.wire_races.proofs.Lists.{both_parts, none_there}
+use Rattle.wire_races.proofs.Lists.{both_parts}
 use Rattle.wire_races.proofs.NameRaces.{IsLeft, first_rivals, other_rivals, less_left, none_left}
 use Rattle.wire_races.proofs.name_races.add_rivals.Goals as goal
 
@@ -45,7 +46,7 @@ returns c =
     let name = c.args.x.name in
     let x = event_of c.args.x.event in
     let all = map event_of c.args.rivals.now in
-    let empty = none_there c.stretches.rest.now (sym c.first.ensures.value ∙ ap option_copied c.in_default.is) in
+    let empty = nil_from_no_first c.stretches.rest.now (sym c.first.ensures.value ∙ ap option_copied c.in_default.is) in
     none_left plan name x c.args.found.now c.stretches.found all c.stretches.invariant.found
     (subst (λ l. IsLeft plan name x c.args.found.now c.stretches.found all (map event_of l)) empty c.stretches.invariant.left)
 

@@ -1,15 +1,12 @@
-use Rattle.std.proofs.Common.{◌≡◌, ◌∙◌, ap, sym, subst, ◌+◌, ◌∷◌, [], List, Some, slice_get, length, refl, append_assoc, append-nil, arith}
+use Rattle.std.proofs.Common.{◌≡◌, ◌∙◌, ap, sym, subst, ◌+◌, ◌∷◌, [], Some, slice_get, length, refl, append_assoc, append-nil, arith}
 use Rattle.std.specs.Vec.Iter.{into_iter_items}
+use Rattle.std.proofs.lemmas.List.{nil_from_length}
+use Rattle.wire_runs.proofs.Lists.{slice_get-append_right}
 use Rattle.wire_races.specs.Pieces.{IsInSome, AreAllFound}
 use Rattle.wire_races.specs.Adding.{Adds}
 use Rattle.wire_races.proofs.Adding.{appended}
-use Rattle.wire_races.proofs.Calls.{get_right}
 use Rattle.wire_races.proofs.Together.{some_more, none_more}
 use Rattle.wire_races.proofs.pieces.add_pieces.Goals as goal
-
-nothing_left : {X : Type 0} (l : List X) → length l ≡ 0 → l ≡ []
-nothing_left [] h = refl
-nothing_left (x ∷ xs) h = absurd (omega arith)
 
 pub loop-piece-init : goal.loop-piece-init
 loop-piece-init c =
@@ -32,7 +29,7 @@ loop-piece-preserved c =
           omega arith,
       λ plan found all.
           let before = at.invariant.2 plan found all in
-          let here = all (length at.yielded + 0) x (subst (λ l. slice_get l (length at.yielded + 0) ≡ Some x) split (get_right at.yielded (x ∷ into_iter_items c.next.new.self) 0)) in
+          let here = all (length at.yielded + 0) x (subst (λ l. slice_get l (length at.yielded + 0) ≡ Some x) split (slice_get-append_right at.yielded (x ∷ into_iter_items c.next.new.self) 0)) in
           some_more plan at.yielded x c.args.found.now at.found c.append.new.self before (appended plan at.found c.append.new.self x c.in_ok-append.ensures before.found here),
     )
 
@@ -40,7 +37,7 @@ pub returns : goal.returns
 returns c = λ plan found all.
     let at = c.loop-piece in
     let none = c.in-None.ensures.steps in
-    let empty : into_iter_items at.piece-iterator ≡ [] = nothing_left _ (sym at.invariant.1 ∙ none.0) in
+    let empty : into_iter_items at.piece-iterator ≡ [] = nil_from_length _ (sym at.invariant.1 ∙ none.0) in
     let given = c.into_iter-piece-iterator.ensures.into_iter_gives.0 in
     let every = sym (append-nil at.yielded) ∙ rw empty at at.invariant.0 ∙ given in
     subst (λ l. Adds plan c.args.found.now at.found (IsInSome plan l)) every (at.invariant.2 plan found (subst (λ l. AreAllFound plan l) (sym given) all))

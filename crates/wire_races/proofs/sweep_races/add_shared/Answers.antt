@@ -1,9 +1,10 @@
 use Rattle.std.proofs.Common.{◌∙◌, [], ◌++◌, ap, sym, refl, subst, option_copied, append-nil, append_assoc, arith}
+use Rattle.wire_runs.proofs.Lists.{nil_from_no_first}
 use Rattle.wire_content.specs.Planned.{plan_of}
 use Rattle.wire_races.specs.Adding.{Adds}
 use Rattle.wire_races.specs.SweepRaces.{AreShared, AreSharesOf, IsSharedRace}
 use Rattle.wire_races.proofs.Growing.{adds_none}
-use Rattle.wire_races.proofs.SweepRaces.{none_of_none, stretch_more, no_first, some_shared, first_shared}
+use Rattle.wire_races.proofs.SweepRaces.{none_of_none, stretch_more, some_shared, first_shared}
 use Rattle.wire_races.proofs.sweep_races.add_shared.Goals as goal
 
 pub stretches-init : goal.stretches-init
@@ -43,6 +44,6 @@ returns c =
     let plan = plan_of c.args.marked.now in
     let p = c.args.proc.number in
     let done = c.stretches.invariant.0 in
-    let empty = no_first c.stretches.rest.now (sym c.first.ensures.value ∙ ap option_copied c.in_default.is) in
+    let empty = nil_from_no_first c.stretches.rest.now (sym c.first.ensures.value ∙ ap option_copied c.in_default.is) in
     let all = c.stretches.invariant.1 ∙ ap (λ l. done ++ l) empty ∙ append-nil done in
     subst (λ l. Adds plan c.args.found.now c.stretches.found (IsSharedRace plan p l)) (sym all) c.stretches.invariant.2

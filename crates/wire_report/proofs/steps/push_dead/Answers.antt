@@ -1,9 +1,9 @@
 use Rattle.std.proofs.Common.{[], ◌∷◌, sym, refl, subst}
 use Rattle.std.proofs.lemmas.List.{append-nil}
+use Rattle.std.proofs.lemmas.Result.{on_ok_weaker}
 use Rattle.wire_runs.specs.Order.{Live}
 use Rattle.wire_content.specs.Planned.{plan_of}
 use Rattle.wire_report.specs.Chain.{Dead, Alive}
-use Rattle.wire_report.proofs.Chains.{on_ok}
 use Rattle.wire_report.proofs.steps.push_dead.Goals as goal
 
 pub returns-then-live : goal.returns-then-live
@@ -13,7 +13,7 @@ returns-then-live c =
 
 pub returns : goal.returns
 returns c =
-    on_ok c.push_call_at.result
+    on_ok_weaker c.push_call_at.result
     (λ e. (
       c.args.call ∷ [],
       Dead (λ l. cc

@@ -1,4 +1,4 @@
-use Rattle.std.proofs.Common.{inl, map}
+use Rattle.std.proofs.Common.{map}
 use Rattle.wire_commands.proofs.Replayed.{handed_on, not_ok}
 use Rattle.wire_commands.proofs.Questioned.{asked_too, refused_too}
 use Rattle.wire_showing.proofs.pair.plan_answer.Goals as goal

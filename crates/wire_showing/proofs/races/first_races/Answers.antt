@@ -1,4 +1,4 @@
-use Rattle.std.proofs.Common.{◌≡◌, ◌∙◌, ◌<◌, ◌≤◌, ap, sym, length, Vec, Global, arith}
+use Rattle.std.proofs.Common.{◌∙◌, ◌<◌, ◌≤◌, ap, sym, length, Vec, Global, arith}
 use Rattle.wire_races.specs.declared.finding.Finding.{Finding}
 use Rattle.wire_showing.specs.Races.{is_race}
 use Rattle.wire_showing.proofs.Fronts.{takes_race, is_full, is_none}

@@ -1,8 +1,8 @@
 use Rattle.std.proofs.Common.{◌≡◌, ◌∙◌, ap, sym, subst, ◌≤◌, ◌++◌, codes, OnOk, arith}
 use Rattle.wire_runs.specs.Plan.{event_count}
+use Rattle.wire_runs.proofs.Basics.{event_past}
 use Rattle.wire_content.specs.Planned.{plan_of}
 use Rattle.wire_core.specs.Course.{plan_in, state_of}
-use Rattle.wire_core.proofs.Ranks.{event_past}
 use Rattle.wire_stops.specs.Stops.{standing_text}
 use Rattle.wire_stops.proofs.Texts.{on_ok}
 use Rattle.wire_stops.proofs.explanation.push_standing.Goals as goal

@@ -1,6 +1,6 @@
 use Rattle.std.proofs.Common.{◌<◌, length, arith}
+use Rattle.wire_runs.proofs.Lists.{map_step}
 use Rattle.wire_store.specs.Slots.{store_slot}
-use Rattle.wire_store.proofs.Elements.{map_step}
 use Rattle.wire_store.proofs.chain.store_all.Goals as goal
 
 pub loop-slot-preserved : goal.loop-slot-preserved

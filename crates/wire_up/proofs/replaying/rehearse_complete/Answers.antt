@@ -1,6 +1,7 @@
 use Rattle.std.proofs.Common.{arith}
+use Rattle.std.proofs.lemmas.Result.{on_ok_weaker}
 use Rattle.wire_commands.proofs.Followed.{err_always}
-use Rattle.wire_up.proofs.Written.{writes_replay, judges_calls, both_quiet, clean_one_end, breaks_off, no_failed_read}
+use Rattle.wire_up.proofs.Written.{writes_replay, judges_calls, clean_one_end, breaks_off, no_failed_read}
 use Rattle.wire_up.proofs.replaying.rehearse_complete.Goals as goal
 
 pub returns-clause-ok : goal.returns-clause-ok
@@ -10,7 +11,7 @@ pub returns-clause-calls : goal.returns-clause-calls
 returns-clause-calls g c = judges_calls _ c.in_ok-scripts.scripts c.rehearse_scripts.result c.in_ok-scripts.ensures.ok c.rehearse_scripts.ensures.calls
 
 pub returns-clause-quiet : goal.returns-clause-quiet
-returns-clause-quiet g c = both_quiet _ _ c.rehearse_scripts.result c.in_ok-scripts.ensures.quiet c.rehearse_scripts.ensures.quiet
+returns-clause-quiet g c = on_ok_weaker c.rehearse_scripts.result (λ quiet. (c.in_ok-scripts.ensures.quiet, quiet)) c.rehearse_scripts.ensures.quiet
 
 pub returns-clause-one_end : goal.returns-clause-one_end
 returns-clause-one_end g c =

@@ -1,8 +1,8 @@
 use Rattle.std.proofs.Common.{◌≤◌, ap, sym, arith}
 use Rattle.wire_runs.specs.Plan.{event_count}
+use Rattle.wire_runs.proofs.Basics.{event_past}
 use Rattle.wire_content.specs.Planned.{plan_of}
 use Rattle.wire_core.specs.Course.{state_of}
-use Rattle.wire_core.proofs.Ranks.{event_past}
 use Rattle.wire_core.proofs.running.Core.next_kind.Goals as goal
 
 pub returns-else-event-event_count-clause-kind : goal.returns-else-event-event_count-clause-kind

@@ -5,9 +5,11 @@ use Rattle.wire_runs.specs.State.{start}
 use Rattle.wire_runs.specs.PlainRun.{plain_from}
 use Rattle.wire_runs.specs.Plan.{event_total}
 use Rattle.wire_runs.proofs.PlainRun.{lowest_enabled}
+use Rattle.wire_runs.proofs.Runs.{legal_push}
+use Rattle.wire_runs.proofs.Lists.{one_longer}
 use Rattle.wire_core.specs.Course.{state_of}
 use Rattle.wire_core.proofs.Ranks.{nobody}
-use Rattle.wire_core.proofs.Steps.{step_history, legal_push, length_push, ahead_step}
+use Rattle.wire_core.proofs.Steps.{step_history, ahead_step}
 use Rattle.wire_core.proofs.running.Core.run_lowest.Goals as goal
 
 pub steps-init : goal.steps-init
@@ -31,7 +33,7 @@ steps-smaller c =
     let plan = plan_of c.steps.self.scripts in
     let on = lowest_enabled plan (state_of c.steps.self) (process_count plan) c.in-Some.proc.number (sym c.in-Some.ensures.lowest) in
     let room = step_history plan c.steps.self.history c.in-Some.proc.number c.steps.invariant.legal on in
-    let longer = length_push c.steps.self.history c.in-Some.proc.number in
+    let longer = one_longer c.steps.self.history c.in-Some.proc.number in
     rw (c.step.ensures, c.in-Some.ensures.same) (omega (arith, room, longer))
 
 pub steps-preserved : goal.steps-preserved
@@ -42,7 +44,7 @@ steps-preserved c =
     let initial = c.args.self.now in
     let on = lowest_enabled plan (state_of c.steps.self) (process_count plan) p (sym c.in-Some.ensures.lowest) in
     let room = step_history plan h p c.steps.invariant.legal on in
-    let push = length_push h p in
+    let push = one_longer h p in
     let longer = c.steps.invariant.longer in
     let more : event_total plan - (length h - length initial.history) ≡ suc (event_total plan - (length (h ++ p ∷ []) - length initial.history)) = omega (arith, room, push, longer) in
     rw (c.step.ensures, c.in-Some.ensures.same)

@@ -1,5 +1,5 @@
 use Rattle.std.proofs.Common.{◌∙◌, ap, arith}
-use Rattle.wire_core.proofs.Steps.{length_push}
+use Rattle.wire_runs.proofs.Lists.{one_longer}
 use Rattle.wire_core.proofs.Limits.{stepped, goes_on, has_room}
 use Rattle.wire_core.proofs.running.Core.run_within.Goals as goal
 
@@ -7,7 +7,7 @@ pub steps-smaller : goal.steps-smaller
 steps-smaller c =
     let p = c.in-Some.proc.number in
     let room = has_room c.args.limits.now c.args.self.now c.steps.self p c.steps.invariant c.in-Some.ensures.next in
-    let longer = length_push c.steps.self.history p in
+    let longer = one_longer c.steps.self.history p in
     rw (c.step.ensures, c.in-Some.ensures.same) (omega (arith, room, longer))
 
 pub steps-preserved : goal.steps-preserved

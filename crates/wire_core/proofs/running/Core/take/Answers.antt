@@ -12,6 +12,8 @@ use Rattle.wire_runs.proofs.Basics.{event_within, process_within}
 use Rattle.wire_core.specs.Course.{state_of}
 use Rattle.wire_names.specs.Changes.{names_after}
 use Rattle.wire_runs.specs.State.{start}
+use Rattle.wire_runs.proofs.Runs.{run_push}
+use Rattle.wire_runs.proofs.Lists.{one_longer}
 use Rattle.wire_core.specs.Met.{ArrivesAt, after_arrival}
 use Rattle.wire_core.specs.Ranks.{calls_at, IsShared}
 use Rattle.wire_core.proofs.Shared.{shared_step, missing_if, has_name}
@@ -19,7 +21,7 @@ use Rattle.wire_core.specs.Seeing.{replies_in}
 use Rattle.wire_core.specs.Waiting.{after as known_after, coming, AreNoted}
 use Rattle.wire_core.specs.declared.waits.Awaited.TheVariants.{Unknown}
 use Rattle.wire_core.proofs.Waiting.{noted_step}
-use Rattle.wire_core.proofs.Steps.{IsAdvanced, put_anyway, name_anyway, step_room, step_space, step_history, rank_step, course_step, run_push, length_push}
+use Rattle.wire_core.proofs.Steps.{IsAdvanced, put_anyway, name_anyway, step_room, step_space, step_history, rank_step, course_step}
 use Rattle.wire_core.specs.Keeping.{IsKeeping}
 use Rattle.wire_core.proofs.Gains.{keeping_step, gains_room}
 use Rattle.wire_core.proofs.running.Core.take.Goals as goal
@@ -162,7 +164,7 @@ invariant_of-self c =
           (slice_set (map (known_after (coming c.args.proc c.arrived_at-fence.result (after_arrival (option_map (λ f. f.number) c.arrived_at-fence.result) c.self.inside.arrivals)
           (kind_of sets c.in-Some.kind))) c.self.inside.waits) c.args.proc.number Unknown)) (sym (run_push plan start w c.args.proc.number)) waits);
       looked = c.self.invariant.looked;
-      keeping_is = rw pushed (subst (λ n. IsKeeping plan (run plan (w ++ c.args.proc.number ∷ [])) n c.note-2.new.self) (sym (length_push w c.args.proc.number))
+      keeping_is = rw pushed (subst (λ n. IsKeeping plan (run plan (w ++ c.args.proc.number ∷ [])) n c.note-2.new.self) (sym (one_longer w c.args.proc.number))
           (subst (λ st. IsKeeping plan st (suc (length w)) c.note-2.new.self) (sym (run_push plan start w c.args.proc.number)) keeping));
     }
 

@@ -1,8 +1,8 @@
 use Rattle.std.proofs.Common.{◌<◌, ◌∙◌, ◌++◌, ◌∷◌, [], length, ap, arith}
 use Rattle.std.proofs.lemmas.List.{length-map}
+use Rattle.wire_types.proofs.Results.{on_err_anyway}
 use Rattle.wire_marks.specs.Updates.{updates_at}
 use Rattle.wire_marks.proofs.Lists.{items_in, append_here, set_same, append_others}
-use Rattle.wire_marks.proofs.Holding.{err_anyway}
 use Rattle.wire_marks.proofs.updates.UpdateLists.append.Goals as goal
 
 pub returns-clause-here : goal.returns-clause-here
@@ -25,5 +25,5 @@ returns-in_err-push-clause-err c =
     let view = ap length c.self.view_is in
     let there = c.requires in
     let low : c.args.name < length lists = omega (arith, len, view, there) in
-    err_anyway c.from_residual.result _
+    on_err_anyway c.from_residual.result _
     (λ n. set_same lists c.args.name c.index_mut.result.now c.push.new.self low c.index_mut.ensures.value c.in_err-push.ensures.items n ∙ ap (λ xs. updates_at xs n) c.self.view_is)

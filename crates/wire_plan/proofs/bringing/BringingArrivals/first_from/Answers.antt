@@ -1,6 +1,7 @@
-use Rattle.std.proofs.Common.{◌≡◌, ◌∙◌, ap, sym, subst, refl, ◌<◌, ◌≤◌, length, map, get_or, true≢false, arith, eq-eqb, eqb-true}
-use Rattle.std.specs.Prelude.{not, Bool, true, false}
+use Rattle.std.proofs.Common.{◌∙◌, ap, sym, subst, ◌<◌, ◌≤◌, length, map, get_or, true≢false, arith, eq-eqb, eqb-true}
+use Rattle.std.specs.Prelude.{not, true, false}
 use Rattle.std.proofs.lemmas.List.{length-map}
+use Rattle.std.proofs.lemmas.Bool.{not-false}
 use Rattle.wire_runs.specs.Plan.{event_of}
 use Rattle.wire_runs.specs.EventLists.{AreAll}
 use Rattle.wire_content.specs.Planned.{plan_of}
@@ -10,10 +11,6 @@ use Rattle.wire_plan.specs.Meetings.{is_of_fence}
 use Rattle.wire_plan.proofs.Delivering.{reached_where}
 use Rattle.wire_plan.proofs.FirstBringing.{shown, to_node, none_at_first, none_in_front, first_found, none_of_process, none_left}
 use Rattle.wire_plan.proofs.bringing.BringingArrivals.first_from.Goals as goal
-
-not_false : (b : Bool) → not b ≡ false → b ≡ true
-not_false true h = refl
-not_false false h = absurd (true≢false h)
 
 abbrev nothing : CodeEvent
 nothing = record { proc = record { number = 0 }; at = 0 }
@@ -61,7 +58,7 @@ returns-then-reaches-clause-first c =
     c.fence_at.ensures brings.members brings.arrival.collect brings.arrival.is in
     first_found plan c.args.from.proc.number c.args.node c.args.from.at (map event_of list) are c.count_lower-first.result (c.count_lower-first.ensures are.rising)
     c.loop-place.place e c.loop-place.invariant.above c.loop-place.invariant.none is
-    (eqb-true e.proc.number c.args.from.proc.number (not_false _ (sym c.ne.ensures ∙ c.if-ne.false)))
+    (eqb-true e.proc.number c.args.from.proc.number (not-false _ (sym c.ne.ensures ∙ c.if-ne.false)))
     (to_node plan c.args.node (event_of e) brings (sym reached ∙ sym c.reaches.ensures.told ∙ c.if-reaches.true))
 
 pub loop-place-preserved : goal.loop-place-preserved
