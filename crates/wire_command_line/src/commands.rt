@@ -1,7 +1,7 @@
 //! The commands of the command line.
 
-ghost use Rattle.std.specs.Prelude.{◌≡◌, false, IfOk, IsOkAnd};
-ghost use Rattle.clap.specs.Words.{AddsSubcommand, app_of};
+ghost use Rattle.std.specs.Prelude.{◌≡◌, IfOk};
+ghost use Rattle.clap.specs.Words.{App, app_of, with_subcommand};
 ghost use Rattle.wire_command_line.specs.CommandLine as spec;
 ghost use Rattle.wire_command_line.specs.CommandLine.{IsLine};
 ghost use Rattle.wire_command_line.specs.Tables.{line_said, with_commands};
@@ -232,15 +232,16 @@ pub(crate) fn program<'a>(alloc: Global) -> Command<'a>
         .subcommand_required(true)
 }
 
-/// The program with one more command, where that could be made.
+/// The program with one more command.
 fn with_command<'a>(
+    alloc: Global,
     line: Command<'a>,
-    made: Result<Command<'a>, AllocError>,
+    command: Subcommand<'a>,
 ) -> Result<Command<'a>, AllocError>
-    ensures { IfOk result (λ after. IsOkAnd made.entry (λ command. AddsSubcommand line.entry command after)) }
+    ensures { IfOk result (λ after. (app : App) → IsLine app line.entry → IsLine (with_subcommand app (line_said command.entry).top) after) }
 {
-    match made {
-        Ok(command) => line.subcommand(command),
+    match make_command(alloc, command) {
+        Ok(made) => line.subcommand(made),
         Err(error) => {
             drop(line);
             Err(error)
@@ -268,7 +269,7 @@ pub fn command_line<'a>(alloc: Global) -> Result<Command<'a>, AllocError>
 {
     let mut line = program(alloc);
     for command in &commands() {
-        line = with_command(line, make_command(alloc, *command))?;
+        line = with_command(alloc, line, *command)?;
     }
     Ok(line)
 }
