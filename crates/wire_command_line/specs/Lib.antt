@@ -1,3 +1,4 @@
 pub mod Workers
 pub mod CommandLine
 pub mod Requests
+pub mod Tables
