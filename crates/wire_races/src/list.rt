@@ -29,8 +29,8 @@ fn all_findings(
 {
     let mut found = Found::new(alloc);
     add_rewrites(plan, &mut found)?;
-    add_key_races(rt, alloc, plan, marks, &mut found)?;
     let marked = marks.with(plan);
+    add_key_races(rt, alloc, &marked, &mut found)?;
     add_name_races(rt, alloc, &marked, &mut found)?;
     let names = plan.scripts().names();
     names.are_apart();
