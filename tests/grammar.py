@@ -1,4 +1,4 @@
-"""A second reader of files of scripts, orders and questions, written from docs/plan-format.md alone: judges them, and gives the canonical
+"""A second reader of plans, orders and questions, written from docs/plan-format.md alone: judges them, and gives the canonical
 text of a file.
 
 Usage: python3 tests/grammar.py FILE

@@ -1,4 +1,4 @@
-//! A question about two calls of a file of scripts: whether one is before the other.
+//! A question about two calls of a plan: whether one is before the other.
 
 ghost use Rattle.std.specs.Prelude.{◌≡◌, ◌≢◌, ◌<◌, ◌⊎◌, ℕ, List, false, Ok, Err, length, map, OnOk, IfOk, IfErr};
 ghost use Rattle.wire_types.specs.declared.Fault.TheVariants.{Memory, Read};
@@ -80,7 +80,7 @@ fn answer_text(
     text
 }
 
-/// Answers whether a chain of events leads from one call of a file of scripts to another: reads the file to
+/// Answers whether a chain of events leads from one call of a plan to another: reads the plan to
 /// its end, and writes `before` and the events of the chain, else `after` and those of the chain the other
 /// way round, else `unordered` and which of the two calls isn't live. Where a chain leads from one event to
 /// another, the first has happened in every run in which the second does.

@@ -1,4 +1,4 @@
-//! The findings of a file of scripts.
+//! The findings of a plan.
 
 ghost use Rattle.std.specs.Prelude.{List, length, ◌≡◌, ◌≢◌, ◌⊎◌, ℕ, false, Ok, Err, OnOk, IfOk, IfErr};
 ghost use Rattle.wire_types.specs.declared.Fault.TheVariants.{Memory, Read};
@@ -97,7 +97,7 @@ fn check_scripts<W: Sink>(
     ended
 }
 
-/// Checks a file of scripts: reads it to its end, and writes every finding of its plan: each put of a key
+/// Checks a plan: reads it to its end, and writes every finding: each put of a key
 /// that its process has put before, and each pair of calls that race, on a key or on a name.
 ///
 /// It answers `Clean` exactly where there is nothing to find. Then every interleaving that can't go on
@@ -130,7 +130,7 @@ pub fn check<R: Source, W: Sink>(
     check_sized(rt, alloc, Size::OfVersion, reader, writer)
 }
 
-/// Checks a file of scripts as `check` does, within the limits of this size.
+/// Checks a plan as `check` does, within the limits of this size.
 pub fn check_sized<R: Source, W: Sink>(
     rt: &(impl Threads + Sync),
     alloc: Global,
@@ -156,7 +156,7 @@ pub fn check_sized<R: Source, W: Sink>(
     check_in_form(rt, alloc, Form { size, json: false }, reader, writer)
 }
 
-/// Checks a file of scripts as `check` does, within the limits of this form's size, and writes the findings in this
+/// Checks a plan as `check` does, within the limits of this form's size, and writes the findings in this
 /// form: in lines, or as JSON.
 pub fn check_in_form<R: Source, W: Sink>(
     rt: &(impl Threads + Sync),

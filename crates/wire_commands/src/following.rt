@@ -1,4 +1,4 @@
-//! A run of a file of scripts that takes the steps of an order.
+//! A run of a plan that takes the steps of an order.
 
 ghost use Rattle.std.specs.Prelude.{◌≡◌, ◌≢◌, ◌⊎◌, ℕ, false, Ok, Err, map, OnOk, IfOk, IfErr};
 ghost use Rattle.wire_types.specs.declared.Fault.TheVariants.{Memory, Read, Write};
@@ -80,7 +80,7 @@ fn followed_text(
     text
 }
 
-/// Runs the steps of an order: reads the file of scripts and then the order, each to its end, takes the
+/// Runs the steps of an order: reads the plan and then the order, each to its end, takes the
 /// steps, and writes what became of every call. No finding is judged.
 ///
 /// The faults of the file come first, then those of the order, of which all lines are judged before the

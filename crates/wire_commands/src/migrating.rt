@@ -1,4 +1,4 @@
-//! A file of scripts, put under version 2 of the format.
+//! A plan, put under version 2 of the format.
 
 ghost use Rattle.std.specs.Prelude.{◌≡◌, ◌≢◌, ◌⊎◌, Err, OnOk, IfOk, IfErr};
 ghost use Rattle.wire_types.specs.declared.Fault.TheVariants.{Memory, Read};
@@ -24,7 +24,7 @@ fn migrated_text(alloc: Global, scripts: Scripts) -> Result<Vec<u8>, Fault>
     text
 }
 
-/// Puts a file of scripts under version 2 of the format: reads it to its end, and writes the canonical text
+/// Puts a plan under version 2 of the format: reads it to its end, and writes the canonical text
 /// of the same nodes, jobs and calls under version 2. A file of version 2 is written as its canonical text.
 ///
 /// The text reads as the same scripts under version 2, where it is within the limit of a file. They mean the
@@ -53,7 +53,7 @@ pub fn migrate<R: Source, W: Sink>(
     migrate_sized(alloc, Size::OfVersion, reader, writer)
 }
 
-/// Puts a file of scripts under version 2 as `migrate` does, within the limits of this size.
+/// Puts a plan under version 2 as `migrate` does, within the limits of this size.
 pub fn migrate_sized<R: Source, W: Sink>(
     alloc: Global,
     size: Size,

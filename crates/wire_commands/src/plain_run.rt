@@ -1,4 +1,4 @@
-//! The plain run of a file of scripts.
+//! The plain run of a plan.
 
 ghost use Rattle.std.specs.Prelude.{◌≡◌, ◌≢◌, ◌⊎◌, ℕ, Err, OnOk, OnErr, IfOk, IfErr};
 ghost use Rattle.wire_types.specs.declared.Fault.TheVariants.{Memory, Read, Write};
@@ -47,8 +47,8 @@ fn plain_text(alloc: Global, scripts: Scripts) -> Result<Vec<u8>, Fault>
     text
 }
 
-/// Runs a file of scripts by the plain run: reads it to its end, runs its plan, where at each step the lowest process that can
-/// run takes one, until none can, and then writes what became of every call.
+/// Runs a plan by the plain run: reads it to its end, and runs it, where at each step the lowest process that can
+/// run takes one, until none can; then writes what became of every call.
 ///
 /// After the fault `Write` the front of the report that it counts is written, after any other fault
 /// nothing. `Memory` may come in place of any other answer. What is said of bytes is said where the

@@ -1,4 +1,4 @@
--- What a file of scripts says. Nodes and jobs are numbered as declared, keys, names, values and sets of processes as first
+-- What a plan says. Nodes and jobs are numbered as declared, keys, names, values and sets of processes as first
 -- seen, and processes as they stand.
 use Rattle.std.specs.Prelude.{◌≡◌, ℕ, ◌<◌, ◌≤◌, ◌^◌, Bool, true, false, List, [], length, map, sum_by, nat_lt, Option, Some, None, slice_get, slice_index_or}
 use Rattle.std.specs.List.{list_all}

@@ -1,4 +1,4 @@
-//! What a file of scripts says: its nodes, jobs and processes, and the calls of each process.
+//! What a plan says: its nodes, jobs and processes, and the calls of each process.
 #![tactic(auto)]
 
 mod canonical;

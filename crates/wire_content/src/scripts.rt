@@ -29,7 +29,7 @@ pub struct Format {
     pub keeps: bool,
 }
 
-/// What a file of scripts says: its format, its nodes and jobs as declared, what its calls
+/// What a plan says: its format, its nodes and jobs as declared, what its calls
 /// name, and its processes in process order, which is the file's job order, then rank.
 #[derive(Drop)]
 pub struct Scripts {

@@ -1,4 +1,4 @@
-//! The lines of a file of scripts: where the file is cut, and what the words of one line say.
+//! The lines of a plan: where its file is cut, and what the words of one line say.
 #![tactic(auto)]
 
 mod call;

@@ -1,4 +1,4 @@
-//! A question about two calls of a file of scripts: whether one is before the other, and where they stand.
+//! A question about two calls of a plan: whether one is before the other, and where they stand.
 
 ghost use Rattle.std.specs.Prelude.{◌≡◌, ◌≢◌, ◌<◌, ◌⊎◌, Err, length, map, OnOk, IfOk, IfErr};
 ghost use Rattle.wire_types.specs.declared.Fault.TheVariants.{Memory, Read};

@@ -1,4 +1,4 @@
-//! The findings of a file of scripts, in groups, each call with its line in the file.
+//! The findings of a plan, in groups, each call with its line in the file.
 
 ghost use Rattle.std.specs.Prelude.{◌≡◌, ◌≢◌, ◌⊎◌, Ok, Err, true, map, OnOk, IfOk, IfErr};
 ghost use Rattle.wire_types.specs.declared.Fault.TheVariants.{Memory, Read};
@@ -94,7 +94,7 @@ fn scripts_answer(
     answer
 }
 
-/// Checks a file of scripts as `wire_commands::check` does, and writes the findings in groups. A group is one
+/// Checks a plan as `wire_commands::check` does, and writes the findings in groups. A group is one
 /// mistake: its findings are of one kind, on one key or name, and their two calls do the same. It has two lines:
 /// how many findings it has, and the two calls of the first, each with the name of the file and its line
 /// there. The larger groups come first. The last line says how many findings and groups there are. As JSON each finding

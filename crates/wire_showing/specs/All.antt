@@ -1,4 +1,4 @@
--- What `witness` writes of all races of a file of scripts: a line for each race that was tried.
+-- What `witness` writes of all races of a plan: a line for each race that was tried.
 use Rattle.std.specs.Prelude.{◌≡◌, ◌==◌, ℕ, Bool, List, Option, if◌then◌else◌, length, map, take}
 use Rattle.std.specs.Io.KnownBytes.{Appends}
 use Rattle.wire_types.specs.Front.{WritesFront}

@@ -88,7 +88,7 @@ fn scripts_answer(
     answer
 }
 
-/// Tries to show the races of a file of scripts: reads the file to its end, and looks for two runs of each race, of
+/// Tries to show the races of a plan: reads the plan to its end, and looks for two runs of each race, of
 /// so many races at most, in the order of the findings. It writes a line for each race that was tried, with the
 /// call that ends differently where such runs were found, and last how many races there are, and how many of
 /// them are shown, not shown and not tried. A race that isn't shown may show in other runs all the same.
@@ -119,7 +119,7 @@ pub fn witnesses<R: Source, W: Sink>(
     witnesses_in_form(rt, alloc, reader, writer, Tries { most, json: false })
 }
 
-/// Tries to show the races of a file of scripts as `witnesses` does, and tells them in lines or as JSON.
+/// Tries to show the races of a plan as `witnesses` does, and tells them in lines or as JSON.
 pub fn witnesses_in_form<R: Source, W: Sink>(
     rt: &(impl Threads + Sync),
     alloc: Global,

@@ -133,7 +133,7 @@ fn scripts_answer(
     answer
 }
 
-/// Shows the race of two calls of a file of scripts: reads the file to its end, looks whether the two calls race,
+/// Shows the race of two calls of a plan: reads the plan to its end, looks whether the two calls race,
 /// and if so for two runs in which the calls come in different orders and one of
 /// them ends differently. It writes that call, how it ends in each run, and the orders of both runs, in lines or as
 /// JSON, or one of these orders alone. Where no such runs are found, it says so, and nothing of other runs.
