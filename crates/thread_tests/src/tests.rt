@@ -3,7 +3,7 @@
 ghost use Rattle.std.specs.Prelude.{IfOk};
 ghost use Rattle.wire_content.specs.Planned.{plan_of};
 ghost use Rattle.wire_marks.specs.Clocks.{AreMarks};
-ghost use Rattle.wire_races.specs.Findings.{AreFindings};
+ghost use Rattle.wire_findings.specs.Findings.{AreFindings};
 
 use crate::gates::{Counter, Later, Meeting};
 use std::alloc::Global;
@@ -13,10 +13,11 @@ use std::test::Fail;
 use std::thread::Threads;
 use wire_collect::{run_any, run_workers};
 use wire_core::Core;
+use wire_findings::Finding;
 use wire_locked::LockedCore;
 use wire_marks::Marks;
 use wire_plan::Plan;
-use wire_races::{Finding, Settled, findings};
+use wire_races::{Settled, findings};
 use wire_sched::{Gate, OpenGate, Round, work_locked};
 use wire_script::read;
 use wire_types::{CallEnd, Fault, MemorySink, MemorySource, Outcome, Proc, Status};

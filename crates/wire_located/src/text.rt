@@ -11,8 +11,8 @@ use crate::label::{Subject, pair_of, subject_of};
 use crate::place::{Places, push_place};
 use std::alloc::{AllocError, Global};
 use wire_content::Scripts;
+use wire_findings::{Finding, FindingList};
 use wire_groups::Group;
-use wire_races::{Finding, FindingList};
 use wire_types::{CallAt, Fault};
 use wire_words::{push_call, push_number, verb_at};
 

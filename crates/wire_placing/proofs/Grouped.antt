@@ -5,8 +5,8 @@ use Rattle.wire_types.specs.declared.Fault.{Fault}
 use Rattle.wire_content.specs.Scripts.{Scripts}
 use Rattle.wire_content.specs.Planned.{plan_of}
 use Rattle.wire_runs.specs.Races.{IsSettled}
-use Rattle.wire_races.specs.declared.finding.Finding.{Finding}
-use Rattle.wire_races.specs.Findings.{AreFindings}
+use Rattle.wire_findings.specs.declared.finding.Finding.{Finding}
+use Rattle.wire_findings.specs.Findings.{AreFindings}
 use Rattle.wire_groups.specs.declared.Group.{Group}
 use Rattle.wire_located.specs.Grouped.{AreGroupsOf}
 use Rattle.wire_script.specs.declared.Size.{Size}

@@ -1,7 +1,7 @@
 -- What a check tells that groups its findings: each call with its line in the file.
 use Rattle.std.specs.Prelude.{◌≡◌, ℕ, Bool, true, false, List}
 use Rattle.wire_content.specs.Scripts.{Scripts}
-use Rattle.wire_races.specs.declared.finding.Finding.{Finding}
+use Rattle.wire_findings.specs.declared.finding.Finding.{Finding}
 use Rattle.wire_groups.specs.declared.Group.{Group}
 use Rattle.wire_located.specs.Grouped.{AreGroupsOf}
 use Rattle.wire_located.specs.Text.{IsLocatedText}

@@ -2,7 +2,7 @@
 use Rattle.std.specs.Prelude.{ℕ, Bool, List, ◌++◌, Option, Some, None, codes, decimal, map}
 use Rattle.wire_types.specs.declared.CallAt.{CallAt}
 use Rattle.wire_content.specs.Scripts.{Scripts, numbers_of}
-use Rattle.wire_races.specs.declared.finding.Finding.{Finding}
+use Rattle.wire_findings.specs.declared.finding.Finding.{Finding}
 use Rattle.wire_groups.specs.declared.Group.{Group}
 use Rattle.wire_json.specs.declared.chains.ChainStep.{ChainStep}
 use Rattle.wire_json.specs.declared.chains.Half.TheVariants.{Whole}

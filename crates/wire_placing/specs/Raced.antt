@@ -2,8 +2,8 @@
 use Rattle.std.specs.Prelude.{◌≡◌, ℕ, Bool, true, false, List, ◌++◌, length, map, take}
 use Rattle.std.specs.List.{flat_map}
 use Rattle.wire_content.specs.Scripts.{Scripts}
-use Rattle.wire_races.specs.declared.finding.Finding.{Finding}
-use Rattle.wire_races.specs.Findings.{AreFindings}
+use Rattle.wire_findings.specs.declared.finding.Finding.{Finding}
+use Rattle.wire_findings.specs.Findings.{AreFindings}
 use Rattle.wire_located.specs.Label.{pair_of}
 use Rattle.wire_located.specs.Place.{place_text}
 use Rattle.wire_located.specs.Text.{second_line}

@@ -15,11 +15,12 @@ use std::alloc::Global;
 use std::thread::Threads;
 use wire_commands::Ended;
 use wire_content::Scripts;
+use wire_findings::FindingList;
 use wire_located::{Places, group_findings, located_text};
 use wire_marks::Marks;
 use wire_plan::Plan;
+use wire_races::finding_list;
 use wire_races::laws::settled_exactly;
-use wire_races::{FindingList, finding_list};
 use wire_showing::{Answer, write_answer};
 use wire_types::{Fault, Sink, Source};
 

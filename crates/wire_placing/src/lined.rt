@@ -9,13 +9,13 @@ ghost use Rattle.wire_placing.specs.Lined as spec;
 
 use std::alloc::{AllocError, Global};
 use wire_content::Scripts;
+use wire_findings::{Finding, FindingList};
 use wire_groups::Group;
 use wire_json::{
     ChainStep, Half, RunTold, counts_json, lined_place, lined_step, push_list, push_quoted,
     run_json, which_word,
 };
 use wire_located::{line_of, pair_of};
-use wire_races::{Finding, FindingList};
 use wire_report::push_finding;
 use wire_showing::{TriedRace, counts_of};
 use wire_types::CallAt;

@@ -16,10 +16,11 @@ use std::alloc::{AllocError, Global};
 use std::thread::Threads;
 use wire_commands::Ended;
 use wire_content::Scripts;
+use wire_findings::Finding;
 use wire_located::{Places, pair_of, push_place, push_second};
 use wire_marks::{MarkedPlan, Marks};
 use wire_plan::Plan;
-use wire_races::{Finding, finding_list};
+use wire_races::finding_list;
 use wire_showing::{
     Answer, TriedRace, count_races, count_shown, ended_of, first_races, push_counts, push_tried,
     try_races, write_answer,

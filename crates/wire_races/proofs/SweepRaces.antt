@@ -21,7 +21,7 @@ use Rattle.wire_runs.proofs.Lists.{not_in_empty, slice_get_push_cases, slice_get
 use Rattle.wire_runs.proofs.Diamond.{writes_calls}
 use Rattle.wire_runs.proofs.Members.{in_index, index_in, in_left, in_right, in_parts}
 use Rattle.wire_plan.specs.Index.{AreSweeps}
-use Rattle.wire_races.specs.declared.finding.Finding.{Finding as Told}
+use Rattle.wire_findings.specs.declared.finding.Finding.{Finding as Told}
 use Rattle.wire_races.specs.declared.sweep_races.Share.{Share}
 use Rattle.wire_races.specs.Adding.{Adds}
 use Rattle.wire_races.specs.NameRaces.{IsRaceWith, AllRace, AreUnordered, IsStretch, IsOneOf, AreSweepers}

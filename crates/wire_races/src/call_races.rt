@@ -5,14 +5,13 @@ ghost use Rattle.wire_runs.specs.Plan.{event_of, kind};
 ghost use Rattle.wire_content.specs.Planned.{plan_of};
 ghost use Rattle.wire_runs.specs.Names.{calls_name};
 ghost use Rattle.wire_runs.specs.Order.{Live};
-ghost use Rattle.wire_races.specs.Findings.{shown};
-ghost use Rattle.wire_races.specs.Collected.{AreFound};
+ghost use Rattle.wire_findings.specs.Findings.{shown};
+ghost use Rattle.wire_findings.specs.Collected.{AreFound};
 ghost use Rattle.wire_races.specs.Adding.{Adds};
 ghost use Rattle.wire_races.specs.NameRaces.{IsRaceWith, AllRace, race_between, AreOf, AreRising, IsStretch, IsBelow, IsCut, AreUnordered};
 
-use crate::finding::Finding;
-use crate::found::Found;
 use std::alloc::AllocError;
+use wire_findings::{Finding, Found};
 use wire_marks::MarkedPlan;
 use wire_plan::Plan;
 use wire_types::Event;

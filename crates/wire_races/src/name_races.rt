@@ -8,9 +8,9 @@ ghost use Rattle.wire_runs.specs.Names.{calls_name, writes_name};
 ghost use Rattle.wire_runs.specs.Order.{Live};
 ghost use Rattle.wire_runs.specs.Findings.{NameRace};
 ghost use Rattle.wire_plan.specs.Index.{is_plain_call, AreNameCalls};
-ghost use Rattle.wire_races.specs.Findings.{shown};
+ghost use Rattle.wire_findings.specs.Findings.{shown};
 ghost use Rattle.wire_races.specs.FindingKinds.{IsOfName, AllAdded};
-ghost use Rattle.wire_races.specs.Collected.{AreFound};
+ghost use Rattle.wire_findings.specs.Collected.{AreFound};
 ghost use Rattle.wire_races.specs.Adding.{Adds};
 ghost use Rattle.wire_races.specs.Pieces.{IsPiece, ArePieces};
 ghost use Rattle.wire_races.specs.NameRaces.{IsRaceOn, IsPlainRaceOn, IsRaceFrom, IsRaceWith, AllRace, race_between, AreCallsOn, AreOf, AreRising};
@@ -19,12 +19,12 @@ ghost use Rattle.wire_races.specs.NameRaces.{AreFacing, IsOneOf, AreSweepers, Is
 ghost use Rattle.wire_content.specs.Scripts.{numbers_of};
 
 use crate::call_races::{NameCall, add_races, unordered_with};
-use crate::found::Found;
 use crate::pieces::add_pieces;
 use crate::sweep_races::{add_sweep_races, is_publisher, sweepers_of};
 use rayon::prelude::*;
 use std::alloc::{AllocError, Global};
 use std::thread::Threads;
+use wire_findings::Found;
 use wire_marks::MarkedPlan;
 use wire_plan::{Kind, Plan};
 use wire_types::{Event, Proc};

@@ -9,15 +9,15 @@ ghost use Rattle.wire_runs.specs.Names.{is_publish};
 ghost use Rattle.wire_runs.specs.Names as runs_names;
 ghost use Rattle.wire_content.specs.Planned.{plan_of};
 ghost use Rattle.wire_content.specs.Scripts.{numbers_of};
-ghost use Rattle.wire_races.specs.Collected.{AreFound};
+ghost use Rattle.wire_findings.specs.Collected.{AreFound};
 ghost use Rattle.wire_races.specs.Adding.{Adds};
 ghost use Rattle.wire_races.specs.NameRaces.{AllRace, IsOneOf, AreSweepers};
 ghost use Rattle.wire_races.specs.SweepRaces.{IsSweepRace, IsSweepRaceOf, ArePublished, AddsShares, AreShares, AreShared, AreSharesOf};
 ghost use Rattle.wire_races.specs.SweepRaces.{IsRaceOnOne, IsSweepRaceWith, IsSharedRace};
 
 use crate::call_races::{NameCall, add_races, unordered_with};
-use crate::found::Found;
 use std::alloc::{AllocError, Global};
+use wire_findings::Found;
 use wire_marks::MarkedPlan;
 use wire_plan::{Kind, Plan};
 use wire_types::{Event, Proc};

@@ -6,7 +6,7 @@ use Rattle.std.proofs.lemmas.List.{map-append}
 use Rattle.wire_types.specs.declared.CallAt.{CallAt}
 use Rattle.wire_runs.proofs.Lists.{take_get}
 use Rattle.wire_content.specs.Scripts.{Scripts}
-use Rattle.wire_races.specs.declared.finding.Finding.{Finding}
+use Rattle.wire_findings.specs.declared.finding.Finding.{Finding}
 use Rattle.wire_witness.specs.Witness.{IsWitness}
 use Rattle.wire_witness.specs.declared.witness.Witness.{Witness}
 use Rattle.wire_races.specs.Reported.{race_calls}

@@ -5,8 +5,8 @@ use Rattle.wire_types.specs.Front.{WritesFront}
 use Rattle.wire_types.specs.declared.Fault.{Fault}
 use Rattle.wire_content.specs.Scripts.{Scripts}
 use Rattle.wire_script.specs.declared.Size.TheVariants.{OfVersion}
-use Rattle.wire_races.specs.declared.finding.Finding.{Finding}
-use Rattle.wire_races.specs.Findings.{AreFindings}
+use Rattle.wire_findings.specs.declared.finding.Finding.{Finding}
+use Rattle.wire_findings.specs.Findings.{AreFindings}
 use Rattle.wire_commands.specs.declared.checking.Ended.{Ended}
 use Rattle.wire_commands.specs.declared.checking.Ended.TheVariants.{Clean, Found}
 use Rattle.wire_commands.specs.Plain.{ReadAs}

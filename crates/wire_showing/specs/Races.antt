@@ -1,6 +1,6 @@
 -- The races among the findings of a plan.
 use Rattle.std.specs.Prelude.{Bool, List, filter, is_some}
-use Rattle.wire_races.specs.declared.finding.Finding.{Finding}
+use Rattle.wire_findings.specs.declared.finding.Finding.{Finding}
 use Rattle.wire_races.specs.Reported.{race_calls}
 
 abbrev pub is_race : Finding → Bool

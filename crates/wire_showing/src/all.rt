@@ -13,9 +13,10 @@ use std::alloc::Global;
 use std::thread::Threads;
 use wire_commands::{Ended, read_scripts};
 use wire_content::Scripts;
+use wire_findings::Finding;
 use wire_marks::{MarkedPlan, Marks};
 use wire_plan::Plan;
-use wire_races::{Finding, finding_list};
+use wire_races::finding_list;
 use wire_script::Size;
 use wire_types::{Fault, Sink, Source};
 

@@ -4,7 +4,8 @@ ghost use Rattle.std.specs.Prelude.{◌≡◌, take, length, IfOk};
 ghost use Rattle.wire_showing.specs.Races as spec;
 
 use std::alloc::{AllocError, Global};
-use wire_races::{Finding, FindingList, race_calls};
+use wire_findings::{Finding, FindingList};
+use wire_races::race_calls;
 
 /// Whether a finding is a race.
 fn is_race(finding: Finding) -> bool

@@ -8,9 +8,10 @@ ghost use Rattle.wire_showing.specs.Tried.{AreTried, IsTried};
 
 use std::alloc::{AllocError, Global};
 use wire_content::Scripts;
+use wire_findings::Finding;
 use wire_json::{RaceCounts, races_json};
 use wire_marks::MarkedPlan;
-use wire_races::{Finding, race_calls};
+use wire_races::race_calls;
 use wire_report::push_finding;
 use wire_types::{CallAt, Fault};
 use wire_witness::find_witness;

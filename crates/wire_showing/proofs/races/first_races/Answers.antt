@@ -1,5 +1,5 @@
 use Rattle.std.proofs.Common.{◌∙◌, ◌<◌, ◌≤◌, ap, sym, length, Vec, Global, arith}
-use Rattle.wire_races.specs.declared.finding.Finding.{Finding}
+use Rattle.wire_findings.specs.declared.finding.Finding.{Finding}
 use Rattle.wire_showing.specs.Races.{is_race}
 use Rattle.wire_showing.proofs.Fronts.{takes_race, is_full, is_none}
 use Rattle.wire_showing.proofs.races.first_races.Goals.{then-is_race+then-len-most+in_ok-push, else-is_race, else-is_race-via-then-is_race+else-len-most, else-is_race-via-else-is_race}
