@@ -245,7 +245,7 @@ fn of_board(
 }
 
 /// A board with its seats, which are all of it.
-fn seated(alloc: Global, settled: &Settled) -> Result<(Board, Vec<Seat>), Fault>
+fn seat_all(alloc: Global, settled: &Settled) -> Result<(Board, Vec<Seat>), Fault>
     ensures plan { IfOk result (λ made. made.0.plan ≡ settled.now) }
     ensures seats { IfOk result (λ made. All (λ seat. seat.board ≡ made.0) made.1.items) }
 {
@@ -255,7 +255,7 @@ fn seated(alloc: Global, settled: &Settled) -> Result<(Board, Vec<Seat>), Fault>
 /// What `Board::new` gives, as what its seats show, and its words.
 fn seated_text(alloc: Global, settled: &Settled, stage: &mut Stage) -> Result<Vec<u8>, Fault> {
     *stage = Stage::Within;
-    let (board, seats) = seated(alloc, settled)?;
+    let (board, seats) = seat_all(alloc, settled)?;
     *stage = Stage::After;
     let mut text = String::new(alloc);
     let told = push_seats(&mut text, settled, &board, seats.as_slice());

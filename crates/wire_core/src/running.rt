@@ -17,7 +17,7 @@ ghost use Rattle.wire_core.specs.Seeing.{replies_in};
 ghost use Rattle.wire_core.specs.Ranks.{AreRanksOf};
 ghost use Rattle.wire_core.specs.Following.{Follows, StopsAt};
 
-use crate::ends::{add_unanswered, end_at, replied};
+use crate::ends::{add_unanswered, end_at, ends_of_replies};
 use crate::keeping::Keeping;
 use crate::looks::Looks;
 use crate::met::{arrived_at, is_complete, note_arrival};
@@ -298,14 +298,14 @@ impl<'a> Core<'a> {
     }
 
     /// What became of each call of a process of the plan.
-    fn row(&self, alloc: Global, proc: Proc) -> Result<Vec<CallEnd>, Fault>
+    fn ends_of_process(&self, alloc: Global, proc: Proc) -> Result<Vec<CallEnd>, Fault>
         requires { proc.number < process_count (plan_of self.now.scripts) }
         ensures ok { IfOk result (λ ends. ends.items ≡ row (plan_of self.now.scripts) (state_of self.now) proc.number) }
         ensures err { IfErr result (λ e. e ≡ Fault.Memory) }
     {
         let calls = self.plan.scripts().processes()[proc.index()].calls().len();
         let replies = self.ranks[proc.index()].replies.as_slice();
-        let mut ends = replied(alloc, replies, calls)?;
+        let mut ends = ends_of_replies(alloc, replies, calls)?;
         add_unanswered(
             &mut ends,
             self.ready(proc),
@@ -332,7 +332,7 @@ impl<'a> Core<'a> {
         let mut waiting = 0;
         for number in 0..self.plan.process_count() {
             let proc = Proc::new(number);
-            let row = self.row(alloc, proc)?;
+            let row = self.ends_of_process(alloc, proc)?;
             rows.push_reserved(row);
             if self.is_waiting(proc) {
                 waiting += 1;

@@ -9,7 +9,7 @@ ghost use Rattle.wire_words.specs.Words.{name_of};
 ghost use Rattle.wire_json.specs.Json as spec;
 ghost use Rattle.wire_json.specs.Trees as trees;
 
-use crate::strings::strings;
+use crate::strings::string_trees;
 use crate::trees::rank_trees;
 use serde_json::{Value, json};
 use std::alloc::{AllocError, Global};
@@ -33,7 +33,7 @@ pub fn report_json(
 pub fn findings_json(alloc: Global, lines: &[Vec<u8>]) -> Result<Vec<u8>, AllocError>
     ensures { IfOk result (λ text. text.items ≡ spec.json_findings (map (λ line. line.items) lines.now)) }
 {
-    let findings = strings(alloc, lines)?;
+    let findings = string_trees(alloc, lines)?;
     line(alloc, findings_tree(alloc, findings)?)
 }
 
@@ -48,7 +48,7 @@ pub fn unsettled_json(
         ≡ spec.json_unsettled scripts.now (ends_of outcome.now) (numbers_of order.now)) }
 {
     let names = names_of(alloc, scripts, order)?;
-    let steps = strings(alloc, names.as_slice())?;
+    let steps = string_trees(alloc, names.as_slice())?;
     let ranks = rank_trees(alloc, scripts, outcome.rows.as_slice())?;
     line(alloc, unsettled_tree(alloc, steps, ranks, outcome.waiting)?)
 }

@@ -11,7 +11,7 @@ ghost use Rattle.wire_json.specs.WitnessTrees as trees;
 use crate::chains::{ChainStep, Half, step_tree};
 use crate::forms::{compact, line, names_of};
 use crate::places::place_tree;
-use crate::strings::{printable_text, strings};
+use crate::strings::{printable_text, string_trees};
 use serde_json::{Value, json};
 use std::alloc::{AllocError, Global};
 use wire_content::Scripts;
@@ -102,7 +102,7 @@ fn run_tree(
     ensures { IfOk result (λ tree. view tree ≡ trees.run_data scripts.now end.now (numbers_of order.now)) }
 {
     let names = names_of(alloc, scripts, order)?;
-    let steps = strings(alloc, names.as_slice())?;
+    let steps = string_trees(alloc, names.as_slice())?;
     end_tree(alloc, scripts, steps, end)
 }
 

@@ -8,7 +8,7 @@ ghost use Rattle.wire_marks.specs.Marking.{next_of};
 ghost use Rattle.wire_marks.specs.Meeting.{plan_in, IsGrowing};
 ghost use Rattle.std.specs.Bool.{OnTrue, OnFalse};
 
-use crate::joins::{Growth, fence_ended, missing_at};
+use crate::joins::{Growth, find_ended_fence, missing_at};
 use std::alloc::{AllocError, Global};
 use wire_types::{Event, Proc};
 
@@ -63,7 +63,7 @@ pub(crate) fn waits_for(growth: &Growth<'_>, proc: Proc) -> Option<Proc>
     if let Some(awaited) = sources.awaited {
         return Some(awaited.proc);
     }
-    let Some(fence) = fence_ended(growth, event) else {
+    let Some(fence) = find_ended_fence(growth, event) else {
         return None;
     };
     missing_at(&growth.meetings, fence, sources.arrivals)

@@ -386,7 +386,7 @@ fn add_process(marked: &MarkedPlan<'_>, found: &mut Found, proc: Proc) -> Result
 }
 
 /// The races of the gets of a process: a piece of the search.
-fn piece(alloc: Global, marked: &MarkedPlan<'_>, proc: Proc) -> Result<Found, AllocError>
+fn make_piece(alloc: Global, marked: &MarkedPlan<'_>, proc: Proc) -> Result<Found, AllocError>
     ensures { IfOk result (IsPiece (plan_of marked.now) (IsKeyRaceOf (plan_of marked.now) proc.number)) }
 {
     let mut found = Found::new(alloc);
@@ -403,7 +403,7 @@ fn least_processes(plan: &Plan) -> usize
 }
 
 /// A piece for each process, in their order, made by several threads.
-fn pieces(
+fn make_pieces(
     rt: &(impl Threads + Sync),
     alloc: Global,
     marked: &MarkedPlan<'_>,
@@ -417,7 +417,7 @@ fn pieces(
         .map(
             |number: u32| -> Result<Found, AllocError>
                 ensures { IfOk result (IsPiece (plan_of marked.entry.now) (IsKeyRaceOf (plan_of marked.entry.now) number)) }
-            { piece(alloc, marked, Proc { number }) },
+            { make_piece(alloc, marked, Proc { number }) },
         )
         .collect::<Result<Vec<_>, AllocError>>(rt, alloc)?
 }
@@ -436,6 +436,6 @@ pub(crate) fn add_key_races(
     ensures found { OnOk result (AreFound (plan_of marked.now) found.new) }
     ensures all { OnOk result (AllAdded (plan_of marked.now) IsOfKey found.old found.new) }
 {
-    let pieces = pieces(rt, alloc, marked)?;
+    let pieces = make_pieces(rt, alloc, marked)?;
     add_pieces(found, pieces)
 }

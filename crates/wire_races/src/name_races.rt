@@ -245,7 +245,7 @@ fn add_races_swept(
 }
 
 // The races on a name in which one call at least is on this name alone: a piece of the search.
-fn piece(alloc: Global, marked: &MarkedPlan<'_>, name: u32) -> Result<Found, AllocError>
+fn make_piece(alloc: Global, marked: &MarkedPlan<'_>, name: u32) -> Result<Found, AllocError>
     ensures { IfOk result (IsPiece (plan_of marked.now) (IsRaceOn (plan_of marked.now) name)) }
 {
     let mut found = Found::new(alloc);
@@ -258,7 +258,7 @@ fn piece(alloc: Global, marked: &MarkedPlan<'_>, name: u32) -> Result<Found, All
 
 // A piece for each name, in their order, made by several threads. Most names have few calls, so
 // that fewer than sixteen of them aren't worth a thread of their own.
-fn pieces(
+fn make_pieces(
     rt: &(impl Threads + Sync),
     alloc: Global,
     marked: &MarkedPlan<'_>,
@@ -272,7 +272,7 @@ fn pieces(
         .map(
             |name: u32| -> Result<Found, AllocError>
                 ensures { IfOk result (IsPiece (plan_of marked.entry.now) (IsRaceOn (plan_of marked.entry.now) name)) }
-            { piece(alloc, marked, name) },
+            { make_piece(alloc, marked, name) },
         )
         .collect::<Result<Vec<_>, AllocError>>(rt, alloc)?
 }
@@ -298,7 +298,7 @@ pub(crate) fn add_name_races(
 {
     // Scripts are sound, so each call on a name is on one of theirs.
     let _ = marked.plan().scripts();
-    let pieces = pieces(rt, alloc, marked)?;
+    let pieces = make_pieces(rt, alloc, marked)?;
     add_pieces(found, pieces)?;
     add_sweep_races(alloc, marked, found)
 }

@@ -19,7 +19,7 @@ use std::mem;
 use wire_types::{Fault, Proc};
 
 // A deque with the pieces of one worker. It has room for them from the start.
-fn filled(
+fn fill_deque(
     alloc: Global,
     round: u64,
     ranks: u32,
@@ -81,7 +81,7 @@ pub(crate) fn start(
     ensures start { IfOk result (λ r. IsStart (share_of worker workers round ranks) worker r.0 r.1) }
     ensures memory { IsOkUnless result Fault.Memory }
 {
-    let own = filled(alloc, round, ranks, workers, worker)?;
+    let own = fill_deque(alloc, round, ranks, workers, worker)?;
     let thief = own.stealer()?;
     let pass = Pass {
         worker,

@@ -12,7 +12,7 @@ ghost use Rattle.wire_up.specs.Complete.{TellsCalls, JudgesCalls, line_in, compl
 ghost use Rattle.wire_up.specs.Replay.{TellsRun, IsReplay, WritesFound, BreaksOffFound, WritesRehearsal, BreaksOffRehearsal};
 ghost use Rattle.wire_up.specs.Replay.{WritesOneEnd, WritesReplay, BreaksOffReplay, StopsBeforeReplay};
 
-use crate::failing::failure_line;
+use crate::failing::tell_failure;
 use std::alloc::Global;
 use std::sync::Wait;
 use std::thread::Threads;
@@ -146,7 +146,7 @@ fn run_settled<R: Threads + Wait + Sync, G: Gate + Sync>(
 {
     let outcome = run_workers(rt, alloc, settled, manner.workers, manner.gate)?;
     let text = report_text(alloc, settled.plan().scripts(), &outcome, manner.mode.json)?;
-    let failure = failure_line(alloc, settled.plan().scripts(), &outcome)?;
+    let failure = tell_failure(alloc, settled.plan().scripts(), &outcome)?;
     settled_exactly();
     let ended = Ended::Clean;
     Ok((Rehearsed { ended, failure }, text))

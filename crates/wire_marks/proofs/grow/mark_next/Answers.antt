@@ -22,7 +22,8 @@ returns-clause-falls c =
     let growth = c.next_base.new.growth in
     let plan = plan_in growth in
     let p = c.args.proc.number in
-    let less = left_falls plan growth.clocks c.mark.new.self p c.in-Some.root (next_there plan growth.clocks p c.in-Some.root next) c.in_ok-root.ensures.growing.marked next c.in_ok-mark.ensures.adds in
+    let less = left_falls plan growth.clocks c.mark.new.self p c.in-Some.root (next_there plan growth.clocks p c.in-Some.root next) c.in_ok-root.ensures.growing.marked next
+    c.in_ok-mark.ensures.adds in
     let same = left_same c.args.growth.now.plan.now growth.plan.now c.args.growth.now.clocks growth.clocks c.next_base.ensures.plan c.in_ok-root.ensures.same in
     omega (arith, less, same)
 

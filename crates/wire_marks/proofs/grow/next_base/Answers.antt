@@ -44,7 +44,8 @@ returns-clause-growing c =
     record {
       fences = c.requires.fences;
       marked = sound_grown old new c.requires.marked.based grown plan c.requires.marked c.in_ok-met.ensures.based;
-      kept = meetings_on plan c.args.growth.now.fences.now old new c.args.growth.now.meetings.items c.meet.new.meetings.items c.in-Some.fence.number here.0 xs keeps here.1 here.2 c.in_ok-met.ensures.kept
+      kept = meetings_on plan c.args.growth.now.fences.now old new c.args.growth.now.meetings.items c.meet.new.meetings.items c.in-Some.fence.number here.0 xs keeps here.1 here.2
+          c.in_ok-met.ensures.kept
           c.in_ok-met.ensures.others c.requires.kept;
     }
 
@@ -63,7 +64,8 @@ returns-clause-next c = told c.in_ok-met.met c.in_ok-met.ensures.met
     told (Some n) joined =
         let sources = c.sources-sources in
         let is = c.marked-at.ensures in
-        next_met c.args.growth.now.plan.now c.args.growth.now.fences.now c.args.growth.now.clocks c.meet.new.clocks c.args.proc.number n c.in-Some.fence.number (option_map event_of sources.result.previous)
+        next_met c.args.growth.now.plan.now c.args.growth.now.fences.now c.args.growth.now.clocks c.meet.new.clocks c.args.proc.number n c.in-Some.fence.number
+        (option_map event_of sources.result.previous)
         (option_map event_of sources.result.awaited) (map event_of sources.result.arrivals.now)
         c.requires.marked.based
         (sym (rw is at c.may_come.ensures) ∙ c.if-not-may_come.false)
@@ -91,7 +93,7 @@ returns-in_default-clause-growing c =
 pub returns-in_default-clause-next : goal.returns-in_default-clause-next
 returns-in_default-clause-next c =
     let sources = c.sources-sources in
-    let none = rw c.in_default.is at c.fence_ended.ensures in
+    let none = rw c.in_default.is at c.find_ended_fence.ensures in
     let is = c.marked-at.ensures in
     let are = rw (c.marked-at.ensures, sources.ensures.others none) at sources.ensures.sources in
     next_unmet (plan_in c.args.growth.now) c.args.growth.now.clocks c.base_after.new.self c.args.proc.number c.in_ok-root.root (option_map event_of sources.result.previous)
