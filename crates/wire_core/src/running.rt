@@ -20,7 +20,7 @@ ghost use Rattle.wire_core.specs.Following.{Follows, StopsAt};
 use crate::ends::{add_unanswered, end_at, ends_of_replies};
 use crate::keeping::Keeping;
 use crate::looks::Looks;
-use crate::met::{arrived_at, is_complete, note_arrival};
+use crate::met::{find_fence, is_complete, note_arrival};
 use crate::names::note_name;
 use crate::rank::Rank;
 use crate::replies::{
@@ -166,7 +166,7 @@ impl<'a> Core<'a> {
                 &self.arrivals,
                 self.next_event(proc),
             ),
-            Some(Kind::Get { owner, key }) => is_shown(self.seen_by(proc, owner, key)),
+            Some(Kind::Get { owner, key }) => is_shown(self.see_key(proc, owner, key)),
             Some(Kind::LookupWait { name }) => self.names.lookup(name).is_some(),
         }
     }
@@ -183,8 +183,8 @@ impl<'a> Core<'a> {
             )),
             Kind::UnpublishAll => Some(Reply::bare(Status::Success)),
             Kind::Arrive { .. } => None,
-            Kind::Get { owner, key } => Some(reply_to_get(self.seen_by(proc, owner, key))),
-            Kind::GetNow { owner, key } => Some(reply_to_get(self.seen_now(proc, owner, key))),
+            Kind::Get { owner, key } => Some(reply_to_get(self.see_key(proc, owner, key))),
+            Kind::GetNow { owner, key } => Some(reply_to_get(self.see_key_now(proc, owner, key))),
             Kind::Publish { name } => Some(reply_to_publish(self.names.lookup(name))),
             Kind::Lookup { name } | Kind::LookupWait { name } => Some(reply_to_lookup(
                 self.names.lookup(name),
@@ -214,7 +214,7 @@ impl<'a> Core<'a> {
         let event = self.next_event(proc);
         let reply = self.reply(proc, kind);
         let gain = self.gain_of(proc, kind);
-        let fence = arrived_at(self.plan, self.fences, event, kind);
+        let fence = find_fence(self.plan, self.fences, event, kind);
         let call = self.plan.call_of(event);
         note_arrival(&mut self.arrivals, fence, proc);
         note_name(&mut self.names, kind, call);

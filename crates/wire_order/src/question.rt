@@ -37,12 +37,12 @@ pub fn read_question(
         question.entry.number.now question.entry.other_proc.now question.entry.other_number.now (Err e)) }
 {
     let table = ProcWords::new(alloc, scripts)?;
-    let first = match call_named(&table, scripts, question.proc, question.number) {
+    let first = match read_call(&table, scripts, question.proc, question.number) {
         Ok(call) => call,
         Err(Wrong::Proc) => return Err(Fault::BadOrder(1)),
         Err(Wrong::Number) => return Err(Fault::BadOrder(2)),
     };
-    match call_named(&table, scripts, question.other_proc, question.other_number) {
+    match read_call(&table, scripts, question.other_proc, question.other_number) {
         Ok(second) => Ok((first, second)),
         Err(Wrong::Proc) => Err(Fault::BadOrder(3)),
         Err(Wrong::Number) => Err(Fault::BadOrder(4)),
@@ -62,7 +62,7 @@ enum Wrong {
 }
 
 /// The call that a process's word and a number name.
-fn call_named(
+fn read_call(
     table: &ProcWords,
     scripts: &Scripts,
     proc: &str,

@@ -76,7 +76,7 @@ fn count_below(marked: &MarkedPlan<'_>, x: Event, border: Border, run: &[Event])
 
 /// Those of these calls of one process that no chain orders with a live call. They stand between two borders, and both are found without a look at
 /// any name.
-pub(crate) fn unordered_with<'a>(marked: &MarkedPlan<'_>, x: Event, run: &'a [Event]) -> &'a [Event]
+pub(crate) fn find_unordered<'a>(marked: &MarkedPlan<'_>, x: Event, run: &'a [Event]) -> &'a [Event]
     requires live { Live (plan_of marked.now) (event_of x) }
     requires rising { AreRising (map event_of run.now) }
     requires run { IsStretch (map event_of run.now) }

@@ -18,7 +18,7 @@ ghost use Rattle.wire_races.specs.NameRaces.{IsStretch, AreRivals, AreHigher, Ha
 ghost use Rattle.wire_races.specs.NameRaces.{AreFacing, IsOneOf, AreSweepers, IsSweptRace, IsSweptRaceOn};
 ghost use Rattle.wire_content.specs.Scripts.{numbers_of};
 
-use crate::call_races::{NameCall, add_races, unordered_with};
+use crate::call_races::{NameCall, add_races, find_unordered};
 use crate::pieces::add_pieces;
 use crate::sweep_races::{add_sweep_races, is_publisher, sweepers_of};
 use rayon::prelude::*;
@@ -58,7 +58,7 @@ fn add_between(
     requires run { IsStretch (map event_of run.now) }
     ensures { OnOk result (Adds (plan_of marked.now) found.old found.new (IsRaceWith (plan_of marked.now) x.name (event_of x.event) (map event_of run.now))) }
 {
-    let those = unordered_with(marked, x.event, run);
+    let those = find_unordered(marked, x.event, run);
     add_races(marked.plan(), found, x, those)
 }
 
@@ -190,7 +190,7 @@ fn add_races_on(
 }
 
 // The calls of a process that take away all its names, none where it is that of the other call.
-fn facing<'a>(plan: &'a Plan, x: Event, proc: Proc) -> &'a [Event]
+fn find_facing<'a>(plan: &'a Plan, x: Event, proc: Proc) -> &'a [Event]
     ensures { AreFacing (plan_of plan.now) (event_of x) proc.number (map event_of result.now) }
 {
     if x.proc.number != proc.number {
@@ -217,7 +217,7 @@ fn add_swept(
     }
     let plan = marked.plan();
     for proc in procs {
-        add_between(marked, found, x, facing(plan, x.event, *proc))?;
+        add_between(marked, found, x, find_facing(plan, x.event, *proc))?;
     }
     Ok(())
 }
