@@ -4,7 +4,7 @@ ghost use Rattle.std.specs.Prelude.{◌≡◌, IfOk};
 ghost use Rattle.std.specs.List.{All};
 ghost use Rattle.wire_content.specs.Planned.{plan_of};
 ghost use Rattle.wire_marks.specs.Clocks.{AreMarks};
-ghost use Rattle.wire_races.specs.Findings.{AreFindings};
+ghost use Rattle.wire_findings.specs.Findings.{AreFindings};
 
 use crate::texts::{marks_text, plan_text, push_pieces, push_seats, push_words, push_workers};
 use std::alloc::Global;
@@ -13,9 +13,10 @@ use std::thread::Threads;
 use wire_board::{Board, Seat};
 use wire_collect::run_any;
 use wire_core::Core;
+use wire_findings::Finding;
 use wire_marks::Marks;
 use wire_plan::Plan;
-use wire_races::{Finding, Settled, findings};
+use wire_races::{Settled, findings};
 use wire_report::{findings_text, report_text, unsettled_text};
 use wire_sched::{OpenGate, Round};
 use wire_script::read;
@@ -244,7 +245,7 @@ fn of_board(
 }
 
 /// A board with its seats, which are all of it.
-fn seated(alloc: Global, settled: &Settled) -> Result<(Board, Vec<Seat>), Fault>
+fn seat_all(alloc: Global, settled: &Settled) -> Result<(Board, Vec<Seat>), Fault>
     ensures plan { IfOk result (λ made. made.0.plan ≡ settled.now) }
     ensures seats { IfOk result (λ made. All (λ seat. seat.board ≡ made.0) made.1.items) }
 {
@@ -254,7 +255,7 @@ fn seated(alloc: Global, settled: &Settled) -> Result<(Board, Vec<Seat>), Fault>
 /// What `Board::new` gives, as what its seats show, and its words.
 fn seated_text(alloc: Global, settled: &Settled, stage: &mut Stage) -> Result<Vec<u8>, Fault> {
     *stage = Stage::Within;
-    let (board, seats) = seated(alloc, settled)?;
+    let (board, seats) = seat_all(alloc, settled)?;
     *stage = Stage::After;
     let mut text = String::new(alloc);
     let told = push_seats(&mut text, settled, &board, seats.as_slice());

@@ -47,7 +47,7 @@ fn part_of(word: &str) -> Option<Part> {
 }
 
 /// The function that the first argument asks for.
-fn asked(rt: &(impl Env + AllocGlobal)) -> Result<Option<Part>, Fault> {
+fn read_part(rt: &(impl Env + AllocGlobal)) -> Result<Option<Part>, Fault> {
     match env::args(rt) {
         Ok(arguments) => {
             let arguments: Vec<String> = arguments.collect(rt.alloc())?;
@@ -92,7 +92,7 @@ fn obey(
     rt: &(impl Env + Input + Print + AllocGlobal + Threads + Wait + Sync),
     stage: &mut Stage,
 ) -> Result<bool, Fault> {
-    let Some(part) = asked(rt)? else {
+    let Some(part) = read_part(rt)? else {
         return Ok(false);
     };
     run(rt, part, stage)?;

@@ -150,7 +150,7 @@ fn reports(rt: HostRuntime) -> Result<(), Fail> {
 }
 
 /// The text of a plan under version 2.
-fn migrated(rt: &impl Abort, alloc: Global, name: &str, plan: &[u8]) -> MemorySink {
+fn migrate_plan(rt: &impl Abort, alloc: Global, name: &str, plan: &[u8]) -> MemorySink {
     let mut to = writer(alloc, usize::MAX);
     let answer = migrate(alloc, &mut reader(plan, 7), &mut to);
     assert_eq!(rt; answer, Ok(()), "{}", name);
@@ -160,11 +160,11 @@ fn migrated(rt: &impl Abort, alloc: Global, name: &str, plan: &[u8]) -> MemorySi
 /// Asserts that a plan has its findings under version 2 too, and that this text is migrated to itself. Answers the
 /// text.
 fn check_migrated(rt: &(impl Abort + Threads + Sync), alloc: Global, row: &Checked) -> MemorySink {
-    let text = migrated(rt, alloc, row.name, row.plan);
+    let text = migrate_plan(rt, alloc, row.name, row.plan);
     let is_of_version_2 = text.bytes.starts_with(b"rehearsal 2\n".as_slice());
     assert!(rt; is_of_version_2, "{}", row.name);
     check_found(rt, alloc, row, text.bytes.as_slice(), usize::MAX);
-    let again = migrated(rt, alloc, row.name, text.bytes.as_slice());
+    let again = migrate_plan(rt, alloc, row.name, text.bytes.as_slice());
     assert_same(rt, row.name, again.bytes.as_slice(), text.bytes.as_slice());
     text
 }

@@ -21,7 +21,9 @@ use std::time::Clock;
 use std::{env, io, thread};
 use terminal_line::{NotedReader, NotedWriter, Progress, Streams, start_line};
 use wire_explain::{explain_order, explain_plan, explain_word};
-use wire_placing::{PlanFile, check_located, why_located, witness_located, witnesses_located};
+use wire_lined_commands::{
+    PlanFile, check_located, why_located, witness_located, witnesses_located,
+};
 use wire_sched::OpenGate;
 use wire_stops::explain_stop;
 use wire_types::{Fault, FromRead, ToWrite, write_out};
@@ -255,7 +257,7 @@ fn explain(
 }
 
 /// A fault, with what explains it, where memory serves.
-fn explained(alloc: Global, fault: Fault, watch: &Watch<'_, '_>) -> Failure {
+fn explain_failure(alloc: Global, fault: Fault, watch: &Watch<'_, '_>) -> Failure {
     match explain(alloc, fault, watch) {
         Ok(Some(text)) => Failure::Explained(fault, text),
         Ok(None) | Err(_) => Failure::Fault(fault),
@@ -303,7 +305,7 @@ fn serve_explained(
         Ok(status) => Ok(status),
         Err(fault) => {
             if wanted {
-                Err(explained(rt.alloc(), fault, &watch))
+                Err(explain_failure(rt.alloc(), fault, &watch))
             } else {
                 Err(fault.into())
             }

@@ -7,7 +7,7 @@ ghost use Rattle.wire_board.specs.Cuts.{procs_of};
 ghost use Rattle.wire_board.specs.Seats.{opening_seats};
 ghost use Rattle.wire_lanes.specs.Lanes.{AreTrails};
 
-use crate::tests::{APART, CARDS, WAITING, commits, settled};
+use crate::tests::{APART, CARDS, WAITING, commits, settle};
 use std::alloc::Global;
 use std::sync::Wait;
 use std::test::Fail;
@@ -23,7 +23,7 @@ use wire_types::{Fault, Outcome, Proc};
 const MOST_TURNS: u32 = 1_000_000;
 
 /// A board with its seats, which are all of it.
-fn seated(alloc: Global, settled: &Settled) -> Result<(Board, Vec<Seat>), Fault>
+fn seat_all(alloc: Global, settled: &Settled) -> Result<(Board, Vec<Seat>), Fault>
     ensures plan { IfOk result (λ made. made.0.plan ≡ settled.now) }
     ensures seats { IfOk result (λ made. All (λ seat. seat.board ≡ made.0) made.1.items) }
 {
@@ -31,7 +31,7 @@ fn seated(alloc: Global, settled: &Settled) -> Result<(Board, Vec<Seat>), Fault>
 }
 
 /// The last seat.
-fn last_seat(board: &Board, seats: &mut Vec<Seat>) -> Option<Seat>
+fn take_last_seat(board: &Board, seats: &mut Vec<Seat>) -> Option<Seat>
     requires { All (λ seat. seat.board ≡ board.now) seats.old.items }
     ensures seat { IfSome result (λ seat. seat.board ≡ board.now) }
     ensures rest { All (λ seat. seat.board ≡ board.now) seats.new.items }
@@ -40,22 +40,22 @@ fn last_seat(board: &Board, seats: &mut Vec<Seat>) -> Option<Seat>
 }
 
 /// A board with the seats of its last two ranks; `None` where there are fewer.
-fn last_two(alloc: Global, settled: &Settled) -> Result<Option<(Board, Seat, Seat)>, Fault>
+fn seat_last_two(alloc: Global, settled: &Settled) -> Result<Option<(Board, Seat, Seat)>, Fault>
     ensures { IfOk result (λ o. IfSome o (λ t. (t.0.plan ≡ settled.now) × (t.1.board ≡ t.0) × (t.2.board ≡ t.0))) }
 {
-    let (board, seats) = seated(alloc, settled)?;
+    let (board, seats) = seat_all(alloc, settled)?;
     let mut seats = seats;
-    let Some(two) = last_seat(&board, &mut seats) else {
+    let Some(two) = take_last_seat(&board, &mut seats) else {
         return Ok(None);
     };
-    let Some(one) = last_seat(&board, &mut seats) else {
+    let Some(one) = take_last_seat(&board, &mut seats) else {
         return Ok(None);
     };
     Ok(Some((board, one, two)))
 }
 
 /// These two seats.
-fn pair(alloc: Global, one: Seat, two: Seat) -> Result<Vec<Seat>, Fault>
+fn pair_seats(alloc: Global, one: Seat, two: Seat) -> Result<Vec<Seat>, Fault>
     requires { one.board ≡ two.board }
     ensures { IfOk result (λ seats. All (λ seat. seat.board ≡ one.board) seats.items) }
 {
@@ -77,7 +77,7 @@ struct Shown {
 }
 
 /// The first seat does an event, if it shows that it can happen.
-fn advanced(board: &Board, seat: &mut Seat, settled: &Settled) -> bool
+fn advance_seat(board: &Board, seat: &mut Seat, settled: &Settled) -> bool
     requires { (seat.old.board ≡ board.now) × (board.now.plan ≡ settled.now) }
     ensures { seat.new.board ≡ board.now }
 {
@@ -89,19 +89,19 @@ fn advanced(board: &Board, seat: &mut Seat, settled: &Settled) -> bool
 }
 
 /// Steps through the board of a plan whose second rank waits for two events of the first.
-fn stepped(alloc: Global, settled: &Settled) -> Result<Option<Shown>, Fault> {
-    let Some((board, mut zero, mut one)) = last_two(alloc, settled)? else {
+fn step_through(alloc: Global, settled: &Settled) -> Result<Option<Shown>, Fault> {
+    let Some((board, mut zero, mut one)) = seat_last_two(alloc, settled)? else {
         return Ok(None);
     };
     let before = one.shows(settled);
-    if !advanced(&board, &mut zero, settled) || !advanced(&board, &mut zero, settled) {
+    if !advance_seat(&board, &mut zero, settled) || !advance_seat(&board, &mut zero, settled) {
         return Ok(None);
     }
     let unread = one.shows(settled);
     let rank = zero.rank();
     let read = board.read(&mut one, rank);
-    let after = advanced(&board, &mut one, settled);
-    let words = board.close(alloc, pair(alloc, zero, one)?)?;
+    let after = advance_seat(&board, &mut one, settled);
+    let words = board.close(alloc, pair_seats(alloc, zero, one)?)?;
     Ok(Some(Shown {
         before,
         unread,
@@ -115,8 +115,8 @@ fn stepped(alloc: Global, settled: &Settled) -> Result<Option<Shown>, Fault> {
 #[test]
 fn a_seat_shows_what_it_has_read(rt: HostRuntime) -> Result<(), Fail> {
     let alloc = rt.alloc();
-    let settled = settled(&rt, alloc, WAITING)?;
-    let stepped = stepped(alloc, &settled);
+    let settled = settle(&rt, alloc, WAITING)?;
+    let stepped = step_through(alloc, &settled);
     drop(settled);
     let Some(shown) = stepped? else {
         panic!(rt; "two ranks, the first of which waits for nothing")
@@ -142,29 +142,29 @@ fn comes(board: &Board, seat: &mut Seat, other: Proc) -> bool
 }
 
 /// A seat does one event, and then reads another rank's word until that is 1. Whether it saw that.
-fn saw_another(board: &Board, settled: &Settled, seat: Seat, other: Proc) -> bool
+fn step_and_look(board: &Board, settled: &Settled, seat: Seat, other: Proc) -> bool
     requires plan { board.now.plan ≡ settled.now }
     requires seat { seat.board ≡ board.now }
     requires other { other.number < procs_of board.now.plan }
 {
     let mut seat = seat;
-    advanced(board, &mut seat, settled) && comes(board, &mut seat, other)
+    advance_seat(board, &mut seat, settled) && comes(board, &mut seat, other)
 }
 
 /// Two threads, each with a seat. Whether each saw the other's event.
-fn both_saw<R: Threads + Wait + Sync>(
+fn let_both_look<R: Threads + Wait + Sync>(
     rt: &R,
     alloc: Global,
     settled: &Settled,
 ) -> Result<(bool, bool), Fault> {
-    let Some((board, zero, one)) = last_two(alloc, settled)? else {
+    let Some((board, zero, one)) = seat_last_two(alloc, settled)? else {
         return Ok((false, false));
     };
     let (first, second) = (zero.rank(), one.rank());
     Ok(join(
         rt,
-        || saw_another(&board, settled, zero, second),
-        || saw_another(&board, settled, one, first),
+        || step_and_look(&board, settled, zero, second),
+        || step_and_look(&board, settled, one, first),
     ))
 }
 
@@ -172,8 +172,8 @@ fn both_saw<R: Threads + Wait + Sync>(
 #[test]
 fn each_seat_sees_the_others_event(rt: HostRuntime) -> Result<(), Fail> {
     let alloc = rt.alloc();
-    let settled = settled(&rt, alloc, APART)?;
-    let saw = both_saw(&rt, alloc, &settled);
+    let settled = settle(&rt, alloc, APART)?;
+    let saw = let_both_look(&rt, alloc, &settled);
     drop(settled);
     assert_eq!(rt; saw?, (true, true));
     Ok(())
@@ -211,7 +211,7 @@ fn lanes_are_served<R: Wait>(rt: &R, alloc: Global, settled: &Settled) -> Result
 #[test]
 fn a_lane_is_served_once_it_is_ready(rt: HostRuntime) -> Result<(), Fail> {
     let alloc = rt.alloc();
-    let settled = settled(&rt, alloc, WAITING)?;
+    let settled = settle(&rt, alloc, WAITING)?;
     let served = lanes_are_served(&rt, alloc, &settled);
     drop(settled);
     assert!(rt; served?);
@@ -219,7 +219,7 @@ fn a_lane_is_served_once_it_is_ready(rt: HostRuntime) -> Result<(), Fail> {
 }
 
 /// One worker serves a round of one deque in this thread. Answers how many events that were.
-fn worked_round<R: Wait>(
+fn work_round<R: Wait>(
     rt: &R,
     alloc: Global,
     lanes: &Lanes<'_>,
@@ -234,7 +234,7 @@ fn worked_round<R: Wait>(
 }
 
 /// One worker serves a round over the lanes of a board.
-fn worked_lanes<R: Wait>(
+fn work_lanes<R: Wait>(
     rt: &R,
     alloc: Global,
     board: &Board,
@@ -245,15 +245,15 @@ fn worked_lanes<R: Wait>(
     requires seats { seats.items ≡ opening_seats board.now }
 {
     let lanes = Lanes::new(alloc, board, settled, seats)?;
-    let events = worked_round(rt, alloc, &lanes, settled.plan().process_count())?;
+    let events = work_round(rt, alloc, &lanes, settled.plan().process_count())?;
     let trails = lanes.trails(alloc, settled)?;
     Ok((events, trails))
 }
 
 /// One worker serves a round of a settled plan in this thread.
-fn worked<R: Wait>(rt: &R, alloc: Global, settled: &Settled) -> Result<Left, Fault> {
+fn work_alone<R: Wait>(rt: &R, alloc: Global, settled: &Settled) -> Result<Left, Fault> {
     let (board, seats) = Board::new(alloc, settled)?;
-    let (events, trails) = worked_lanes(rt, alloc, &board, settled, seats)?;
+    let (events, trails) = work_lanes(rt, alloc, &board, settled, seats)?;
     let words = board.close(alloc, Vec::new(alloc))?;
     Ok(Left {
         events,
@@ -275,8 +275,8 @@ fn are_as_long(trails: &[Vec<Fate>], lengths: &[usize]) -> bool {
 #[test]
 fn one_worker_serves_a_round_over_the_board(rt: HostRuntime) -> Result<(), Fail> {
     let alloc = rt.alloc();
-    let settled = settled(&rt, alloc, WAITING)?;
-    let left = worked(&rt, alloc, &settled);
+    let settled = settle(&rt, alloc, WAITING)?;
+    let left = work_alone(&rt, alloc, &settled);
     drop(settled);
     let Left {
         events,
@@ -297,8 +297,8 @@ fn one_worker_serves_a_round_over_the_board(rt: HostRuntime) -> Result<(), Fail>
 fn one_worker_serves_256_ranks_over_the_board(rt: HostRuntime) -> Result<(), Fail> {
     let alloc = rt.alloc();
     let file = commits(alloc)?;
-    let settled = settled(&rt, alloc, file.as_bytes())?;
-    let left = worked(&rt, alloc, &settled);
+    let settled = settle(&rt, alloc, file.as_bytes())?;
+    let left = work_alone(&rt, alloc, &settled);
     drop(settled);
     let left = left?;
     assert_eq!(rt; left.events, 256);
@@ -310,7 +310,7 @@ fn one_worker_serves_256_ranks_over_the_board(rt: HostRuntime) -> Result<(), Fai
 const MOST_PASSES: u32 = 64;
 
 /// Serves all ranks once. Answers how many events that were.
-fn served_once<R: Wait>(rt: &R, lanes: &Lanes<'_>, processes: u32) -> usize {
+fn serve_once<R: Wait>(rt: &R, lanes: &Lanes<'_>, processes: u32) -> usize {
     let mut events = 0usize;
     for number in 0..processes {
         events = events.saturating_add(lanes.serve(rt, Proc::new(number)));
@@ -319,16 +319,16 @@ fn served_once<R: Wait>(rt: &R, lanes: &Lanes<'_>, processes: u32) -> usize {
 }
 
 /// Serves all ranks, again and again. Answers how many events that were.
-fn served_often<R: Wait>(rt: &R, lanes: &Lanes<'_>, processes: u32) -> usize {
+fn serve_often<R: Wait>(rt: &R, lanes: &Lanes<'_>, processes: u32) -> usize {
     let mut events = 0usize;
     for _ in 0..MOST_PASSES {
-        events = events.saturating_add(served_once(rt, lanes, processes));
+        events = events.saturating_add(serve_once(rt, lanes, processes));
     }
     events
 }
 
 /// Two threads serve the lanes of a board. Answers how many events that were, and the trails.
-fn served_by_two<R: Threads + Wait + Sync>(
+fn serve_by_two<R: Threads + Wait + Sync>(
     rt: &R,
     alloc: Global,
     board: &Board,
@@ -343,21 +343,21 @@ fn served_by_two<R: Threads + Wait + Sync>(
     let processes = settled.plan().process_count();
     let (one, two) = join(
         rt,
-        || served_often(rt, &lanes, processes),
-        || served_often(rt, &lanes, processes),
+        || serve_often(rt, &lanes, processes),
+        || serve_often(rt, &lanes, processes),
     );
     let trails = lanes.trails(alloc, settled)?;
     Ok((one.saturating_add(two), trails))
 }
 
 /// What the trails and the words tell, once two threads have served the lanes, and how many events these did.
-fn told_by_two<R: Threads + Wait + Sync>(
+fn tell_by_two<R: Threads + Wait + Sync>(
     rt: &R,
     alloc: Global,
     settled: &Settled,
 ) -> Result<(usize, Option<Outcome>), Fault> {
     let (board, seats) = Board::new(alloc, settled)?;
-    let served = served_by_two(rt, alloc, &board, settled, seats);
+    let served = serve_by_two(rt, alloc, &board, settled, seats);
     let words = board.close(alloc, Vec::new(alloc))?;
     match served? {
         (events, Some(trails)) => Ok((
@@ -372,8 +372,8 @@ fn told_by_two<R: Threads + Wait + Sync>(
 #[test]
 fn two_threads_serve_the_lanes(rt: HostRuntime) -> Result<(), Fail> {
     let alloc = rt.alloc();
-    let settled = settled(&rt, alloc, CARDS)?;
-    let told = told_by_two(&rt, alloc, &settled);
+    let settled = settle(&rt, alloc, CARDS)?;
+    let told = tell_by_two(&rt, alloc, &settled);
     let total = settled.plan().event_total();
     let plain = plain_outcome(alloc, settled.plan());
     drop(settled);

@@ -1,6 +1,6 @@
 //! What the fate of an event is.
 
-use crate::tests::settled;
+use crate::tests::settle;
 use std::alloc::Global;
 use std::test::Fail;
 use std::thread::Threads;
@@ -61,7 +61,7 @@ fn fate_in<R: Threads + Sync>(
     proc: u32,
     at: u32,
 ) -> Result<Fate, Fault> {
-    let settled = settled(rt, alloc, file)?;
+    let settled = settle(rt, alloc, file)?;
     let fate = settled.fate(Event {
         proc: Proc::new(proc),
         at,

@@ -9,7 +9,7 @@ use wire_types::Proc;
 const MOST_TURNS: u32 = 1_000_000;
 
 /// Waits for a flag. Answers whether it came.
-fn came(flag: &AtomicBool) -> bool {
+fn wait_for_flag(flag: &AtomicBool) -> bool {
     for _ in 0..MOST_TURNS {
         if flag.load(Ordering::SeqCst) {
             return true;
@@ -45,7 +45,7 @@ impl Gate for Meeting {
             _ => return,
         };
         mine.store(true, Ordering::SeqCst);
-        if !came(other) {
+        if !wait_for_flag(other) {
             self.missed.store(true, Ordering::SeqCst);
         }
     }
@@ -71,7 +71,7 @@ impl Gate for Later {
     fn pass(&self, _worker: usize, proc: Proc) {
         match proc.number {
             0 => {
-                if !came(&self.third) {
+                if !wait_for_flag(&self.third) {
                     self.missed.store(true, Ordering::SeqCst);
                 }
             }

@@ -3,7 +3,7 @@
 ghost use Rattle.std.specs.Prelude.{IfOk};
 ghost use Rattle.wire_content.specs.Planned.{plan_of};
 ghost use Rattle.wire_marks.specs.Clocks.{AreMarks};
-ghost use Rattle.wire_races.specs.Findings.{AreFindings};
+ghost use Rattle.wire_findings.specs.Findings.{AreFindings};
 
 use crate::gates::{Counter, Later, Meeting};
 use std::alloc::Global;
@@ -13,10 +13,11 @@ use std::test::Fail;
 use std::thread::Threads;
 use wire_collect::{run_any, run_workers};
 use wire_core::Core;
+use wire_findings::Finding;
 use wire_locked::LockedCore;
 use wire_marks::Marks;
 use wire_plan::Plan;
-use wire_races::{Finding, Settled, findings};
+use wire_races::{Settled, findings};
 use wire_sched::{Gate, OpenGate, Round, work_locked};
 use wire_script::read;
 use wire_types::{CallEnd, Fault, MemorySink, MemorySource, Outcome, Proc, Status};
@@ -158,7 +159,7 @@ pub(crate) fn commits(alloc: Global) -> Result<String, Fault> {
 }
 
 /// Runs a file.
-fn ran<R: Threads + Wait + Sync, G: Gate + Sync>(
+fn run_file<R: Threads + Wait + Sync, G: Gate + Sync>(
     rt: &R,
     alloc: Global,
     file: &[u8],
@@ -172,7 +173,7 @@ fn ran<R: Threads + Wait + Sync, G: Gate + Sync>(
 }
 
 /// The marks and the findings of a plan.
-fn judged<R: Threads + Sync>(
+fn judge<R: Threads + Sync>(
     rt: &R,
     alloc: Global,
     plan: &Plan,
@@ -186,13 +187,13 @@ fn judged<R: Threads + Sync>(
 }
 
 /// A file as a settled plan. Where something is found, the fault is `NotReady`.
-pub(crate) fn settled<R: Threads + Sync>(
+pub(crate) fn settle<R: Threads + Sync>(
     rt: &R,
     alloc: Global,
     file: &[u8],
 ) -> Result<Settled, Fault> {
     let plan = plan_of_file(alloc, file)?;
-    match judged(rt, alloc, &plan) {
+    match judge(rt, alloc, &plan) {
         Ok((marks, found)) => match Settled::try_new(plan, marks, found) {
             Ok(settled) => Ok(settled),
             Err(unsettled) => {
@@ -208,14 +209,14 @@ pub(crate) fn settled<R: Threads + Sync>(
 }
 
 /// Runs a file as a settled plan.
-fn ran_settled<R: Threads + Wait + Sync, G: Gate + Sync>(
+fn run_settled<R: Threads + Wait + Sync, G: Gate + Sync>(
     rt: &R,
     alloc: Global,
     file: &[u8],
     workers: usize,
     gate: &G,
 ) -> Result<Outcome, Fault> {
-    let settled = settled(rt, alloc, file)?;
+    let settled = settle(rt, alloc, file)?;
     let ran = run_workers(rt, alloc, &settled, workers, gate);
     drop(settled);
     ran
@@ -253,7 +254,7 @@ fn last_status(outcome: &Outcome, process: usize) -> Option<Status> {
 }
 
 /// One worker serves a round of one deque in this thread. Answers how many steps it took.
-fn served_round<R: Wait>(
+fn serve_round<R: Wait>(
     rt: &R,
     alloc: Global,
     locked: &LockedCore<'_>,
@@ -268,10 +269,10 @@ fn served_round<R: Wait>(
 }
 
 /// One worker serves a round of a plan in this thread: how many steps it answers, and the history afterwards.
-fn served<R: Wait>(rt: &R, alloc: Global, plan: &Plan) -> Result<(usize, Vec<Proc>), Fault> {
+fn serve_plan<R: Wait>(rt: &R, alloc: Global, plan: &Plan) -> Result<(usize, Vec<Proc>), Fault> {
     let core = Core::new(alloc, plan)?;
     let locked = LockedCore::new(core);
-    let steps = served_round(rt, alloc, &locked, plan.process_count());
+    let steps = serve_round(rt, alloc, &locked, plan.process_count());
     let core = locked.into_core();
     let history = Vec::from_slice(alloc, core.history());
     drop(core);
@@ -279,9 +280,9 @@ fn served<R: Wait>(rt: &R, alloc: Global, plan: &Plan) -> Result<(usize, Vec<Pro
 }
 
 /// The same of a file.
-fn served_file<R: Wait>(rt: &R, alloc: Global, file: &[u8]) -> Result<(usize, Vec<Proc>), Fault> {
+fn serve_file<R: Wait>(rt: &R, alloc: Global, file: &[u8]) -> Result<(usize, Vec<Proc>), Fault> {
     let plan = plan_of_file(alloc, file)?;
-    let served = served(rt, alloc, &plan);
+    let served = serve_plan(rt, alloc, &plan);
     drop(plan);
     served
 }
@@ -291,12 +292,12 @@ fn served_file<R: Wait>(rt: &R, alloc: Global, file: &[u8]) -> Result<(usize, Ve
 fn two_workers_meet(rt: HostRuntime) -> Result<(), Fail> {
     let alloc = rt.alloc();
     let gate = Meeting::new();
-    let (outcome, history) = ran(&rt, alloc, APART, 2, &gate)?;
+    let (outcome, history) = run_file(&rt, alloc, APART, 2, &gate)?;
     assert!(rt; !gate.missed.load(Ordering::SeqCst));
     assert_eq!(rt; history.len(), 4);
     assert_eq!(rt; outcome.waiting, 0);
     let gate = Meeting::new();
-    let settled = ran_settled(&rt, alloc, APART, 2, &gate)?;
+    let settled = run_settled(&rt, alloc, APART, 2, &gate)?;
     assert!(rt; !gate.missed.load(Ordering::SeqCst));
     assert!(rt; settled.rows == outcome.rows && settled.waiting == outcome.waiting);
     Ok(())
@@ -322,7 +323,7 @@ fn workers_of_a_rehearsal_meet(rt: HostRuntime) -> Result<(), Fail> {
 #[test]
 fn the_history_is_what_ran(rt: HostRuntime) -> Result<(), Fail> {
     let gate = Later::new();
-    let (outcome, history) = ran(&rt, rt.alloc(), RACING, 2, &gate)?;
+    let (outcome, history) = run_file(&rt, rt.alloc(), RACING, 2, &gate)?;
     assert!(rt; !gate.missed.load(Ordering::SeqCst));
     assert!(rt; are(history.as_slice(), [1u32, 0, 0].as_slice()));
     assert_eq!(rt; first_status(&outcome, 1), Some(Status::NotFound));
@@ -333,11 +334,11 @@ fn the_history_is_what_ran(rt: HostRuntime) -> Result<(), Fail> {
 #[test]
 fn one_worker_serves_a_round(rt: HostRuntime) -> Result<(), Fail> {
     let alloc = rt.alloc();
-    let (steps, history) = served_file(&rt, alloc, WAITING)?;
+    let (steps, history) = serve_file(&rt, alloc, WAITING)?;
     assert_eq!(rt; steps, 3);
     assert!(rt; are(history.as_slice(), [0u32, 0, 1].as_slice()));
     let file = commits(alloc)?;
-    let (steps, history) = served_file(&rt, alloc, file.as_bytes())?;
+    let (steps, history) = serve_file(&rt, alloc, file.as_bytes())?;
     assert_eq!(rt; steps, 256);
     assert_eq!(rt; history.len(), 256);
     Ok(())
@@ -355,12 +356,12 @@ fn the_collector_serves_nothing(rt: HostRuntime) -> Result<(), Fail> {
         (CARDS, 2),
     ] {
         let gate = Counter::of(Proc::new(0));
-        let (outcome, _) = ran(&rt, alloc, file, 1, &gate)?;
+        let (outcome, _) = run_file(&rt, alloc, file, 1, &gate)?;
         assert_eq!(rt; outcome.waiting, 0);
         assert_eq!(rt; gate.passes.load(Ordering::SeqCst), rounds);
         assert_eq!(rt; gate.collector.load(Ordering::SeqCst), 0);
         let gate = Counter::of(Proc::new(0));
-        let settled = ran_settled(&rt, alloc, file, 1, &gate)?;
+        let settled = run_settled(&rt, alloc, file, 1, &gate)?;
         assert_eq!(rt; settled.waiting, 0);
         assert_eq!(rt; gate.passes.load(Ordering::SeqCst), rounds);
         assert_eq!(rt; gate.collector.load(Ordering::SeqCst), 0);
@@ -375,11 +376,11 @@ fn turns_save_rounds(rt: HostRuntime) -> Result<(), Fail> {
     let alloc = rt.alloc();
     let last = Proc::new(4);
     let locked = Counter::of(last);
-    let (outcome, _) = ran(&rt, alloc, IN_A_ROW, 1, &locked)?;
+    let (outcome, _) = run_file(&rt, alloc, IN_A_ROW, 1, &locked)?;
     assert_eq!(rt; outcome.waiting, 0);
     assert_eq!(rt; locked.passes.load(Ordering::SeqCst), 3);
     let board = Counter::of(last);
-    let settled = ran_settled(&rt, alloc, IN_A_ROW, 1, &board)?;
+    let settled = run_settled(&rt, alloc, IN_A_ROW, 1, &board)?;
     assert_eq!(rt; settled.waiting, 0);
     assert_eq!(rt; board.passes.load(Ordering::SeqCst), 1);
     Ok(())
@@ -390,14 +391,14 @@ fn turns_save_rounds(rt: HostRuntime) -> Result<(), Fail> {
 fn numbers_of_workers(rt: HostRuntime) -> Result<(), Fail> {
     let alloc = rt.alloc();
     for workers in [0usize, 65, usize::MAX] {
-        let answer = ran(&rt, alloc, WAITING, workers, &OpenGate);
+        let answer = run_file(&rt, alloc, WAITING, workers, &OpenGate);
         assert!(rt; matches!(answer, Err(Fault::Workers)));
-        let answer = ran_settled(&rt, alloc, WAITING, workers, &OpenGate);
+        let answer = run_settled(&rt, alloc, WAITING, workers, &OpenGate);
         assert!(rt; matches!(answer, Err(Fault::Workers)));
     }
     for workers in [1usize, 2, 7, 64] {
-        let (outcome, _) = ran(&rt, alloc, IN_A_ROW, workers, &OpenGate)?;
-        let settled = ran_settled(&rt, alloc, IN_A_ROW, workers, &OpenGate)?;
+        let (outcome, _) = run_file(&rt, alloc, IN_A_ROW, workers, &OpenGate)?;
+        let settled = run_settled(&rt, alloc, IN_A_ROW, workers, &OpenGate)?;
         assert!(rt; settled.rows == outcome.rows && settled.waiting == outcome.waiting);
     }
     Ok(())
@@ -408,8 +409,8 @@ fn numbers_of_workers(rt: HostRuntime) -> Result<(), Fail> {
 fn workers_take_names_away(rt: HostRuntime) -> Result<(), Fail> {
     let alloc = rt.alloc();
     for workers in [1usize, 2, 7, 64] {
-        let (outcome, _) = ran(&rt, alloc, SWEPT, workers, &OpenGate)?;
-        let settled = ran_settled(&rt, alloc, SWEPT, workers, &OpenGate)?;
+        let (outcome, _) = run_file(&rt, alloc, SWEPT, workers, &OpenGate)?;
+        let settled = run_settled(&rt, alloc, SWEPT, workers, &OpenGate)?;
         assert!(rt; settled.rows == outcome.rows && settled.waiting == outcome.waiting);
         assert_eq!(rt; last_status(&settled, 1), Some(Status::Success));
     }
@@ -421,8 +422,8 @@ fn workers_take_names_away(rt: HostRuntime) -> Result<(), Fail> {
 fn workers_keep_what_gets_bring(rt: HostRuntime) -> Result<(), Fail> {
     let alloc = rt.alloc();
     for workers in [1usize, 2, 7, 64] {
-        let (outcome, _) = ran(&rt, alloc, KEPT, workers, &OpenGate)?;
-        let settled = ran_settled(&rt, alloc, KEPT, workers, &OpenGate)?;
+        let (outcome, _) = run_file(&rt, alloc, KEPT, workers, &OpenGate)?;
+        let settled = run_settled(&rt, alloc, KEPT, workers, &OpenGate)?;
         assert!(rt; settled.rows == outcome.rows && settled.waiting == outcome.waiting);
         assert_eq!(rt; last_status(&settled, 2), Some(Status::Success));
     }

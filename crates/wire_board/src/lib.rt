@@ -11,4 +11,4 @@ mod shown;
 
 pub use board::Board;
 pub use seat::Seat;
-pub use shown::{first_source, shown_fate, skip_shown};
+pub use shown::{find_next_fate, first_source, skip_shown};

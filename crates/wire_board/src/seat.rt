@@ -7,7 +7,7 @@ ghost use Rattle.wire_board.specs.Cuts.{procs_of, shows_event, skip_shown};
 ghost use Rattle.wire_board.specs.Seats.{SeatIs, place_of, ShowsNext};
 
 use crate::hold::TableSeat;
-use crate::shown::{shown_fate, shows_event, skip_shown};
+use crate::shown::{find_next_fate, shows_event, skip_shown};
 use std::marker::Model;
 use wire_plan::Sources;
 use wire_races::Settled;
@@ -77,6 +77,6 @@ impl Seat {
         requires { self.now.board.plan ≡ settled.now }
         ensures { IsTrue result ↔ ShowsNext self.now }
     {
-        shown_fate(settled, self.known.as_slice(), self.rank).is_some()
+        find_next_fate(settled, self.known.as_slice(), self.rank).is_some()
     }
 }

@@ -113,7 +113,7 @@ fn next_event(known: &[u64], plan: &Plan, rank: Proc) -> Option<Event>
 /// The fate of the next event of a rank, where these positions show that it can happen: there is one, all
 /// its sources are done, and its fate isn't `Waits`. Else `None`. It takes no memory, and looks at each
 /// source once.
-pub fn shown_fate(settled: &Settled, known: &[u64], rank: Proc) -> Option<Fate>
+pub fn find_next_fate(settled: &Settled, known: &[u64], rank: Proc) -> Option<Fate>
     ensures ready { (result ≢ None) ↔ ShowsNextIn (plan_of settled.now) (hold settled.now rank.number known.now) }
     ensures fate { IfSome result (λ fate. IsFateOf (plan_of settled.now) (next_in (hold settled.now rank.number known.now)) fate × (fate ≢ Fate.Waits)) }
 {

@@ -76,7 +76,7 @@ fn numbers(rows: &[[u32; 16]], row: u32) -> [u32; 16]
 }
 
 /// The numbers of a row with one of them changed.
-fn changed(rows: &[[u32; 16]], row: u32, place: usize, number: u32) -> [u32; 16]
+fn change_number(rows: &[[u32; 16]], row: u32, place: usize, number: u32) -> [u32; 16]
     requires there { row < length rows.now }
     requires place { place < 16 }
     ensures { (i : ℕ) → slice_index result i ≡ (if i == place then number else entry rows.now row i) }
@@ -134,12 +134,12 @@ pub(crate) fn put(
     let at = place(process, below);
     let old = entry(rows, tree, at);
     let new = put(rows, below, old, place_below(process, below), number)?;
-    let row = changed(rows, tree, at, new);
+    let row = change_number(rows, tree, at, new);
     add(rows, row)
 }
 
 /// The greater of two numbers at each place.
-fn greater(lefts: &[u32; 16], rights: &[u32; 16]) -> [u32; 16]
+fn greater_numbers(lefts: &[u32; 16], rights: &[u32; 16]) -> [u32; 16]
     ensures width { length result ≡ 16 }
     ensures each { (i : ℕ) → i < 16 → slice_index result i ≡ max (slice_index lefts.now i) (slice_index rights.now i) }
 {
@@ -178,7 +178,7 @@ pub(crate) fn join(
     let lefts = numbers(rows, left);
     let rights = numbers(rows, right);
     if level == 1 {
-        return row_of(rows, greater(&lefts, &rights), left, right);
+        return row_of(rows, greater_numbers(&lefts, &rights), left, right);
     }
     let mut joined = [0; 16];
     'each: for i in 0..16 {
@@ -210,7 +210,7 @@ pub(crate) fn raise_block(
     let above = levels - 1;
     let lowest = number(rows, above, root, block);
     let stands = numbers(rows, lowest);
-    let raised = row_of(rows, greater(&stands, least), lowest, lowest)?;
+    let raised = row_of(rows, greater_numbers(&stands, least), lowest, lowest)?;
     if raised == lowest {
         return Ok(root);
     }

@@ -30,7 +30,7 @@ fn may_work(workers: usize) -> bool
 }
 
 // The core, where it is of this plan and no process is ready; else a new one of the plan, run to its end.
-fn complete<'a, G: Gate>(
+fn end_core<'a, G: Gate>(
     alloc: Global,
     plan: &'a Plan,
     core: Core<'a>,
@@ -91,7 +91,7 @@ pub fn run_any<R: Threads + Wait + Sync, G: Gate + Sync>(
     }
     let core = Core::new(alloc, plan)?;
     let core = run_core(rt, alloc, core, workers, gate)?;
-    let core = complete(alloc, plan, core, workers, gate)?;
+    let core = end_core(alloc, plan, core, workers, gate)?;
     let ran = tell_run(alloc, &core);
     drop(core);
     ran

@@ -24,7 +24,7 @@ fn serve_lowest<G: Gate>(core: &mut Core<'_>, collector: usize, gate: &G) -> usi
 }
 
 // One round, and where it took no step, the lowest process that is ready. Gives the core back, with the number of steps.
-fn locked_round<'a, R: Threads + Wait + Sync, G: Gate + Sync>(
+fn run_locked_round<'a, R: Threads + Wait + Sync, G: Gate + Sync>(
     rt: &R,
     core: Core<'a>,
     dealt: Dealt,
@@ -71,7 +71,7 @@ pub(crate) fn run_core<'a, R: Threads + Wait + Sync, G: Gate + Sync>(
                     passes,
                     collector: workers,
                 };
-                let (next, steps) = locked_round(rt, core, dealt, gate);
+                let (next, steps) = run_locked_round(rt, core, dealt, gate);
                 core = next;
                 wanted = workers_after(steps, workers);
             }

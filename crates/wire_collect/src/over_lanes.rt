@@ -39,7 +39,7 @@ fn serve_lowest<R: Wait, G: Gate>(rt: &R, lanes: &Lanes<'_>, settings: &Settings
 }
 
 // One round, and where it did no event, the lowest process that is ready. Answers how many events that were.
-fn lanes_round<R: Threads + Wait + Sync, G: Gate + Sync>(
+fn run_lanes_round<R: Threads + Wait + Sync, G: Gate + Sync>(
     rt: &R,
     lanes: &Lanes<'_>,
     dealt: Dealt,
@@ -77,7 +77,7 @@ fn run_lanes<R: Threads + Wait + Sync, G: Gate + Sync>(
             passes,
             collector: settings.workers,
         };
-        let events = lanes_round(rt, lanes, dealt, settings);
+        let events = run_lanes_round(rt, lanes, dealt, settings);
         done = done.saturating_add(events);
         if events == 0 || done >= total {
             break;
@@ -88,7 +88,7 @@ fn run_lanes<R: Threads + Wait + Sync, G: Gate + Sync>(
 }
 
 // The trails that the lanes of these seats have once they were served.
-fn served_trails<R: Threads + Wait + Sync, G: Gate + Sync>(
+fn serve_seats<R: Threads + Wait + Sync, G: Gate + Sync>(
     rt: &R,
     alloc: Global,
     board: &Board,
@@ -124,7 +124,7 @@ pub(crate) fn board_outcome<R: Threads + Wait + Sync, G: Gate + Sync>(
     ensures memory { IsOkUnless result Fault.Memory }
 {
     let (board, seats) = Board::new(alloc, settings.settled)?;
-    let trails = served_trails(rt, alloc, &board, seats, settings);
+    let trails = serve_seats(rt, alloc, &board, seats, settings);
     let words = board.close(alloc, Vec::new(alloc));
     let Some(trails) = trails? else {
         return Ok(None);

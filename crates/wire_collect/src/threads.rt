@@ -25,7 +25,7 @@ impl Promise<(Pass, usize)> for Returned {
 }
 
 // What a worker does. Gives its pass back, with the number of steps taken.
-fn worked<R: Wait, W: Works>(rt: &R, works: &W, pass: Pass) -> (Pass, usize)
+fn do_work<R: Wait, W: Works>(rt: &R, works: &W, pass: Pass) -> (Pass, usize)
     requires { IsPassOf (W.dealt works.now) pass }
     ensures { IsPassOf (W.dealt works.now) result.0 × (worker_of result.0 ≡ worker_of pass) }
 {
@@ -36,7 +36,7 @@ fn worked<R: Wait, W: Works>(rt: &R, works: &W, pass: Pass) -> (Pass, usize)
 
 // What a worker's thread does. If no thread could be started, the thread that tried calls this, and it only gives the pass
 // back.
-fn thread_work<R: Wait, W: Works>(
+fn do_thread_work<R: Wait, W: Works>(
     rt: &R,
     works: &W,
     refused: &AtomicBool,
@@ -48,7 +48,7 @@ fn thread_work<R: Wait, W: Works>(
     if refused.load(Ordering::SeqCst) {
         return (pass, 0);
     }
-    worked(rt, works, pass)
+    do_work(rt, works, pass)
 }
 
 // Starts one worker. Where no thread can be started, its pass comes back.
@@ -67,7 +67,7 @@ fn start_worker<'s, E, R: Threads + Wait + Sync, W: Works + Sync>(
         round: Snapshot::of(works.round()),
         worker: pass.worker(),
     };
-    let started = scope.spawn_with(promise, move || thread_work(rt, works, refused, pass));
+    let started = scope.spawn_with(promise, move || do_thread_work(rt, works, refused, pass));
     match started {
         Ok(handle) => Ok(handle),
         Err(left_out) => {
@@ -79,7 +79,7 @@ fn start_worker<'s, E, R: Threads + Wait + Sync, W: Works + Sync>(
 }
 
 // Takes the last pass off.
-fn last_pass<W: Works>(works: &W, passes: &mut Vec<Pass>) -> Option<Pass>
+fn take_last_pass<W: Works>(works: &W, passes: &mut Vec<Pass>) -> Option<Pass>
     requires { AreFirstPasses (W.dealt works.now) passes.old.items }
     ensures none { IfNone result (vec_len passes.new ≡ vec_len passes.old) }
     ensures pass { IfSome result (λ p. IsPassOf (W.dealt works.now) p × (worker_of p ≡ vec_len passes.new)) }
@@ -91,7 +91,7 @@ fn last_pass<W: Works>(works: &W, passes: &mut Vec<Pass>) -> Option<Pass>
 }
 
 // Puts the last pass back.
-fn with_last<W: Works>(works: &W, passes: Vec<Pass>, pass: Pass) -> Vec<Pass>
+fn put_back<W: Works>(works: &W, passes: Vec<Pass>, pass: Pass) -> Vec<Pass>
     requires passes { AreFirstPasses (W.dealt works.now) passes.items }
     requires pass { IsPassOf (W.dealt works.now) pass × (worker_of pass ≡ vec_len passes) }
     requires room { vec_len passes < vec_capacity passes }
@@ -118,15 +118,15 @@ pub(crate) fn run_round<R: Threads + Wait + Sync, W: Works + Sync>(
     ensures room { vec_capacity result.0 ≡ vec_capacity passes }
 {
     let mut passes = passes;
-    let Some(pass) = last_pass(works, &mut passes) else {
+    let Some(pass) = take_last_pass(works, &mut passes) else {
         return (passes, 0);
     };
     if passes.is_empty() {
-        let (pass, steps) = worked(rt, works, pass);
-        return (with_last(works, passes, pass), steps);
+        let (pass, steps) = do_work(rt, works, pass);
+        return (put_back(works, passes, pass), steps);
     }
     let (passes, pass, steps) = run_beside(rt, works, passes, pass);
-    (with_last(works, passes, pass), steps)
+    (put_back(works, passes, pass), steps)
 }
 
 // Starts the worker of the last pass, lets those before it serve pieces meanwhile, and joins it.

@@ -99,7 +99,7 @@ pub(crate) fn most_given<'a>(found: &ArgMatches<'a>) -> &'a str
 }
 
 /// What the matches of a command ask for.
-fn asked_by<'a>(
+fn parse_command<'a>(
     alloc: Global,
     command: &'a str,
     found: &ArgMatches<'a>,
@@ -123,7 +123,7 @@ fn asked_by<'a>(
 }
 
 /// The command that the matches name, with its own, where it has all that it needs.
-fn whole<'m, 'a>(matches: &'m ArgMatches<'a>) -> Option<(&'a str, &'m ArgMatches<'a>)>
+fn find_command<'m, 'a>(matches: &'m ArgMatches<'a>) -> Option<(&'a str, &'m ArgMatches<'a>)>
     ensures met { IfSome result (λ m. subcommand_rows_of matches.now ≡ Some (m.0.now, rows_of (found_of m.1.now))) }
     ensures needed { IfSome result (λ m. spec.has_needed m.0.now (rows_of (found_of m.1.now)) ≡ true) }
     ensures none { IfNone result (spec.is_whole (subcommand_rows_of matches.now) ≡ false) }
@@ -156,14 +156,14 @@ pub(crate) fn match_words<'a>(alloc: Global, words: &'a [&'a str]) -> Result<Arg
 }
 
 /// What the command asks for that the matches name.
-fn asked_in<'a>(alloc: Global, matches: &ArgMatches<'a>) -> Result<Asked<'a>, Error>
+fn parse_matches<'a>(alloc: Global, matches: &ArgMatches<'a>) -> Result<Asked<'a>, Error>
     ensures ok { IfOk result (λ asked. (m : Text × List Row) × (subcommand_rows_of matches.now ≡ Some m) × (spec.has_needed m.0 m.1 ≡ true)
         × SaidBy m.0 m.1 asked) }
     ensures err { IfErr result (λ e. (kind_of e ≡ ErrorKind.OutOfMemory)
         ⊎ ((kind_of e ≡ ErrorKind.MissingRequiredArgument) × (spec.is_whole (subcommand_rows_of matches.now) ≡ false))) }
 {
-    match whole(matches) {
-        Some((command, found)) => Ok(asked_by(alloc, command, found)?),
+    match find_command(matches) {
+        Some((command, found)) => Ok(parse_command(alloc, command, found)?),
         None => Err(tell_missing(alloc)?),
     }
 }
@@ -179,7 +179,7 @@ pub fn asked<'a>(alloc: Global, words: &'a [&'a str]) -> Result<Asked<'a>, Error
     ensures err { IfErr result (λ e. RefusedFor (map (λ w. w.now) words.entry.now) e) }
 {
     let matches = match_words(alloc, words)?;
-    let asked = asked_in(alloc, &matches);
+    let asked = parse_matches(alloc, &matches);
     drop(matches);
     asked
 }

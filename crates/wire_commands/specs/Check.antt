@@ -10,8 +10,8 @@ use Rattle.wire_runs.specs.Races.{IsSettled}
 use Rattle.wire_runs.specs.Findings as runs
 use Rattle.wire_runs.specs.Plan.{Plan}
 use Rattle.wire_runs.specs.Laws.{HasOneEnd, AreUnordered}
-use Rattle.wire_races.specs.declared.finding.Finding.{Finding}
-use Rattle.wire_races.specs.Findings.{AreFindings, all_shown}
+use Rattle.wire_findings.specs.declared.finding.Finding.{Finding}
+use Rattle.wire_findings.specs.Findings.{AreFindings, all_shown}
 use Rattle.wire_report.specs.Findings.{findings_form}
 use Rattle.wire_script.specs.declared.Size.{Size}
 use Rattle.wire_commands.specs.declared.checking.Ended.{Ended}

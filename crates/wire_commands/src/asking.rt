@@ -13,14 +13,14 @@ use crate::plain_run::read_scripts;
 use std::alloc::Global;
 use wire_content::Scripts;
 use wire_marks::Marks;
-use wire_order::{Question, calls_asked};
+use wire_order::{Question, read_question};
 use wire_plan::Plan;
 use wire_report::{chain_text, write_text};
 use wire_script::Size;
 use wire_types::{CallAt, Fault, Sink, Source};
 
 /// The two calls that the words of a question name.
-pub fn calls_named(
+pub fn read_pair(
     alloc: Global,
     scripts: &Scripts,
     words: [&str; 4],
@@ -36,7 +36,7 @@ pub fn calls_named(
         other_proc: words[2],
         other_number: words[3],
     };
-    calls_asked(alloc, scripts, question)
+    read_question(alloc, scripts, question)
 }
 
 /// The text of the order of two calls of a plan, in lines or as JSON.
@@ -60,7 +60,7 @@ fn answer_of(alloc: Global, plan: &Plan, words: [&str; 4], json: bool) -> Result
     ensures ok { IfOk result (λ text. Answers json plan.now (map (λ w. w.now) words.entry) text.items) }
     ensures err { IfErr result (λ e. (e ≡ Memory) ⊎ Asks plan.now (map (λ w. w.now) words.entry) (Err e)) }
 {
-    let calls = calls_named(alloc, plan.scripts(), words)?;
+    let calls = read_pair(alloc, plan.scripts(), words)?;
     text_between(alloc, plan, calls, json)
 }
 

@@ -10,7 +10,7 @@ mod migrating;
 mod plain_run;
 mod reading;
 
-pub use asking::{calls_named, why, why_in_form, why_sized};
+pub use asking::{read_pair, why, why_in_form, why_sized};
 pub use checking::{Ended, check, check_in_form, check_sized};
 pub use following::{follow, follow_in_form, follow_sized};
 pub use form::Form;

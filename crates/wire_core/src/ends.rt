@@ -8,7 +8,7 @@ use std::alloc::{AllocError, Global};
 use wire_types::{CallEnd, Reply};
 
 /// The calls that have these replies, with room for so many calls.
-pub(crate) fn replied(
+pub(crate) fn ends_of_replies(
     alloc: Global,
     replies: &[Reply],
     calls: usize,

@@ -79,12 +79,12 @@ impl Keeping {
 
 impl<'a> Core<'a> {
     /// What the next event of a process brings to its node, where it is a get of this key.
-    fn got_by(&self, proc: Proc, owner: Proc, key: u32) -> Option<Gain>
+    fn find_gain(&self, proc: Proc, owner: Proc, key: u32) -> Option<Gain>
         requires keeps { self.now.scripts.keeps ≡ true }
         requires is { next_kind (plan_in self.now) (state_of self.now) proc.number ≡ Some (runs.Get owner.number key) }
         ensures { IsGain (plan_in self.now) (state_of self.now) proc.number result }
     {
-        match self.seen_by(proc, owner, key) {
+        match self.see_key(proc, owner, key) {
             Seen::Value(_) => Some(Gain {
                 owner,
                 key,
@@ -104,7 +104,7 @@ impl<'a> Core<'a> {
             return None;
         }
         match kind {
-            Kind::Get { owner, key } => self.got_by(proc, owner, key),
+            Kind::Get { owner, key } => self.find_gain(proc, owner, key),
             _ => None,
         }
     }

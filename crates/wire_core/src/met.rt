@@ -27,7 +27,7 @@ pub(crate) fn is_complete(plan: &Plan, fences: &Fences, arrivals: &Arrivals, eve
 }
 
 /// The fence at which an event of the plan, which is of this kind, arrives, where that is what it does.
-pub(crate) fn arrived_at(plan: &Plan, fences: &Fences, event: Event, kind: Kind) -> Option<FenceId>
+pub(crate) fn find_fence(plan: &Plan, fences: &Fences, event: Event, kind: Kind) -> Option<FenceId>
     requires fences { AreFencesOf plan.now fences.now }
     requires is { kind_in (plan_of plan.now) (event_of event) ≡ Some (kind_of plan.now.sets kind) }
     ensures { ArrivesAt plan.now fences.now (event_of event) (option_map (λ f. f.number) result) }

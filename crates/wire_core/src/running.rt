@@ -17,10 +17,10 @@ ghost use Rattle.wire_core.specs.Seeing.{replies_in};
 ghost use Rattle.wire_core.specs.Ranks.{AreRanksOf};
 ghost use Rattle.wire_core.specs.Following.{Follows, StopsAt};
 
-use crate::ends::{add_unanswered, end_at, replied};
+use crate::ends::{add_unanswered, end_at, ends_of_replies};
 use crate::keeping::Keeping;
 use crate::looks::Looks;
-use crate::met::{arrived_at, is_complete, note_arrival};
+use crate::met::{find_fence, is_complete, note_arrival};
 use crate::names::note_name;
 use crate::rank::Rank;
 use crate::replies::{
@@ -166,7 +166,7 @@ impl<'a> Core<'a> {
                 &self.arrivals,
                 self.next_event(proc),
             ),
-            Some(Kind::Get { owner, key }) => is_shown(self.seen_by(proc, owner, key)),
+            Some(Kind::Get { owner, key }) => is_shown(self.see_key(proc, owner, key)),
             Some(Kind::LookupWait { name }) => self.names.lookup(name).is_some(),
         }
     }
@@ -183,8 +183,8 @@ impl<'a> Core<'a> {
             )),
             Kind::UnpublishAll => Some(Reply::bare(Status::Success)),
             Kind::Arrive { .. } => None,
-            Kind::Get { owner, key } => Some(reply_to_get(self.seen_by(proc, owner, key))),
-            Kind::GetNow { owner, key } => Some(reply_to_get(self.seen_now(proc, owner, key))),
+            Kind::Get { owner, key } => Some(reply_to_get(self.see_key(proc, owner, key))),
+            Kind::GetNow { owner, key } => Some(reply_to_get(self.see_key_now(proc, owner, key))),
             Kind::Publish { name } => Some(reply_to_publish(self.names.lookup(name))),
             Kind::Lookup { name } | Kind::LookupWait { name } => Some(reply_to_lookup(
                 self.names.lookup(name),
@@ -214,7 +214,7 @@ impl<'a> Core<'a> {
         let event = self.next_event(proc);
         let reply = self.reply(proc, kind);
         let gain = self.gain_of(proc, kind);
-        let fence = arrived_at(self.plan, self.fences, event, kind);
+        let fence = find_fence(self.plan, self.fences, event, kind);
         let call = self.plan.call_of(event);
         note_arrival(&mut self.arrivals, fence, proc);
         note_name(&mut self.names, kind, call);
@@ -298,14 +298,14 @@ impl<'a> Core<'a> {
     }
 
     /// What became of each call of a process of the plan.
-    fn row(&self, alloc: Global, proc: Proc) -> Result<Vec<CallEnd>, Fault>
+    fn ends_of_process(&self, alloc: Global, proc: Proc) -> Result<Vec<CallEnd>, Fault>
         requires { proc.number < process_count (plan_of self.now.scripts) }
         ensures ok { IfOk result (λ ends. ends.items ≡ row (plan_of self.now.scripts) (state_of self.now) proc.number) }
         ensures err { IfErr result (λ e. e ≡ Fault.Memory) }
     {
         let calls = self.plan.scripts().processes()[proc.index()].calls().len();
         let replies = self.ranks[proc.index()].replies.as_slice();
-        let mut ends = replied(alloc, replies, calls)?;
+        let mut ends = ends_of_replies(alloc, replies, calls)?;
         add_unanswered(
             &mut ends,
             self.ready(proc),
@@ -332,7 +332,7 @@ impl<'a> Core<'a> {
         let mut waiting = 0;
         for number in 0..self.plan.process_count() {
             let proc = Proc::new(number);
-            let row = self.row(alloc, proc)?;
+            let row = self.ends_of_process(alloc, proc)?;
             rows.push_reserved(row);
             if self.is_waiting(proc) {
                 waiting += 1;

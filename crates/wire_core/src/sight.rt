@@ -28,7 +28,7 @@ fn is_later(arrival: Option<u32>, count: Option<u32>) -> bool
 
 impl<'a> Core<'a> {
     /// What a process sees of its own key.
-    fn own_seen(&self, proc: Proc, key: u32) -> Seen
+    fn see_own(&self, proc: Proc, key: u32) -> Seen
         ensures { result ≡ seen_as (plan_of self.now.scripts) proc.number
             (held (own (plan_of self.now.scripts) proc.number key ((state_of self.now).done proc.number))) }
     {
@@ -42,7 +42,7 @@ impl<'a> Core<'a> {
     }
 
     /// What a process sees of another's key.
-    fn other_seen(&self, reader: Proc, owner: Proc, key: u32) -> Seen
+    fn see_other(&self, reader: Proc, owner: Proc, key: u32) -> Seen
         requires { reader.number < process_count (plan_of self.now.scripts) }
         ensures { result ≡ seen_as (plan_of self.now.scripts) owner.number
             (served (plan_of self.now.scripts) owner.number (same_node (plan_of self.now.scripts) owner.number reader.number)
@@ -58,37 +58,37 @@ impl<'a> Core<'a> {
     }
 
     /// What the next event of a process sees of a key, as a get that waits.
-    pub(crate) fn seen_by(&self, reader: Proc, owner: Proc, key: u32) -> Seen
+    pub(crate) fn see_key(&self, reader: Proc, owner: Proc, key: u32) -> Seen
         requires { reader.number < process_count (plan_of self.now.scripts) }
         ensures { result ≡ seen_as (plan_of self.now.scripts) owner.number
             (get_sees (plan_of self.now.scripts) (state_of self.now).done reader.number ((state_of self.now).done reader.number) owner.number key) }
     {
         if reader == owner {
-            return self.own_seen(owner, key);
+            return self.see_own(owner, key);
         }
-        self.other_seen(reader, owner, key)
+        self.see_other(reader, owner, key)
     }
 
     /// What the next event of a process sees of a key, as a get that is answered at once.
-    pub(crate) fn seen_now(&self, reader: Proc, owner: Proc, key: u32) -> Seen
+    pub(crate) fn see_key_now(&self, reader: Proc, owner: Proc, key: u32) -> Seen
         requires { reader.number < process_count (plan_in self.now) }
         ensures { result ≡ seen_as (plan_in self.now) owner.number
             (get_now_sees (plan_in self.now) (state_of self.now) reader.number ((state_of self.now).done reader.number) owner.number key) }
     {
         if reader == owner {
-            return self.own_seen(owner, key);
+            return self.see_own(owner, key);
         }
         if owner.index() >= self.ranks.len() {
             return Seen::Nothing;
         }
         if self.plan.node_of(owner) == self.plan.node_of(reader) {
-            return self.other_seen(reader, owner, key);
+            return self.see_other(reader, owner, key);
         }
-        self.brought_seen(owner, key, self.plan.node_of(reader))
+        self.see_brought(owner, key, self.plan.node_of(reader))
     }
 
     /// What another node is shown of what an owner had stored under a key before an event of it.
-    fn shown_at(&self, owner: Proc, key: u32, at: Option<u32>) -> Seen
+    fn show_at(&self, owner: Proc, key: u32, at: Option<u32>) -> Seen
         requires there { owner.number < process_count (plan_in self.now) }
         requires done { IfSome at (λ n. n ≤ (state_of self.now).done owner.number) }
         ensures { result ≡ seen_as (plan_in self.now) owner.number
@@ -102,18 +102,18 @@ impl<'a> Core<'a> {
 
     /// What has come of a process's key to another node: what fences have brought, or what gets have, where
     /// the plan keeps that and it is newer.
-    fn brought_seen(&self, owner: Proc, key: u32, node: u32) -> Seen
+    fn see_brought(&self, owner: Proc, key: u32, node: u32) -> Seen
         requires there { owner.number < process_count (plan_in self.now) }
         requires away { node_of (plan_in self.now) owner.number ≢ node }
         ensures { result ≡ seen_as (plan_in self.now) owner.number (held (brought (plan_in self.now) (state_of self.now) owner.number key node)) }
     {
         let arrival = self.last_bringing(owner, node, self.done(owner));
         let count = self.keeping.count(owner, key, node);
-        let by_fence = self.shown_at(owner, key, arrival);
+        let by_fence = self.show_at(owner, key, arrival);
         if is_shown(by_fence) && is_later(arrival, count) {
             by_fence
         } else {
-            self.shown_at(owner, key, count)
+            self.show_at(owner, key, count)
         }
     }
 }

@@ -9,7 +9,7 @@ ghost use Rattle.wire_explain.specs.Hint as spec;
 ghost use Rattle.wire_explain.specs.Hint.{IsHintFor};
 
 use crate::format::format_words;
-use crate::near::nearest;
+use crate::near::find_nearest;
 use crate::place::{first_in, words_at};
 use std::alloc::{AllocError, Global};
 use wire_types::Fault;
@@ -41,7 +41,7 @@ fn hint_for<'a>(known: &[&'a [u8]], word: Option<&[u8]>) -> Option<&'a [u8]>
     ensures { IsHintFor (map (λ w. w.now) known.now) (option_map (λ w. w.now) word.entry) (option_map (λ w. w.now) result) }
 {
     match word {
-        Some(word) if !is_among(word, known) => nearest(word, known),
+        Some(word) if !is_among(word, known) => find_nearest(word, known),
         _ => None,
     }
 }

@@ -11,7 +11,7 @@ mod plan;
 mod quote;
 
 pub use law::{choices_are_words, lines_have_usages, usages_are_lines};
-pub use near::{is_within, nearest};
+pub use near::{find_nearest, is_within};
 pub use order::{explain_order, explain_word};
 pub use place::Place;
 pub use plan::explain_plan;

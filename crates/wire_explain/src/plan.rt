@@ -82,7 +82,7 @@ fn expected_line(alloc: Global, bytes: &[u8], line: u64) -> Result<&'static str,
 }
 
 /// What was expected, where a plan has this fault.
-fn expected(alloc: Global, bytes: &[u8], fault: Fault) -> Result<&'static str, AllocError>
+fn expected_text(alloc: Global, bytes: &[u8], fault: Fault) -> Result<&'static str, AllocError>
     ensures { IfOk result (λ text. text.now ≡ spec.expected bytes.now fault) }
 {
     Ok(match fault {
@@ -133,7 +133,7 @@ fn explanation_of(
 ) -> Result<Vec<u8>, AllocError>
     ensures { IfOk result (λ explanation. explanation.items ≡ spec.explanation bytes.now fault (option_map (λ w. w.now) hint.entry)) }
 {
-    let text = expected(alloc, bytes, fault)?;
+    let text = expected_text(alloc, bytes, fault)?;
     let mut explanation = Vec::new(alloc);
     push_line(&mut explanation, bytes, fault)?;
     push_labelled(&mut explanation, b"  expected: ", text.as_bytes())?;

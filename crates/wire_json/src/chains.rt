@@ -5,7 +5,7 @@ ghost use Rattle.serde_json.specs.View.{view};
 ghost use Rattle.wire_json.specs.Chains as spec;
 ghost use Rattle.wire_json.specs.ChainTrees as trees;
 
-use crate::forms::line;
+use crate::forms::tree_line;
 use crate::places::{call_names, named_call, place_trees};
 use serde_json::{Value, json};
 use std::alloc::{AllocError, Global};
@@ -41,7 +41,7 @@ pub fn chain_json(
     ensures { IfOk result (λ text. text.items ≡ spec.json_chain first scripts.now steps.now) }
 {
     let chain = step_trees(alloc, scripts, steps)?;
-    line(alloc, chain_tree(alloc, which_word(first), chain)?)
+    tree_line(alloc, chain_tree(alloc, which_word(first), chain)?)
 }
 
 /// That no chain orders two calls, and which of them are dead, as JSON.
@@ -53,7 +53,7 @@ pub fn unordered_json(
     ensures { IfOk result (λ text. text.items ≡ spec.json_unordered scripts.now dead.now) }
 {
     let places = place_trees(alloc, scripts, dead)?;
-    line(alloc, unordered_tree(alloc, places)?)
+    tree_line(alloc, unordered_tree(alloc, places)?)
 }
 
 /// Which of two calls comes before the other.

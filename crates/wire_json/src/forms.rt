@@ -9,7 +9,7 @@ ghost use Rattle.wire_words.specs.Words.{name_of};
 ghost use Rattle.wire_json.specs.Json as spec;
 ghost use Rattle.wire_json.specs.Trees as trees;
 
-use crate::strings::strings;
+use crate::strings::string_trees;
 use crate::trees::rank_trees;
 use serde_json::{Value, json};
 use std::alloc::{AllocError, Global};
@@ -26,15 +26,15 @@ pub fn report_json(
     ensures { IfOk result (λ text. text.items ≡ spec.json_report scripts.now (ends_of outcome.now)) }
 {
     let ranks = rank_trees(alloc, scripts, outcome.rows.as_slice())?;
-    line(alloc, report_tree(alloc, ranks, outcome.waiting)?)
+    tree_line(alloc, report_tree(alloc, ranks, outcome.waiting)?)
 }
 
 /// The lines of findings, as JSON.
 pub fn findings_json(alloc: Global, lines: &[Vec<u8>]) -> Result<Vec<u8>, AllocError>
     ensures { IfOk result (λ text. text.items ≡ spec.json_findings (map (λ line. line.items) lines.now)) }
 {
-    let findings = strings(alloc, lines)?;
-    line(alloc, findings_tree(alloc, findings)?)
+    let findings = string_trees(alloc, lines)?;
+    tree_line(alloc, findings_tree(alloc, findings)?)
 }
 
 /// The report of an unsettled replay and the order of its steps, each by its process, as JSON.
@@ -48,9 +48,9 @@ pub fn unsettled_json(
         ≡ spec.json_unsettled scripts.now (ends_of outcome.now) (numbers_of order.now)) }
 {
     let names = names_of(alloc, scripts, order)?;
-    let steps = strings(alloc, names.as_slice())?;
+    let steps = string_trees(alloc, names.as_slice())?;
     let ranks = rank_trees(alloc, scripts, outcome.rows.as_slice())?;
-    line(alloc, unsettled_tree(alloc, steps, ranks, outcome.waiting)?)
+    tree_line(alloc, unsettled_tree(alloc, steps, ranks, outcome.waiting)?)
 }
 
 /// The names of these processes.
@@ -99,17 +99,17 @@ fn unsettled_tree(
 }
 
 /// The compact text of a tree without floats, and a line feed.
-pub(crate) fn line(alloc: Global, tree: Value) -> Result<Vec<u8>, AllocError>
+pub(crate) fn tree_line(alloc: Global, tree: Value) -> Result<Vec<u8>, AllocError>
     ensures { IfOk result (λ text. has_float (view tree) ≡ false
         → text.items ≡ compact_text (view tree) ++ codes "\n") }
 {
-    let mut text = compact(alloc, tree)?;
+    let mut text = tree_text(alloc, tree)?;
     text.push(b'\n')?;
     Ok(text)
 }
 
 /// The compact text of a tree without floats.
-pub(crate) fn compact(alloc: Global, tree: Value) -> Result<Vec<u8>, AllocError>
+pub(crate) fn tree_text(alloc: Global, tree: Value) -> Result<Vec<u8>, AllocError>
     ensures { IfOk result (λ text. has_float (view tree) ≡ false → text.items ≡ compact_text (view tree)) }
 {
     let text = tree.to_string(alloc);

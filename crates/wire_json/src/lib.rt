@@ -12,7 +12,7 @@ mod witnesses;
 
 pub use chains::{ChainStep, Half, chain_json, unordered_json, which_word};
 pub use forms::{findings_json, report_json, unsettled_json};
-pub use parts::{lined_place, lined_step, push_list, push_quoted};
+pub use parts::{lined_place_json, lined_step_json, push_list, push_quoted};
 pub use strings::printable_kept;
 pub use witnesses::{
     RaceCounts, RunTold, counts_json, races_json, run_json, unshown_json, witness_json,

@@ -82,7 +82,7 @@ fn push_other(out: &mut Vec<u8>, item: &[u8]) -> Result<(), AllocError>
 }
 
 /// A step of a chain, whose call stands on this line, as a part of a form.
-pub fn lined_step(
+pub fn lined_step_json(
     alloc: Global,
     scripts: &Scripts,
     step: ChainStep,
@@ -100,7 +100,7 @@ pub fn lined_step(
 }
 
 /// A call that stands on this line, by its process and number alone, as a part of a form.
-pub fn lined_place(
+pub fn lined_place_json(
     alloc: Global,
     scripts: &Scripts,
     call: CallAt,

@@ -34,7 +34,7 @@ pub fn printable_kept()
 {}
 
 /// Strings of these texts.
-pub fn strings(alloc: Global, texts: &[Vec<u8>]) -> Result<Vec<Value>, AllocError>
+pub fn string_trees(alloc: Global, texts: &[Vec<u8>]) -> Result<Vec<Value>, AllocError>
     ensures { IfOk result (λ values. map view values.items ≡ strings_data (map (λ text. text.items) texts.now)) }
 {
     let mut values = Vec::new(alloc);

@@ -9,9 +9,9 @@ ghost use Rattle.wire_json.specs.Witnesses as spec;
 ghost use Rattle.wire_json.specs.WitnessTrees as trees;
 
 use crate::chains::{ChainStep, Half, step_tree};
-use crate::forms::{compact, line, names_of};
+use crate::forms::{names_of, tree_line, tree_text};
 use crate::places::place_tree;
-use crate::strings::{printable_text, strings};
+use crate::strings::{printable_text, string_trees};
 use serde_json::{Value, json};
 use std::alloc::{AllocError, Global};
 use wire_content::Scripts;
@@ -50,14 +50,14 @@ pub fn witness_json(
     let after = run_tree(alloc, scripts, second.end, second.order)?;
     let half = Half::Whole;
     let shown = step_tree(alloc, scripts, ChainStep { call, half })?;
-    line(alloc, witness_tree(alloc, before, after, shown)?)
+    tree_line(alloc, witness_tree(alloc, before, after, shown)?)
 }
 
 /// That nothing shows two calls, of which a race is reported or not, as JSON.
 pub fn unshown_json(alloc: Global, race: bool) -> Result<Vec<u8>, AllocError>
     ensures { IfOk result (λ text. text.items ≡ spec.json_unshown race) }
 {
-    line(alloc, unshown_tree(alloc, race)?)
+    tree_line(alloc, unshown_tree(alloc, race)?)
 }
 
 /// The races that were tried, of each the words of its finding and the call that shows it, and how many there are,
@@ -73,7 +73,7 @@ pub fn races_json(
 {
     let races = tried_trees(alloc, scripts, findings, shown)?;
     let numbers = counts_tree(alloc, counts)?;
-    line(alloc, races_tree(alloc, numbers, races)?)
+    tree_line(alloc, races_tree(alloc, numbers, races)?)
 }
 
 /// A run, by the processes of its steps and how a call ends in it, as a part of a form.
@@ -81,7 +81,7 @@ pub fn run_json(alloc: Global, scripts: &Scripts, run: RunTold<'_>) -> Result<Ve
     ensures { IfOk result (λ text. text.items ≡ spec.json_run scripts.now run.entry.end.now (numbers_of run.entry.order.now)) }
 {
     let tree = run_tree(alloc, scripts, run.end, run.order)?;
-    compact(alloc, tree)
+    tree_text(alloc, tree)
 }
 
 /// How many races there are in all, and how many of them are shown, not shown and not tried, as a part of a form.
@@ -89,7 +89,7 @@ pub fn counts_json(alloc: Global, counts: RaceCounts) -> Result<Vec<u8>, AllocEr
     ensures { IfOk result (λ text. text.items ≡ spec.json_counts counts) }
 {
     let tree = counts_tree(alloc, counts)?;
-    compact(alloc, tree)
+    tree_text(alloc, tree)
 }
 
 /// A run: the processes of its steps, and how a call ends in it.
@@ -102,7 +102,7 @@ fn run_tree(
     ensures { IfOk result (λ tree. view tree ≡ trees.run_data scripts.now end.now (numbers_of order.now)) }
 {
     let names = names_of(alloc, scripts, order)?;
-    let steps = strings(alloc, names.as_slice())?;
+    let steps = string_trees(alloc, names.as_slice())?;
     end_tree(alloc, scripts, steps, end)
 }
 

@@ -58,7 +58,7 @@ impl<'a> Lanes<'a> {
         ensures memory { IsOkUnless result Memory }
     {
         let lanes = lanes_of(alloc, board, settled, seats)?;
-        let lanes = locked(alloc, lanes)?;
+        let lanes = lock_lanes(alloc, lanes)?;
         Ok(Lanes { lanes })
     }
 
@@ -112,14 +112,14 @@ impl<'a> Lanes<'a> {
         ensures count { IfOk result (λ o. IfSome o (λ trails. length trails.items ≡ self.entry.count)) }
         ensures memory { IsOkUnless result Memory }
     {
-        let lanes = unlocked(alloc, self.lanes)?;
+        let lanes = unlock_lanes(alloc, self.lanes)?;
         let told = trails_of(alloc, lanes, settled)?;
         Ok(told)
     }
 }
 
 // These lanes, in their order, each under a lock.
-fn locked<'a>(alloc: Global, lanes: Vec<Lane<'a>>) -> Result<Vec<Mutex<Lane<'a>>>, AllocError>
+fn lock_lanes<'a>(alloc: Global, lanes: Vec<Lane<'a>>) -> Result<Vec<Mutex<Lane<'a>>>, AllocError>
     ensures { IfOk result (λ locked. vec_len locked ≡ vec_len lanes.entry) }
 {
     let mut lanes = lanes;
@@ -132,7 +132,10 @@ fn locked<'a>(alloc: Global, lanes: Vec<Lane<'a>>) -> Result<Vec<Mutex<Lane<'a>>
 }
 
 // These lanes, in their order, under no lock.
-fn unlocked<'a>(alloc: Global, locked: Vec<Mutex<Lane<'a>>>) -> Result<Vec<Lane<'a>>, AllocError>
+fn unlock_lanes<'a>(
+    alloc: Global,
+    locked: Vec<Mutex<Lane<'a>>>,
+) -> Result<Vec<Lane<'a>>, AllocError>
     ensures { IfOk result (λ lanes. vec_len lanes ≡ vec_len locked.entry) }
 {
     let mut locked = locked;

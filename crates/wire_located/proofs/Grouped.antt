@@ -3,7 +3,7 @@ use Rattle.std.proofs.Common.{◌≡◌, ◌∙◌, subst, Bool, List, map, Resu
 use Rattle.std.specs.Bool.{Decides}
 use Rattle.std.specs.declared.alloc.AllocError.{AllocError}
 use Rattle.wire_content.specs.Scripts.{Scripts}
-use Rattle.wire_races.specs.declared.finding.Finding.{Finding}
+use Rattle.wire_findings.specs.declared.finding.Finding.{Finding}
 use Rattle.wire_groups.specs.declared.Group.{Group}
 use Rattle.wire_groups.specs.Groups.{AreGroups}
 use Rattle.wire_located.specs.declared.label.Label.{Label}

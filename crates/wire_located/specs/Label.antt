@@ -4,8 +4,8 @@ use Rattle.wire_types.specs.declared.Call.{Call}
 use Rattle.wire_types.specs.declared.Call.TheVariants as call
 use Rattle.wire_types.specs.declared.CallAt.{CallAt}
 use Rattle.wire_content.specs.Scripts.{Scripts, call_at}
-use Rattle.wire_races.specs.declared.finding.Finding.{Finding}
-use Rattle.wire_races.specs.declared.finding.Finding.TheVariants as found
+use Rattle.wire_findings.specs.declared.finding.Finding.{Finding}
+use Rattle.wire_findings.specs.declared.finding.Finding.TheVariants as found
 use Rattle.wire_located.specs.declared.label.Deed.{Deed}
 use Rattle.wire_located.specs.declared.label.Deed.TheVariants.{Put, Commit, Fence, Get, GetNow, Publish, Lookup, LookupWait, Unpublish, Nothing}
 use Rattle.wire_located.specs.declared.label.Subject.{Subject}

@@ -5,7 +5,7 @@ ghost use Rattle.wire_content.specs.Scripts.{call_at};
 ghost use Rattle.wire_located.specs.Label as spec;
 
 use wire_content::Scripts;
-use wire_races::Finding;
+use wire_findings::Finding;
 use wire_types::{Call, CallAt};
 use wire_words::find_call;
 

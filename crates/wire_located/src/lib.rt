@@ -11,4 +11,4 @@ pub use grouping::group_findings;
 pub use label::{Deed, Label, Pair, Subject, pair_of};
 pub use law::{labels_tell, one_grouping};
 pub use place::{Places, line_of, push_place};
-pub use text::{located_text, push_note, push_second};
+pub use text::{grouped_lines, push_note, push_second};

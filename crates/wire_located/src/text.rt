@@ -11,8 +11,8 @@ use crate::label::{Subject, pair_of, subject_of};
 use crate::place::{Places, push_place};
 use std::alloc::{AllocError, Global};
 use wire_content::Scripts;
+use wire_findings::{Finding, FindingList};
 use wire_groups::Group;
-use wire_races::{Finding, FindingList};
 use wire_types::{CallAt, Fault};
 use wire_words::{push_call, push_number, verb_at};
 
@@ -193,7 +193,7 @@ fn groups_text(
 /// The text of findings, in groups: of each group how many findings it has, and the two calls of the first of
 /// them, each with the name of the file and its line there; and last how many findings and groups there are.
 /// A byte of the name that isn't printable ASCII is shown as `?`. The one fault is `Fault::Memory`.
-pub fn located_text(
+pub fn grouped_lines(
     alloc: Global,
     places: Places<'_>,
     scripts: &Scripts,

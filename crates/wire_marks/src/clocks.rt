@@ -28,7 +28,7 @@ pub(crate) struct Clocks {
 }
 
 // How many events of a process are this one or stand before it in its process.
-fn own(event: Event, proc: Proc) -> u32
+fn own_count(event: Event, proc: Proc) -> u32
     requires { event.at + 1 < 2 ^ 32 }
     ensures { result ≡ own_of (event_of event) proc.number }
 {
@@ -83,7 +83,10 @@ impl Clocks {
         ensures { result ≡ clock_of self.now (event_of event) proc.number }
     {
         match self.root(event) {
-            Some(root) => self.trees.get(root, proc.number).max(own(event, proc)),
+            Some(root) => self
+                .trees
+                .get(root, proc.number)
+                .max(own_count(event, proc)),
             None => 0,
         }
     }
@@ -167,7 +170,7 @@ impl Clocks {
     }
 
     // The root of the base of a root, raised to the clock of a marked event.
-    fn raised(&mut self, root: u32, event: Event) -> Result<u32, AllocError>
+    fn raise_root(&mut self, root: u32, event: Event) -> Result<u32, AllocError>
         requires based { AreBased self.old }
         requires root { IsRoot self.old.trees root }
         requires marked { event.at < marked_count self.old event.proc.number }
@@ -203,7 +206,7 @@ impl Clocks {
         if self.counts(previous, event) {
             return Ok(root);
         }
-        let raised = self.raised(root, event)?;
+        let raised = self.raise_root(root, event)?;
         Ok(raised)
     }
 

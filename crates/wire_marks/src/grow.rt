@@ -10,7 +10,7 @@ ghost use Rattle.wire_marks.specs.Marking.{AreClocks, IsStuckAt, IsNextBase, unm
 ghost use Rattle.wire_marks.specs.Meeting.{AreGrowing};
 
 use crate::clocks::Clocks;
-use crate::joins::{Growth, fence_ended, meet};
+use crate::joins::{Growth, find_ended_fence, meet};
 use crate::updates::Updates;
 use crate::way::{Way, waits_for};
 use std::alloc::{AllocError, Global};
@@ -74,7 +74,7 @@ fn next_base(
     if !growth.clocks.is_source_marked(sources.awaited) {
         return Ok(None);
     }
-    let Some(fence) = fence_ended(plan, fences, event) else {
+    let Some(fence) = find_ended_fence(plan, fences, event) else {
         let clocks = &mut growth.clocks;
         let root = clocks.base_after(sources.previous, sources.awaited)?;
         return Ok(Some(root));
@@ -229,7 +229,7 @@ fn mark_along_waits(
 }
 
 /// The clocks of all live events of a plan.
-pub(crate) fn all_clocks(alloc: Global, plan: &Plan) -> Result<Clocks, AllocError>
+pub(crate) fn mark_all(alloc: Global, plan: &Plan) -> Result<Clocks, AllocError>
     ensures marks { IfOk result (λ clocks. AreMarks (plan_of plan.now) clocks) }
     ensures few { IfOk result (λ clocks. (p : ℕ) → marked_count clocks p < 2 ^ 32) }
 {

@@ -57,7 +57,7 @@ impl Meeting {
     }
 
     // The root of the join of the clocks of the arrivals, all of them marked.
-    fn joined(&mut self, clocks: &mut Clocks, arrivals: &[Event]) -> Result<u32, AllocError>
+    fn join_arrivals(&mut self, clocks: &mut Clocks, arrivals: &[Event]) -> Result<u32, AllocError>
         requires based { AreBased clocks.old }
         requires kept { IsMeeting clocks.old (map event_of arrivals.now) self.old }
         requires marked { AreMarked clocks.old (map event_of arrivals.now) (length arrivals.now) }
@@ -87,7 +87,7 @@ impl Meeting {
         if !self.count_on(clocks, arrivals) {
             return Ok(None);
         }
-        let root = self.joined(clocks, arrivals)?;
+        let root = self.join_arrivals(clocks, arrivals)?;
         Ok(Some(root))
     }
 }
@@ -141,7 +141,7 @@ pub(crate) fn missing_at(meetings: &[Meeting], fence: FenceId, arrivals: &[Event
 }
 
 /// The fence whose end an event is, if it is one.
-pub(crate) fn fence_ended(plan: &Plan, fences: &Fences, event: Event) -> Option<FenceId>
+pub(crate) fn find_ended_fence(plan: &Plan, fences: &Fences, event: Event) -> Option<FenceId>
     requires fences { AreFencesOf plan.now fences.now }
     requires there { event.at < event_count (plan_of plan.now) event.proc.number }
     ensures { IsEndOf plan.now fences.now (event_of event) result }

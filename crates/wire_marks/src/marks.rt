@@ -10,7 +10,7 @@ ghost use Rattle.wire_marks.specs.Updates.{AreUpdates};
 ghost use Rattle.wire_marks.specs.Chain.{IsShown};
 
 use crate::clocks::Clocks;
-use crate::grow::all_clocks;
+use crate::grow::mark_all;
 use crate::steps::{chain_between, is_same};
 use crate::updates::Update;
 use std::alloc::Global;
@@ -43,7 +43,7 @@ impl Marks {
         ensures ok { IfOk result (λ marks. AreMarks (plan_of plan.now) marks) }
         ensures memory { IsOkUnless result Fault.Memory }
     {
-        let clocks = all_clocks(alloc, plan)?;
+        let clocks = mark_all(alloc, plan)?;
         Ok(Marks { clocks })
     }
 

@@ -9,7 +9,7 @@ ghost use Rattle.wire_runs.specs.Order.{Edge};
 ghost use Rattle.wire_marks.specs.Marking.{next_of};
 ghost use Rattle.std.specs.Bool.{OnTrue, OnFalse};
 
-use crate::joins::{Growth, fence_ended, missing_at};
+use crate::joins::{Growth, find_ended_fence, missing_at};
 use std::alloc::{AllocError, Global};
 use wire_fence::Fences;
 use wire_plan::Plan;
@@ -65,7 +65,7 @@ pub(crate) fn waits_for(plan: &Plan, fences: &Fences, growth: &Growth, proc: Pro
     if let Some(awaited) = sources.awaited {
         return Some(awaited.proc);
     }
-    let Some(fence) = fence_ended(plan, fences, event) else {
+    let Some(fence) = find_ended_fence(plan, fences, event) else {
         return None;
     };
     missing_at(&growth.meetings, fence, sources.arrivals)

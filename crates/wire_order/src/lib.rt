@@ -7,4 +7,4 @@ mod question;
 mod words;
 
 pub use order::{read_order, read_order_sized};
-pub use question::{Question, calls_asked, question_reads_once};
+pub use question::{Question, question_reads_once, read_question};

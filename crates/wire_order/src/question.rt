@@ -26,7 +26,7 @@ pub struct Question<'a> {
 /// The two calls that the four words of a question name. A process is named as in an order, a call by its
 /// number from 1, one to nine digits of which the first isn't 0. The lowest wrong word is `BadOrder` with
 /// its number, 1 to 4: a process that isn't there, or a number of none of its calls.
-pub fn calls_asked(
+pub fn read_question(
     alloc: Global,
     scripts: &Scripts,
     question: Question<'_>,
@@ -37,12 +37,12 @@ pub fn calls_asked(
         question.entry.number.now question.entry.other_proc.now question.entry.other_number.now (Err e)) }
 {
     let table = ProcWords::new(alloc, scripts)?;
-    let first = match call_named(&table, scripts, question.proc, question.number) {
+    let first = match read_call(&table, scripts, question.proc, question.number) {
         Ok(call) => call,
         Err(Wrong::Proc) => return Err(Fault::BadOrder(1)),
         Err(Wrong::Number) => return Err(Fault::BadOrder(2)),
     };
-    match call_named(&table, scripts, question.other_proc, question.other_number) {
+    match read_call(&table, scripts, question.other_proc, question.other_number) {
         Ok(second) => Ok((first, second)),
         Err(Wrong::Proc) => Err(Fault::BadOrder(3)),
         Err(Wrong::Number) => Err(Fault::BadOrder(4)),
@@ -62,7 +62,7 @@ enum Wrong {
 }
 
 /// The call that a process's word and a number name.
-fn call_named(
+fn read_call(
     table: &ProcWords,
     scripts: &Scripts,
     proc: &str,
@@ -76,7 +76,7 @@ fn call_named(
     let Some(caller) = table.proc_of(proc.as_bytes()) else {
         return Err(Wrong::Proc);
     };
-    match call_numbered(number, call_count(scripts, caller)) {
+    match read_call_number(number, call_count(scripts, caller)) {
         Some(call) => Ok(CallAt { proc: caller, call }),
         None => Err(Wrong::Number),
     }
@@ -93,7 +93,7 @@ fn call_count(scripts: &Scripts, proc: Proc) -> usize
 }
 
 /// The call among so many that the word is the number of, from 1.
-fn call_numbered(word: &str, count: usize) -> Option<u32>
+fn read_call_number(word: &str, count: usize) -> Option<u32>
     ensures found { IfSome result (IsCallNumber word.now count) }
     ensures none { IfNone result ((call : ℕ) → IsCallNumber word.now count call → ⊥) }
 {

@@ -4,7 +4,7 @@ ghost use Rattle.std.specs.Prelude.{IsTrue, ◌↔◌};
 ghost use Rattle.wire_outcome.specs.Trails.{AreAtRest, IsAtRest};
 
 use crate::rows::trail_of;
-use wire_board::shown_fate;
+use wire_board::find_next_fate;
 use wire_races::{Fate, Settled};
 use wire_types::Proc;
 
@@ -16,7 +16,7 @@ fn is_at_rest(settled: &Settled, words: &[u64], proc: Proc, trail: &[Fate]) -> b
         Some(place) => *place,
         None => 0,
     };
-    trail.len() as u64 == place && shown_fate(settled, words, proc).is_none()
+    trail.len() as u64 == place && find_next_fate(settled, words, proc).is_none()
 }
 
 /// Whether each process's trail is as long as its word, and no process can take an event.

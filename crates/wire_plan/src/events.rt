@@ -10,7 +10,7 @@ ghost use Rattle.wire_runs.specs.Ends.{call_of, calls_of, first_event};
 ghost use Rattle.wire_runs.specs.Plan.{event_total};
 
 use crate::kind::Kind;
-use crate::row::{ProcessEvents, row_of};
+use crate::row::{ProcessEvents, events_of};
 use std::alloc::{AllocError, Global};
 use std::marker::Model;
 use wire_content::Scripts;
@@ -53,7 +53,7 @@ fn all_rows(
     let processes = scripts.processes();
     let mut all = Vec::with_capacity(alloc, processes.len())?;
     for process in processes {
-        all.push(row_of(alloc, scripts, places, process.calls())?)?;
+        all.push(events_of(alloc, scripts, places, process.calls())?)?;
     }
     Ok(all)
 }

@@ -72,7 +72,7 @@ impl NameTable {
     }
 
     // A publish, where its process never takes away all its names.
-    fn unswept(&self, publish: Event) -> Option<Event>
+    fn find_unswept(&self, publish: Event) -> Option<Event>
         ensures { (plan : runs.Plan) → AreNamesOf plan self.now → IsUnswept plan publish result }
     {
         if self.sweeps(publish.proc).is_empty() {
@@ -88,7 +88,7 @@ impl NameTable {
             MatchOption result ((x : runs.Event) → PublishesOnce plan x name → ⊥) (λ x. PublishesOnce plan (event_of x) name) }
     {
         match only_publish(self.publishes(name), self.takes.list(name)) {
-            Some(publish) => self.unswept(publish),
+            Some(publish) => self.find_unswept(publish),
             None => None,
         }
     }

@@ -57,7 +57,7 @@ fn add_call(
 }
 
 /// The events of a process that makes these calls.
-pub(crate) fn row_of(
+pub(crate) fn events_of(
     alloc: Global,
     scripts: &Scripts,
     places: &ProcMap,

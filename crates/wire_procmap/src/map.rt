@@ -48,7 +48,7 @@ impl ProcMap {
         })
     }
 
-    fn row(&self, proc: Proc) -> ProcessNumbers
+    fn numbers(&self, proc: Proc) -> ProcessNumbers
         requires { proc.number < row_count self.now }
         ensures { (s : Scripts) → self.now ≡ map_of s → result ≡ rows.row_of s.processes proc.number }
     {
@@ -70,7 +70,7 @@ impl ProcMap {
         requires { proc.number < row_count self.now }
         ensures { (s : Scripts) → self.now ≡ map_of s → result ≡ node_at s.processes proc.number }
     {
-        self.row(proc).node
+        self.numbers(proc).node
     }
 
     /// How many processes of its job on its node stand before a process of the map (PMIX_LOCAL_RANK).
@@ -78,7 +78,7 @@ impl ProcMap {
         requires { proc.number < row_count self.now }
         ensures { (s : Scripts) → self.now ≡ map_of s → result ≡ local_rank_of s.processes proc.number }
     {
-        self.row(proc).local_rank
+        self.numbers(proc).local_rank
     }
 
     /// How many processes of all jobs on its node stand before a process of the map (PMIX_NODE_RANK).
@@ -86,7 +86,7 @@ impl ProcMap {
         requires { proc.number < row_count self.now }
         ensures { (s : Scripts) → self.now ≡ map_of s → result ≡ node_rank_of s.processes proc.number }
     {
-        self.row(proc).node_rank
+        self.numbers(proc).node_rank
     }
 
     /// The job of a process of the map, and its rank there (PMIX_RANK).
@@ -95,7 +95,7 @@ impl ProcMap {
         ensures job { (s : Scripts) → self.now ≡ map_of s → result.0 ≡ job_at s.processes proc.number }
         ensures rank { (s : Scripts) → self.now ≡ map_of s → result.1 ≡ rank_of s.processes proc.number }
     {
-        let row = self.row(proc);
+        let row = self.numbers(proc);
         (row.job, row.rank)
     }
 
@@ -129,6 +129,6 @@ impl ProcMap {
         requires { proc.number < row_count self.now }
         ensures { (s : Scripts) → self.now ≡ map_of s → result ≡ reserved_reply s.processes proc.number (text_at s.keys key) }
     {
-        self.row(proc).reply(self.kind(key))
+        self.numbers(proc).reply(self.kind(key))
     }
 }

@@ -4,9 +4,9 @@ use Rattle.wire_runs.specs.Plan.{Plan}
 use Rattle.wire_runs.specs.Findings.{Finding, Rewrite, KeyRace, NameRace, IsFound, IsSorted}
 use Rattle.wire_content.specs.Scripts.{Scripts}
 use Rattle.wire_content.specs.Planned.{plan_of}
-use Rattle.wire_races.specs.Findings.{all_shown, lower_name, AreFindings}
-use Rattle.wire_races.specs.declared.finding.Finding.{Finding as Told}
-use Rattle.wire_races.specs.Collected.{Tells, AreFound}
+use Rattle.wire_findings.specs.Findings.{all_shown, lower_name, AreFindings}
+use Rattle.wire_findings.specs.declared.finding.Finding.{Finding as Told}
+use Rattle.wire_findings.specs.Collected.{Tells, AreFound}
 use Rattle.wire_races.specs.FindingKinds.{IsOfRewrite, IsOfKey, IsOfName, AllAdded}
 
 each_kind : (plan : Plan) (a b c d : List Told) → AllAdded plan IsOfRewrite a b → AllAdded plan IsOfKey b c → AllAdded plan IsOfName c d → (f : Finding) → IsFound plan f → Tells plan d f

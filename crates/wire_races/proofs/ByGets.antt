@@ -10,8 +10,8 @@ use Rattle.wire_runs.specs.EventLists.{AreAll}
 use Rattle.wire_runs.specs.Order.{Live, Before}
 use Rattle.wire_runs.specs.Races.{GetDelivers}
 use Rattle.wire_plan.specs.Index.{AreGetDeliveries}
-use Rattle.wire_races.specs.declared.finding.Finding.{Finding as Told}
-use Rattle.wire_races.specs.Collected.{AreFound}
+use Rattle.wire_findings.specs.declared.finding.Finding.{Finding as Told}
+use Rattle.wire_findings.specs.Collected.{AreFound}
 use Rattle.wire_races.specs.Adding.{Adds}
 use Rattle.wire_races.specs.KeyRaces.{IsRaceOf}
 use Rattle.wire_races.specs.GetRaces.{AreOfOne, IsSureByGet, MayRace, AreRacesByGets, AreRacesBelow}

@@ -10,8 +10,8 @@ use Rattle.wire_runs.specs.Races.{Delivery, ByFence, ByGet, IsOf, Delivers, GetD
 use Rattle.wire_runs.specs.Findings.{Finding, IsFound, IsKeyRace}
 use Rattle.wire_plan.specs.Index.{IsDelivering, IsNextDelivery}
 use Rattle.wire_runs.proofs.Basics.{event_within, process_within}
-use Rattle.wire_races.specs.declared.finding.Finding.{Finding as Told}
-use Rattle.wire_races.specs.Collected.{AreFound}
+use Rattle.wire_findings.specs.declared.finding.Finding.{Finding as Told}
+use Rattle.wire_findings.specs.Collected.{AreFound}
 use Rattle.wire_races.specs.FindingKinds.{IsOfKey}
 use Rattle.wire_races.specs.Adding.{Adds, OfKind}
 use Rattle.wire_races.specs.GetRaces.{IsSureByGet, MayRace, AreRacesByGets}

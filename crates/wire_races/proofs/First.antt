@@ -6,7 +6,7 @@ use Rattle.std.proofs.lemmas.Option.{slice_get_within, same_Some}
 use Rattle.wire_runs.specs.Plan.{Plan, Event, Call, CallPut, CallCommit, CallFence, CallGet, CallGetNow, CallPublish, CallLookup, CallLookupWait, CallUnpublish, CallUnpublishAll, CallFixed}
 use Rattle.wire_runs.specs.Plan.{Kind, Arrive, Leave, kinds_of, kinds, kind_at, kind}
 use Rattle.wire_runs.specs.Ends.{call_of, process_calls, first_event}
-use Rattle.wire_races.proofs.Calls.{is_leave, same_events, starts_back}
+use Rattle.wire_findings.proofs.Calls.{is_leave, same_events, starts_back}
 
 no_end : (e : Kind) → ((members : List ℕ) → e ≡ Leave members → ⊥) → is_leave e ≡ false
 no_end (Leave members) never = absurd (never members refl)

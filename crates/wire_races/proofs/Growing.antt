@@ -3,8 +3,8 @@ use Rattle.std.proofs.Common.{◌≡◌, ◌⊎◌, inl, inr, ⊎_elim, ℕ, suc
 use Rattle.std.proofs.lemmas.Bool.{cases_eq}
 use Rattle.wire_runs.specs.Plan.{Plan, Event, process_count, event_count}
 use Rattle.wire_runs.specs.Findings.{Finding, IsFound}
-use Rattle.wire_races.specs.declared.finding.Finding.{Finding as Told}
-use Rattle.wire_races.specs.Collected.{AreFound, IsAdded}
+use Rattle.wire_findings.specs.declared.finding.Finding.{Finding as Told}
+use Rattle.wire_findings.specs.Collected.{AreFound, IsAdded}
 use Rattle.wire_races.specs.FindingKinds.{AllAdded}
 use Rattle.wire_races.specs.Adding.{Adds, OfKind, ToldIn, ToldBelow}
 

@@ -12,8 +12,8 @@ use Rattle.wire_runs.specs.Races.{IsUnordered, IsNodeRace, IsPutOnce, Delivery, 
 use Rattle.wire_runs.specs.Findings.{Finding, KeyRace, IsFound, IsKeyRace}
 use Rattle.wire_runs.proofs.Basics.{event_within}
 use Rattle.wire_plan.proofs.KeyFacts.{stores_once}
-use Rattle.wire_races.specs.declared.finding.Finding.{Finding as Told}
-use Rattle.wire_races.specs.Collected.{AreFound, IsAdded}
+use Rattle.wire_findings.specs.declared.finding.Finding.{Finding as Told}
+use Rattle.wire_findings.specs.Collected.{AreFound, IsAdded}
 use Rattle.wire_races.specs.Adding.{Adds}
 use Rattle.wire_races.specs.KeyRaces.{IsRaceOf, IsKeyRaceBy, IsOpen}
 use Rattle.wire_races.proofs.First.{first_of_call}

@@ -6,7 +6,7 @@ use Rattle.wire_runs.specs.Puts.{put_count}
 use Rattle.wire_types.specs.declared.Scope.{Scope}
 use Rattle.wire_types.specs.declared.CallAt.{CallAt}
 use Rattle.wire_runs.specs.Findings.{Finding, Rewrite, KeyRace, NameRace, IsFound}
-use Rattle.wire_races.specs.declared.finding.Finding.{Finding as Told}
+use Rattle.wire_findings.specs.declared.finding.Finding.{Finding as Told}
 use Rattle.wire_runs.specs.Findings as told
 use Rattle.wire_runs.specs.Ends.{call_of, first_event}
 use Rattle.wire_plan.specs.Index.{IsFirstPut}
@@ -14,13 +14,13 @@ use Rattle.wire_runs.specs.Races.{IsRewrite}
 use Rattle.wire_runs.proofs.Basics.{event_within, process_within}
 use Rattle.wire_plan.proofs.KeyFacts.{never_put}
 use Rattle.wire_plan.proofs.KeyRows.{own_here}
-use Rattle.wire_races.specs.Collected.{AreFound, IsAdded}
+use Rattle.wire_findings.specs.Collected.{AreFound, IsAdded}
 use Rattle.wire_races.specs.FindingKinds.{IsOfRewrite}
 use Rattle.wire_races.specs.Adding.{Adds, OfKind}
 use Rattle.wire_races.specs.Rewriting.{IsRewriteBy}
 use Rattle.wire_races.proofs.Growing.{adds_one, adds_none}
-use Rattle.wire_races.proofs.Calls.{low_starts, high_starts, starts_back}
-use Rattle.wire_races.proofs.Told.{put_key, first_once, one_first}
+use Rattle.wire_findings.proofs.Calls.{low_starts, high_starts, starts_back}
+use Rattle.wire_findings.proofs.Told.{put_key, first_once, one_first}
 
 first_of : (plan : Plan) (x y : Event) (p : ℕ) (r : IsRewrite plan x y) → x.proc ≡ p → IsFirstPut plan (record { proc = p; at = x.at }) r.key
 first_of plan x y p r same =

@@ -1,8 +1,4 @@
-pub mod Calls
-pub mod Told
 pub mod Adding
-pub mod Packing
-pub mod Ordered
 pub mod AllKinds
 pub mod Growing
 pub mod First
@@ -18,7 +14,6 @@ pub mod NameRaces
 mod Swept
 mod SweepRaces
 pub mod Rivals
-pub mod OneList
 pub mod Pairs
 pub mod Marked
 pub mod Gathered

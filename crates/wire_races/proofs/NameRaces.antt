@@ -13,10 +13,10 @@ use Rattle.wire_runs.specs.EventLists.{IsLower}
 use Rattle.wire_runs.specs.Fate.{IsIn}
 use Rattle.wire_runs.specs.Races.{IsUnordered, IsNameRace}
 use Rattle.wire_runs.specs.Findings.{Finding, NameRace, IsFound}
-use Rattle.wire_races.specs.declared.finding.Finding.{Finding as Told}
+use Rattle.wire_findings.specs.declared.finding.Finding.{Finding as Told}
 use Rattle.wire_plan.specs.Index.{is_plain_call, AreNameCalls}
 use Rattle.wire_runs.proofs.Histories.{before_live, joined, same_process}
-use Rattle.wire_races.specs.Collected.{Tells, AreFound, IsAdded}
+use Rattle.wire_findings.specs.Collected.{Tells, AreFound, IsAdded}
 use Rattle.wire_races.specs.FindingKinds.{IsOfName}
 use Rattle.wire_races.specs.Adding.{Adds}
 use Rattle.wire_races.specs.NameRaces.{IsRaceOn, IsPlainRaceOn, IsRaceFrom, IsRaceWith, AllRace, race_between, AreCallsOn, AreOf, AreRising}
@@ -25,7 +25,7 @@ use Rattle.wire_races.specs.SweepRaces.{IsSweepRace}
 use Rattle.wire_races.specs.declared.call_races.Border.{Border}
 use Rattle.wire_races.specs.declared.call_races.Border.TheVariants.{FirstNotBefore, FirstAfter}
 use Rattle.wire_races.proofs.Lists.{in_index, index_in, in_left, in_right, in_parts, get_left, get_right, first_calls, other_calls}
-use Rattle.wire_races.proofs.Calls.{writes_calls, starts_within, starts_named}
+use Rattle.wire_findings.proofs.Calls.{writes_calls, starts_within, starts_named}
 use Rattle.wire_races.proofs.Growing.{adds_one, adds_both}
 
 -- of the calls of a process those below a border are the first

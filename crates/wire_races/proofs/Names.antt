@@ -17,8 +17,8 @@ use Rattle.wire_plan.specs.Index.{is_plain_call}
 use Rattle.wire_plan.proofs.Planning.{events_first}
 use Rattle.wire_plan.proofs.Published.{published_at}
 use Rattle.wire_races.proofs.NameRaces.{plain_or_not}
-use Rattle.wire_races.specs.Standings.{AreNamesOf}
-use Rattle.wire_races.proofs.Calls.{get_left, get_right}
+use Rattle.wire_findings.specs.Standings.{AreNamesOf}
+use Rattle.wire_findings.proofs.Calls.{get_left, get_right}
 
 get_late : {A : Type 0} (xs ys : List A) (k : ℕ) → length xs ≤ k → slice_get (xs ++ ys) k ≡ slice_get ys (k - length xs)
 get_late xs ys k le = let same : k ≡ length xs + (k - length xs) = omega (arith, le) in ap (slice_get (xs ++ ys)) same ∙ get_right xs ys (k - length xs)

@@ -14,21 +14,21 @@ use Rattle.wire_runs.specs.Races.{IsUnordered, IsNameRace}
 use Rattle.wire_runs.specs.Findings.{Finding, Rewrite, KeyRace, NameRace, IsFound}
 use Rattle.wire_content.specs.Scripts.{Scripts}
 use Rattle.wire_content.specs.Planned.{plan_of}
-use Rattle.wire_races.specs.declared.finding.Finding.{Finding as Told}
-use Rattle.wire_races.specs.declared.finding.Finding.TheVariants as told
-use Rattle.wire_races.specs.Findings.{shown, AreFindings}
-use Rattle.wire_races.specs.Collected.{Tells, AreFound}
+use Rattle.wire_findings.specs.declared.finding.Finding.{Finding as Told}
+use Rattle.wire_findings.specs.declared.finding.Finding.TheVariants as told
+use Rattle.wire_findings.specs.Findings.{shown, AreFindings}
+use Rattle.wire_findings.specs.Collected.{Tells, AreFound}
 use Rattle.wire_races.specs.FindingKinds.{IsOfKey}
 use Rattle.wire_races.specs.Adding.{Adds}
 use Rattle.wire_races.specs.KeyRaces.{IsRaceOf, IsKeyRaceBy}
 use Rattle.wire_races.specs.Racing.{RaceOnKey, RaceOnName, AreRacing}
 use Rattle.wire_races.specs.Reported.{race_calls, IsReported}
 use Rattle.wire_races.specs.Contested.{is_disturbed, is_contested, IsOneContested, HasNamesOf}
-use Rattle.wire_races.proofs.Calls.{Starts, low_of, high_of, low_starts, high_starts, call_within, writes_calls, same_events}
+use Rattle.wire_findings.proofs.Calls.{Starts, low_of, high_of, low_starts, high_starts, call_within, writes_calls, same_events}
 use Rattle.wire_races.proofs.KeyRaces.{differ}
 use Rattle.wire_races.proofs.Deliveries.{race_told}
 use Rattle.wire_races.proofs.NameRaces.{turned}
-use Rattle.wire_races.proofs.OneList.{same_call, rising}
+use Rattle.wire_findings.proofs.OneList.{same_call, rising}
 
 -- what a list tells stands somewhere in it
 told_there : (plan : Plan) (found : List Told) (f : Finding) → Tells plan found f → (k : ℕ) × (t : Told) × (slice_get found k ≡ Some t) × (f ≡ shown plan t)

@@ -19,13 +19,13 @@ use Rattle.wire_runs.specs.Findings.{Finding, NameRace, IsFound}
 use Rattle.wire_runs.proofs.Basics.{process_within}
 use Rattle.wire_runs.proofs.EventLists.{not_in_empty, in_either, in_front, at_end}
 use Rattle.wire_plan.specs.Index.{AreSweeps}
-use Rattle.wire_races.specs.declared.finding.Finding.{Finding as Told}
+use Rattle.wire_findings.specs.declared.finding.Finding.{Finding as Told}
 use Rattle.wire_races.specs.declared.sweep_races.Share.{Share}
 use Rattle.wire_races.specs.Adding.{Adds}
 use Rattle.wire_races.specs.NameRaces.{IsRaceWith, AllRace, AreUnordered, IsStretch, IsOneOf, AreSweepers}
 use Rattle.wire_races.specs.SweepRaces.{IsSweepRaceOf, IsSweepRaceBelow, IsSweepRace, ArePublished, AddsShares, AreShares, AreShared, AreSharesOf}
 use Rattle.wire_races.specs.SweepRaces.{IsRaceOnOne, IsSweepRaceWith, IsSharedRace}
-use Rattle.wire_races.proofs.Calls.{writes_calls}
+use Rattle.wire_findings.proofs.Calls.{writes_calls}
 use Rattle.wire_races.proofs.Lists.{in_index, index_in, in_left, in_right, in_parts}
 use Rattle.wire_races.proofs.Growing.{adds_both, adds_same}
 use Rattle.wire_races.proofs.NameRaces.{between_lower, race_lower, race_unordered, low_calls, high_calls, all_race, only_one}

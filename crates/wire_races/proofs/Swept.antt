@@ -12,11 +12,11 @@ use Rattle.wire_runs.specs.Findings.{Finding, IsFound}
 use Rattle.wire_plan.specs.Index.{is_plain_call, AreNameCalls, ArePublishes, AreSweeps}
 use Rattle.wire_plan.proofs.Published.{published_at, publisher}
 use Rattle.wire_runs.proofs.EventLists.{not_in_empty, in_either, in_front, at_end}
-use Rattle.wire_races.specs.declared.finding.Finding.{Finding as Told}
+use Rattle.wire_findings.specs.declared.finding.Finding.{Finding as Told}
 use Rattle.wire_races.specs.Adding.{Adds}
 use Rattle.wire_races.specs.NameRaces.{IsRaceOn, IsPlainRaceOn, IsRaceWith, IsStretch, AreRivals, AreFacing, IsOneOf, AreSweepers}
 use Rattle.wire_races.specs.NameRaces.{IsSweptRace, IsSweptAmong, IsSweptRaceOn}
-use Rattle.wire_races.proofs.Calls.{writes_calls}
+use Rattle.wire_findings.proofs.Calls.{writes_calls}
 use Rattle.wire_races.proofs.Lists.{in_index, index_in, in_left, in_right, in_parts}
 use Rattle.wire_races.proofs.Growing.{adds_both}
 use Rattle.wire_races.proofs.NameRaces.{between, between_lower, between_higher, between_others, plain_or_not, caller_in, low_calls, high_calls}

@@ -9,8 +9,8 @@ use Rattle.wire_runs.specs.Plan.{Plan, process_count}
 use Rattle.wire_content.specs.Scripts.{Scripts, IsSound}
 use Rattle.wire_content.specs.Planned.{plan_of}
 use Rattle.wire_runs.specs.Findings.{Finding, IsFound}
-use Rattle.wire_races.specs.declared.finding.Finding.{Finding as Told}
-use Rattle.wire_races.specs.Collected.{Tells, AreFound}
+use Rattle.wire_findings.specs.declared.finding.Finding.{Finding as Told}
+use Rattle.wire_findings.specs.Collected.{Tells, AreFound}
 use Rattle.wire_races.specs.FindingKinds.{AllAdded, IsOfKey, IsOfName}
 use Rattle.wire_races.specs.Adding.{Adds, OfKind}
 use Rattle.wire_races.specs.KeyRaces.{IsKeyRaceOf}

@@ -2,8 +2,8 @@
 use Rattle.std.specs.Prelude.{◌≡◌, ◌⊎◌, ◌<◌, ℕ, List}
 use Rattle.wire_runs.specs.Plan.{Plan, Event}
 use Rattle.wire_runs.specs.Findings.{Finding, IsFound}
-use Rattle.wire_races.specs.declared.finding.Finding.{Finding as Told}
-use Rattle.wire_races.specs.Collected.{Tells, AreFound}
+use Rattle.wire_findings.specs.declared.finding.Finding.{Finding as Told}
+use Rattle.wire_findings.specs.Collected.{Tells, AreFound}
 
 -- those are added, and nothing else
 pub record Adds (plan : Plan) (old new : List Told) (those : Finding → Type 0) : Type 0 where

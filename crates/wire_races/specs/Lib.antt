@@ -1,7 +1,3 @@
-pub mod Findings
-pub mod Collected
-pub mod Packing
-pub mod Standings
 pub mod FindingKinds
 pub mod Adding
 pub mod Rewriting

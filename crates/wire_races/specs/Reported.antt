@@ -1,8 +1,8 @@
 -- The calls of a race that is told, and lists that have a race of two calls.
 use Rattle.std.specs.Prelude.{◌≡◌, ◌⊎◌, ℕ, List, Option, Some, None, slice_get}
 use Rattle.wire_types.specs.declared.CallAt.{CallAt}
-use Rattle.wire_races.specs.declared.finding.Finding.{Finding}
-use Rattle.wire_races.specs.declared.finding.Finding.TheVariants.{Rewrite, KeyRace, NameRace}
+use Rattle.wire_findings.specs.declared.finding.Finding.{Finding}
+use Rattle.wire_findings.specs.declared.finding.Finding.TheVariants.{Rewrite, KeyRace, NameRace}
 
 -- the calls of a race, the lower first; nothing of a rewrite
 abbrev pub race_calls : Finding → Option (CallAt × CallAt)

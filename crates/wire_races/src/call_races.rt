@@ -5,14 +5,13 @@ ghost use Rattle.wire_runs.specs.Plan.{event_of, kind};
 ghost use Rattle.wire_content.specs.Planned.{plan_of};
 ghost use Rattle.wire_runs.specs.Names.{calls_name};
 ghost use Rattle.wire_runs.specs.Order.{Live};
-ghost use Rattle.wire_races.specs.Findings.{shown};
-ghost use Rattle.wire_races.specs.Collected.{AreFound};
+ghost use Rattle.wire_findings.specs.Findings.{shown};
+ghost use Rattle.wire_findings.specs.Collected.{AreFound};
 ghost use Rattle.wire_races.specs.Adding.{Adds};
 ghost use Rattle.wire_races.specs.NameRaces.{IsRaceWith, AllRace, race_between, AreOf, AreRising, IsStretch, IsBelow, IsCut, AreUnordered};
 
-use crate::finding::Finding;
-use crate::found::Found;
 use std::alloc::AllocError;
+use wire_findings::{Finding, Found};
 use wire_marks::MarkedPlan;
 use wire_plan::Plan;
 use wire_types::Event;
@@ -77,7 +76,7 @@ fn count_below(marked: &MarkedPlan<'_>, x: Event, border: Border, run: &[Event])
 
 /// Those of these calls of one process that no chain orders with a live call. They stand between two borders, and both are found without a look at
 /// any name.
-pub(crate) fn unordered_with<'a>(marked: &MarkedPlan<'_>, x: Event, run: &'a [Event]) -> &'a [Event]
+pub(crate) fn find_unordered<'a>(marked: &MarkedPlan<'_>, x: Event, run: &'a [Event]) -> &'a [Event]
     requires live { Live (plan_of marked.now) (event_of x) }
     requires rising { AreRising (map event_of run.now) }
     requires run { IsStretch (map event_of run.now) }

@@ -8,14 +8,14 @@ ghost use Rattle.wire_content.specs.Planned.{plan_of};
 ghost use Rattle.wire_runs.specs.Races.{IsPutOnce};
 ghost use Rattle.wire_plan.specs.Index.{AreGetDeliveries};
 ghost use Rattle.wire_marks.specs.Clocks.{AreMarks};
-ghost use Rattle.wire_races.specs.Collected.{AreFound};
+ghost use Rattle.wire_findings.specs.Collected.{AreFound};
 ghost use Rattle.wire_races.specs.Adding.{Adds};
 ghost use Rattle.wire_races.specs.KeyRaces.{IsUnsure};
 ghost use Rattle.wire_races.specs.GetRaces.{AreOfOne, IsSureByGet, MayRace, AreRacesByGets};
 
-use crate::found::Found;
 use crate::key_races::{KeyRead, add_race};
 use std::alloc::AllocError;
+use wire_findings::Found;
 use wire_marks::Marks;
 use wire_plan::Plan;
 use wire_types::{Event, Proc};

@@ -10,21 +10,20 @@ ghost use Rattle.wire_runs.specs.Races.{IsUnordered, IsPutOnce, ComesSurely};
 ghost use Rattle.wire_runs.specs.Findings.{IsKeyRace};
 ghost use Rattle.wire_plan.specs.Index.{AreArrivals, IsDelivering};
 ghost use Rattle.wire_marks.specs.Clocks.{AreMarks};
-ghost use Rattle.wire_races.specs.Findings.{shown};
-ghost use Rattle.wire_races.specs.Collected.{AreFound};
+ghost use Rattle.wire_findings.specs.Findings.{shown};
+ghost use Rattle.wire_findings.specs.Collected.{AreFound};
 ghost use Rattle.wire_races.specs.FindingKinds.{IsOfKey, AllAdded};
 ghost use Rattle.wire_races.specs.Adding.{Adds, ToldIn};
 ghost use Rattle.wire_races.specs.Pieces.{IsPiece, ArePieces};
 ghost use Rattle.wire_races.specs.KeyRaces.{IsRaceOf, IsKeyRaceBy, IsKeyRaceOf, IsOpen, Arrives, IsBehindOwn, IsSure, IsSureByFence, MayBeLate, IsLate};
 ghost use Rattle.wire_races.specs.KeyRaces.{IsLateBy, AreLateBelow, AllLive, NoneAfter, IsFirstLate, IsUnsure, IsNextArrival};
 
-use crate::finding::Finding;
-use crate::found::Found;
 use crate::get_races::{add_get_races, get_comes_surely};
 use crate::pieces::add_pieces;
 use rayon::prelude::*;
 use std::alloc::{AllocError, Global};
 use std::thread::Threads;
+use wire_findings::{Finding, Found};
 use wire_marks::Marks;
 use wire_plan::{Kind, Plan};
 use wire_types::{Event, Proc};
@@ -408,7 +407,7 @@ fn add_process(plan: &Plan, marks: &Marks, found: &mut Found, proc: Proc) -> Res
 }
 
 /// The races of the gets of a process: a piece of the search.
-fn piece(alloc: Global, plan: &Plan, marks: &Marks, proc: Proc) -> Result<Found, AllocError>
+fn make_piece(alloc: Global, plan: &Plan, marks: &Marks, proc: Proc) -> Result<Found, AllocError>
     requires { AreMarks (plan_of plan.now) marks.now }
     ensures { IfOk result (IsPiece (plan_of plan.now) (IsKeyRaceOf (plan_of plan.now) proc.number)) }
 {
@@ -426,7 +425,7 @@ fn least_processes(plan: &Plan) -> usize
 }
 
 /// A piece for each process, in their order, made by several threads.
-fn pieces(
+fn make_pieces(
     rt: &(impl Threads + Sync),
     alloc: Global,
     plan: &Plan,
@@ -442,7 +441,7 @@ fn pieces(
             |number: u32| -> Result<Found, AllocError>
                 requires { AreMarks (plan_of plan.now) marks.now }
                 ensures { IfOk result (IsPiece (plan_of plan.entry.now) (IsKeyRaceOf (plan_of plan.entry.now) number)) }
-            { piece(alloc, plan, marks, Proc { number }) },
+            { make_piece(alloc, plan, marks, Proc { number }) },
         )
         .collect::<Result<Vec<_>, AllocError>>(rt, alloc)?
 }
@@ -463,6 +462,6 @@ pub(crate) fn add_key_races(
     ensures found { OnOk result (AreFound (plan_of plan.now) found.new) }
     ensures all { OnOk result (AllAdded (plan_of plan.now) IsOfKey found.old found.new) }
 {
-    let pieces = pieces(rt, alloc, plan, marks)?;
+    let pieces = make_pieces(rt, alloc, plan, marks)?;
     add_pieces(found, pieces)
 }

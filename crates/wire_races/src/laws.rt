@@ -4,9 +4,9 @@ ghost use Rattle.std.specs.Prelude.{◌≡◌, ◌↔◌, List, []};
 ghost use Rattle.wire_runs.specs.Races.{IsSettled};
 ghost use Rattle.wire_content.specs.Scripts.{Scripts};
 ghost use Rattle.wire_content.specs.Planned.{plan_of};
-ghost use Rattle.wire_races.specs.declared.finding.Finding.{Finding as Told};
+ghost use Rattle.wire_findings.specs.declared.finding.Finding.{Finding as Told};
 ghost use Rattle.wire_types.specs.declared.CallAt.{CallAt};
-ghost use Rattle.wire_races.specs.Findings.{AreFindings};
+ghost use Rattle.wire_findings.specs.Findings.{AreFindings};
 ghost use Rattle.wire_races.specs.Racing.{AreRacing};
 ghost use Rattle.wire_races.specs.Reported.{IsReported};
 

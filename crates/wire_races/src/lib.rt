@@ -2,10 +2,7 @@
 #![tactic(auto)]
 
 mod call_races;
-mod compact;
 mod fate;
-mod finding;
-mod found;
 mod get_races;
 mod key_fates;
 mod key_races;
@@ -13,7 +10,6 @@ pub mod laws;
 mod list;
 mod name_fates;
 mod name_races;
-mod packed;
 mod pieces;
 mod racing;
 mod reported;
@@ -21,9 +17,7 @@ mod rewrites;
 mod settled;
 mod sweep_races;
 
-pub use compact::FindingList;
 pub use fate::Fate;
-pub use finding::Finding;
 pub use list::{finding_list, findings};
 pub use racing::are_racing;
 pub use reported::race_calls;

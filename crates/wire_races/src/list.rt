@@ -3,16 +3,14 @@
 ghost use Rattle.std.specs.Prelude.{IfOk, IsOkUnless};
 ghost use Rattle.wire_content.specs.Planned.{plan_of};
 ghost use Rattle.wire_marks.specs.Clocks.{AreMarks};
-ghost use Rattle.wire_races.specs.Findings.{AreFindings};
+ghost use Rattle.wire_findings.specs.Findings.{AreFindings};
 
-use crate::compact::FindingList;
-use crate::finding::Finding;
-use crate::found::Found;
 use crate::key_races::add_key_races;
 use crate::name_races::add_name_races;
 use crate::rewrites::add_rewrites;
 use std::alloc::{AllocError, Global};
 use std::thread::Threads;
+use wire_findings::{Finding, FindingList, Found};
 use wire_marks::Marks;
 use wire_plan::Plan;
 use wire_types::Fault;

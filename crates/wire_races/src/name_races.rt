@@ -9,9 +9,9 @@ ghost use Rattle.wire_runs.specs.Order.{Live};
 ghost use Rattle.wire_runs.specs.Findings.{NameRace};
 ghost use Rattle.wire_plan.specs.Index.{is_plain_call, AreNameCalls};
 ghost use Rattle.wire_marks.specs.Clocks.{AreMarks};
-ghost use Rattle.wire_races.specs.Findings.{shown};
+ghost use Rattle.wire_findings.specs.Findings.{shown};
 ghost use Rattle.wire_races.specs.FindingKinds.{IsOfName, AllAdded};
-ghost use Rattle.wire_races.specs.Collected.{AreFound};
+ghost use Rattle.wire_findings.specs.Collected.{AreFound};
 ghost use Rattle.wire_races.specs.Adding.{Adds};
 ghost use Rattle.wire_races.specs.Pieces.{IsPiece, ArePieces};
 ghost use Rattle.wire_races.specs.NameRaces.{IsRaceOn, IsPlainRaceOn, IsRaceFrom, IsRaceWith, AllRace, race_between, AreCallsOn, AreOf, AreRising};
@@ -19,13 +19,13 @@ ghost use Rattle.wire_races.specs.NameRaces.{IsStretch, AreRivals, AreHigher, Ha
 ghost use Rattle.wire_races.specs.NameRaces.{AreFacing, IsOneOf, AreSweepers, IsSweptRace, IsSweptRaceOn};
 ghost use Rattle.wire_content.specs.Scripts.{numbers_of};
 
-use crate::call_races::{NameCall, add_races, unordered_with};
-use crate::found::Found;
+use crate::call_races::{NameCall, add_races, find_unordered};
 use crate::pieces::add_pieces;
 use crate::sweep_races::{add_sweep_races, is_publisher, sweepers_of};
 use rayon::prelude::*;
 use std::alloc::{AllocError, Global};
 use std::thread::Threads;
+use wire_findings::Found;
 use wire_marks::{MarkedPlan, Marks};
 use wire_plan::{Kind, Plan};
 use wire_types::{Event, Proc};
@@ -59,7 +59,7 @@ fn add_between(
     requires run { IsStretch (map event_of run.now) }
     ensures { OnOk result (Adds (plan_of marked.now) found.old found.new (IsRaceWith (plan_of marked.now) x.name (event_of x.event) (map event_of run.now))) }
 {
-    let those = unordered_with(marked, x.event, run);
+    let those = find_unordered(marked, x.event, run);
     add_races(marked.plan(), found, x, those)
 }
 
@@ -201,7 +201,7 @@ fn add_races_on(
 }
 
 // The calls of a process that take away all its names, none where it is that of the other call.
-fn facing<'a>(plan: &'a Plan, x: Event, proc: Proc) -> &'a [Event]
+fn find_facing<'a>(plan: &'a Plan, x: Event, proc: Proc) -> &'a [Event]
     ensures { AreFacing (plan_of plan.now) (event_of x) proc.number (map event_of result.now) }
 {
     if x.proc.number != proc.number {
@@ -228,7 +228,7 @@ fn add_swept(
     }
     let plan = marked.plan();
     for proc in procs {
-        add_between(marked, found, x, facing(plan, x.event, *proc))?;
+        add_between(marked, found, x, find_facing(plan, x.event, *proc))?;
     }
     Ok(())
 }
@@ -256,7 +256,7 @@ fn add_races_swept(
 }
 
 // The races on a name in which one call at least is on this name alone: a piece of the search.
-fn piece(alloc: Global, marked: &MarkedPlan<'_>, name: u32) -> Result<Found, AllocError>
+fn make_piece(alloc: Global, marked: &MarkedPlan<'_>, name: u32) -> Result<Found, AllocError>
     ensures { IfOk result (IsPiece (plan_of marked.now) (IsRaceOn (plan_of marked.now) name)) }
 {
     let mut found = Found::new(alloc);
@@ -269,7 +269,7 @@ fn piece(alloc: Global, marked: &MarkedPlan<'_>, name: u32) -> Result<Found, All
 
 // A piece for each name, in their order, made by several threads. Most names have few calls, so
 // that fewer than sixteen of them aren't worth a thread of their own.
-fn pieces(
+fn make_pieces(
     rt: &(impl Threads + Sync),
     alloc: Global,
     plan: &Plan,
@@ -285,7 +285,7 @@ fn pieces(
             |name: u32| -> Result<Found, AllocError>
                 requires { AreMarks (plan_of plan.now) marks.now }
                 ensures { IfOk result (IsPiece (plan_of plan.entry.now) (IsRaceOn (plan_of plan.entry.now) name)) }
-            { piece(alloc, &marks.with(plan), name) },
+            { make_piece(alloc, &marks.with(plan), name) },
         )
         .collect::<Result<Vec<_>, AllocError>>(rt, alloc)?
 }
@@ -312,7 +312,7 @@ pub(crate) fn add_name_races(
     // Scripts are sound, so each call on a name is on one of theirs.
     let plan = marked.plan();
     let _ = plan.scripts();
-    let pieces = pieces(rt, alloc, plan, marked.marks())?;
+    let pieces = make_pieces(rt, alloc, plan, marked.marks())?;
     add_pieces(found, pieces)?;
     add_sweep_races(alloc, marked, found)
 }

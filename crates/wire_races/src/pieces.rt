@@ -3,12 +3,12 @@
 
 ghost use Rattle.std.specs.Prelude.{OnOk};
 ghost use Rattle.wire_runs.specs.Plan as runs;
-ghost use Rattle.wire_races.specs.Collected.{AreFound};
+ghost use Rattle.wire_findings.specs.Collected.{AreFound};
 ghost use Rattle.wire_races.specs.Adding.{Adds};
 ghost use Rattle.wire_races.specs.Pieces.{IsInSome, AreAllFound};
 
-use crate::found::Found;
 use std::alloc::AllocError;
+use wire_findings::Found;
 
 /// Adds the findings of all pieces. The one error is that memory ran out.
 pub(crate) fn add_pieces(found: &mut Found, pieces: Vec<Found>) -> Result<(), AllocError>

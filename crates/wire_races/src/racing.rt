@@ -10,12 +10,12 @@ ghost use Rattle.wire_races.specs.Contested as spec;
 ghost use Rattle.wire_races.specs.Contested.{IsOneContested, HasNamesOf};
 
 use crate::call_races::NameCall;
-use crate::found::Found;
 use crate::key_races::{add_event, are_unordered};
 use crate::name_races::is_write;
 use crate::reported::is_reported;
 use crate::sweep_races::names_of;
 use std::alloc::{AllocError, Global};
+use wire_findings::Found;
 use wire_marks::MarkedPlan;
 use wire_plan::{Kind, Plan};
 use wire_types::{CallAt, Event};

@@ -4,8 +4,7 @@ ghost use Rattle.std.specs.Prelude.{◌≡◌, ◌↔◌, IsTrue};
 ghost use Rattle.wire_races.specs.Reported as spec;
 ghost use Rattle.wire_races.specs.Reported.{IsOfCalls, IsReported};
 
-use crate::compact::FindingList;
-use crate::finding::Finding;
+use wire_findings::{Finding, FindingList};
 use wire_types::CallAt;
 
 /// The calls of a race, the lower first; nothing of a rewrite.

@@ -5,14 +5,13 @@ ghost use Rattle.wire_runs.specs.Plan.{event_of, event_count};
 ghost use Rattle.wire_runs.specs.Plan as runs;
 ghost use Rattle.wire_content.specs.Planned.{plan_of};
 ghost use Rattle.wire_runs.specs.Races.{IsRewrite};
-ghost use Rattle.wire_races.specs.Collected.{AreFound};
+ghost use Rattle.wire_findings.specs.Collected.{AreFound};
 ghost use Rattle.wire_races.specs.FindingKinds.{IsOfRewrite, AllAdded};
 ghost use Rattle.wire_races.specs.Adding.{Adds, ToldIn};
 ghost use Rattle.wire_races.specs.Rewriting.{IsRewriteBy};
 
-use crate::finding::Finding;
-use crate::found::Found;
 use std::alloc::AllocError;
+use wire_findings::{Finding, Found};
 use wire_plan::{Kind, Plan};
 use wire_types::{Event, Proc};
 

@@ -11,12 +11,12 @@ ghost use Rattle.wire_runs.specs.Plan.{event_of, event_count};
 ghost use Rattle.wire_runs.specs.Laws.{Commute, FatesHold, HasOneEnd};
 ghost use Rattle.wire_runs.specs.Races.{IsSettled};
 ghost use Rattle.wire_marks.specs.Clocks.{AreMarks};
-ghost use Rattle.wire_races.specs.Findings.{AreFindings};
+ghost use Rattle.wire_findings.specs.Findings.{AreFindings};
 ghost use Rattle.wire_races.specs.Fates.{IsFateOf, TellsReply, TellsEnabled};
 
 use crate::fate::{Fate, fate_of};
-use crate::finding::Finding;
 use std::marker::Model;
+use wire_findings::Finding;
 use wire_marks::Marks;
 use wire_plan::Plan;
 use wire_types::Event;

@@ -9,15 +9,15 @@ ghost use Rattle.wire_runs.specs.Names.{is_publish};
 ghost use Rattle.wire_runs.specs.Names as runs_names;
 ghost use Rattle.wire_content.specs.Planned.{plan_of};
 ghost use Rattle.wire_content.specs.Scripts.{numbers_of};
-ghost use Rattle.wire_races.specs.Collected.{AreFound};
+ghost use Rattle.wire_findings.specs.Collected.{AreFound};
 ghost use Rattle.wire_races.specs.Adding.{Adds};
 ghost use Rattle.wire_races.specs.NameRaces.{AllRace, IsOneOf, AreSweepers};
 ghost use Rattle.wire_races.specs.SweepRaces.{IsSweepRace, IsSweepRaceOf, ArePublished, AddsShares, AreShares, AreShared, AreSharesOf};
 ghost use Rattle.wire_races.specs.SweepRaces.{IsRaceOnOne, IsSweepRaceWith, IsSharedRace};
 
-use crate::call_races::{NameCall, add_races, unordered_with};
-use crate::found::Found;
+use crate::call_races::{NameCall, add_races, find_unordered};
 use std::alloc::{AllocError, Global};
+use wire_findings::Found;
 use wire_marks::MarkedPlan;
 use wire_plan::{Kind, Plan};
 use wire_types::{Event, Proc};
@@ -78,7 +78,7 @@ pub(crate) fn is_publisher(plan: &Plan, proc: Proc, name: u32) -> bool
 }
 
 // The name that an event of the plan publishes, if it is a publish.
-fn published(plan: &Plan, event: Event) -> Option<u32>
+fn name_published(plan: &Plan, event: Event) -> Option<u32>
     requires { event.at < event_count (plan_of plan.now) event.proc.number }
     ensures { (name : ℕ) → (is_publish name (kind (plan_of plan.now) (event_of event)) ≡ true) ↔ (result ≡ Some name) }
 {
@@ -95,7 +95,7 @@ pub(crate) fn names_of(alloc: Global, plan: &Plan, proc: Proc) -> Result<Vec<u32
 {
     let mut names = Vec::new(alloc);
     for at in 0..plan.event_count(proc) {
-        if let Some(name) = published(plan, Event { proc, at }) {
+        if let Some(name) = name_published(plan, Event { proc, at }) {
             names.push(name)?;
         }
     }
@@ -184,7 +184,7 @@ fn add_sweep(
         return Ok(());
     }
     let plan = marked.plan();
-    let those = unordered_with(marked, x, plan.sweeps(higher));
+    let those = find_unordered(marked, x, plan.sweeps(higher));
     if those.is_empty() {
         return Ok(());
     }

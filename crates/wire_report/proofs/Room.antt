@@ -12,8 +12,8 @@ use Rattle.wire_types.specs.declared.Proc.{Proc}
 use Rattle.wire_content.specs.Scripts.{Scripts, IsSound, call_at, text_at}
 use Rattle.wire_content.specs.Process.{Process}
 use Rattle.wire_content.specs.Map.{job_at, rank_of}
-use Rattle.wire_races.specs.declared.finding.Finding.{Finding}
-use Rattle.wire_races.specs.declared.finding.Finding.TheVariants.{Rewrite, KeyRace, NameRace}
+use Rattle.wire_findings.specs.declared.finding.Finding.{Finding}
+use Rattle.wire_findings.specs.declared.finding.Finding.TheVariants.{Rewrite, KeyRace, NameRace}
 use Rattle.wire_words.specs.Words.{name_of, text_of_process}
 use Rattle.wire_report.specs.Findings.{put_key_text, finding_line, count_line}
 use Rattle.wire_report.specs.FindingLines.{NoneIsLonger, HoldsAnyLine, AreNumbered, IsNumbered}

@@ -2,8 +2,8 @@
 use Rattle.std.specs.Prelude.{◌≡◌, ℕ, ◌^◌, ◌<◌, ◌≤◌, List, ◌++◌, Option, IfSome, codes, length}
 use Rattle.wire_content.specs.Scripts.{Scripts, text_at}
 use Rattle.wire_types.specs.declared.CallAt.{CallAt}
-use Rattle.wire_races.specs.declared.finding.Finding.{Finding}
-use Rattle.wire_races.specs.declared.finding.Finding.TheVariants.{Rewrite, KeyRace, NameRace}
+use Rattle.wire_findings.specs.declared.finding.Finding.{Finding}
+use Rattle.wire_findings.specs.declared.finding.Finding.TheVariants.{Rewrite, KeyRace, NameRace}
 use Rattle.wire_words.specs.Words.{name_of, call_text}
 use Rattle.wire_report.specs.Findings.{finding_line, count_line}
 

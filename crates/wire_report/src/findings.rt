@@ -10,8 +10,8 @@ ghost use Rattle.wire_report.specs.FindingLines.{AreNumbered, IsNumbered, AreWor
 use crate::lower_call::LowerCall;
 use std::alloc::{AllocError, Global};
 use wire_content::Scripts;
+use wire_findings::Finding;
 use wire_json::findings_json;
-use wire_races::Finding;
 use wire_types::{Call, CallAt, Fault, Proc};
 use wire_words::{find_call, push_call, push_number, push_proc};
 

@@ -14,7 +14,7 @@ mod writing;
 pub use chain::{chain_text, one_chain_text, write_chain};
 pub use findings::{findings_text, push_finding};
 pub use report::{report_text, write_report};
-pub use steps::{chain_steps, dead_calls, order_line, push_dead_line, push_event};
+pub use steps::{chain_steps, find_dead_calls, order_line, push_dead_line, push_event};
 pub use streaming::write_findings;
 pub use unsettled::{push_order, push_steps, unsettled_text, write_unsettled};
 pub use writing::write_text;

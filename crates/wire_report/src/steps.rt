@@ -118,13 +118,13 @@ pub fn unordered_text(
         × (text.items ≡ spec.unordered_form json plan.now dead)) }
     ensures err { IfErr result (λ e. e ≡ Memory) }
 {
-    let dead = dead_calls(alloc, plan, marks, calls)?;
+    let dead = find_dead_calls(alloc, plan, marks, calls)?;
     let text = dead_text(alloc, plan.scripts(), dead.as_slice(), json)?;
     Ok(text)
 }
 
 /// Those of two calls whose event isn't live, once where they are one.
-pub fn dead_calls(
+pub fn find_dead_calls(
     alloc: Global,
     plan: &Plan,
     marks: &Marks,

@@ -16,7 +16,7 @@ use crate::lower_call::LowerCall;
 use crate::writing::write_text;
 use std::alloc::Global;
 use wire_content::{Scripts, Texts};
-use wire_races::{Finding, FindingList};
+use wire_findings::{Finding, FindingList};
 use wire_types::{Fault, Sink};
 use wire_words::Chunk;
 

@@ -95,19 +95,19 @@ taken_is (u ∷ ts) (suc k) t e = taken_is ts k t e
 
 within_at : (r : Round) (p : Pass) → IsPassOf r p → (k : ℕ) → k < workers_of r → length (taken_at k (permit_views p)) ≤ length (share_at r k)
 within_at r p is k less =
-    let t = get_there p.tokens.items k (omega (arith, is.count)) in
+    let t = get_there p.permits.items k (omega (arith, is.count)) in
     let s = get_there r.thieves.items k less in
-    let token = is.tokens k s.0 t.0 s.1 t.1 in
-    let dealt : length (deque.view t.0).dealt ≡ length (share_at r k) = ap length token.2 in
-    let took : length (taken_at k (permit_views p)) ≡ length (deque.view t.0).taken = ap length (taken_is p.tokens.items k t.0 t.1) in
-    let within = token.4.0 in
-    let below = token.4.1 in
+    let permit = is.permits k s.0 t.0 s.1 t.1 in
+    let dealt : length (deque.view t.0).dealt ≡ length (share_at r k) = ap length permit.2 in
+    let took : length (taken_at k (permit_views p)) ≡ length (deque.view t.0).taken = ap length (taken_is p.permits.items k t.0 t.1) in
+    let within = permit.4.0 in
+    let below = permit.4.1 in
     omega (arith, dealt, took, within, below)
 
 pub takes_are_bounded : TakesAreBounded
 takes_are_bounded r p is =
-    let t = get_there p.tokens.items (worker_of p) (omega (arith, is.count, is.within)) in
-    let none : length (taken_at (worker_of p) (permit_views p)) ≡ 0 = ap length (taken_is p.tokens.items (worker_of p) t.0 t.1 ∙ is.unused t.0 t.1) in
+    let t = get_there p.permits.items (worker_of p) (omega (arith, is.count, is.within)) in
+    let none : length (taken_at (worker_of p) (permit_views p)) ≡ 0 = ap length (taken_is p.permits.items (worker_of p) t.0 t.1 ∙ is.unused t.0 t.1) in
     let dealt : length (own_view p).dealt ≡ length (share_at r (worker_of p)) = ap length is.dealt in
     let within = is.bounded.0 in
     let below = is.bounded.1 in
@@ -115,6 +115,6 @@ takes_are_bounded r p is =
     (within_at r p is) none (omega (arith, dealt, within, below))).1 is.within in
     let places : sum_to (λ k. weigh (λ _. 1) (taken_at k (permit_views p))) (workers_of r) ≡ weigh (λ _. 1) (all_of (permit_views p)) =
     subst (λ m. sum_to (λ k. weigh (λ _. 1) (taken_at k (permit_views p))) m ≡ weigh (λ _. 1) (all_of (permit_views p)))
-    (length-map p.tokens.items (λ (u : Permit). deque.view u) ∙ is.count) (by_place (λ _. 1) (permit_views p)) in
+    (length-map p.permits.items (λ (u : Permit). deque.view u) ∙ is.count) (by_place (λ _. 1) (permit_views p)) in
     let all = shares_all (λ _. 1) (workers_of r) r.round r.ranks (omega (arith, is.within)) in
     omega (arith, sum, places, all, weigh_ones (deal_of r.round r.ranks), length_deal r.round r.ranks, weigh_ones (all_of (permit_views p)), length_by p)

@@ -154,13 +154,13 @@ shared_to h r (suc n) ps each =
 pub each_once : (r : Round) (ps : List Pass) → 0 < workers_of r → length ps ≡ workers_of r → ((i : ℕ) (p : Pass) → get_elem? ps i ≡ some p → length (permit_views p) ≡ workers_of r) →
     IsShared r (workers_of r) ps
     → IsPermutation (deal_of r.round r.ranks) (taken_by_all ps ++ rest_of_all r ps)
-each_once r ps staffed len tokens shared =
+each_once r ps staffed len permits shared =
     same_weights (deal_of r.round r.ranks) (taken_by_all ps ++ rest_of_all r ps)
     (λ h.
     omega (
       arith,
       weigh-append h (taken_by_all ps) (rest_of_all r ps),
-      taken_by_place h ps (workers_of r) len tokens,
+      taken_by_place h ps (workers_of r) len permits,
       shared_to h r (workers_of r) ps shared,
       shares_all h (workers_of r) r.round r.ranks staffed,
     ))

@@ -133,4 +133,4 @@ pub finishing_once : (r : Round) (ps now : List Pass) (left : List Piece) (n : �
     → IsPermutation (deal_of r.round r.ranks) (taken_by_all ps ++ left)
 finishing_once r ps now left n are h all staffed =
     subst (λ l. IsPermutation (deal_of r.round r.ranks) (taken_by_all ps ++ l)) (sym (finishing_order r ps now left n are h all))
-    (each_once r ps staffed are.0 (λ i p at. length_map p.tokens.items ∙ (are.1 i p at).1.count) (subst (λ k. IsShared r k ps) (all ∙ are.0) h.shared))
+    (each_once r ps staffed are.0 (λ i p at. length_map p.permits.items ∙ (are.1 i p at).1.count) (subst (λ k. IsShared r k ps) (all ∙ are.0) h.shared))

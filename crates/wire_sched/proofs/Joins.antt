@@ -1,4 +1,4 @@
--- The tokens of all passes come back to the workers of their deques.
+-- The permits of all passes come back to the workers of their deques.
 use Rattle.std.proofs.Common.{◌≡◌, ◌≢◌, ℕ, zero, suc, ◌+◌, ◌<◌, ◌≤◌, List, [], ◌∷◌, ◌++◌, length, set, take, map, sym, refl, ap, ◌∙◌, subst, ⊎_elim, arith, length-set, length-append, append_assoc}
 use Rattle.std.proofs.Common.{append-nil, add-one}
 use mathlib.Core.Option.{some, some-ne-none, some-injective}
@@ -16,7 +16,7 @@ use Rattle.wire_sched.specs.Taken.{taken_at, stolen}
 use Rattle.wire_sched.specs.Deques.{EachPair, SameDeque, CanTake, IsJoined, AreJoined, CanJoinAll, AreGathered}
 use Rattle.wire_sched.proofs.Rows.{get_within, get_there, get_same}
 
--- the tokens of the last deques have been joined, and the first ones are left
+-- the permits of the last deques have been joined, and the first ones are left
 pub record Rowing (first now : List Pass) (all left : List Permit) : Type 0 where
   pub same_length : length now ≡ length first
   pub fewer : length left ≤ length all
@@ -42,7 +42,7 @@ earlier [] t u k at = absurd (some-ne-none u (sym at))
 earlier (x ∷ left) t u zero at = at
 earlier (x ∷ left) t u (suc k) at = earlier left t u k at
 
--- what is known of the deque whose token comes next
+-- what is known of the deque whose permit comes next
 pub rowing_next : (first now : List Pass) (all left : List Permit) (t : Permit) (p : Pass) → Rowing first now all (left ++ t ∷ []) → EachPair CanTake first all → get_elem? now (length left) ≡ some p →
     CanTake p t
 rowing_next first now all left t p h can at =
@@ -75,13 +75,13 @@ rowing_more first now all left t p q h at join = record {
 pub rowing_ends : (first now : List Pass) (all left : List Permit) → Rowing first now all left → length left ≡ 0 → AreJoined first all now
 rowing_ends first now all left h none = (h.same_length, λ k a b t x y z. h.done k a b t (omega (arith, none)) x y z)
 
--- after the tokens of the first n passes
+-- after the permits of the first n passes
 pub record Joining (first now : List Pass) (n : ℕ) : Type 0 where
   pub same_length : length now ≡ length first
   pub same : (k : ℕ) (a b : Pass) → get_elem? first k ≡ some a → get_elem? now k ≡ some b → (b.worker ≡ a.worker) × SameDeque a.own b.own
   pub views : (k : ℕ) (a b : Pass) → get_elem? first k ≡ some a → get_elem? now k ≡ some b
       → own_view b ≡ deque_view ((own_view a).parts + n) (own_view a).below (own_view a).dealt ((own_view a).taken ++ stolen k (take n first))
-  pub tokens : (k : ℕ) (a b : Pass) → get_elem? first k ≡ some a → get_elem? now k ≡ some b → n ≤ k → b.tokens ≡ a.tokens
+  pub permits : (k : ℕ) (a b : Pass) → get_elem? first k ≡ some a → get_elem? now k ≡ some b → n ≤ k → b.permits ≡ a.permits
 
 with_more : (v : DequeView) (m n : ℕ) (xs ys : List Piece) → m ≡ n → xs ≡ ys → deque_view m v.below v.dealt xs ≡ deque_view n v.below v.dealt ys
 with_more v m n xs ys a b = ap (λ k. deque_view k v.below v.dealt xs) a ∙ ap (λ l. deque_view n v.below v.dealt l) b
@@ -93,7 +93,7 @@ joining_nothing first = record {
   views = λ k a b x y.
       let is : b ≡ a = get_same first k b a y x in
       ap own_view is ∙ with_more (own_view a) (own_view a).parts ((own_view a).parts + 0) (own_view a).taken ((own_view a).taken ++ []) (omega arith) (sym (append-nil (own_view a).taken));
-  tokens = λ k a b x y _. ap (λ z. z.tokens) (get_same first k b a y x);
+  permits = λ k a b x y _. ap (λ z. z.permits) (get_same first k b a y x);
 }
 
 stolen_suc : (k n : ℕ) (ps : List Pass) (p : Pass) → get_elem? ps n ≡ some p → stolen k (take (suc n) ps) ≡ stolen k (take n ps) ++ taken_at k (permit_views p)
@@ -110,33 +110,33 @@ taken_there [] k t at = absurd (some-ne-none t (sym at))
 taken_there (x ∷ ts) zero t at = ap (λ (u : Permit). (deque.view u).taken) (some-injective x t at)
 taken_there (x ∷ ts) (suc k) t at = taken_there ts k t at
 
--- a pass keeps its deque when its tokens are taken from it
+-- a pass keeps its deque when its permits are taken from it
 mid_is : (now : List Pass) (n : ℕ) (p q : Pass) (k : ℕ) (o m : Pass) → get_elem? now n ≡ some p → q.worker ≡ p.worker → q.own ≡ p.own → get_elem? now k ≡ some o → get_elem? (set now n q) k ≡ some m
-    → (m.worker ≡ o.worker) × (m.own ≡ o.own) × (k ≢ n → m.tokens ≡ o.tokens)
+    → (m.worker ≡ o.worker) × (m.own ≡ o.own) × (k ≢ n → m.permits ≡ o.permits)
 mid_is now n p q k o m at w own x y =
     ⊎_elim (λ (is : (k ≡ n) × (q ≡ m)).
     let po : p ≡ o = get_same now n p o at (subst (λ j. get_elem? now j ≡ some o) is.0 x) in
     (ap (λ z. z.worker) (sym is.1) ∙ (w ∙ ap (λ z. z.worker) po), ap (λ z. z.own) (sym is.1) ∙ (own ∙ ap (λ z. z.own) po), λ ne. absurd (ne is.0)))
     (λ (is : (k ≢ n) × (get_elem? now k ≡ some m)).
     let mo : m ≡ o = get_same now k m o is.1 x in
-    (ap (λ z. z.worker) mo, ap (λ z. z.own) mo, λ _. ap (λ z. z.tokens) mo)) (at_set now n k q m y)
+    (ap (λ z. z.worker) mo, ap (λ z. z.own) mo, λ _. ap (λ z. z.permits) mo)) (at_set now n k q m y)
 
 pub joining_can : (first now : List Pass) (n : ℕ) (p q : Pass) → Joining first now n → CanJoinAll first → get_elem? now n ≡ some p → q.worker ≡ p.worker → q.own ≡ p.own
-    → EachPair CanTake (set now n q) p.tokens.items
+    → EachPair CanTake (set now n q) p.permits.items
 joining_can first now n p q h can at w own =
     let here = get_within now n p at in
     let p0 = get_there first n (omega (arith, h.same_length)) in
     let le : n ≤ n = omega arith in
-    let tokens = h.tokens n p0.0 p p0.1 at le in
+    let permits = h.permits n p0.0 p p0.1 at le in
     let row = can n p0.0 p0.1 in (
-      length-set now n q ∙ (h.same_length ∙ (row.0 ∙ ap (λ z. length z.items) (sym tokens))),
+      length-set now n q ∙ (h.same_length ∙ (row.0 ∙ ap (λ z. length z.items) (sym permits))),
       λ k m t x y.
           let inside = get_within (set now n q) k m x in
           let len = length-set now n q in
           let a = get_there first k (omega (arith, h.same_length)) in
           let o = get_there now k (omega arith) in
           let mo = mid_is now n p q k o.0 m at w own o.1 x in
-          let take = row.1 k a.0 t a.1 (subst (λ z. get_elem? z.items k ≡ some t) tokens y) in
+          let take = row.1 k a.0 t a.1 (subst (λ z. get_elem? z.items k ≡ some t) permits y) in
           let same = h.same k a.0 o.0 a.1 o.1 in
           let place : deque.worker_deque m.own ≡ deque.worker_deque a.0.own = ap (λ (z : Owner). deque.worker_deque z) mo.1 ∙ same.1.0 in
           let parts : (own_view m).parts ≡ (own_view a.0).parts + n = ap (λ (z : Owner). (deque.worker_view z).parts) mo.1 ∙ ap (λ (v : DequeView). v.parts) (h.views k a.0 o.0 a.1 o.1) in
@@ -144,14 +144,14 @@ joining_can first now n p q h can at w own =
     )
 
 -- what was stolen grows by what the next pass has
-stolen_next : (k n : ℕ) (ps : List Pass) (p : Pass) (t : Permit) (mine : List Piece) → get_elem? ps n ≡ some p → get_elem? p.tokens.items k ≡ some t
+stolen_next : (k n : ℕ) (ps : List Pass) (p : Pass) (t : Permit) (mine : List Piece) → get_elem? ps n ≡ some p → get_elem? p.permits.items k ≡ some t
     → (mine ++ stolen k (take n ps)) ++ (deque.view t).taken ≡ mine ++ stolen k (take (n + 1) ps)
 stolen_next k n ps p t mine at here =
-    let seen : taken_at k (permit_views p) ≡ (deque.view t).taken = taken_there p.tokens.items k t here in
+    let seen : taken_at k (permit_views p) ≡ (deque.view t).taken = taken_there p.permits.items k t here in
     let more : stolen k (take n ps) ++ (deque.view t).taken ≡ stolen k (take (n + 1) ps) = ap (λ l. stolen k (take n ps) ++ l) (sym seen) ∙ sym (stolen_more k n ps p at) in
     append_assoc mine (stolen k (take n ps)) (deque.view t).taken ∙ ap (λ l. mine ++ l) more
 
--- a token with one part joins a worker that has joined n
+-- a permit with one part joins a worker that has joined n
 one_more : (v m w : DequeView) (n : ℕ) (xs ys : List Piece) → m ≡ deque_view (v.parts + n) v.below v.dealt xs → w.parts ≡ 1 → xs ++ w.taken ≡ ys →
     joined m w ≡ deque_view (v.parts + (n + 1)) v.below v.dealt ys
 one_more v m w n xs ys is one all =
@@ -159,18 +159,18 @@ one_more v m w n xs ys is one all =
     ap (λ (u : DequeView). joined u w) is ∙ with_more v ((v.parts + n) + w.parts) (v.parts + (n + 1)) (xs ++ w.taken) ys parts all
 
 pub joining_more : (first now next : List Pass) (n : ℕ) (p q : Pass) → Joining first now n → CanJoinAll first → get_elem? now n ≡ some p → q.worker ≡ p.worker → q.own ≡ p.own
-    → AreJoined (set now n q) p.tokens.items next → Joining first next (n + 1)
+    → AreJoined (set now n q) p.permits.items next → Joining first next (n + 1)
 joining_more first now next n p q h can at w own join = record {
   same_length = join.0 ∙ (length-set now n q ∙ h.same_length);
   same = λ k a b x y. let f = facts k a b x y in (f.0, f.1);
   views = λ k a b x y. (facts k a b x y).2;
-  tokens = λ k a b x y less. (facts k a b x y).3 less;
+  permits = λ k a b x y less. (facts k a b x y).3 less;
 }
   where
     facts : (k : ℕ) (a b : Pass) → get_elem? first k ≡ some a → get_elem? next k ≡ some b
         → (b.worker ≡ a.worker) × SameDeque a.own b.own
         × (own_view b ≡ deque_view ((own_view a).parts + (n + 1)) (own_view a).below (own_view a).dealt ((own_view a).taken ++ stolen k (take (n + 1) first)))
-        × (n + 1 ≤ k → b.tokens ≡ a.tokens)
+        × (n + 1 ≤ k → b.permits ≡ a.permits)
     facts k a b x y =
         let here = get_within now n p at in
         let k_in = get_within first k a x in
@@ -179,11 +179,11 @@ joining_more first now next n p q h can at w own join = record {
         let o = get_there now k (omega (arith, h.same_length)) in
         let m = get_there (set now n q) k (omega (arith, h.same_length)) in
         let le : n ≤ n = omega arith in
-        let tokens = h.tokens n p0.0 p p0.1 at le in
+        let permits = h.permits n p0.0 p p0.1 at le in
         let row = can n p0.0 p0.1 in
-        let t0 = get_there p0.0.tokens.items k (omega (arith, row.0)) in
+        let t0 = get_there p0.0.permits.items k (omega (arith, row.0)) in
         let t : Permit = t0.0 in
-        let t_at : get_elem? p.tokens.items k ≡ some t = subst (λ z. get_elem? z.items k ≡ some t) (sym tokens) t0.1 in
+        let t_at : get_elem? p.permits.items k ≡ some t = subst (λ z. get_elem? z.items k ≡ some t) (sym permits) t0.1 in
         let mo = mid_is now n p q k o.0 m.0 at w own o.1 m.1 in
         let j = join.1 k m.0 b t m.1 t_at y in
         let same = h.same k a o.0 x o.1 in
@@ -196,7 +196,7 @@ joining_more first now next n p q h can at w own join = record {
           j.0 ∙ (mo.0 ∙ same.0),
           (j.1.0 ∙ (ap (λ (z : Owner). deque.worker_deque z) mo.1 ∙ same.1.0), j.1.1 ∙ (ap (λ (z : Owner). deque.worker_flavor z) mo.1 ∙ same.1.1)),
           j.3 ∙ one_more (own_view a) (own_view m.0) (deque.view t) n ((own_view a).taken ++ stolen k (take n first)) ((own_view a).taken ++ stolen k (take (n + 1) first)) view_m one all,
-          λ less. j.2 ∙ (mo.2 (λ e. absurd (omega (arith, e))) ∙ h.tokens k a o.0 x o.1 (omega arith)),
+          λ less. j.2 ∙ (mo.2 (λ e. absurd (omega (arith, e))) ∙ h.permits k a o.0 x o.1 (omega arith)),
         )
 
 take_whole : (n : ℕ) (ps : List Pass) → n ≡ length ps → take n ps ≡ ps
@@ -227,6 +227,6 @@ passes_can_join r ps are i p at =
           let w = get_within ps k a x in
           let s = get_there r.thieves.items k (omega (arith, are.0)) in
           let own : deque.worker_deque a.own ≡ deque.stealer_deque s.0 = its.1.own s.0 (subst (λ j. get_elem? r.thieves.items j ≡ some s.0) (sym its.0) s.1) in
-          let token = is.tokens k s.0 t s.1 y in
-          (subst (λ d. deque.IsPassOf d t) (sym own) token.0, token.1, omega (arith, its.1.parts, its.1.few)),
+          let permit = is.permits k s.0 t s.1 y in
+          (subst (λ d. deque.IsPassOf d t) (sym own) permit.0, permit.1, omega (arith, its.1.parts, its.1.few)),
     )

@@ -45,10 +45,10 @@ pub own_piece : (r : Round) (k : ℕ) (o : Option Piece) (v w : DequeView) → v
 own_piece r k None v w dealt h = tt
 own_piece r k (Some x) v w dealt h = took_piece r k v w x dealt h
 
-pub token_piece : (r : Round) (k : ℕ) (o : Take) (v w : DequeView) → v.dealt ≡ share_at r k → MatchTake o (λ x. Takes v (x ∷ []) w) (w ≡ v) → IfGot o (IsPieceOf r)
-token_piece r k (Got x) v w dealt h = took_piece r k v w x dealt h
-token_piece r k Empty v w dealt h = tt
-token_piece r k Again v w dealt h = tt
+pub permit_piece : (r : Round) (k : ℕ) (o : Take) (v w : DequeView) → v.dealt ≡ share_at r k → MatchTake o (λ x. Takes v (x ∷ []) w) (w ≡ v) → IfGot o (IsPieceOf r)
+permit_piece r k (Got x) v w dealt h = took_piece r k v w x dealt h
+permit_piece r k Empty v w dealt h = tt
+permit_piece r k Again v w dealt h = tt
 
 -- what is left of the first n deques
 pub rest_pieces : (r : Round) (n : ℕ) (ps : List Pass) → All (IsPieceOf r) (rest_to r n ps)

@@ -32,13 +32,13 @@ pub own_share : (r : Option Piece) (v w : DequeView) → MatchOption r ((w ≡ v
 own_share None v w h = share_of_same v w h.0
 own_share (Some x) v w h = share_of_take v w x h
 
-pub token_share : (r : Take) (v w : DequeView) → MatchTake r (λ x. Takes v (x ∷ []) w) (w ≡ v) → SameShare v w
-token_share (Got x) v w h = share_of_take v w x h
-token_share Empty v w h = share_of_same v w h
-token_share Again v w h = share_of_same v w h
+pub permit_share : (r : Take) (v w : DequeView) → MatchTake r (λ x. Takes v (x ∷ []) w) (w ≡ v) → SameShare v w
+permit_share (Got x) v w h = share_of_take v w x h
+permit_share Empty v w h = share_of_same v w h
+permit_share Again v w h = share_of_same v w h
 
 pub with_own : (r : Round) (p : Pass) (o : Owner) → IsPassOf r p → SameDeque p.own o → SameShare (own_view p) (deque.worker_view o)
-    → IsPassOf r (record { worker = p.worker; own = o; tokens = p.tokens })
+    → IsPassOf r (record { worker = p.worker; own = o; permits = p.permits })
 with_own r p o is same share = record {
   within = is.within;
   few = is.few;
@@ -49,14 +49,14 @@ with_own r p o is same share = record {
   rising = share.2 (subst IsRising (sym is.dealt) (share_rises (worker_of p) (workers_of r) r.round r.ranks)) is.rising;
   bounded = share.3 is.bounded;
   count = is.count;
-  tokens = is.tokens;
+  permits = is.permits;
   unused = is.unused;
   fifos = is.fifos;
 }
 
-pub with_token : (r : Round) (p : Pass) (k : ℕ) (t u : Permit) → IsPassOf r p → k ≢ worker_of p → get_elem? p.tokens.items k ≡ some t → deque.SamePass t u → SameShare (deque.view t) (deque.view u)
-    → IsPassOf r (record { worker = p.worker; own = p.own; tokens = with_item p.tokens k u })
-with_token r p k t u is other at same share = record {
+pub with_permit : (r : Round) (p : Pass) (k : ℕ) (t u : Permit) → IsPassOf r p → k ≢ worker_of p → get_elem? p.permits.items k ≡ some t → deque.SamePass t u → SameShare (deque.view t) (deque.view u)
+    → IsPassOf r (record { worker = p.worker; own = p.own; permits = with_item p.permits k u })
+with_permit r p k t u is other at same share = record {
   within = is.within;
   few = is.few;
   own = is.own;
@@ -65,10 +65,10 @@ with_token r p k t u is other at same share = record {
   dealt = is.dealt;
   rising = is.rising;
   bounded = is.bounded;
-  count = length-set p.tokens.items k u ∙ is.count;
-  tokens = λ j s y thief here.
+  count = length-set p.permits.items k u ∙ is.count;
+  permits = λ j s y thief here.
       ⊎_elim (λ (x : (j ≡ k) × (u ≡ y)).
-      let old : IsPermit r j s t = is.tokens j s t thief (subst (λ i. get_elem? p.tokens.items i ≡ some t) (sym x.0) at) in
+      let old : IsPermit r j s t = is.permits j s t thief (subst (λ i. get_elem? p.permits.items i ≡ some t) (sym x.0) at) in
       subst (IsPermit r j s) x.1 (
         (same.0 ∙ old.0.0, same.1 ∙ old.0.1, same.3, same.4),
         share.0 ∙ old.1,
@@ -76,10 +76,10 @@ with_token r p k t u is other at same share = record {
         share.2 (subst IsRising (sym old.2) (share_rises j (workers_of r) r.round r.ranks)) old.3,
         share.3 old.4,
       ))
-      (λ (x : (j ≢ k) × (get_elem? p.tokens.items j ≡ some y)). is.tokens j s y thief x.1) (at_set p.tokens.items k j u y here);
+      (λ (x : (j ≢ k) × (get_elem? p.permits.items j ≡ some y)). is.permits j s y thief x.1) (at_set p.permits.items k j u y here);
   unused = λ y here.
       ⊎_elim (λ (x : (worker_of p ≡ k) × (u ≡ y)). absurd (other (sym x.0)))
-      (λ (x : (worker_of p ≢ k) × (get_elem? p.tokens.items (worker_of p) ≡ some y)). is.unused y x.1) (at_set p.tokens.items k (worker_of p) u y here);
+      (λ (x : (worker_of p ≢ k) × (get_elem? p.permits.items (worker_of p) ≡ some y)). is.unused y x.1) (at_set p.permits.items k (worker_of p) u y here);
   fifos = is.fifos;
 }
 
@@ -98,14 +98,14 @@ set_same [] k v w e h = refl
 set_same (x ∷ vs) zero v w e h = ap (λ y. y ∷ vs) (h ∙ sym (some-injective x v e))
 set_same (x ∷ vs) (suc k) v w e h = ap (λ l. x ∷ l) (set_same vs k v w e h)
 
-took_none : (p : Pass) (k : ℕ) (t u : Permit) → get_elem? p.tokens.items k ≡ some t → deque.view u ≡ deque.view t →
-    TookNone p (record { worker = p.worker; own = p.own; tokens = with_item p.tokens k u })
+took_none : (p : Pass) (k : ℕ) (t u : Permit) → get_elem? p.permits.items k ≡ some t → deque.view u ≡ deque.view t →
+    TookNone p (record { worker = p.worker; own = p.own; permits = with_item p.permits k u })
 took_none p k t u at h =
-    let f : Permit → DequeView = λ y. deque.view y in (refl, map_set f p.tokens.items k u ∙ set_same (map f p.tokens.items) k (f t) (f u) (map_at f p.tokens.items k t at) h)
+    let f : Permit → DequeView = λ y. deque.view y in (refl, map_set f p.permits.items k u ∙ set_same (map f p.permits.items) k (f t) (f u) (map_at f p.permits.items k t at) h)
 
-pub took_at : (r : Take) (p : Pass) (k : ℕ) (t u : Permit) → get_elem? p.tokens.items k ≡ some t → MatchTake r (λ x. Takes (deque.view t) (x ∷ []) (deque.view u)) (deque.view u ≡ deque.view t)
-    → let q : Pass = record { worker = p.worker; own = p.own; tokens = with_item p.tokens k u } in MatchTake r (TookAt k p q) (TookNone p q)
+pub took_at : (r : Take) (p : Pass) (k : ℕ) (t u : Permit) → get_elem? p.permits.items k ≡ some t → MatchTake r (λ x. Takes (deque.view t) (x ∷ []) (deque.view u)) (deque.view u ≡ deque.view t)
+    → let q : Pass = record { worker = p.worker; own = p.own; permits = with_item p.permits k u } in MatchTake r (TookAt k p q) (TookNone p q)
 took_at (Got x) p k t u at h =
-    let f : Permit → DequeView = λ y. deque.view y in (deque.view t, deque.view u, map_at f p.tokens.items k t at, h, map_set f p.tokens.items k u, refl)
+    let f : Permit → DequeView = λ y. deque.view y in (deque.view t, deque.view u, map_at f p.permits.items k t at, h, map_set f p.permits.items k u, refl)
 took_at Empty p k t u at h = took_none p k t u at h
 took_at Again p k t u at h = took_none p k t u at h

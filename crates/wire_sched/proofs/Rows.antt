@@ -1,4 +1,4 @@
--- Tokens that are cut from each worker in turn.
+-- Permits that are cut from each worker in turn.
 use Rattle.std.proofs.Common.{◌≡◌, ◌≢◌, ℕ, zero, suc, ◌+◌, ◌<◌, ◌≤◌, List, [], ◌∷◌, ◌++◌, length, set, sym, refl, ap, ◌∙◌, subst, ⊎_elim, arith, length-set, length-append, ◌⊎◌, inl, inr, ◌≤◌}
 use mathlib.Core.Option.{some, some-ne-none, some-injective}
 use lib.ListN.{get_elem?}
@@ -26,11 +26,11 @@ pub record RowSoFar (before now : List Pass) (row : List Permit) (i : ℕ) : Typ
   pub same_length : length now ≡ length before
   pub so_far : length row ≡ i
   pub cut : (k : ℕ) (a b : Pass) → get_elem? before k ≡ some a → get_elem? now k ≡ some b → (k < i → IsCut a b) × (i ≤ k → b ≡ a)
-  pub tokens : (k : ℕ) (a : Pass) (t : Permit) → get_elem? before k ≡ some a → get_elem? row k ≡ some t → IsPermitOf a.own t
+  pub permits : (k : ℕ) (a : Pass) (t : Permit) → get_elem? before k ≡ some a → get_elem? row k ≡ some t → IsPermitOf a.own t
 
 pub row_goes_on : (before now : List Pass) (row : List Permit) (i : ℕ) (p q : Pass) (t : Permit) → RowSoFar before now row i → get_elem? now i ≡ some p → IsCut p q → IsPermitOf p.own t
     → RowSoFar before (set now i q) (row ++ t ∷ []) (i + 1)
-row_goes_on before now row i p q t h at cut token = record {
+row_goes_on before now row i p q t h at cut permit = record {
   same_length = length-set now i q ∙ h.same_length;
   so_far = length-append row (t ∷ []) ∙ ap (λ n. n + 1) h.so_far;
   cut = λ k a b x y.
@@ -43,20 +43,20 @@ row_goes_on before now row i p q t h at cut token = record {
       let old = h.cut k a b x is.1 in
       let n = is.0 in
       ((λ less. old.0 (omega arith)), λ more. old.1 (omega arith))) (at_set now i k q b y);
-  tokens = λ k a u x y.
-      ⊎_elim (λ here. h.tokens k a u x here)
+  permits = λ k a u x y.
+      ⊎_elim (λ here. h.permits k a u x here)
       (λ (is : (k ≡ length row) × (t ≡ u)).
       let k_is : k ≡ i = is.0 ∙ h.so_far in
       let there : get_elem? now k ≡ some p = subst (λ j. get_elem? now j ≡ some p) (sym k_is) at in
       let e : i ≤ k = omega (arith, k_is) in
       let pa : p ≡ a = (h.cut k a p x there).1 e in
-      subst (λ z. IsPermitOf z.own u) pa (subst (IsPermitOf p.own) is.1 token)) (get_snoc row t u k y);
+      subst (λ z. IsPermitOf z.own u) pa (subst (IsPermitOf p.own) is.1 permit)) (get_snoc row t u k y);
 }
 
 pub row_ends : (before now : List Pass) (row : List Permit) (i : ℕ) → RowSoFar before now row i → i ≡ length before → EachPair IsCut before now × EachPair (λ p t. IsPermitOf p.own t) before row
 row_ends before now row i h all = (
   (sym h.same_length, λ k a b x y. (h.cut k a b x y).0 (let w = get_within before k a x in omega arith)),
-  (sym (h.so_far ∙ all), h.tokens),
+  (sym (h.so_far ∙ all), h.permits),
 )
 
 pub get_there : {A : Type 0} → (xs : List A) (k : ℕ) → k < length xs → (x : A) × (get_elem? xs k ≡ some x)

@@ -39,16 +39,16 @@ made_more round ranks workers passes thieves n p s h new = record {
       (subst (λ z. IsStart (share_of n workers round ranks) n z u) is.1 (subst (IsStart (share_of n workers round ranks) n p) is'.1 new))) (get_snoc thieves s u k y)) (get_snoc passes p q k x);
 }
 
--- after n rows of tokens
+-- after n rows of permits
 pub record Cutting (first now : List Pass) (n : ℕ) : Type 0 where
   pub same_length : length now ≡ length first
   pub same : (k : ℕ) (a b : Pass) → get_elem? first k ≡ some a → get_elem? now k ≡ some b → (b.worker ≡ a.worker) × SameDeque a.own b.own
   pub views : (k : ℕ) (a b : Pass) → get_elem? first k ≡ some a → get_elem? now k ≡ some b → deque.worker_view b.own ≡ deque_view (all_parts - n) 0 (deque.worker_view a.own).dealt []
-  pub tokens : (k : ℕ) (b : Pass) → get_elem? now k ≡ some b → k < n → EachPair (λ p t. IsPermitOf p.own t) first b.tokens.items
+  pub permits : (k : ℕ) (b : Pass) → get_elem? now k ≡ some b → k < n → EachPair (λ p t. IsPermitOf p.own t) first b.permits.items
 
--- a token of a deque is one however many were cut before
-token_kept : (first now : List Pass) (n : ℕ) (ts : List Permit) → Cutting first now n → EachPair (λ p t. IsPermitOf p.own t) now ts → EachPair (λ p t. IsPermitOf p.own t) first ts
-token_kept first now n ts h each = (
+-- a permit of a deque is one however many were cut before
+permit_kept : (first now : List Pass) (n : ℕ) (ts : List Permit) → Cutting first now n → EachPair (λ p t. IsPermitOf p.own t) now ts → EachPair (λ p t. IsPermitOf p.own t) first ts
+permit_kept first now n ts h each = (
   sym h.same_length ∙ each.0,
   λ k a t x y.
       let w = get_within first k a x in
@@ -60,7 +60,7 @@ token_kept first now n ts h each = (
       ((is.0.0 ∙ ap (λ q. q.0) same.1.0, is.0.1 ∙ ap (λ q. q.1) same.1.0, is.0.2, is.0.3), is.1 ∙ ap (λ d. deque_view 1 0 d []) dealt),
 )
 
-pub cutting_more : (first now next : List Pass) (n : ℕ) (p q : Pass) → Cutting first now n → EachPair IsCut now next → EachPair (λ p t. IsPermitOf p.own t) now q.tokens.items
+pub cutting_more : (first now next : List Pass) (n : ℕ) (p q : Pass) → Cutting first now n → EachPair IsCut now next → EachPair (λ p t. IsPermitOf p.own t) now q.permits.items
     → get_elem? next n ≡ some p → q.worker ≡ p.worker → q.own ≡ p.own → Cutting first (set next n q) (n + 1)
 cutting_more first now next n p q h cut row at w o = record {
   same_length = length-set next n q ∙ (sym cut.0 ∙ h.same_length);
@@ -73,12 +73,12 @@ cutting_more first now next n p q h cut row at w o = record {
       ⊎_elim (λ (is : (k ≡ n) × (q ≡ b)). subst (λ z. deque.worker_view z.own ≡ deque_view (all_parts - (n + 1)) 0 (deque.worker_view a.own).dealt []) is.1
       (subst (λ z. deque.worker_view z ≡ deque_view (all_parts - (n + 1)) 0 (deque.worker_view a.own).dealt []) (sym o) (old_view k a p x (subst (λ j. get_elem? next j ≡ some p) (sym is.0) at))))
       (λ (is : (k ≢ n) × (get_elem? next k ≡ some b)). old_view k a b x is.1) (at_set next n k q b y);
-  tokens = λ k b y less.
-      ⊎_elim (λ (is : (k ≡ n) × (q ≡ b)). subst (λ z. EachPair (λ p t. IsPermitOf p.own t) first z.tokens.items) is.1 (token_kept first now n q.tokens.items h row))
+  permits = λ k b y less.
+      ⊎_elim (λ (is : (k ≡ n) × (q ≡ b)). subst (λ z. EachPair (λ p t. IsPermitOf p.own t) first z.permits.items) is.1 (permit_kept first now n q.permits.items h row))
       (λ (is : (k ≢ n) × (get_elem? next k ≡ some b)).
       let old = before k b is.1 in
       let ne = is.0 in
-      subst (λ z. EachPair (λ p t. IsPermitOf p.own t) first z.items) (sym (cut.1 k old.0 b old.1 is.1).2) (h.tokens k old.0 old.1 (omega arith))) (at_set next n k q b y);
+      subst (λ z. EachPair (λ p t. IsPermitOf p.own t) first z.items) (sym (cut.1 k old.0 b old.1 is.1).2) (h.permits k old.0 old.1 (omega arith))) (at_set next n k q b y);
 }
   where
     before : (k : ℕ) (b : Pass) → get_elem? next k ≡ some b → (c : Pass) × (get_elem? now k ≡ some c)
@@ -108,7 +108,7 @@ cutting_nothing round ranks workers passes thieves n h = record {
       let there = get_there thieves k (omega (arith, h.passes_so_far, h.thieves_so_far)) in
       let v = (h.start k a there.0 x there.1).1.1 in
       ap (λ z. deque.worker_view z.own) is ∙ (v ∙ ap (λ (u : DequeView). deque_view all_parts 0 u.dealt []) (sym v));
-  tokens = λ k b y less. absurd (omega arith);
+  permits = λ k b y less. absurd (omega arith);
 }
   where
     same_here : (k : ℕ) (a b : Pass) → get_elem? passes k ≡ some a → get_elem? passes k ≡ some b → b ≡ a
@@ -123,28 +123,28 @@ cutting_parts first now n h few k p at =
 
 -- nothing was taken with this pass
 abbrev TookNothing : Pass → Type 0
-TookNothing p = ((own_view p).taken ≡ []) × ((k : ℕ) (t : Permit) → get_elem? p.tokens.items k ≡ some t → (deque.view t).taken ≡ [])
+TookNothing p = ((own_view p).taken ≡ []) × ((k : ℕ) (t : Permit) → get_elem? p.permits.items k ≡ some t → (deque.view t).taken ≡ [])
 
 dealt_nothing : (first now : List Pass) (n : ℕ) → Cutting first now n → n ≡ length first → (k : ℕ) (p : Pass) → get_elem? now k ≡ some p → TookNothing p
 dealt_nothing first now n h all k p at =
     let w = get_within now k p at in
     let there = get_there first k (omega (arith, h.same_length)) in
     let less : k < n = omega (arith, h.same_length) in
-    let row = h.tokens k p at less in (
+    let row = h.permits k p at less in (
       ap (λ (u : DequeView). u.taken) (h.views k there.0 p there.1 at),
       λ j t here.
-          let w' = get_within p.tokens.items j t here in
+          let w' = get_within p.permits.items j t here in
           let a = get_there first j (omega (arith, row.0)) in
           ap (λ (u : DequeView). u.taken) (row.1 j a.0 t a.1 here).1,
     )
 
-nothing_by_tokens : (ts : List Permit) → ((k : ℕ) (t : Permit) → get_elem? ts k ≡ some t → (deque.view t).taken ≡ []) → all_of (map (λ (t : Permit). deque.view t) ts) ≡ []
-nothing_by_tokens [] none = refl
-nothing_by_tokens (t ∷ ts) none =
-    ap (λ l. l ++ all_of (map (λ (u : Permit). deque.view u) ts)) (none 0 t refl) ∙ nothing_by_tokens ts (λ k u at. none (suc k) u at)
+nothing_by_permits : (ts : List Permit) → ((k : ℕ) (t : Permit) → get_elem? ts k ≡ some t → (deque.view t).taken ≡ []) → all_of (map (λ (t : Permit). deque.view t) ts) ≡ []
+nothing_by_permits [] none = refl
+nothing_by_permits (t ∷ ts) none =
+    ap (λ l. l ++ all_of (map (λ (u : Permit). deque.view u) ts)) (none 0 t refl) ∙ nothing_by_permits ts (λ k u at. none (suc k) u at)
 
 nothing_by : (p : Pass) → TookNothing p → taken_by p ≡ []
-nothing_by p none = ap (λ l. l ++ all_of (permit_views p)) none.0 ∙ nothing_by_tokens p.tokens.items none.1
+nothing_by p none = ap (λ l. l ++ all_of (permit_views p)) none.0 ∙ nothing_by_permits p.permits.items none.1
 
 nothing_by_all : (ps : List Pass) → ((k : ℕ) (p : Pass) → get_elem? ps k ≡ some p → TookNothing p) → taken_by_all ps ≡ []
 nothing_by_all [] none = refl
@@ -167,7 +167,7 @@ dealt_passes r first now n made h all few = (
       let v = h.views k a.0 p a.1 at in
       let dealt : (deque.worker_view a.0.own).dealt ≡ share_of k (workers_of r) r.round r.ranks = ap (λ (u : DequeView). u.dealt) begin.1.1 in
       let k_is : p.worker ≡ k = same.0 ∙ begin.0 in
-      let row = h.tokens k p at less in (
+      let row = h.permits k p at less in (
         k_is,
         record {
           within = omega (arith, k_is, made.thieves_so_far);
@@ -181,8 +181,8 @@ dealt_passes r first now n made h all few = (
           count = sym row.0 ∙ (made.passes_so_far ∙ all);
           rising = rises_nothing (own_view p) (ap (λ (u : DequeView). u.taken) v);
           bounded = within_nothing (own_view p) (ap (λ (u : DequeView). u.taken) v) (ap (λ (u : DequeView). u.below) v);
-          tokens = λ j t u thief here.
-              let w' = get_within p.tokens.items j u here in
+          permits = λ j t u thief here.
+              let w' = get_within p.permits.items j u here in
               let b = get_there first j (omega (arith, row.0)) in
               let from = made.start j b.0 t b.1 thief in
               let is = row.1 j b.0 u b.1 here in (

@@ -26,7 +26,7 @@ abbrev pub IsStart : List Piece → ℕ → Pass → Thief → Type 0
 IsStart pieces worker p s =
     (p.worker ≡ worker) × IsFilled pieces p.own × (deque.stealer_deque s ≡ deque.worker_deque p.own) × (deque.stealer_flavor s ≡ 0)
 
--- a token of the deque, with one part, with which nothing was taken
+-- a permit of the deque, with one part, with which nothing was taken
 abbrev pub IsPermitOf : Owner → Permit → Type 0
 IsPermitOf own t =
     deque.IsPassOf (deque.worker_deque own) t × (deque.view t ≡ deque_view 1 0 (deque.worker_view own).dealt [])
@@ -34,28 +34,28 @@ IsPermitOf own t =
 -- the pass gave one part away, and is the same otherwise
 abbrev pub IsCut : Pass → Pass → Type 0
 IsCut a b =
-    (b.worker ≡ a.worker) × SameDeque a.own b.own × (b.tokens ≡ a.tokens)
+    (b.worker ≡ a.worker) × SameDeque a.own b.own × (b.permits ≡ a.permits)
     × (own_view b ≡ deque_view ((own_view a).parts - 1) (own_view a).below (own_view a).dealt (own_view a).taken)
 
--- the token is one of the deque of the pass
+-- the permit is one of the deque of the pass
 abbrev pub CanTake : Pass → Permit → Type 0
 CanTake p t = deque.IsPassOf (deque.worker_deque p.own) t × ((deque.view t).parts ≡ 1) × (0 < (own_view p).parts)
 
--- the token was joined into the deque of the pass
+-- the permit was joined into the deque of the pass
 abbrev pub IsJoined : Pass → Permit → Pass → Type 0
-IsJoined a t b = (b.worker ≡ a.worker) × SameDeque a.own b.own × (b.tokens ≡ a.tokens) × (own_view b ≡ joined (own_view a) (deque.view t))
+IsJoined a t b = (b.worker ≡ a.worker) × SameDeque a.own b.own × (b.permits ≡ a.permits) × (own_view b ≡ joined (own_view a) (deque.view t))
 
--- the tokens were joined into the deques, each into its own
+-- the permits were joined into the deques, each into its own
 abbrev pub AreJoined : List Pass → List Permit → List Pass → Type 0
 AreJoined old ts new =
     (length new ≡ length old)
     × ((k : ℕ) (a b : Pass) (t : Permit) → get_elem? old k ≡ some a → get_elem? ts k ≡ some t → get_elem? new k ≡ some b → IsJoined a t b)
 
--- each pass has a token of each deque
+-- each pass has a permit of each deque
 abbrev pub CanJoinAll : List Pass → Type 0
-CanJoinAll ps = (i : ℕ) (p : Pass) → get_elem? ps i ≡ some p → EachPair CanTake ps p.tokens.items
+CanJoinAll ps = (i : ℕ) (p : Pass) → get_elem? ps i ≡ some p → EachPair CanTake ps p.permits.items
 
--- the deque of pass k got the tokens of all passes back, and knows what was taken with them
+-- the deque of pass k got the permits of all passes back, and knows what was taken with them
 abbrev pub IsGathered : List Pass → ℕ → Pass → Pass → Type 0
 IsGathered ps k a b =
     (b.worker ≡ a.worker) × SameDeque a.own b.own

@@ -62,18 +62,18 @@ own_view p = deque.worker_view p.own
 
 -- what it knows of each deque as a thief
 abbrev pub permit_views : Pass → List DequeView
-permit_views p = map (λ (t : Permit). deque.view t) p.tokens.items
+permit_views p = map (λ (t : Permit). deque.view t) p.permits.items
 
--- a token of deque k of the round. What was taken with it rises, and is no more than was dealt
+-- a permit of deque k of the round. What was taken with it rises, and is no more than was dealt
 abbrev pub IsPermit : Round → ℕ → Thief → Permit → Type 0
 IsPermit r k s t =
     deque.IsPassOf (deque.stealer_deque s) t × ((deque.view t).parts ≡ 1)
     × ((deque.view t).dealt ≡ share_at r k)
     × TookRising (deque.view t) × TookWithin (deque.view t)
 
--- A pass of the round. It has the deque of its worker, with all parts that the tokens of that deque don't have, and a
--- token for each deque. Each of these knows what was dealt to its deque, and what the pass took of it rises and is no
--- more than that. With the token of its own deque it took nothing.
+-- A pass of the round. It has the deque of its worker, with all parts that the permits of that deque don't have, and a
+-- permit for each deque. Each of these knows what was dealt to its deque, and what the pass took of it rises and is no
+-- more than that. With the permit of its own deque it took nothing.
 pub record IsPassOf (r : Round) (p : Pass) : Type 0 where
   pub within : worker_of p < workers_of r
   pub few : workers_of r < 2 ^ 64
@@ -83,9 +83,9 @@ pub record IsPassOf (r : Round) (p : Pass) : Type 0 where
   pub dealt : (own_view p).dealt ≡ share_at r (worker_of p)
   pub rising : TookRising (own_view p)
   pub bounded : TookWithin (own_view p)
-  pub count : length p.tokens.items ≡ workers_of r
-  pub tokens : (k : ℕ) (s : Thief) (t : Permit) → get_elem? r.thieves.items k ≡ some s → get_elem? p.tokens.items k ≡ some t → IsPermit r k s t
-  pub unused : (t : Permit) → get_elem? p.tokens.items (worker_of p) ≡ some t → (deque.view t).taken ≡ []
+  pub count : length p.permits.items ≡ workers_of r
+  pub permits : (k : ℕ) (s : Thief) (t : Permit) → get_elem? r.thieves.items k ≡ some s → get_elem? p.permits.items k ≡ some t → IsPermit r k s t
+  pub unused : (t : Permit) → get_elem? p.permits.items (worker_of p) ≡ some t → (deque.view t).taken ≡ []
   pub fifos : (k : ℕ) (s : Thief) → get_elem? r.thieves.items k ≡ some s → deque.stealer_flavor s ≡ 0
 
 -- all passes of the round, in the order of their workers

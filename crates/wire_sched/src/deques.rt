@@ -19,7 +19,7 @@ use std::mem;
 use wire_types::{Fault, Proc};
 
 // A deque with the pieces of one worker. It has room for them from the start.
-fn filled(
+fn fill_deque(
     alloc: Global,
     round: u64,
     ranks: u32,
@@ -44,10 +44,10 @@ fn filled(
     Ok(own)
 }
 
-// One token of a deque.
-fn permit_of(own: &mut Owner) -> Permit
+// Cuts one permit of a deque from its owner.
+fn cut_permit(own: &mut Owner) -> Permit
     requires { 1 < (worker_view own.old).parts }
-    ensures token { IsPermitOf own.old result }
+    ensures permit { IsPermitOf own.old result }
     ensures same { SameDeque own.old own.new }
     ensures view { worker_view own.new ≡ deque_view ((worker_view own.old).parts - 1) (worker_view own.old).below (worker_view own.old).dealt
         (worker_view own.old).taken }
@@ -55,21 +55,21 @@ fn permit_of(own: &mut Owner) -> Permit
     own.another::<Splits>()
 }
 
-// One token of each deque.
-pub(crate) fn row(alloc: Global, passes: &mut Vec<Pass>) -> Result<Vec<Permit>, Fault>
+// Cuts one permit of each deque from the passes.
+pub(crate) fn cut_permits(alloc: Global, passes: &mut Vec<Pass>) -> Result<Vec<Permit>, Fault>
     requires { (k : ℕ) (p : Pass) → get_elem? passes.old.items k ≡ some p → 1 < (own_view p).parts }
     ensures cut { OnOk result (EachPair IsCut passes.old.items passes.new.items) }
-    ensures tokens { IfOk result (λ row. EachPair (λ p t. IsPermitOf p.own t) passes.old.items row.items) }
+    ensures permits { IfOk result (λ permits. EachPair (λ p t. IsPermitOf p.own t) passes.old.items permits.items) }
     ensures memory { IsOkUnless result Fault.Memory }
 {
-    let mut row = Vec::with_capacity(alloc, passes.len())?;
+    let mut permits = Vec::with_capacity(alloc, passes.len())?;
     for i in 0..passes.len() {
-        row.push_reserved(permit_of(&mut passes[i].own));
+        permits.push_reserved(cut_permit(&mut passes[i].own));
     }
-    Ok(row)
+    Ok(permits)
 }
 
-// A worker's pass with no token yet, and a handle with which others steal from it.
+// A worker's pass with no permit yet, and a handle with which others steal from it.
 pub(crate) fn start(
     alloc: Global,
     round: u64,
@@ -81,18 +81,18 @@ pub(crate) fn start(
     ensures start { IfOk result (λ r. IsStart (share_of worker workers round ranks) worker r.0 r.1) }
     ensures memory { IsOkUnless result Fault.Memory }
 {
-    let own = filled(alloc, round, ranks, workers, worker)?;
+    let own = fill_deque(alloc, round, ranks, workers, worker)?;
     let thief = own.stealer()?;
     let pass = Pass {
         worker,
         own,
-        tokens: Vec::new(alloc),
+        permits: Vec::new(alloc),
     };
     Ok((pass, thief))
 }
 
 // Takes the front piece of a deque.
-pub(crate) fn own_from(own: &mut Owner) -> Option<Piece>
+pub(crate) fn take_front(own: &mut Owner) -> Option<Piece>
     requires fifo { worker_flavor own.old ≡ 0 }
     requires part { 0 < (worker_view own.old).parts }
     ensures same { SameDeque own.old own.new }
@@ -102,37 +102,37 @@ pub(crate) fn own_from(own: &mut Owner) -> Option<Piece>
     own.pop_as::<TakesOne>()
 }
 
-// Joins a token of a deque into the deque's owner.
-fn join_one(own: &mut Owner, token: Permit)
-    requires token { deque.IsPassOf (worker_deque own.old) token }
+// Joins a permit of a deque into the deque's owner.
+fn join_one(own: &mut Owner, permit: Permit)
+    requires permit { deque.IsPassOf (worker_deque own.old) permit }
     requires part { 0 < (worker_view own.old).parts }
     ensures same { SameDeque own.old own.new }
-    ensures view { worker_view own.new ≡ joined (worker_view own.old) (view token) }
+    ensures view { worker_view own.new ≡ joined (worker_view own.old) (view permit) }
 {
-    own.absorb::<Splits>(token);
+    own.absorb::<Splits>(permit);
 }
 
-// Joins tokens, one of each deque, into the owners of their deques.
-fn join_row(passes: &mut Vec<Pass>, tokens: Vec<Permit>)
-    requires { EachPair CanTake passes.old.items tokens.items }
-    ensures { AreJoined passes.old.items tokens.items passes.new.items }
+// Joins permits, one of each deque, into the owners of their deques.
+fn join_permits(passes: &mut Vec<Pass>, permits: Vec<Permit>)
+    requires { EachPair CanTake passes.old.items permits.items }
+    ensures { AreJoined passes.old.items permits.items passes.new.items }
 {
-    let mut tokens = tokens;
-    'row: while let Some(token) = tokens.pop() {
-        let to = tokens.len();
-        join_one(&mut passes[to].own, token);
+    let mut permits = permits;
+    'joins: while let Some(permit) = permits.pop() {
+        let to = permits.len();
+        join_one(&mut passes[to].own, permit);
     }
 }
 
-// Joins the tokens of all passes into the owners of their deques, which then know all that was taken.
+// Joins the permits of all passes into the owners of their deques, which then know all that was taken.
 pub(crate) fn join_all(passes: &mut Vec<Pass>)
     requires { CanJoinAll passes.old.items }
     ensures { AreGathered passes.old.items passes.new.items }
 {
     let alloc = *passes.allocator();
     'rows: for from in 0..passes.len() {
-        let tokens = mem::replace(&mut passes[from].tokens, Vec::new(alloc));
-        join_row(passes, tokens);
+        let permits = mem::replace(&mut passes[from].permits, Vec::new(alloc));
+        join_permits(passes, permits);
     }
 }
 
@@ -145,20 +145,20 @@ pub(crate) fn drain(own: &mut Owner, left: &mut Vec<Piece>)
     ensures bound { vec_len left.new ≤ vec_len left.old + length (worker_view own.old).dealt }
     ensures capacity { vec_capacity left.new ≡ vec_capacity left.old }
 {
-    'drains: while let Some(piece) = own_from(own) {
+    'drains: while let Some(piece) = take_front(own) {
         left.push_reserved(piece);
     }
 }
 
 // Steals the front piece of a deque.
-pub(crate) fn steal_from(thief: &Thief, token: &mut Permit) -> Take
+pub(crate) fn steal_from(thief: &Thief, permit: &mut Permit) -> Take
     requires fifo { stealer_flavor thief.now ≡ 0 }
-    requires token { deque.IsPassOf (stealer_deque thief.now) token.old }
-    requires part { 0 < (view token.old).parts }
-    ensures same { SamePass token.old token.new }
-    ensures took { MatchTake result (λ x. Takes (view token.old) (x ∷ []) (view token.new)) (view token.new ≡ view token.old) }
+    requires permit { deque.IsPassOf (stealer_deque thief.now) permit.old }
+    requires part { 0 < (view permit.old).parts }
+    ensures same { SamePass permit.old permit.new }
+    ensures took { MatchTake result (λ x. Takes (view permit.old) (x ∷ []) (view permit.new)) (view permit.new ≡ view permit.old) }
 {
-    match thief.steal_as::<TakesOne>(token) {
+    match thief.steal_as::<TakesOne>(permit) {
         Steal::Success(piece) => Take::Got(piece),
         Steal::Empty => Take::Empty,
         Steal::Retry => Take::Again,

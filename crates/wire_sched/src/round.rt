@@ -2,7 +2,7 @@
 
 ghost use Rattle.std.specs.Prelude.{◌≡◌, ◌<◌, ◌≤◌, [], vec_capacity, vec_len};
 
-use crate::deques::{drain, join_all, own_from, row, start, steal_from};
+use crate::deques::{cut_permits, drain, join_all, start, steal_from, take_front};
 use crate::rule::{Owner, Permit, Piece, Thief};
 use std::alloc::Global;
 use wire_types::Fault;
@@ -19,12 +19,12 @@ pub struct Round {
     ghost room: { ranks ≤ vec_capacity left },
 }
 
-/// What one worker holds of a round: its own deque, and a token for each deque.
+/// What one worker holds of a round: its own deque, and a permit for each deque.
 #[derive(Drop)]
 pub struct Pass {
     pub(crate) worker: usize,
     pub(crate) own: Owner,
-    pub(crate) tokens: Vec<Permit>,
+    pub(crate) permits: Vec<Permit>,
 }
 
 /// What an attempt to steal gives: a piece, that there was none, or that another worker was faster. After `Again` it
@@ -69,9 +69,9 @@ impl Round {
             thieves.push_reserved(thief);
         }
         'cuts: for to in 0..workers {
-            let tokens = row(alloc, &mut passes)?;
+            let permits = cut_permits(alloc, &mut passes)?;
             let pass = &mut passes[to];
-            pass.tokens = tokens;
+            pass.permits = permits;
         }
         let dealt = Round {
             round,
@@ -97,7 +97,7 @@ impl Round {
         ensures took { MatchOption result (TookNone pass.old pass.new) (TookOwn pass.old pass.new) }
         ensures piece { IfSome result (IsPieceOf self.now) }
     {
-        own_from(&mut pass.own)
+        take_front(&mut pass.own)
     }
 
     /// Tries to take the front piece of the deque of worker number `victim`. The caller ensures that this is another
@@ -109,7 +109,7 @@ impl Round {
         ensures took { MatchTake result (TookAt victim pass.old pass.new) (TookNone pass.old pass.new) }
         ensures piece { IfGot result (IsPieceOf self.now) }
     {
-        steal_from(&self.thieves[victim], &mut pass.tokens[victim])
+        steal_from(&self.thieves[victim], &mut pass.permits[victim])
     }
 
     /// Gives the pieces that nobody took, deque by deque, each front to back. The caller hands in all passes of the

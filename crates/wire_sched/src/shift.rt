@@ -61,7 +61,7 @@ struct Shift<'a, S, G> {
 }
 
 // Nothing seen yet, of so many ranks.
-fn unseen(alloc: Global, ranks: u32) -> Result<Vec<Seen>, AllocError>
+fn new_seen(alloc: Global, ranks: u32) -> Result<Vec<Seen>, AllocError>
     ensures { IfOk result (λ seen. vec_len seen ≡ ranks) }
 {
     let nothing = Seen {
@@ -74,7 +74,7 @@ fn unseen(alloc: Global, ranks: u32) -> Result<Vec<Seen>, AllocError>
 impl<'a, S: Serves, G: Gate> Shift<'a, S, G> {
     // A worker that has served no rank of this round yet, with the memory for all its turns.
     fn new(crew: &Crew<'a, S, G>) -> Result<Shift<'a, S, G>, AllocError> {
-        let seen = unseen(crew.alloc, crew.round.ranks)?;
+        let seen = new_seen(crew.alloc, crew.round.ranks)?;
         Ok(Shift {
             serves: crew.served,
             gate: crew.gate,

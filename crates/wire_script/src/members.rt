@@ -102,7 +102,7 @@ fn target_of(draft: &Draft, item: &Item) -> Target
 }
 
 /// What items name, declared or not.
-pub fn listed(alloc: Global, draft: &Draft, items: &[Item]) -> Result<Vec<Target>, AllocError>
+pub fn find_targets(alloc: Global, draft: &Draft, items: &[Item]) -> Result<Vec<Target>, AllocError>
     ensures { IfOk result (λ v. v.items ≡ map (target_by (declared_of draft.now)) (map item_by items.now)) }
 {
     let mut targets = Vec::with_capacity(alloc, items.len())?;
@@ -154,7 +154,7 @@ pub fn is_named(targets: &[Target], process: &Started) -> bool
 }
 
 /// What is named, each once, which keeps long sets cheap.
-fn distinct(alloc: Global, targets: &[Target]) -> Result<IndexSet<Target>, AllocError>
+fn gather_distinct(alloc: Global, targets: &[Target]) -> Result<IndexSet<Target>, AllocError>
     ensures { IfOk result (λ s. (p : pass.Started) → is_any_target s.keys p ≡ is_any_target targets.now p) }
 {
     let mut kept = IndexSet::new(alloc);
@@ -204,6 +204,6 @@ pub fn named_members(
     requires { IsWithinLimits (declared_of draft.now) }
     ensures { IfOk result (λ v. numbers_of v.items ≡ named_in (declared_of draft.now) targets.now) }
 {
-    let kept = distinct(alloc, targets)?;
+    let kept = gather_distinct(alloc, targets)?;
     members_of(alloc, draft, &kept)
 }

@@ -12,7 +12,7 @@ ghost use Rattle.wire_script.specs.Tabled.{seen_of, seen_with, seen_after, all_s
 ghost use Rattle.wire_script.specs.Targets.{named_in, AreNoted};
 
 use crate::draft::{Draft, Placed, Started};
-use crate::members::{Target, are_declared, is_named, listed, named_members, proc_of};
+use crate::members::{Target, are_declared, find_targets, is_named, named_members, proc_of};
 use crate::noted::Noted;
 use crate::numbers::{number_set, number_text};
 use std::alloc::{AllocError, Global};
@@ -97,7 +97,7 @@ fn targets_of(
             Ok(own)
         }
         Set::Listed(items) => {
-            let targets = listed(alloc, draft, items)?;
+            let targets = find_targets(alloc, draft, items)?;
             if !are_declared(draft, &targets) {
                 return Err(Fault::UnknownName(line));
             }

@@ -64,7 +64,7 @@ pub(crate) fn last_before(slots: &[Slot], stored: Option<usize>, event: u32) -> 
 }
 
 // What the slot of a number shows to a process that is, or isn't, on the owner's node.
-pub(crate) fn shown(slots: &[Slot], number: Option<usize>, same_node: bool) -> Seen
+pub(crate) fn show_slot(slots: &[Slot], number: Option<usize>, same_node: bool) -> Seen
     requires { ForSome number (λ i. i < length slots.now) }
     ensures { result ≡ seen same_node (put_at slots.now number) }
 {

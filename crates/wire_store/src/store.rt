@@ -7,7 +7,7 @@ ghost use Rattle.wire_runs.specs.Puts.{own_put, stored_put};
 ghost use Rattle.wire_store.specs.Kept.{store_by, last_put, last_stored, last_stored_before, seen};
 ghost use Rattle.wire_store.specs.Told.{IsToldOf, seen_put};
 
-use crate::chain::{Slot, last_before, last_stored, shown, store_all};
+use crate::chain::{Slot, last_before, last_stored, show_slot, store_all};
 use crate::seen::Seen;
 use std::alloc::Global;
 use std::collections::HashMap;
@@ -112,7 +112,7 @@ impl RankStore {
     {
         let newest = self.newest.get(&key).copied();
         let last = last_stored(&self.slots, newest, self.committed);
-        shown(&self.slots, last, same_node)
+        show_slot(&self.slots, last, same_node)
     }
 
     /// What a process of another node saw under a key before this event of the owner: the last put of it
@@ -125,6 +125,6 @@ impl RankStore {
         let newest = self.newest.get(&key).copied();
         let stored = last_stored(&self.slots, newest, self.committed);
         let last = last_before(&self.slots, stored, event);
-        shown(&self.slots, last, false)
+        show_slot(&self.slots, last, false)
     }
 }

@@ -8,8 +8,8 @@ use Rattle.wire_types.specs.declared.Value.{Value}
 use Rattle.wire_types.specs.declared.Value.TheVariants as value
 use Rattle.wire_content.specs.Scripts.{Scripts, Process, text_at, call_at}
 use Rattle.wire_content.specs.Canonical.{process_text}
-use Rattle.wire_races.specs.declared.finding.Finding.{Finding}
-use Rattle.wire_races.specs.declared.finding.Finding.TheVariants.{Rewrite, KeyRace, NameRace}
+use Rattle.wire_findings.specs.declared.finding.Finding.{Finding}
+use Rattle.wire_findings.specs.declared.finding.Finding.TheVariants.{Rewrite, KeyRace, NameRace}
 use Rattle.wire_words.specs.Words.{name_of, text_of_process, given_text, value_text, call_text, verb_text_in}
 use Rattle.wire_report.specs.Findings.{put_key_text, rewrite_text, pair_text, finding_words}
 use Rattle.wire_text_laws.specs.Kept.{IsKept, AreKept, NothingReplaced}

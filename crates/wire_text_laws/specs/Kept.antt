@@ -6,7 +6,7 @@ use Rattle.wire_content.specs.Scripts.{Scripts, Process}
 use Rattle.wire_content.specs.Canonical.{process_text}
 use Rattle.wire_script.specs.declared.Size.{Size}
 use Rattle.wire_script.specs.Reads.{Reads}
-use Rattle.wire_races.specs.declared.finding.Finding.{Finding}
+use Rattle.wire_findings.specs.declared.finding.Finding.{Finding}
 use Rattle.wire_words.specs.Words.{name_of, value_text, verb_text_in}
 use Rattle.wire_json.specs.Json.{printed}
 use Rattle.wire_report.specs.Findings.{finding_words}

@@ -6,7 +6,7 @@ use Rattle.wire_content.specs.Planned.{plan_of}
 use Rattle.wire_runs.specs.Races.{IsSettled}
 use Rattle.wire_runs.specs.Ends.{outcome}
 use Rattle.wire_runs.proofs.PlainRun.{plain_runs}
-use Rattle.wire_races.specs.declared.finding.Finding.{Finding}
+use Rattle.wire_findings.specs.declared.finding.Finding.{Finding}
 use Rattle.wire_core.specs.EndsAfter.{plain_ends}
 use Rattle.wire_collect.specs.Collect.{IsCompleteRun}
 use Rattle.wire_commands.specs.declared.checking.Ended.{Ended}

@@ -6,8 +6,8 @@ use Rattle.wire_types.specs.Outcome.{Ends}
 use Rattle.wire_content.specs.Scripts.{Scripts}
 use Rattle.wire_content.specs.Planned.{plan_of}
 use Rattle.wire_runs.specs.Races.{IsSettled}
-use Rattle.wire_races.specs.declared.finding.Finding.{Finding}
-use Rattle.wire_races.specs.Findings.{AreFindings}
+use Rattle.wire_findings.specs.declared.finding.Finding.{Finding}
+use Rattle.wire_findings.specs.Findings.{AreFindings}
 use Rattle.wire_core.specs.EndsAfter.{plain_ends}
 use Rattle.wire_script.specs.declared.Size.{Size}
 use Rattle.wire_commands.specs.declared.checking.Ended.{Ended}

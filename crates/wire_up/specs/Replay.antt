@@ -9,7 +9,7 @@ use Rattle.wire_types.specs.Outcome.{Ends}
 use Rattle.wire_content.specs.Scripts.{Scripts}
 use Rattle.wire_content.specs.Planned.{plan_of}
 use Rattle.wire_runs.specs.Laws.{HasOneEnd}
-use Rattle.wire_races.specs.declared.finding.Finding.{Finding}
+use Rattle.wire_findings.specs.declared.finding.Finding.{Finding}
 use Rattle.wire_core.specs.EndsAfter.{plain_ends}
 use Rattle.wire_collect.specs.Collect.{MayWork, IsCompleteRun}
 use Rattle.wire_report.specs.Report.{report_form}

@@ -35,7 +35,7 @@ fn end_at(outcome: &Outcome, proc: Proc, call: usize) -> CallEnd
 }
 
 /// The first of so many calls of a process that doesn't succeed.
-fn first_of(outcome: &Outcome, proc: Proc, calls: usize) -> Option<usize>
+fn find_failing_call(outcome: &Outcome, proc: Proc, calls: usize) -> Option<usize>
     ensures some { IfSome result (λ n. (n < calls) × (spec.succeeds (spec.end_of (ends_of outcome.now) proc.number n) ≡ false)
         × ((m : ℕ) → m < n → spec.succeeds (spec.end_of (ends_of outcome.now) proc.number m) ≡ true)) }
     ensures none { IfNone result ((m : ℕ) → m < calls → spec.succeeds (spec.end_of (ends_of outcome.now) proc.number m) ≡ true) }
@@ -60,13 +60,13 @@ fn call_count(scripts: &Scripts, proc: Proc) -> usize
 }
 
 /// The first call that doesn't succeed.
-fn first_failure(scripts: &Scripts, outcome: &Outcome) -> Option<CallAt>
+fn find_failure(scripts: &Scripts, outcome: &Outcome) -> Option<CallAt>
     ensures some { IfSome result (IsFirstFailure scripts.now (ends_of outcome.now)) }
     ensures none { IfNone result (EverySucceeds scripts.now (ends_of outcome.now)) }
 {
     for number in 0..scripts.processes().len() as u32 {
         let proc = Proc::new(number);
-        if let Some(call) = first_of(outcome, proc, call_count(scripts, proc)) {
+        if let Some(call) = find_failing_call(outcome, proc, call_count(scripts, proc)) {
             let call = call as u32;
             return Some(CallAt { proc, call });
         }
@@ -95,14 +95,14 @@ fn line_of(
 }
 
 /// The line of the report of the first call that doesn't succeed, where there is one.
-pub fn failure_line(
+pub fn tell_failure(
     alloc: Global,
     scripts: &Scripts,
     outcome: &Outcome,
 ) -> Result<Option<Vec<u8>>, AllocError>
     ensures { IfOk result (λ line. TellsFailure scripts.now (ends_of outcome.now) (line_in line)) }
 {
-    match first_failure(scripts, outcome) {
+    match find_failure(scripts, outcome) {
         Some(place) => Ok(Some(line_of(alloc, scripts, outcome, place)?)),
         None => Ok(None),
     }

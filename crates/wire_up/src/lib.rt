@@ -14,4 +14,4 @@ pub use wire_commands::{
     migrate_sized, plain, why, why_in_form, why_sized,
 };
 pub use wire_script::Size;
-pub use wire_showing::{Part, Tries, witness, witnesses, witnesses_in_form};
+pub use wire_witness_command::{Part, Tries, witness, witnesses, witnesses_in_form};

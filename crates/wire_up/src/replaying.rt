@@ -5,24 +5,25 @@ ghost use Rattle.wire_types.specs.declared.Fault.TheVariants.{Memory, Read, Work
 ghost use Rattle.wire_types.specs.Counting.{one_more};
 ghost use Rattle.wire_content.specs.Planned.{plan_of};
 ghost use Rattle.wire_marks.specs.Clocks.{AreMarks};
-ghost use Rattle.wire_races.specs.Findings.{AreFindings};
+ghost use Rattle.wire_findings.specs.Findings.{AreFindings};
 ghost use Rattle.wire_collect.specs.Collect.{MayWork};
 ghost use Rattle.wire_commands.specs.declared.checking.Ended.TheVariants.{Clean};
 ghost use Rattle.wire_up.specs.Complete.{TellsCalls, JudgesCalls, line_in, complete_status};
 ghost use Rattle.wire_up.specs.Replay.{TellsRun, IsReplay, WritesFound, BreaksOffFound, WritesRehearsal, BreaksOffRehearsal};
 ghost use Rattle.wire_up.specs.Replay.{WritesOneEnd, WritesReplay, BreaksOffReplay, StopsBeforeReplay};
 
-use crate::failing::failure_line;
+use crate::failing::tell_failure;
 use std::alloc::Global;
 use std::sync::Wait;
 use std::thread::Threads;
 use wire_collect::{MOST_WORKERS, run_any, run_workers};
 use wire_commands::{Ended, read_scripts};
 use wire_content::Scripts;
+use wire_findings::FindingList;
 use wire_marks::Marks;
 use wire_plan::Plan;
 use wire_races::laws::settled_exactly;
-use wire_races::{FindingList, Settled, finding_list};
+use wire_races::{Settled, finding_list};
 use wire_report::{report_text, unsettled_text, write_findings, write_text};
 use wire_sched::Gate;
 use wire_script::Size;
@@ -145,7 +146,7 @@ fn run_settled<R: Threads + Wait + Sync, G: Gate + Sync>(
 {
     let outcome = run_workers(rt, alloc, settled, manner.workers, manner.gate)?;
     let text = report_text(alloc, settled.plan().scripts(), &outcome, manner.mode.json)?;
-    let failure = failure_line(alloc, settled.plan().scripts(), &outcome)?;
+    let failure = tell_failure(alloc, settled.plan().scripts(), &outcome)?;
     settled_exactly();
     let ended = Ended::Clean;
     Ok((Rehearsed { ended, failure }, text))

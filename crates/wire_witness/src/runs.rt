@@ -92,7 +92,7 @@ fn finish<'a>(core: Core<'a>, first: CallAt, other: CallAt) -> Run<'a>
 }
 
 /// The run in which the other call is held back as long as any other process can take a step.
-pub(crate) fn held_run<'a>(
+pub(crate) fn make_held_run<'a>(
     alloc: Global,
     plan: &'a Plan,
     first: CallAt,
@@ -115,7 +115,7 @@ pub(crate) fn held_run<'a>(
 
 /// The run in which only what is before the first call comes before it, and after it only what is before the
 /// other call, up to that.
-pub(crate) fn needed_run<'a>(
+pub(crate) fn make_needed_run<'a>(
     alloc: Global,
     marked: &MarkedPlan<'a>,
     first: CallAt,

@@ -9,7 +9,7 @@ ghost use Rattle.wire_words.specs.Words.{end_text};
 ghost use Rattle.wire_witness.specs.Witness.{IsWitness};
 ghost use Rattle.wire_witness.specs.Runs.{AreApart, AreRunsOf, IsRunOf};
 
-use crate::runs::{Run, held_run, needed_run};
+use crate::runs::{Run, make_held_run, make_needed_run};
 use crate::witness::Witness;
 use std::alloc::{AllocError, Global};
 use wire_content::Scripts;
@@ -148,14 +148,14 @@ fn lay_both(
 }
 
 /// The runs in which one of the calls is held back.
-fn held_runs<'a>(alloc: Global, marked: &MarkedPlan<'a>, pair: Pair) -> Result<Runs<'a>, Fault>
+fn make_held_runs<'a>(alloc: Global, marked: &MarkedPlan<'a>, pair: Pair) -> Result<Runs<'a>, Fault>
     requires x_there { pair.x.call < length (calls_of (plan_of marked.now) pair.x.proc.number) }
     requires y_there { pair.y.call < length (calls_of (plan_of marked.now) pair.y.proc.number) }
     ensures ok { IfOk result (AreRunsOf marked.now pair.x pair.y) }
     ensures err { IfErr result (λ e. e ≡ Memory) }
 {
-    let first = held_run(alloc, marked.plan(), pair.x, pair.y)?;
-    match held_run(alloc, marked.plan(), pair.y, pair.x) {
+    let first = make_held_run(alloc, marked.plan(), pair.x, pair.y)?;
+    match make_held_run(alloc, marked.plan(), pair.y, pair.x) {
         Ok(second) => Ok(Runs { first, second }),
         Err(fault) => {
             drop(first);
@@ -165,14 +165,18 @@ fn held_runs<'a>(alloc: Global, marked: &MarkedPlan<'a>, pair: Pair) -> Result<R
 }
 
 /// The runs in which only what is needed comes before the calls.
-fn needed_runs<'a>(alloc: Global, marked: &MarkedPlan<'a>, pair: Pair) -> Result<Runs<'a>, Fault>
+fn make_needed_runs<'a>(
+    alloc: Global,
+    marked: &MarkedPlan<'a>,
+    pair: Pair,
+) -> Result<Runs<'a>, Fault>
     requires x_there { pair.x.call < length (calls_of (plan_of marked.now) pair.x.proc.number) }
     requires y_there { pair.y.call < length (calls_of (plan_of marked.now) pair.y.proc.number) }
     ensures ok { IfOk result (AreRunsOf marked.now pair.x pair.y) }
     ensures err { IfErr result (λ e. e ≡ Memory) }
 {
-    let first = needed_run(alloc, marked, pair.x, pair.y)?;
-    match needed_run(alloc, marked, pair.y, pair.x) {
+    let first = make_needed_run(alloc, marked, pair.x, pair.y)?;
+    match make_needed_run(alloc, marked, pair.y, pair.x) {
         Ok(second) => Ok(Runs { first, second }),
         Err(fault) => {
             drop(first);
@@ -219,7 +223,7 @@ fn find_beside(
     if let Some(witness) = lay_both(alloc, plan, pair, &held.first, &held.second)? {
         return Ok(Some(witness));
     }
-    let needed = needed_runs(alloc, marked, pair)?;
+    let needed = make_needed_runs(alloc, marked, pair)?;
     let found = lay_all(alloc, plan, pair, held, &needed);
     drop(needed);
     Ok(found?)
@@ -232,7 +236,7 @@ fn find_among(alloc: Global, marked: &MarkedPlan<'_>, pair: Pair) -> Result<Opti
     ensures shown { IfOk result (λ o. IfSome o (IsWitness marked.now pair.x pair.y)) }
     ensures err { IfErr result (λ e. e ≡ Memory) }
 {
-    let held = held_runs(alloc, marked, pair)?;
+    let held = make_held_runs(alloc, marked, pair)?;
     let found = find_beside(alloc, marked, pair, &held);
     drop(held);
     found

@@ -85,7 +85,7 @@ pub returns-then-level-eq1-clause-tree : goal.returns-then-level-eq1-clause-tree
 returns-then-level-eq1-clause-tree t c =
     let old = c.args.rows.now.items in
     let new = c.row_of.new.rows.items in
-    let joined = c.greater.result in
+    let joined = c.greater_numbers.result in
     let low : c.args.level - 1 ≡ 0 = omega arith in
     both_ok c.row_of.result (λ n. n < length new) (λ n. (i : ℕ) → entry new n i ≡ slice_index joined i) (λ n. IsTree new c.args.level n)
     (λ n there each. row_tree old new c.args.level n joined c.row_of.ensures.keeps (omega arith) there each (λ i. tree_low old (c.args.level - 1) (slice_index joined i) low))
@@ -95,12 +95,12 @@ pub returns-then-level-eq1-clause-says : goal.returns-then-level-eq1-clause-says
 returns-then-level-eq1-clause-says t c =
     let old = c.args.rows.now.items in
     let new = c.row_of.new.rows.items in
-    let joined = c.greater.result in
+    let joined = c.greater_numbers.result in
     let low : c.args.level - 1 ≡ 0 = omega arith in
     let lefts_are : (i : ℕ) → slice_index c.numbers-lefts.result i ≡ entry old c.args.left i = λ i. c.numbers-lefts.ensures.each i ∙ ap (λ ns. entry ns c.args.left i) c.deref.ensures.value in
     let rights_are : (i : ℕ) → slice_index c.numbers-rights.result i ≡ entry old c.args.right i = λ i. c.numbers-rights.ensures.each i ∙ ap (λ ns. entry ns c.args.right i) c.deref-2.ensures.value in
     let joins : Joins old old (c.args.level - 1) c.numbers-lefts.result c.numbers-rights.result joined 16 = joins_numbers old
-    (c.args.level - 1) c.numbers-lefts.result c.numbers-rights.result joined low c.greater.ensures.width c.greater.ensures.each in
+    (c.args.level - 1) c.numbers-lefts.result c.numbers-rights.result joined low c.greater_numbers.ensures.width c.greater_numbers.ensures.each in
     both_ok c.row_of.result (λ n. n < length new) (λ n. (i : ℕ) → entry new n i ≡ slice_index joined i) (λ n. (q : ℕ) → q < 16 ^ c.args.level →
     tree_says new c.args.level n q ≡ max (tree_says old c.args.level c.args.left q) (tree_says old c.args.level c.args.right q))
     (λ n there each. joins_says old old new c.args.level c.args.left c.args.right n c.numbers-lefts.result c.numbers-rights.result joined

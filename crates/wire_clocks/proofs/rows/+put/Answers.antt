@@ -31,21 +31,21 @@ put-requires t c =
       ),
     )
 
-pub changed-row-requires-clause-there : goal.changed-row-requires-clause-there
-changed-row-requires-clause-there t c =
+pub change_number-row-requires-clause-there : goal.change_number-row-requires-clause-there
+change_number-row-requires-clause-there t c =
     omega (arith, ap length c.deref-2.ensures.value, c.put.ensures.keeps.longer, tree_there c.args.rows.now.items c.args.level c.args.tree (omega arith) c.requires.tree)
 
-pub changed-row-requires-clause-place : goal.changed-row-requires-clause-place
-changed-row-requires-clause-place t c = omega (arith, c.place-at.ensures, place_low c.args.level c.args.process (omega arith) c.requires.process)
+pub change_number-row-requires-clause-place : goal.change_number-row-requires-clause-place
+change_number-row-requires-clause-place t c = omega (arith, c.place-at.ensures, place_low c.args.level c.args.process (omega arith) c.requires.process)
 
 pub returns-clause-tree : goal.returns-clause-tree
 returns-clause-tree t c =
     let old = c.args.rows.now.items in
     let now = c.put.new.rows.items in
     let new = c.add.new.rows.items in
-    let row = c.changed-row.result in
+    let row = c.change_number-row.result in
     let k = c.args.level - 1 in
-    let each : (i : ℕ) → slice_index row i ≡ (if i == c.args.process / 16 ^ k then c.in_ok-new.new else entry now c.args.tree i) = λ i. c.changed-row.ensures i
+    let each : (i : ℕ) → slice_index row i ≡ (if i == c.args.process / 16 ^ k then c.in_ok-new.new else entry now c.args.tree i) = λ i. c.change_number-row.ensures i
     ∙ ap (λ p. if i == p then c.in_ok-new.new else entry c.deref-2.result.now c.args.tree i) c.place-at.ensures
     ∙ ap (λ ns. if i == c.args.process / 16 ^ k then c.in_ok-new.new else entry ns c.args.tree i) c.deref-2.ensures.value in
     let trees = put_trees old now c.args.level c.args.tree (c.args.process / 16 ^ k) c.in_ok-new.new row c.in_ok-new.ensures.keeps (omega arith) c.requires.tree c.in_ok-new.ensures.tree each in
@@ -57,9 +57,9 @@ returns-clause-says t c =
     let old = c.args.rows.now.items in
     let now = c.put.new.rows.items in
     let new = c.add.new.rows.items in
-    let row = c.changed-row.result in
+    let row = c.change_number-row.result in
     let k = c.args.level - 1 in
-    let each : (i : ℕ) → slice_index row i ≡ (if i == c.args.process / 16 ^ k then c.in_ok-new.new else entry now c.args.tree i) = λ i. c.changed-row.ensures i
+    let each : (i : ℕ) → slice_index row i ≡ (if i == c.args.process / 16 ^ k then c.in_ok-new.new else entry now c.args.tree i) = λ i. c.change_number-row.ensures i
     ∙ ap (λ p. if i == p then c.in_ok-new.new else entry c.deref-2.result.now c.args.tree i) c.place-at.ensures
     ∙ ap (λ ns. if i == c.args.process / 16 ^ k then c.in_ok-new.new else entry ns c.args.tree i) c.deref-2.ensures.value in
     let is_old : c.entry-old.result ≡ entry old c.args.tree (c.args.process / 16 ^ k) = c.entry-old.ensures ∙ ap (λ ns. entry ns c.args.tree c.place-at.result) c.deref.ensures.value
@@ -78,9 +78,9 @@ returns-clause-above t c =
     let old = c.args.rows.now.items in
     let now = c.put.new.rows.items in
     let new = c.add.new.rows.items in
-    let row = c.changed-row.result in
+    let row = c.change_number-row.result in
     let k = c.args.level - 1 in
-    let each : (i : ℕ) → slice_index row i ≡ (if i == c.args.process / 16 ^ k then c.in_ok-new.new else entry now c.args.tree i) = λ i. c.changed-row.ensures i
+    let each : (i : ℕ) → slice_index row i ≡ (if i == c.args.process / 16 ^ k then c.in_ok-new.new else entry now c.args.tree i) = λ i. c.change_number-row.ensures i
     ∙ ap (λ p. if i == p then c.in_ok-new.new else entry c.deref-2.result.now c.args.tree i) c.place-at.ensures
     ∙ ap (λ ns. if i == c.args.process / 16 ^ k then c.in_ok-new.new else entry ns c.args.tree i) c.deref-2.ensures.value in
     let is_old : c.entry-old.result ≡ entry old c.args.tree c.place-at.result = c.entry-old.ensures ∙ ap (λ ns. entry ns c.args.tree c.place-at.result) c.deref.ensures.value in

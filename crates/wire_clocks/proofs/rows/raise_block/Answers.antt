@@ -53,8 +53,8 @@ returns-then-raised-lowest-clause-says c =
     let at : tree_says now k root block ≡ c.number-lowest.result = says_kept old now keeps k root (tree_above old k root tree) block ∙ sym is in
     let put = block_stays now k root block c.number-lowest.result c.in_ok-raised.raised at c.if-raised-lowest.true in
     subst (λ j. (q : ℕ) → q < 16 ^ j → tree_says now j root q ≡ (if q / 16 == block then max (tree_says old j root q) (slice_index least (q % 16)) else tree_says old j root q)) e
-    (block_row_says old now now k root block c.in_ok-raised.raised root c.numbers-stands.result least c.greater.result keeps
-    (keeps_itself now) tree c.in_ok-raised.ensures.there stands c.greater.ensures.each c.in_ok-raised.ensures.row put)
+    (block_row_says old now now k root block c.in_ok-raised.raised root c.numbers-stands.result least c.greater_numbers.result keeps
+    (keeps_itself now) tree c.in_ok-raised.ensures.there stands c.greater_numbers.ensures.each c.in_ok-raised.ensures.row put)
 
 pub put-requires-clause-tree : goal.put-requires-clause-tree
 put-requires-clause-tree c =
@@ -92,5 +92,5 @@ returns-clause-says c =
     IfOk-weaker c.put.result (λ t. (b : ℕ) → b < 16 ^ k → tree_says new k t b ≡ (if b == block then lowest else tree_says now k root b)) (λ t. (q : ℕ) → q < 16 ^ c.args.levels →
     tree_says new c.args.levels t q ≡ (if q / 16 == block then max (tree_says old c.args.levels root q) (slice_index least (q % 16)) else tree_says old c.args.levels root q))
     (λ t put. subst (λ j. (q : ℕ) → q < 16 ^ j → tree_says new j t q ≡ (if q / 16 == block then max (tree_says old j root q) (slice_index least (q % 16)) else tree_says old j root q)) e
-    (block_row_says old now new k root block lowest t c.numbers-stands.result least c.greater.result c.in_ok-raised.ensures.keeps c.put.ensures.keeps
-    (subst (λ j. IsTree old j root) (sym e) c.requires.root) c.in_ok-raised.ensures.there stands c.greater.ensures.each c.in_ok-raised.ensures.row put)) c.put.ensures.says
+    (block_row_says old now new k root block lowest t c.numbers-stands.result least c.greater_numbers.result c.in_ok-raised.ensures.keeps c.put.ensures.keeps
+    (subst (λ j. IsTree old j root) (sym e) c.requires.root) c.in_ok-raised.ensures.there stands c.greater_numbers.ensures.each c.in_ok-raised.ensures.row put)) c.put.ensures.says

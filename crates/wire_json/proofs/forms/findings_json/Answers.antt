@@ -5,7 +5,7 @@ use Rattle.wire_json.proofs.Texts.{findings_told}
 use Rattle.wire_json.proofs.forms.findings_json.Goals as goal
 
 pub returns : goal.returns
-returns c = IfOk-weaker c.line.result _ _
+returns c = IfOk-weaker c.tree_line.result _ _
     (λ text told. findings_told (view c.in_ok-findings_tree.field-0) text.items told (map (λ line. line.items) c.args.lines.now) (map view c.in_ok-findings.findings.items)
     c.in_ok-findings_tree.ensures c.in_ok-findings.ensures)
-    c.line.ensures
+    c.tree_line.ensures

@@ -7,7 +7,7 @@ use Rattle.wire_json.proofs.Texts.{report_told}
 use Rattle.wire_json.proofs.forms.report_json.Goals as goal
 
 pub returns : goal.returns
-returns c = IfOk-weaker c.line.result _ _
+returns c = IfOk-weaker c.tree_line.result _ _
     (λ text told. report_told (view c.in_ok-report_tree.field-0) text.items told c.args.scripts.now (ends_of c.args.outcome.now) (map view c.in_ok-ranks.ranks.items) c.in_ok-report_tree.ensures
     (c.in_ok-ranks.ensures ∙ ap (λ rows. ranks_data c.args.scripts.now c.args.scripts.now.processes (map (λ row. row.items) rows)) c.as_slice.ensures.value))
-    c.line.ensures
+    c.tree_line.ensures

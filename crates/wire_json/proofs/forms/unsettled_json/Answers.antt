@@ -8,9 +8,9 @@ use Rattle.wire_json.proofs.Texts.{unsettled_told}
 use Rattle.wire_json.proofs.forms.unsettled_json.Goals as goal
 
 pub returns : goal.returns
-returns c = IfOk-weaker c.line.result _ _
+returns c = IfOk-weaker c.tree_line.result _ _
     (λ text told. unsettled_told (view c.in_ok-unsettled_tree.field-0) text.items told c.args.scripts.now (ends_of c.args.outcome.now) (numbers_of c.args.order.now)
     (map view c.in_ok-steps.steps.items) (map view c.in_ok-ranks.ranks.items) c.in_ok-unsettled_tree.ensures
     (c.in_ok-steps.ensures ∙ ap strings_data (ap (λ names. map (λ name. name.items) names) c.as_slice.ensures.value ∙ c.in_ok-names.ensures))
     (c.in_ok-ranks.ensures ∙ ap (λ rows. ranks_data c.args.scripts.now c.args.scripts.now.processes (map (λ row. row.items) rows)) c.as_slice-2.ensures.value))
-    c.line.ensures
+    c.tree_line.ensures

@@ -5,7 +5,7 @@ use Rattle.wire_json.proofs.WitnessTexts.{races_told}
 use Rattle.wire_json.proofs.witnesses.races_json.Goals as goal
 
 pub returns : goal.returns
-returns c = IfOk-weaker c.line.result _ _
+returns c = IfOk-weaker c.tree_line.result _ _
     (λ text told. races_told (view c.in_ok-races_tree.field-0) text.items told c.args.scripts.now (map (λ words. words.items) c.args.findings.now) c.args.shown.now c.args.counts
     (view c.in_ok-numbers.numbers) (map view c.in_ok-races.races.items) c.in_ok-races_tree.ensures c.in_ok-numbers.ensures c.in_ok-races.ensures)
-    c.line.ensures
+    c.tree_line.ensures

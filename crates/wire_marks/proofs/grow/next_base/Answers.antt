@@ -90,7 +90,7 @@ returns-in_default-clause-growing c =
 pub returns-in_default-clause-next : goal.returns-in_default-clause-next
 returns-in_default-clause-next c =
     let sources = c.sources-sources in
-    let none = rw c.in_default.is at c.fence_ended.ensures in
+    let none = rw c.in_default.is at c.find_ended_fence.ensures in
     let is = c.marked-at.ensures in
     let are = rw (c.marked-at.ensures, sources.ensures.others none) at sources.ensures.sources in
     next_unmet (plan_of c.args.plan.now) c.args.growth.now.clocks c.base_after.new.self c.args.proc.number c.in_ok-root.root (option_map event_of sources.result.previous)

@@ -2,7 +2,7 @@ use Rattle.std.proofs.Common.{◌≡◌, map, take, sym, subst, arith}
 use Rattle.std.proofs.lemmas.List.{map_more, take_all}
 use Rattle.wire_runs.specs.Plan.{event_of}
 use Rattle.wire_content.specs.Planned.{plan_of}
-use Rattle.wire_races.specs.Collected.{IsAdded}
+use Rattle.wire_findings.specs.Collected.{IsAdded}
 use Rattle.wire_races.specs.Adding.{Adds}
 use Rattle.wire_races.specs.NameRaces.{IsRaceWith}
 use Rattle.wire_races.proofs.Lists.{place_at}

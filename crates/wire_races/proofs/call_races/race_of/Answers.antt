@@ -3,7 +3,7 @@ use Rattle.wire_runs.specs.Plan.{event_of}
 use Rattle.wire_content.specs.Planned.{plan_of}
 use Rattle.wire_runs.specs.Ends.{first_event}
 use Rattle.wire_runs.specs.Findings.{NameRace}
-use Rattle.wire_races.proofs.Calls.{starts_back, starts_within, starts_named}
+use Rattle.wire_findings.proofs.Calls.{starts_back, starts_within, starts_named}
 use Rattle.wire_races.proofs.NameRaces.{between_lower, between_rest}
 use Rattle.wire_races.proofs.call_races.race_of.Goals as goal
 

@@ -2,8 +2,8 @@ use Rattle.std.proofs.Common.{◌≡◌, ◌∙◌, ap, sym, subst}
 use Rattle.wire_runs.specs.Findings.{IsSorted}
 use Rattle.wire_content.specs.Apart.{AreApart}
 use Rattle.wire_content.specs.Planned.{plan_of}
-use Rattle.wire_races.specs.Findings.{all_shown, lower_name}
-use Rattle.wire_races.specs.Standings.{AreNamesOf}
+use Rattle.wire_findings.specs.Findings.{all_shown, lower_name}
+use Rattle.wire_findings.specs.Standings.{AreNamesOf}
 use Rattle.wire_races.proofs.AllKinds.{all_kinds}
 use Rattle.wire_races.proofs.Names.{names_of}
 use Rattle.wire_races.proofs.list.all_findings.Goals as goal

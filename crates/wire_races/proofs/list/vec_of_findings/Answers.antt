@@ -1,6 +1,6 @@
 use Rattle.std.proofs.Common.{sym, subst}
 use Rattle.std.proofs.lemmas.Result.{IfOk-weaker}
-use Rattle.wire_races.specs.Findings.{AreFindings}
+use Rattle.wire_findings.specs.Findings.{AreFindings}
 use Rattle.wire_races.proofs.list.vec_of_findings.Goals as goal
 
 pub returns : goal.returns

@@ -1,7 +1,7 @@
 use Rattle.std.proofs.Common.{map, length}
 use Rattle.wire_runs.specs.Plan.{event_of}
 use Rattle.wire_content.specs.Planned.{plan_of}
-use Rattle.wire_races.specs.Collected.{AreFound}
+use Rattle.wire_findings.specs.Collected.{AreFound}
 use Rattle.wire_races.specs.NameRaces.{AreRivals}
 use Rattle.wire_races.proofs.NameRaces.{IsLeft}
 use Rattle.wire_races.proofs.name_races.add_rivals.Given as goal

@@ -27,11 +27,12 @@ add_between-requires-clause-rivals c =
     let x = event_of c.args.x.event in
     let procs = c.args.procs.now in
     let n = c.loop-proc.proc-index in
-    facing_rivals plan c.args.x.name x _ (map event_of c.facing.result.now) (rw c.plan-plan.ensures at c.facing.ensures) (c.requires.procs.each n _ (number_at procs n _ c.loop-proc-test.true))
+    facing_rivals plan c.args.x.name x _ (map event_of c.find_facing.result.now) (rw c.plan-plan.ensures at c.find_facing.ensures)
+    (c.requires.procs.each n _ (number_at procs n _ c.loop-proc-test.true))
 
 pub add_between-requires-clause-run : goal.add_between-requires-clause-run
 add_between-requires-clause-run c =
-    facing_stretch (plan_of c.args.marked.now) c.args.x.name (event_of c.args.x.event) _ (map event_of c.facing.result.now) (rw c.plan-plan.ensures at c.facing.ensures)
+    facing_stretch (plan_of c.args.marked.now) c.args.x.name (event_of c.args.x.event) _ (map event_of c.find_facing.result.now) (rw c.plan-plan.ensures at c.find_facing.ensures)
 
 pub add_between-requires-clause-live : goal.add_between-requires-clause-live
 add_between-requires-clause-live c = c.live.ensures.0 c.if-not-live.false
@@ -44,7 +45,8 @@ loop-proc-preserved c =
     let procs = c.args.procs.now in
     let n = c.loop-proc.proc-index in
     subst (λ l. Adds plan c.args.found.now c.add_between.new.found (IsSweptRace plan name x l)) (sym (map_more (λ (p : Proc). p.number) procs n _ c.loop-proc-test.true))
-    (swept_more plan name x _ (map event_of c.facing.result.now) (rw c.plan-plan.ensures at c.facing.ensures) (numbers_of (take n procs)) c.args.found.now c.loop-proc.found c.add_between.new.found
+    (swept_more plan name x _ (map event_of c.find_facing.result.now) (rw c.plan-plan.ensures at c.find_facing.ensures) (numbers_of (take n procs)) c.args.found.now c.loop-proc.found
+    c.add_between.new.found
     c.loop-proc.invariant c.in_ok-add_between.ensures)
 
 pub returns : goal.returns

@@ -3,7 +3,7 @@ use Rattle.std.specs.Vec.Iter.{into_iter_items}
 use Rattle.wire_races.specs.Pieces.{IsInSome, AreAllFound}
 use Rattle.wire_races.specs.Adding.{Adds}
 use Rattle.wire_races.proofs.Adding.{appended}
-use Rattle.wire_races.proofs.Calls.{get_right}
+use Rattle.wire_findings.proofs.Calls.{get_right}
 use Rattle.wire_races.proofs.Together.{some_more, none_more}
 use Rattle.wire_races.proofs.pieces.add_pieces.Goals as goal
 

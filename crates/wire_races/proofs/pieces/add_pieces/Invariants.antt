@@ -1,7 +1,7 @@
 use Rattle.std.proofs.Common.{◌≡◌, ◌++◌, length}
 use Rattle.std.specs.Vec.Iter.{into_iter_items, into_iter_len}
 use Rattle.wire_runs.specs.Plan.{Plan}
-use Rattle.wire_races.specs.Collected.{AreFound}
+use Rattle.wire_findings.specs.Collected.{AreFound}
 use Rattle.wire_races.specs.Adding.{Adds}
 use Rattle.wire_races.specs.Pieces.{IsInSome, AreAllFound}
 use Rattle.wire_races.proofs.pieces.add_pieces.Given as goal

@@ -1,6 +1,6 @@
 use Rattle.std.proofs.Common.{◌≡◌, ℕ, ◌<◌, Some}
 use Rattle.std.specs.Prelude.{slice_get}
-use Rattle.wire_races.specs.declared.finding.Finding.{Finding}
+use Rattle.wire_findings.specs.declared.finding.Finding.{Finding}
 use Rattle.wire_races.specs.Reported.{IsOfCalls}
 use Rattle.wire_races.proofs.reported.is_reported.Given as goal
 

@@ -18,13 +18,13 @@ loop-at-preserved c =
     let plan = plan_of c.args.plan.now in
     let p = c.args.proc.number in
     let n = c.loop-at.at in
-    elim c.match-published.branch [
+    elim c.match-name_published.branch [
       | in-Some+in_ok-push w ↦
-          let is = subst (IsPublished plan p n) w.in-Some.is c.published.ensures in
+          let is = subst (IsPublished plan p n) w.in-Some.is c.name_published.ensures in
           rw w.names-is (subst (ArePublishedBelow plan p (n + 1)) (sym w.in_ok-push.ensures.items)
           (one_published plan p n (n + 1) w.in-Some.name c.loop-at.names.items (omega arith) is c.loop-at.invariant))
       | in_default w ↦
-          let is = subst (IsPublished plan p n) w.in_default.is c.published.ensures in
+          let is = subst (IsPublished plan p n) w.in_default.is c.name_published.ensures in
           rw w.names-is (no_published plan p n (n + 1) c.loop-at.names.items (omega arith) is c.loop-at.invariant)
     ]
 

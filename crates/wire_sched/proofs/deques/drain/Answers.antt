@@ -12,15 +12,15 @@ pub push_reserved-requires : goal.push_reserved-requires
 push_reserved-requires c =
     omega (
       arith,
-      drains_room (worker_view c.args.own.now) (worker_view c.drains.own) (worker_view c.own_from.new.own) c.args.left.now.items c.drains.left.items c.in-Some.piece c.drains.invariant.0
+      drains_room (worker_view c.args.own.now) (worker_view c.drains.own) (worker_view c.take_front.new.own) c.args.left.now.items c.drains.left.items c.in-Some.piece c.drains.invariant.0
           c.in-Some.ensures.took,
     )
 
 pub drains-preserved : goal.drains-preserved
 drains-preserved c =
-    let next = drains_more (worker_view c.args.own.now) (worker_view c.drains.own) (worker_view c.own_from.new.own) c.args.left.now.items c.drains.left.items c.in-Some.piece c.drains.invariant.0
+    let next = drains_more (worker_view c.args.own.now) (worker_view c.drains.own) (worker_view c.take_front.new.own) c.args.left.now.items c.drains.left.items c.in-Some.piece c.drains.invariant.0
     c.in-Some.ensures.took in (
-      subst (DrainingTo (worker_view c.args.own.now) (worker_view c.own_from.new.own) c.args.left.now.items) (sym c.push_reserved.ensures.items) next,
+      subst (DrainingTo (worker_view c.args.own.now) (worker_view c.take_front.new.own) c.args.left.now.items) (sym c.push_reserved.ensures.items) next,
       c.in-Some.ensures.same.1 ∙ c.drains.invariant.1,
       c.push_reserved.ensures.capacity ∙ c.drains.invariant.2,
     )

@@ -1,5 +1,5 @@
 use Rattle.std.proofs.Common.{subst, sym, ◌∙◌, []}
-use Rattle.wire_races.specs.Findings.{AreFindings}
+use Rattle.wire_findings.specs.Findings.{AreFindings}
 use Rattle.wire_up.proofs.Worked.{none_there}
 use Rattle.wire_up.proofs.replaying.settle_plan.Goals as goal
 

@@ -9,8 +9,8 @@ use Rattle.wire_core.specs.Course.{state_of}
 use Rattle.wire_core.proofs.Meet.{complete_at, leave_enabled}
 use Rattle.wire_core.proofs.running.Core.looks_ready.Goals as goal
 
-pub seen_by-requires : goal.seen_by-requires
-seen_by-requires c = process_within (plan_of c.args.self.now.scripts) c.args.proc.number ((state_of c.args.self.now).done c.args.proc.number)
+pub see_key-requires : goal.see_key-requires
+see_key-requires c = process_within (plan_of c.args.self.now.scripts) c.args.proc.number ((state_of c.args.self.now).done c.args.proc.number)
     (kind_of c.args.self.now.scripts.sets c.in-Some-Get.field-0) (sym c.in-Some-Get.ensures.kind)
 
 pub returns-in-Some-Leave : goal.returns-in-Some-Leave

@@ -133,13 +133,13 @@ invariant_of-self c =
     let pushed : map (λ p. p.number) c.push_reserved.new.self.items ≡ w ++ c.args.proc.number ∷ [] =
     ap (map (λ p. p.number)) c.push_reserved.ensures.items ∙ map-append (λ p. p.number) c.self.inside.history.items (c.args.proc ∷ []) in
     let sets = c.self.inside.plan.now.sets in
-    let arriving = subst (λ x. ArrivesAt c.self.inside.plan.now c.self.inside.fences.now x (option_map (λ f. f.number) c.arrived_at-fence.result)) place c.arrived_at-fence.ensures in
-    let shared = shared_step c.self.inside.plan.now s c.self.inside.fences.now c.self.inside.arrivals c.self.inside.names c.args.proc.number (option_map (λ f. f.number) c.arrived_at-fence.result)
+    let arriving = subst (λ x. ArrivesAt c.self.inside.plan.now c.self.inside.fences.now x (option_map (λ f. f.number) c.find_fence-fence.result)) place c.find_fence-fence.ensures in
+    let shared = shared_step c.self.inside.plan.now s c.self.inside.fences.now c.self.inside.arrivals c.self.inside.names c.args.proc.number (option_map (λ f. f.number) c.find_fence-fence.result)
     (kind_of sets c.in-Some.kind) c.self.invariant.shared is arriving in
     let noted : c.note_name.new.names ≡ names_after (calls_at plan c.args.proc.number (s.done c.args.proc.number)) (Some (kind_of sets c.in-Some.kind)) c.self.inside.names =
     c.note_name.ensures sets ∙ ap (λ a. names_after a (Some (kind_of sets c.in-Some.kind)) c.self.inside.names) call in
-    let comes = c.what_comes.ensures sets ∙ ap (λ missing. coming c.args.proc c.arrived_at-fence.result missing (kind_of sets c.in-Some.kind)) c.note_arrival.ensures in
-    let waits = noted_step c.self.inside.plan.now c.self.inside.fences.now s c.self.inside.arrivals c.args.proc c.arrived_at-fence.result (kind_of sets c.in-Some.kind) c.self.inside.waits is arriving
+    let comes = c.what_comes.ensures sets ∙ ap (λ missing. coming c.args.proc c.find_fence-fence.result missing (kind_of sets c.in-Some.kind)) c.note_arrival.ensures in
+    let waits = noted_step c.self.inside.plan.now c.self.inside.fences.now s c.self.inside.arrivals c.args.proc c.find_fence-fence.result (kind_of sets c.in-Some.kind) c.self.inside.waits is arriving
     c.self.invariant.shared.arrived shared.arrived within c.self.invariant.noted in
     let gain = rw (← c.self.view_is) at c.gain_of-gain.ensures in
     let keeping = keeping_step plan s c.args.proc.number (length w) c.self.inside.keeping c.note-2.new.self c.gain_of-gain.result within c.self.invariant.keeping_is gain
@@ -150,7 +150,7 @@ invariant_of-self c =
         pushed,
         c.note_arrival.ensures,
         noted,
-      ) (subst (λ st. IsShared c.self.inside.plan.now st c.self.inside.fences.now (after_arrival (option_map (λ f. f.number) c.arrived_at-fence.result) c.self.inside.arrivals)
+      ) (subst (λ st. IsShared c.self.inside.plan.now st c.self.inside.fences.now (after_arrival (option_map (λ f. f.number) c.find_fence-fence.result) c.self.inside.arrivals)
           (names_after (calls_at plan c.args.proc.number (s.done c.args.proc.number)) (Some (kind_of sets c.in-Some.kind)) c.self.inside.names)) (sym (run_push plan start w c.args.proc.number))
           shared);
       noted = rw (
@@ -159,7 +159,7 @@ invariant_of-self c =
         c.wake.ensures,
         comes,
       ) (subst (λ st. AreNoted c.self.inside.plan.now c.self.inside.fences.now st
-          (slice_set (map (known_after (coming c.args.proc c.arrived_at-fence.result (after_arrival (option_map (λ f. f.number) c.arrived_at-fence.result) c.self.inside.arrivals)
+          (slice_set (map (known_after (coming c.args.proc c.find_fence-fence.result (after_arrival (option_map (λ f. f.number) c.find_fence-fence.result) c.self.inside.arrivals)
           (kind_of sets c.in-Some.kind))) c.self.inside.waits) c.args.proc.number Unknown)) (sym (run_push plan start w c.args.proc.number)) waits);
       looked = c.self.invariant.looked;
       keeping_is = rw pushed (subst (λ n. IsKeeping plan (run plan (w ++ c.args.proc.number ∷ [])) n c.note-2.new.self) (sym (length_push w c.args.proc.number))
@@ -181,8 +181,8 @@ note_arrival-requires c =
     let plan = plan_of c.self.inside.plan.now in
     let s = run plan (map (λ p. p.number) c.self.inside.history.items) in
     let place = rw (← c.self.view_is) at c.next_event-event.ensures in
-    let arriving = subst (λ x. ArrivesAt c.self.inside.plan.now c.self.inside.fences.now x (option_map (λ f. f.number) c.arrived_at-fence.result)) place c.arrived_at-fence.ensures in
-    missing_if c.self.inside.plan.now s c.self.inside.fences.now c.self.inside.arrivals c.args.proc.number c.arrived_at-fence.result arriving c.self.invariant.shared.arrived
+    let arriving = subst (λ x. ArrivesAt c.self.inside.plan.now c.self.inside.fences.now x (option_map (λ f. f.number) c.find_fence-fence.result)) place c.find_fence-fence.ensures in
+    missing_if c.self.inside.plan.now s c.self.inside.fences.now c.self.inside.arrivals c.args.proc.number c.find_fence-fence.result arriving c.self.invariant.shared.arrived
 
 pub note_name-requires : goal.note_name-requires
 note_name-requires c sets =

@@ -5,4 +5,4 @@ use Rattle.wire_procmap.proofs.map.ProcMap.node_rank.Goals as goal
 
 pub returns : goal.returns
 unfolding row_of
-returns c = λ s is. ap (λ (r : ProcessNumbers). r.node_rank) (c.row.ensures s is)
+returns c = λ s is. ap (λ (r : ProcessNumbers). r.node_rank) (c.numbers.ensures s is)

@@ -8,6 +8,6 @@ use Rattle.wire_procmap.proofs.map.ProcMap.reserved.Goals as goal
 pub returns : goal.returns
 returns c = λ s is.
     c.reply.ensures
-    ∙ ap (λ (r : ProcessNumbers). reply_of r c.kind.result) (c.row.ensures s is)
+    ∙ ap (λ (r : ProcessNumbers). reply_of r c.kind.result) (c.numbers.ensures s is)
     ∙ ap (reply_of (row_of s.processes c.args.proc.number)) (c.kind.ensures s is)
     ∙ reply_of_kind s.processes c.args.proc.number (text_at s.keys c.args.key)

@@ -1,7 +1,7 @@
 use Rattle.std.proofs.Common.{◌≡◌, ◌∙◌, [], sym, refl, length, ap, arith, eqb-true, eq-eqb}
 use Rattle.std.proofs.lemmas.Bool.{true≢false}
 use Rattle.std.proofs.lemmas.List.{nil_from_length}
-use Rattle.wire_races.proofs.OneList.{none_told}
+use Rattle.wire_findings.proofs.OneList.{none_told}
 use Rattle.wire_races.proofs.settled.Settled.try_new.Goals as goal
 
 pub invariant_of-result : goal.invariant_of-result

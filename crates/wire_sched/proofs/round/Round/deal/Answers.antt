@@ -20,14 +20,15 @@ starts-preserved c =
 pub cuts-init : goal.cuts-init
 cuts-init c = cutting_nothing _ _ _ _ _ _ c.starts.invariant.0
 
-pub row-requires : goal.row-requires
-row-requires c = cutting_parts _ _ _ c.cuts.invariant (omega arith)
+pub cut_permits-requires : goal.cut_permits-requires
+cut_permits-requires c = cutting_parts _ _ _ c.cuts.invariant (omega arith)
 
 pub cuts-preserved : goal.cuts-preserved
 cuts-preserved c =
-    let k : c.cuts.to < length c.row.new.passes.items = omega (arith, c.cuts.invariant.same_length, c.in_ok-tokens.ensures.cut.0, c.starts.invariant.0.passes_so_far) in
-    let q : Pass = record { worker = c.index_mut-pass.result.now.worker; own = c.index_mut-pass.result.now.own; tokens = c.in_ok-tokens.tokens } in
-    cutting_more c.starts.passes.items c.cuts.passes.items c.row.new.passes.items c.cuts.to c.index_mut-pass.result.now q c.cuts.invariant c.in_ok-tokens.ensures.cut c.in_ok-tokens.ensures.tokens
+    let k : c.cuts.to < length c.cut_permits.new.passes.items = omega (arith, c.cuts.invariant.same_length, c.in_ok-permits.ensures.cut.0, c.starts.invariant.0.passes_so_far) in
+    let q : Pass = record { worker = c.index_mut-pass.result.now.worker; own = c.index_mut-pass.result.now.own; permits = c.in_ok-permits.permits } in
+    cutting_more c.starts.passes.items c.cuts.passes.items c.cut_permits.new.passes.items c.cuts.to c.index_mut-pass.result.now q c.cuts.invariant c.in_ok-permits.ensures.cut
+    c.in_ok-permits.ensures.permits
     (at_index _ _ _ k c.index_mut-pass.ensures.value) refl refl
 
 pub returns-clause-passes : goal.returns-clause-passes

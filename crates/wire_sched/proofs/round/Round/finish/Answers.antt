@@ -45,7 +45,7 @@ pub deques-preserved : goal.deques-preserved
 deques-preserved c =
     let k : c.deques.i < length c.deques.passes.items = omega (arith, c.deques.invariant.0.same_length) in
     let at = at_index _ _ _ k c.index_mut.ensures.value in
-    let q : Pass = record { worker = c.index_mut.result.now.worker; own = c.drain.new.own; tokens = c.index_mut.result.now.tokens } in
+    let q : Pass = record { worker = c.index_mut.result.now.worker; own = c.drain.new.own; permits = c.index_mut.result.now.permits } in
     let before = c.deques.left.ok.0 in
     let after = c.drain.new.left.ok.0 in
     let bound = c.drain.ensures.bound in (

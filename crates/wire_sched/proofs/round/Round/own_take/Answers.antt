@@ -3,12 +3,12 @@ use Rattle.wire_sched.proofs.Passes.{own_share, with_own}
 use Rattle.wire_sched.proofs.Members.{own_piece}
 use Rattle.wire_sched.proofs.round.Round.own_take.Goals as goal
 
-pub own_from-requires : goal.own_from-requires
-own_from-requires c = record { fifo = c.requires.fifo; part = omega (arith, c.requires.parts, c.requires.few) }
+pub take_front-requires : goal.take_front-requires
+take_front-requires c = record { fifo = c.requires.fifo; part = omega (arith, c.requires.parts, c.requires.few) }
 
 pub returns-clause-kept : goal.returns-clause-kept
 returns-clause-kept c =
-    (with_own _ c.args.pass.now _ c.requires c.own_from.ensures.same (own_share _ _ _ c.own_from.ensures.took), refl)
+    (with_own _ c.args.pass.now _ c.requires c.take_front.ensures.same (own_share _ _ _ c.take_front.ensures.took), refl)
 
 pub returns-clause-piece : goal.returns-clause-piece
-returns-clause-piece c = own_piece c.args.self.now _ _ _ _ c.requires.dealt c.own_from.ensures.took
+returns-clause-piece c = own_piece c.args.self.now _ _ _ _ c.requires.dealt c.take_front.ensures.took

@@ -31,7 +31,7 @@ returns-clause-kept c =
     c.self.invariant.0
     (c.copied-newest.ensures ∙ c.get.ensures.value) c.last_stored-stored.ensures
     in
-    c.shown.ensures
+    c.show_slot.ensures
     ∙ ap (λ xs. seen false (put_at xs c.last_before-last.result)) c.deref-3.ensures.value
     ∙ ap (seen false) (
     found_in_part slots c.deref-2.result.now c.args.key c.args.event c.self.inside.committed c.last_stored-stored.result c.last_before-last.result c.deref-2.ensures.value c.self.invariant.0.within

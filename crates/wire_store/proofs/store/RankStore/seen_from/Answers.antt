@@ -13,8 +13,8 @@ last_stored-last-requires-clause-there c = λ x is.
     let same = ap length c.deref.ensures.value in
     omega (arith, within, same)
 
-pub shown-requires : goal.shown-requires
-shown-requires c = λ x is.
+pub show_slot-requires : goal.show_slot-requires
+show_slot-requires c = λ x is.
     let last = last_is c.self.inside.slots.items c.deref.result.now c.args.key c.self.inside.committed c.copied-newest.result c.last_stored-last.result (get nat_eq c.self.inside.newest)
     c.deref.ensures.value c.self.invariant.0
     (c.copied-newest.ensures ∙ c.get.ensures.value) c.last_stored-last.ensures
@@ -29,7 +29,7 @@ returns-clause-kept c =
     c.deref.ensures.value c.self.invariant.0
     (c.copied-newest.ensures ∙ c.get.ensures.value) c.last_stored-last.ensures
     in
-    c.shown.ensures
+    c.show_slot.ensures
     ∙ ap (λ slots. seen c.args.same_node (put_at slots c.last_stored-last.result)) c.deref-2.ensures.value
     ∙ ap (λ number. seen c.args.same_node (put_at c.self.inside.slots.items number)) last
     ∙ ap (seen c.args.same_node) (sym (last_stored_in c.self.inside.slots.items c.args.key c.self.inside.committed c.self.invariant.0.stored c.self.invariant.0.within))

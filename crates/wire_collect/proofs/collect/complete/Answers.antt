@@ -1,8 +1,0 @@
-use Rattle.std.proofs.Common.{sym, ◌∙◌}
-use Rattle.wire_collect.proofs.collect.complete.Goals as goal
-
-pub returns-then-ended-clause-plan : goal.returns-then-ended-clause-plan
-returns-then-ended-clause-plan g c = sym c.plan.ensures ∙ c.eq.ensures.same.0 c.if-eq.true
-
-pub returns-then-ended-clause-ended : goal.returns-then-ended-clause-ended
-returns-then-ended-clause-ended g c = c.ended-ended.ensures.0 c.if-ended.true

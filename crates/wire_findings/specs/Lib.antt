@@ -1,0 +1,4 @@
+pub mod Findings
+pub mod Collected
+pub mod Packing
+pub mod Standings

@@ -1,0 +1,174 @@
+//! The findings so far, and the list that they come to.
+
+ghost use Rattle.std.specs.Prelude.{◌≡◌, ◌↔◌, ◌++◌, ◌∷◌, [], IsTrue, OnOk};
+ghost use Rattle.std.specs.Ordering.{is_eq, is_lt};
+ghost use Rattle.wire_runs.specs.Plan as runs;
+ghost use Rattle.wire_runs.specs.Findings as told;
+ghost use Rattle.wire_runs.specs.Findings.{IsSorted};
+ghost use Rattle.wire_findings.specs.Findings.{shown, all_shown, lower_name};
+ghost use Rattle.wire_findings.specs.Collected.{Tells, AreFound, IsAdded};
+ghost use Rattle.wire_findings.specs.Packing.{told_by, all_told_by};
+ghost use Rattle.wire_findings.specs.Standings.{standing, race_name, entry_cmp, AreInOrder, AreNamesOf};
+
+use crate::finding::Finding;
+use crate::list::FindingList;
+use crate::packed::{Packed, Subject, pack, unpack};
+use std::alloc::{AllocError, Global};
+use std::cmp::Ordering;
+use std::marker::Model;
+use wire_content::Texts;
+use wire_types::CallAt;
+
+/// Where a finding stands in the list: a rewrite by the later put, and behind all of them a race by its
+/// calls, the lower first. Two calls can race on several names; these findings have one standing, and
+/// stand by the bytes of the names.
+#[derive(Clone, Copy, PartialEq, Eq, PartialOrd, Ord)]
+struct Standing {
+    is_race: bool,
+    by: CallAt,
+    then: CallAt,
+}
+
+// The standing of the finding that an entry stands for.
+fn standing_of(subjects: &[Subject], entry: &Packed) -> Standing
+    ensures { result ≡ standing (told_by subjects.now entry.now) }
+{
+    let _ = subjects;
+    Standing {
+        is_race: entry.subject != 0,
+        by: entry.by,
+        then: entry.then,
+    }
+}
+
+// The bytes of the name of a race on a name, none for other findings.
+fn name_of<'a>(names: &'a Texts, subjects: &[Subject], entry: &Packed) -> &'a [u8]
+    ensures { result.now ≡ race_name names.now (told_by subjects.now entry.now) }
+{
+    match unpack(subjects, *entry) {
+        Finding::NameRace(_, _, name) => names.text(name),
+        _ => b"".as_slice(),
+    }
+}
+
+// How the findings of two entries stand in the list. Names are looked at only where all else is the same.
+fn compare(names: &Texts, subjects: &[Subject], x: &Packed, y: &Packed) -> Ordering
+    ensures { result ≡ entry_cmp names.now subjects.now x.now y.now }
+{
+    match standing_of(subjects, x).cmp(&standing_of(subjects, y)) {
+        Ordering::Equal => name_of(names, subjects, x).cmp(name_of(names, subjects, y)),
+        apart => apart,
+    }
+}
+
+// Whether two entries stand for one finding.
+fn is_same(names: &Texts, subjects: &[Subject], x: &Packed, y: &Packed) -> bool
+    ensures { result ≡ is_eq (entry_cmp names.now subjects.now x.now y.now) }
+{
+    compare(names, subjects, x, y) == Ordering::Equal
+}
+
+// Whether the finding of one entry stands before that of another.
+fn stands_before(names: &Texts, subjects: &[Subject], x: &Packed, y: &Packed) -> bool
+    ensures { result ≡ is_lt (entry_cmp names.now subjects.now x.now y.now) }
+{
+    compare(names, subjects, x, y).is_lt()
+}
+
+// Whether each entry's finding stands before that of the next, so that none is there twice.
+fn are_in_order(names: &Texts, subjects: &[Subject], entries: &[Packed]) -> bool
+    ensures { IsTrue result → AreInOrder names.now subjects.now entries.now }
+{
+    entries.is_sorted_by(|x, y| stands_before(names, subjects, x, y))
+}
+
+/// Findings as they are met, in any order, in few bytes. One that is met twice stands there twice.
+#[derive(Drop)]
+pub struct Found {
+    entries: Vec<Packed>,
+    subjects: Vec<Subject>,
+}
+
+impl Model for Found {
+    ghost use Rattle.std.specs.Prelude.{List};
+    ghost use Rattle.wire_findings.specs.declared.finding.Finding.{Finding as Told};
+    ghost use Rattle.wire_findings.specs.Packing.{all_told_by, AreWithin};
+
+    ghost Value = { List Told };
+
+    ghost view = { λ f. all_told_by f.subjects.items f.entries.items };
+
+    ghost invariant = { λ f. AreWithin f.subjects.items f.entries.items };
+}
+
+impl Found {
+    /// Nothing yet.
+    pub fn new(alloc: Global) -> Found
+        ensures { result ≡ [] }
+    {
+        Found {
+            entries: Vec::new(alloc),
+            subjects: Vec::new(alloc),
+        }
+    }
+
+    // Puts a finding behind the others.
+    fn push(&mut self, finding: Finding) -> Result<(), AllocError>
+        ensures { OnOk result (self.new ≡ self.old ++ finding ∷ []) }
+    {
+        let entry = pack(&mut self.subjects, finding)?;
+        self.entries.push(entry)?;
+        Ok(())
+    }
+
+    /// Adds a finding.
+    pub fn add(&mut self, finding: Finding) -> Result<(), AllocError>
+        ensures { OnOk result ((plan : runs.Plan) → IsAdded plan self.old self.new (shown plan finding)) }
+    {
+        self.push(finding)
+    }
+
+    // Puts the findings that these entries stand for behind the others, one by one.
+    fn push_all(&mut self, subjects: &[Subject], entries: &[Packed]) -> Result<(), AllocError>
+        ensures { OnOk result (self.new ≡ self.old ++ all_told_by subjects.now entries.now) }
+    {
+        for entry in entries {
+            self.push(unpack(subjects, *entry))?;
+        }
+        Ok(())
+    }
+
+    /// Adds the findings of a piece. Where nothing is there yet, they needn't be moved.
+    pub fn append(&mut self, piece: Found) -> Result<(), AllocError>
+        ensures { OnOk result (self.new ≡ self.old ++ piece) }
+    {
+        if self.entries.is_empty() {
+            *self = piece;
+            return Ok(());
+        }
+        self.push_all(piece.subjects.as_slice(), piece.entries.as_slice())
+    }
+
+    /// The findings as they were met.
+    pub fn as_met(self) -> FindingList
+        ensures { result ≡ self }
+    {
+        FindingList::new(self.entries, self.subjects)
+    }
+
+    /// The findings of a plan with these names, each once, in their order. Where they were met so, nothing is
+    /// moved.
+    pub fn into_list(self, names: &Texts) -> FindingList
+        ensures those { (plan : runs.Plan) → AreNamesOf plan names.now → AreFound plan self → (f : told.Finding) → Tells plan result f ↔ Tells plan self f }
+        ensures sorted { (plan : runs.Plan) → AreNamesOf plan names.now → AreFound plan self → IsSorted (lower_name names.now) (all_shown plan result) }
+    {
+        let mut entries = self.entries;
+        let subjects = self.subjects;
+        if are_in_order(names, subjects.as_slice(), entries.as_slice()) {
+            return FindingList::new(entries, subjects);
+        }
+        entries.sort_unstable_by(|x, y| compare(names, subjects.as_slice(), x, y));
+        entries.dedup_by(|x, y| is_same(names, subjects.as_slice(), x, y));
+        FindingList::new(entries, subjects)
+    }
+}

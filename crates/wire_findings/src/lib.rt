@@ -1,0 +1,11 @@
+//! What the checker reports of a plan: a finding, and lists of findings in few bytes.
+#![tactic(auto)]
+
+mod finding;
+mod found;
+mod list;
+mod packed;
+
+pub use finding::Finding;
+pub use found::Found;
+pub use list::FindingList;

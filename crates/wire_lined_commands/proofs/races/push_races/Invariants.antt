@@ -1,0 +1,10 @@
+use Rattle.std.proofs.Common.{◌≡◌, ◌++◌, map, drop}
+use Rattle.std.specs.List.{flat_map}
+use Rattle.wire_lined_commands.specs.Raced.{placed_race}
+use Rattle.wire_lined_commands.proofs.races.push_races.Given as goal
+
+-- what is written, and the lines of the races that are left, are all lines
+abbrev pub invariant-loop-one : goal.invariant-loop-one
+invariant-loop-one l =
+    l.fn.out.items ++ flat_map (placed_race l.places.name.now (map (λ row. row.items) l.places.rows.now) l.scripts) l.tried
+    ≡ l.out.items ++ flat_map (placed_race l.places.name.now (map (λ row. row.items) l.places.rows.now) l.scripts) (drop l.one-index l.tried)

@@ -1,5 +1,0 @@
-use Rattle.wire_races.proofs.Packing.{standing_told}
-use Rattle.wire_races.proofs.found.standing_of.Goals as goal
-
-pub returns : goal.returns
-returns c = standing_told c.args.subjects.now c.args.entry.now
