@@ -25,10 +25,10 @@ option_with_word name = record (new_rule name) { long = Some name; value_names =
 abbrev pub flag : Text → Rule
 flag name = record (new_rule name) { long = Some name; action = Some SetTrue }
 
--- a command becomes another: it takes these words too, where none of its arguments is global, and then none is after it
-pub record Grows (old : Command) (grown : App → App) (new : Command) : Type 0 where
-  pub shape : (fields_of old).has_globals ≡ false → app_of new ≡ grown (app_of old)
-  pub local : (fields_of old).has_globals ≡ false → (fields_of new).has_globals ≡ false
+-- the command is this one, and no argument of it is global
+pub record IsLine (app : App) (command : Command) : Type 0 where
+  pub is : app_of command ≡ app
+  pub local : (fields_of command).has_globals ≡ false
 
 -- the last words of each command: whether a fault is explained, and the plan
 abbrev pub with_plan : App → App

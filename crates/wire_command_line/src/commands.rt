@@ -1,216 +1,226 @@
-//! The commands of the command line, as `clap` takes them.
+//! The commands of the command line.
 
-ghost use Rattle.std.specs.Prelude.{◌≡◌, false, codes, IfOk, IsOkAnd};
-ghost use Rattle.clap.specs.Words.{AddsSubcommand, app_of, rule_of};
-ghost use Rattle.clap.specs.declared.builder.command.Command.TheViews.{out-Command as fields_of};
+ghost use Rattle.std.specs.Prelude.{◌≡◌, IfOk};
+ghost use Rattle.clap.specs.Words.{App, app_of, with_subcommand};
 ghost use Rattle.wire_command_line.specs.CommandLine as spec;
-ghost use Rattle.wire_command_line.specs.CommandLine.{Grows};
+ghost use Rattle.wire_command_line.specs.CommandLine.{IsLine};
+ghost use Rattle.wire_command_line.specs.Tables.{line_said, with_commands};
 
+use crate::arguments::{Argument, Kind, Subcommand, make_command};
 use crate::help::FAULTS_AND_STATUSES;
-use clap::{Arg, ArgAction, Command};
+use clap::Command;
 use std::alloc::{AllocError, Global};
 
 /// What `--version` shows behind the program's name.
 const VERSION: &str = "0.1.0";
 
-/// What is said of `--json`.
-const JSON: &str = "Writes JSON instead of text";
+/// JSON in place of text.
+const JSON: Argument<'static> = Argument {
+    name: "json",
+    kind: Kind::Flag,
+    help: "Writes JSON instead of text",
+};
 
-/// What is said of `--lines` where an answer tells of calls one by one.
-const LINES: &str =
-    "Tells the file and the line of each call, in the form that editors and terminals open";
+/// Lines of the file, where an answer tells of calls one by one.
+const LINES: Argument<'static> = Argument {
+    name: "lines",
+    kind: Kind::Flag,
+    help: "Tells the file and the line of each call, in the form that editors and terminals open",
+};
+
+/// The limits are lifted.
+const LARGE: Argument<'static> = Argument {
+    name: "large",
+    kind: Kind::Flag,
+    help: "Lifts the limits, up to 65536 nodes, 1048576 ranks, 33554432 calls and files of 1 GiB",
+};
+
+/// A fault is explained.
+const EXPLAIN: Argument<'static> = Argument {
+    name: "explain",
+    kind: Kind::Flag,
+    help: "Explains a fault: quotes the line, and says what was expected there",
+};
 
 /// The plan, which may be left out.
-fn file_argument<'a>(alloc: Global) -> Arg<'a>
-    ensures rule { rule_of result ≡ spec.optional_word (codes "FILE") }
-    ensures local { result.global ≡ false }
+const PLAN: Argument<'static> = Argument {
+    name: "FILE",
+    kind: Kind::Word,
+    help: "The plan, standard input if not given",
+};
+
+/// The order, which has to be given.
+const ORDER: Argument<'static> = Argument {
+    name: "ORDER",
+    kind: Kind::NeededWord,
+    help: "The file of the order: each line names the process that takes the next step",
+};
+
+/// The process of a second call.
+const SECOND_PROCESS: &str = "The process of the second call";
+
+/// The number of a call whose process was told of before.
+const NUMBER: &str = "The number of that call";
+
+fn check_command<'a>() -> Subcommand<'a>
+    ensures { line_said result ≡ spec.check_line }
 {
-    Arg::new(alloc, "FILE").help("The plan, standard input if not given")
+    Subcommand {
+        name: "check",
+        about: "Finds every race of a plan, and every key that a rank puts twice",
+        arguments: &[
+            Argument {
+                name: "lines",
+                kind: Kind::Flag,
+                help: "Groups findings that are alike, and tells where the calls of each group's first finding stand",
+            },
+            JSON,
+            LARGE,
+            EXPLAIN,
+            PLAN,
+        ],
+    }
 }
 
-/// A word that has to be given.
-fn needed_argument<'a>(alloc: Global, name: &'a str, help: &'a str) -> Arg<'a>
-    ensures rule { rule_of result ≡ spec.needed_word name.entry.now }
-    ensures local { result.global ≡ false }
+fn replay_command<'a>() -> Subcommand<'a>
+    ensures { line_said result ≡ spec.replay_line }
 {
-    Arg::new(alloc, name).help(help).required(true)
+    Subcommand {
+        name: "replay",
+        about: "Runs a plan if nothing is found in it, and shows what became of every call",
+        arguments: &[
+            Argument {
+                name: "workers",
+                kind: Kind::Number,
+                help: "How many threads run the plan, 1 to 64 (1 if not given)",
+            },
+            JSON,
+            Argument {
+                name: "anyway",
+                kind: Kind::Flag,
+                help: "Runs a plan with findings too, and shows in which order its steps came",
+            },
+            Argument {
+                name: "complete",
+                kind: Kind::Flag,
+                help: "Ends with status 1, and names the first such call, if a call fails or is never answered",
+            },
+            LARGE,
+            EXPLAIN,
+            PLAN,
+        ],
+    }
 }
 
-/// An option without a word of its own.
-fn flag<'a>(alloc: Global, name: &'a str, help: &'a str) -> Arg<'a>
-    ensures rule { rule_of result ≡ spec.flag name.entry.now }
-    ensures local { result.global ≡ false }
+fn follow_command<'a>() -> Subcommand<'a>
+    ensures { line_said result ≡ spec.follow_line }
 {
-    Arg::new(alloc, name)
-        .long(name)
-        .help(help)
-        .action(ArgAction::SetTrue)
+    Subcommand {
+        name: "follow",
+        about: "Runs a plan in the order of a file, and shows what became of every call",
+        arguments: &[ORDER, JSON, LARGE, EXPLAIN, PLAN],
+    }
 }
 
-/// The option that lifts the limits.
-fn large_flag<'a>(alloc: Global) -> Arg<'a>
-    ensures rule { rule_of result ≡ spec.flag (codes "large") }
-    ensures local { result.global ≡ false }
+fn why_command<'a>() -> Subcommand<'a>
+    ensures { line_said result ≡ spec.why_line }
 {
-    let help =
-        "Lifts the limits, up to 65536 nodes, 1048576 ranks, 33554432 calls and files of 1 GiB";
-    flag(alloc, "large", help)
+    Subcommand {
+        name: "why",
+        about: "Tells whether a chain of events orders two calls, and shows the chain",
+        arguments: &[
+            Argument {
+                name: "P",
+                kind: Kind::NeededWord,
+                help: "The process of the first call: its job, a colon and its rank, as app:0",
+            },
+            Argument {
+                name: "N",
+                kind: Kind::NeededWord,
+                help: "The number of that call among the calls of its process, from 1",
+            },
+            Argument {
+                name: "Q",
+                kind: Kind::NeededWord,
+                help: SECOND_PROCESS,
+            },
+            Argument {
+                name: "M",
+                kind: Kind::NeededWord,
+                help: NUMBER,
+            },
+            LINES,
+            JSON,
+            LARGE,
+            EXPLAIN,
+            PLAN,
+        ],
+    }
 }
 
-/// The option that says how many workers there are.
-fn workers_argument<'a>(alloc: Global) -> Arg<'a>
-    ensures rule { rule_of result ≡ spec.option_with_word (codes "workers") }
-    ensures local { result.global ≡ false }
+fn migrate_command<'a>() -> Subcommand<'a>
+    ensures { line_said result ≡ spec.migrate_line }
 {
-    Arg::new(alloc, "workers")
-        .long("workers")
-        .value_name("N")
-        .help("How many threads run the plan, 1 to 64 (1 if not given)")
+    Subcommand {
+        name: "migrate",
+        about: "Writes the same plan under version 2 of the format",
+        arguments: &[LARGE, EXPLAIN, PLAN],
+    }
 }
 
-/// The option that says how many races are tried.
-fn most_argument<'a>(alloc: Global) -> Arg<'a>
-    ensures rule { rule_of result ≡ spec.option_with_word (codes "most") }
-    ensures local { result.global ≡ false }
+fn witness_command<'a>() -> Subcommand<'a>
+    ensures { line_said result ≡ spec.witness_line }
 {
-    Arg::new(alloc, "most").long("most").value_name("N").help(
-        "How many races are tried (1000 if not given), where no calls are named",
-    )
-}
-
-/// A word that may be left out.
-fn optional_argument<'a>(alloc: Global, name: &'a str, help: &'a str) -> Arg<'a>
-    ensures rule { rule_of result ≡ spec.optional_word name.entry.now }
-    ensures local { result.global ≡ false }
-{
-    Arg::new(alloc, name).help(help)
-}
-
-/// A command with the words that come last: whether a fault is explained, and the plan.
-fn with_plan<'a>(alloc: Global, line: Command<'a>) -> Result<Command<'a>, AllocError>
-    ensures { IfOk result (Grows line.entry spec.with_plan) }
-{
-    let explain = "Explains a fault: quotes the line, and says what was expected there";
-    line.arg(flag(alloc, "explain", explain))?
-        .arg(file_argument(alloc))
-}
-
-/// A command with the option that lifts the limits, and with the words that come last.
-fn with_large<'a>(alloc: Global, line: Command<'a>) -> Result<Command<'a>, AllocError>
-    ensures { IfOk result (Grows line.entry spec.with_large) }
-{
-    let line = line.arg(large_flag(alloc))?;
-    with_plan(alloc, line)
-}
-
-/// A command with the forms of its answer: with lines of the file, as JSON, or both.
-fn with_forms<'a>(
-    alloc: Global,
-    line: Command<'a>,
-    lines: &'a str,
-) -> Result<Command<'a>, AllocError>
-    ensures { IfOk result (Grows line.entry spec.with_forms) }
-{
-    line.arg(flag(alloc, "lines", lines))?
-        .arg(flag(alloc, "json", JSON))
-}
-
-fn check_command<'a>(alloc: Global) -> Result<Command<'a>, AllocError>
-    ensures app { IfOk result (λ c. app_of c ≡ spec.check_line) }
-    ensures local { IfOk result (λ c. (fields_of c).has_globals ≡ false) }
-{
-    let lines =
-        "Groups findings that are alike, and tells where the calls of each group's first finding stand";
-    let line = Command::new(alloc, "check").about(
-        "Finds every race of a plan, and every key that a rank puts twice",
-    );
-    let line = with_forms(alloc, line, lines)?;
-    with_large(alloc, line)
-}
-
-fn replay_command<'a>(alloc: Global) -> Result<Command<'a>, AllocError>
-    ensures app { IfOk result (λ c. app_of c ≡ spec.replay_line) }
-    ensures local { IfOk result (λ c. (fields_of c).has_globals ≡ false) }
-{
-    let anyway = "Runs a plan with findings too, and shows in which order its steps came";
-    let complete =
-        "Ends with status 1, and names the first such call, if a call fails or is never answered";
-    let line = Command::new(alloc, "replay")
-        .about("Runs a plan if nothing is found in it, and shows what became of every call")
-        .arg(workers_argument(alloc))?
-        .arg(flag(alloc, "json", JSON))?
-        .arg(flag(alloc, "anyway", anyway))?
-        .arg(flag(alloc, "complete", complete))?;
-    with_large(alloc, line)
-}
-
-fn follow_command<'a>(alloc: Global) -> Result<Command<'a>, AllocError>
-    ensures app { IfOk result (λ c. app_of c ≡ spec.follow_line) }
-    ensures local { IfOk result (λ c. (fields_of c).has_globals ≡ false) }
-{
-    let order = "The file of the order: each line names the process that takes the next step";
-    let line = Command::new(alloc, "follow")
-        .about("Runs a plan in the order of a file, and shows what became of every call")
-        .arg(needed_argument(alloc, "ORDER", order))?
-        .arg(flag(alloc, "json", JSON))?;
-    with_large(alloc, line)
-}
-
-fn why_command<'a>(alloc: Global) -> Result<Command<'a>, AllocError>
-    ensures app { IfOk result (λ c. app_of c ≡ spec.why_line) }
-    ensures local { IfOk result (λ c. (fields_of c).has_globals ≡ false) }
-{
-    let about = "Tells whether a chain of events orders two calls, and shows the chain";
-    let first = "The process of the first call: its job, a colon and its rank, as app:0";
-    let number = "The number of that call among the calls of its process, from 1";
-    let line = Command::new(alloc, "why")
-        .about(about)
-        .arg(needed_argument(alloc, "P", first))?
-        .arg(needed_argument(alloc, "N", number))?
-        .arg(needed_argument(alloc, "Q", "The process of the second call"))?
-        .arg(needed_argument(alloc, "M", "The number of that call"))?;
-    let line = with_forms(alloc, line, LINES)?;
-    with_large(alloc, line)
-}
-
-fn migrate_command<'a>(alloc: Global) -> Result<Command<'a>, AllocError>
-    ensures app { IfOk result (λ c. app_of c ≡ spec.migrate_line) }
-    ensures local { IfOk result (λ c. (fields_of c).has_globals ≡ false) }
-{
-    let line = Command::new(alloc, "migrate").about(
-        "Writes the same plan under version 2 of the format",
-    );
-    with_large(alloc, line)
-}
-
-fn witness_command<'a>(alloc: Global) -> Result<Command<'a>, AllocError>
-    ensures app { IfOk result (λ c. app_of c ≡ spec.witness_line) }
-    ensures local { IfOk result (λ c. (fields_of c).has_globals ≡ false) }
-{
-    let about =
-        "Looks for two runs in which the calls of a race come in different orders and one ends differently";
-    let first =
-        "Writes only the order of the run in which the first call comes first, for 'follow'";
-    let second =
-        "Writes only the order of the run in which the second call comes first, for 'follow'";
-    let proc = "The process of the first call, as in 'why'; or FILE, if it is the only word";
-    let line = Command::new(alloc, "witness")
-        .about(about)
-        .arg(flag(alloc, "first", first))?
-        .arg(flag(alloc, "second", second))?
-        .arg(most_argument(alloc))?;
-    let line = with_forms(alloc, line, LINES)?
-        .arg(optional_argument(alloc, "P", proc))?
-        .arg(optional_argument(alloc, "N", "The number of that call"))?
-        .arg(optional_argument(alloc, "Q", "The process of the second call"))?
-        .arg(optional_argument(alloc, "M", "The number of that call"))?;
-    with_plan(alloc, line)
+    Subcommand {
+        name: "witness",
+        about: "Looks for two runs in which the calls of a race come in different orders and one ends differently",
+        arguments: &[
+            Argument {
+                name: "first",
+                kind: Kind::Flag,
+                help: "Writes only the order of the run in which the first call comes first, for 'follow'",
+            },
+            Argument {
+                name: "second",
+                kind: Kind::Flag,
+                help: "Writes only the order of the run in which the second call comes first, for 'follow'",
+            },
+            Argument {
+                name: "most",
+                kind: Kind::Number,
+                help: "How many races are tried (1000 if not given), where no calls are named",
+            },
+            LINES,
+            JSON,
+            Argument {
+                name: "P",
+                kind: Kind::Word,
+                help: "The process of the first call, as in 'why'; or FILE, if it is the only word",
+            },
+            Argument {
+                name: "N",
+                kind: Kind::Word,
+                help: NUMBER,
+            },
+            Argument {
+                name: "Q",
+                kind: Kind::Word,
+                help: SECOND_PROCESS,
+            },
+            Argument {
+                name: "M",
+                kind: Kind::Word,
+                help: NUMBER,
+            },
+            EXPLAIN,
+            PLAN,
+        ],
+    }
 }
 
 /// The program without its commands.
 pub(crate) fn program<'a>(alloc: Global) -> Command<'a>
-    ensures app { app_of result ≡ spec.program_alone }
-    ensures local { (fields_of result).has_globals ≡ false }
+    ensures { IsLine spec.program_alone result }
 {
     Command::new(alloc, "wire_up")
         .about("Finds every race in a plan of the wire-up of a PMIx job, and replays the plan")
@@ -219,15 +229,16 @@ pub(crate) fn program<'a>(alloc: Global) -> Command<'a>
         .subcommand_required(true)
 }
 
-/// The program with one more command, where that could be made.
+/// The program with one more command.
 fn with_command<'a>(
+    alloc: Global,
     line: Command<'a>,
-    made: Result<Command<'a>, AllocError>,
+    command: Subcommand<'a>,
 ) -> Result<Command<'a>, AllocError>
-    ensures { IfOk result (λ after. IsOkAnd made.entry (λ command. AddsSubcommand line.entry command after)) }
+    ensures { IfOk result (λ after. (app : App) → IsLine app line.entry → IsLine (with_subcommand app (line_said command.entry).top) after) }
 {
-    match made {
-        Ok(command) => line.subcommand(command),
+    match make_command(alloc, command) {
+        Ok(made) => line.subcommand(made),
         Err(error) => {
             drop(line);
             Err(error)
@@ -235,14 +246,27 @@ fn with_command<'a>(
     }
 }
 
+/// The commands, in the order in which help lists them.
+fn commands<'a>() -> [Subcommand<'a>; 6]
+    ensures { with_commands spec.program_alone result ≡ spec.program_line }
+{
+    [
+        check_command(),
+        replay_command(),
+        follow_command(),
+        why_command(),
+        migrate_command(),
+        witness_command(),
+    ]
+}
+
 /// The command line of the program.
 pub fn command_line<'a>(alloc: Global) -> Result<Command<'a>, AllocError>
     ensures { IfOk result (λ c. app_of c ≡ spec.program_line) }
 {
-    let line = with_command(program(alloc), check_command(alloc))?;
-    let line = with_command(line, replay_command(alloc))?;
-    let line = with_command(line, follow_command(alloc))?;
-    let line = with_command(line, why_command(alloc))?;
-    let line = with_command(line, migrate_command(alloc))?;
-    with_command(line, witness_command(alloc))
+    let mut line = program(alloc);
+    for command in &commands() {
+        line = with_command(alloc, line, *command)?;
+    }
+    Ok(line)
 }

@@ -1,6 +1,7 @@
 //! The command line of `wire_up`: the words of it, what they ask for, and the command that they request.
 #![tactic(auto)]
 
+mod arguments;
 mod commands;
 mod help;
 mod matching;
