@@ -2,7 +2,7 @@
 use Rattle.std.proofs.Common.{◌≡◌, ◌∙◌, ap, ap₂, sym, refl, false, ℕ, ◌+◌, ◌<◌, ◌≤◌, List, ◌∷◌, fold, drop, length, get_or, suc, arith}
 use Rattle.std.proofs.Math.Seq.{drop-cons}
 use Rattle.std.proofs.lemmas.List.{drop_all}
-use Rattle.clap.specs.Words.{App, Rule, AddsArg, AddsSubcommand, app_of, rule_of, with_rule, with_subcommand}
+use Rattle.clap.specs.Words.{App, Rule, AddsArg, AddsSubcommand, rule_of, with_rule, with_subcommand}
 use Rattle.clap.specs.declared.builder.arg.Arg.{Arg}
 use Rattle.clap.specs.declared.builder.command.Command.{Command}
 use Rattle.wire_command_line.specs.CommandLine.{IsLine}

@@ -1,4 +1,5 @@
 pub mod Workers
 pub mod CommandLine
 pub mod Requests
+pub mod Reading
 pub mod Tables

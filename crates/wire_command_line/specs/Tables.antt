@@ -1,5 +1,5 @@
 -- The commands of a table, as `clap` reads them.
-use Rattle.std.specs.Prelude.{List, [], ◌∷◌, fold}
+use Rattle.std.specs.Prelude.{List, fold}
 use Rattle.clap.specs.Words.{App, Rule, Text, new_app, with_rule, with_subcommand}
 use Rattle.wire_command_line.specs.CommandLine.{flag, needed_word, option_with_word, optional_word}
 use Rattle.wire_command_line.specs.declared.arguments.Argument.{Argument}

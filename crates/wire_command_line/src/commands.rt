@@ -49,6 +49,13 @@ const PLAN: Argument<'static> = Argument {
     help: "The plan, standard input if not given",
 };
 
+/// The order, which has to be given.
+const ORDER: Argument<'static> = Argument {
+    name: "ORDER",
+    kind: Kind::NeededWord,
+    help: "The file of the order: each line names the process that takes the next step",
+};
+
 /// The process of a second call.
 const SECOND_PROCESS: &str = "The process of the second call";
 
@@ -111,17 +118,7 @@ fn follow_command<'a>() -> Subcommand<'a>
     Subcommand {
         name: "follow",
         about: "Runs a plan in the order of a file, and shows what became of every call",
-        arguments: &[
-            Argument {
-                name: "ORDER",
-                kind: Kind::NeededWord,
-                help: "The file of the order: each line names the process that takes the next step",
-            },
-            JSON,
-            LARGE,
-            EXPLAIN,
-            PLAN,
-        ],
+        arguments: &[ORDER, JSON, LARGE, EXPLAIN, PLAN],
     }
 }
 

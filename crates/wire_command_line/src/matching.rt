@@ -1,6 +1,6 @@
 //! What the words of a command line ask for.
 
-ghost use Rattle.std.specs.Prelude.{◌≡◌, ◌⊎◌, ◌++◌, List, [], map, is_some, option_to_list, true, false, Some, OnOk, IfOk, IfErr, IfSome, IfNone};
+ghost use Rattle.std.specs.Prelude.{◌≡◌, ◌⊎◌, ◌++◌, List, [], map, is_some, option_to_list, unwrap_or, true, false, Some, OnOk, IfOk, IfErr, IfSome, IfNone};
 ghost use Rattle.clap.specs.Words.{Row, Text, HasKind, kind_of, fault_of, first_of, found_of, rows_of, subcommand_of, subcommand_rows_of};
 ghost use Rattle.wire_command_line.specs.CommandLine as spec;
 ghost use Rattle.wire_command_line.specs.CommandLine.{AsksFor, RefusedFor, SaidBy};
@@ -69,33 +69,34 @@ fn words_given<'a>(alloc: Global, found: &ArgMatches<'a>) -> Result<Vec<&'a str>
     ensures { IfOk result (λ v. map (λ w. w.now) v.items ≡ spec.words_given (rows_of (found_of found.now))) }
 {
     let mut words = Vec::new(alloc);
-    add_word(&mut words, found, "ORDER")?;
-    add_word(&mut words, found, "P")?;
-    add_word(&mut words, found, "N")?;
-    add_word(&mut words, found, "Q")?;
-    add_word(&mut words, found, "M")?;
-    add_word(&mut words, found, "FILE")?;
+    for name in &["ORDER", "P", "N", "Q", "M", "FILE"] {
+        add_word(&mut words, found, name)?;
+    }
     Ok(words)
+}
+
+/// The word of this name, or another where none was given.
+fn word_or<'a>(found: &ArgMatches<'a>, name: &str, other: &'a str) -> &'a str
+    ensures { result.now ≡ unwrap_or (first_of name.now (rows_of (found_of found.now))) other.entry.now }
+{
+    match find_word(found, name) {
+        Some(word) => word,
+        None => other,
+    }
 }
 
 /// The word of `--workers`, `1` where none was given.
 pub(crate) fn workers_given<'a>(found: &ArgMatches<'a>) -> &'a str
     ensures { result.now ≡ spec.workers_word (rows_of (found_of found.now)) }
 {
-    match found.get_str("workers") {
-        Some(word) => word,
-        None => "1",
-    }
+    word_or(found, "workers", "1")
 }
 
 /// The word of `--most`, `1000` where none was given.
 pub(crate) fn most_given<'a>(found: &ArgMatches<'a>) -> &'a str
     ensures { result.now ≡ spec.most_word (rows_of (found_of found.now)) }
 {
-    match found.get_str("most") {
-        Some(word) => word,
-        None => "1000",
-    }
+    word_or(found, "most", "1000")
 }
 
 /// What the matches of a command ask for.

@@ -1,11 +1,10 @@
 //! The request that the words of a command line make.
 
-ghost use Rattle.std.specs.Prelude.{◌≡◌, ◌≢◌, map, codes, false, Some, None, IfOk, IfErr, IfSome, IfNone, Err};
+ghost use Rattle.std.specs.Prelude.{◌≡◌, map, codes, false, None, IfOk, IfErr, IfSome, IfNone};
 ghost use Rattle.clap.specs.Words.{first_of, found_of, rows_of, subcommand_rows_of};
-ghost use Rattle.wire_command_line.specs.CommandLine.{has_needed, workers_word};
+ghost use Rattle.wire_command_line.specs.Reading.{IsReadAs, IsReadBy};
 ghost use Rattle.wire_command_line.specs.Requests as spec;
-ghost use Rattle.wire_command_line.specs.Requests.{NamesCall, IsRequest, IsRequestBy, IsRequestOf, IsRefusalOf, LacksFit, LacksWorkers};
-ghost use Rattle.wire_command_line.specs.Workers.{workers_said};
+ghost use Rattle.wire_command_line.specs.Requests.{NamesCall, IsRequest, IsRequestOf, IsRefusalOf, text_of};
 
 use crate::matching::{
     find_word, has_word, is_set, match_words, most_given, tell_missing, workers_given,
@@ -43,16 +42,51 @@ fn read_call<'a>(found: &ArgMatches<'a>, proc: &str, number: &str) -> Option<Cal
     Some(CallWords { proc, number })
 }
 
+/// The word that names the plan, if it was given.
+fn find_plan<'a>(found: &ArgMatches<'a>) -> Option<&'a str>
+    ensures { text_of result ≡ spec.plan_word (rows_of (found_of found.now)) }
+{
+    find_word(found, "FILE")
+}
+
+/// Whether the answer is to tell lines of the file.
+fn has_lines(found: &ArgMatches<'_>) -> bool
+    ensures { result ≡ spec.has_lines (rows_of (found_of found.now)) }
+{
+    is_set(found, "lines")
+}
+
+/// Whether the answer is to be JSON.
+fn has_json(found: &ArgMatches<'_>) -> bool
+    ensures { result ≡ spec.has_json (rows_of (found_of found.now)) }
+{
+    is_set(found, "json")
+}
+
+/// Whether the large limits hold.
+fn is_large(found: &ArgMatches<'_>) -> bool
+    ensures { result ≡ spec.is_large (rows_of (found_of found.now)) }
+{
+    is_set(found, "large")
+}
+
+/// Whether a fault is to be explained.
+fn is_explained(found: &ArgMatches<'_>) -> bool
+    ensures { result ≡ spec.is_explained (rows_of (found_of found.now)) }
+{
+    is_set(found, "explain")
+}
+
 /// What `check` is to do.
 fn read_check<'a>(found: &ArgMatches<'a>) -> Request<'a>
     ensures { IsRequest (codes "check") (rows_of (found_of found.now)) result }
 {
     Request::Check(CheckRequest {
-        plan: find_word(found, "FILE"),
-        lines: is_set(found, "lines"),
-        json: is_set(found, "json"),
-        large: is_set(found, "large"),
-        explain: is_set(found, "explain"),
+        plan: find_plan(found),
+        lines: has_lines(found),
+        json: has_json(found),
+        large: is_large(found),
+        explain: is_explained(found),
     })
 }
 
@@ -61,67 +95,64 @@ fn read_migrate<'a>(found: &ArgMatches<'a>) -> Request<'a>
     ensures { IsRequest (codes "migrate") (rows_of (found_of found.now)) result }
 {
     Request::Migrate(MigrateRequest {
-        plan: find_word(found, "FILE"),
-        large: is_set(found, "large"),
-        explain: is_set(found, "explain"),
+        plan: find_plan(found),
+        large: is_large(found),
+        explain: is_explained(found),
     })
 }
 
 /// What `replay` is to do, where the word of `--workers` is a number.
-fn read_replay<'a>(found: &ArgMatches<'a>) -> Option<Request<'a>>
-    ensures some { IfSome result (IsRequest (codes "replay") (rows_of (found_of found.now))) }
-    ensures none { IfNone result (workers_said (workers_word (rows_of (found_of found.now))) ≡ None) }
+fn read_replay<'a>(found: &ArgMatches<'a>) -> Result<Request<'a>, Lack>
+    ensures { IsReadAs (codes "replay") (rows_of (found_of found.now)) result }
 {
     let Some(workers) = workers_of(workers_given(found)) else {
-        return None;
+        return Err(Lack::Workers);
     };
-    Some(Request::Replay(ReplayRequest {
-        plan: find_word(found, "FILE"),
+    Ok(Request::Replay(ReplayRequest {
+        plan: find_plan(found),
         workers,
-        json: is_set(found, "json"),
+        json: has_json(found),
         anyway: is_set(found, "anyway"),
         complete: is_set(found, "complete"),
-        large: is_set(found, "large"),
-        explain: is_set(found, "explain"),
+        large: is_large(found),
+        explain: is_explained(found),
     }))
 }
 
 /// What `follow` is to do, where its order is given.
-fn read_follow<'a>(found: &ArgMatches<'a>) -> Option<Request<'a>>
-    ensures some { IfSome result (IsRequest (codes "follow") (rows_of (found_of found.now))) }
-    ensures none { IfNone result (has_needed (codes "follow") (rows_of (found_of found.now)) ≡ false) }
+fn read_follow<'a>(found: &ArgMatches<'a>) -> Result<Request<'a>, Lack>
+    ensures { IsReadAs (codes "follow") (rows_of (found_of found.now)) result }
 {
     let Some(order) = find_word(found, "ORDER") else {
-        return None;
+        return Err(Lack::Word);
     };
-    Some(Request::Follow(FollowRequest {
+    Ok(Request::Follow(FollowRequest {
         order,
-        plan: find_word(found, "FILE"),
-        json: is_set(found, "json"),
-        large: is_set(found, "large"),
-        explain: is_set(found, "explain"),
+        plan: find_plan(found),
+        json: has_json(found),
+        large: is_large(found),
+        explain: is_explained(found),
     }))
 }
 
 /// What `why` is to do, where its two calls are given.
-fn read_why<'a>(found: &ArgMatches<'a>) -> Option<Request<'a>>
-    ensures some { IfSome result (IsRequest (codes "why") (rows_of (found_of found.now))) }
-    ensures none { IfNone result (has_needed (codes "why") (rows_of (found_of found.now)) ≡ false) }
+fn read_why<'a>(found: &ArgMatches<'a>) -> Result<Request<'a>, Lack>
+    ensures { IsReadAs (codes "why") (rows_of (found_of found.now)) result }
 {
     let Some(first) = read_call(found, "P", "N") else {
-        return None;
+        return Err(Lack::Word);
     };
     let Some(second) = read_call(found, "Q", "M") else {
-        return None;
+        return Err(Lack::Word);
     };
-    Some(Request::Why(WhyRequest {
+    Ok(Request::Why(WhyRequest {
         first,
         second,
-        plan: find_word(found, "FILE"),
-        lines: is_set(found, "lines"),
-        json: is_set(found, "json"),
-        large: is_set(found, "large"),
-        explain: is_set(found, "explain"),
+        plan: find_plan(found),
+        lines: has_lines(found),
+        json: has_json(found),
+        large: is_large(found),
+        explain: is_explained(found),
     }))
 }
 
@@ -129,20 +160,30 @@ fn read_why<'a>(found: &ArgMatches<'a>) -> Option<Request<'a>>
 fn has_form(found: &ArgMatches<'_>) -> bool
     ensures { result ≡ spec.has_form (rows_of (found_of found.now)) }
 {
-    is_set(found, "lines") || is_set(found, "json")
+    has_lines(found) || has_json(found)
+}
+
+/// Which orders two flags ask for: nothing where both are given, or where one is given and the answer is to have a form.
+fn orders_of(formed: bool, first: bool, second: bool) -> Option<Orders>
+    ensures { result ≡ spec.orders_of formed first second }
+{
+    match (first, second) {
+        (false, false) => Some(Orders::Both),
+        (true, false) if !formed => Some(Orders::OfFirst),
+        (false, true) if !formed => Some(Orders::OfSecond),
+        _ => None,
+    }
 }
 
 /// Which orders `witness` is to write, where not both are asked for by themselves, nor one in a form.
 fn read_orders(found: &ArgMatches<'_>) -> Option<Orders>
     ensures { result ≡ spec.orders_said (rows_of (found_of found.now)) }
 {
-    let formed = has_form(found);
-    match (is_set(found, "first"), is_set(found, "second")) {
-        (false, false) => Some(Orders::Both),
-        (true, false) if !formed => Some(Orders::OfFirst),
-        (false, true) if !formed => Some(Orders::OfSecond),
-        _ => None,
-    }
+    orders_of(
+        has_form(found),
+        is_set(found, "first"),
+        is_set(found, "second"),
+    )
 }
 
 /// What `witness` is to do about two calls, where they are given and the options go with them.
@@ -166,10 +207,10 @@ fn read_pair<'a>(found: &ArgMatches<'a>) -> Option<Request<'a>>
         first,
         second,
         orders,
-        plan: find_word(found, "FILE"),
-        lines: is_set(found, "lines"),
-        json: is_set(found, "json"),
-        explain: is_set(found, "explain"),
+        plan: find_plan(found),
+        lines: has_lines(found),
+        json: has_json(found),
+        explain: is_explained(found),
     }))
 }
 
@@ -188,59 +229,51 @@ fn read_all<'a>(found: &ArgMatches<'a>) -> Option<Request<'a>>
     Some(Request::Witnesses(RacesRequest {
         most,
         plan: find_word(found, "P"),
-        lines: is_set(found, "lines"),
-        json: is_set(found, "json"),
-        explain: is_set(found, "explain"),
+        lines: has_lines(found),
+        json: has_json(found),
+        explain: is_explained(found),
     }))
 }
 
 /// What `witness` is to do, where its words and options go together.
-fn read_witness<'a>(found: &ArgMatches<'a>) -> Option<Request<'a>>
-    ensures some { IfSome result (IsRequest (codes "witness") (rows_of (found_of found.now))) }
-    ensures none { IfNone result (spec.is_fitting (rows_of (found_of found.now)) ≡ false) }
+fn read_witness<'a>(found: &ArgMatches<'a>) -> Result<Request<'a>, Lack>
+    ensures { IsReadAs (codes "witness") (rows_of (found_of found.now)) result }
 {
     if has_word(found, "N") {
-        read_pair(found)
+        read_pair(found).ok_or(Lack::Fit)
     } else {
-        read_all(found)
+        read_all(found).ok_or(Lack::Fit)
     }
 }
 
 /// What the command of this name is to do, where it has all that it needs.
 fn read_command<'a>(name: &str, found: &ArgMatches<'a>) -> Result<Request<'a>, Lack>
-    ensures ok { IfOk result (IsRequest name.now (rows_of (found_of found.now))) }
-    ensures word { result ≡ Err Lack.Word → spec.is_full name.now (rows_of (found_of found.now)) ≡ false }
-    ensures workers { result ≡ Err Lack.Workers
-        → (name.now ≡ codes "replay") × (workers_said (workers_word (rows_of (found_of found.now))) ≡ None) }
-    ensures fit { result ≡ Err Lack.Fit → (name.now ≡ codes "witness") × (spec.is_fitting (rows_of (found_of found.now)) ≡ false) }
+    ensures { IsReadAs name.now (rows_of (found_of found.now)) result }
 {
     if name == "check" {
         return Ok(read_check(found));
     }
     if name == "replay" {
-        return read_replay(found).ok_or(Lack::Workers);
+        return read_replay(found);
     }
     if name == "follow" {
-        return read_follow(found).ok_or(Lack::Word);
+        return read_follow(found);
     }
     if name == "why" {
-        return read_why(found).ok_or(Lack::Word);
+        return read_why(found);
     }
     if name == "migrate" {
         return Ok(read_migrate(found));
     }
     if name == "witness" {
-        return read_witness(found).ok_or(Lack::Fit);
+        return read_witness(found);
     }
     Err(Lack::Word)
 }
 
 /// What the command is to do that the matches name.
 fn read_matches<'a>(matches: &ArgMatches<'a>) -> Result<Request<'a>, Lack>
-    ensures ok { IfOk result (IsRequestBy (subcommand_rows_of matches.now)) }
-    ensures word { result ≡ Err Lack.Word → spec.is_command (subcommand_rows_of matches.now) ≡ false }
-    ensures workers { result ≡ Err Lack.Workers → LacksWorkers (subcommand_rows_of matches.now) }
-    ensures fit { result ≡ Err Lack.Fit → LacksFit (subcommand_rows_of matches.now) }
+    ensures { IsReadBy (subcommand_rows_of matches.now) result }
 {
     match matches.subcommand() {
         Some((name, found)) => read_command(name, found),
