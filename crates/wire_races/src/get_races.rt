@@ -3,11 +3,9 @@
 
 ghost use Rattle.std.specs.Prelude.{◌≡◌, ◌-◌, ◌<◌, ◌≤◌, ◌↔◌, ℕ, IsTrue, OnOk, length, map};
 ghost use Rattle.wire_runs.specs.Plan.{event_of, node_of};
-ghost use Rattle.wire_runs.specs.Plan as runs;
 ghost use Rattle.wire_content.specs.Planned.{plan_of};
 ghost use Rattle.wire_runs.specs.Races.{IsPutOnce};
 ghost use Rattle.wire_plan.specs.Index.{AreGetDeliveries};
-ghost use Rattle.wire_marks.specs.Clocks.{AreMarks};
 ghost use Rattle.wire_findings.specs.Collected.{AreFound};
 ghost use Rattle.wire_races.specs.Adding.{Adds};
 ghost use Rattle.wire_races.specs.KeyRaces.{IsUnsure};
@@ -16,8 +14,7 @@ ghost use Rattle.wire_races.specs.GetRaces.{AreOfOne, IsSureByGet, MayRace, AreR
 use crate::key_races::{KeyRead, add_race};
 use std::alloc::AllocError;
 use wire_findings::Found;
-use wire_marks::Marks;
-use wire_plan::Plan;
+use wire_marks::MarkedPlan;
 use wire_types::{Event, Proc};
 
 /// The place behind the last get of the process whose get stands at this place, among gets in process
@@ -51,30 +48,29 @@ fn own_place(gets: &[Event], proc: Proc) -> usize
 
 /// Whether the get with which the caller's own process brought the key comes before a get. Most often it is
 /// there, and then no other needs to be looked for.
-fn own_is_before(marks: &Marks, gets: &[Event], get_now: Event) -> bool
-    ensures { (plan : runs.Plan) (p key node : ℕ) → AreMarks plan marks.now → AreGetDeliveries plan p key node (map event_of gets.now) → IsTrue result →
-        IsSureByGet plan p key node (event_of get_now) }
+fn own_is_before(marked: &MarkedPlan<'_>, gets: &[Event], get_now: Event) -> bool
+    ensures { (p key node : ℕ) → AreGetDeliveries (plan_of marked.now) p key node (map event_of gets.now) → IsTrue result →
+        IsSureByGet (plan_of marked.now) p key node (event_of get_now) }
 {
     match gets.get(own_place(gets, get_now.proc)) {
-        Some(own) => marks.before(*own, get_now),
+        Some(own) => marked.before(*own, get_now),
         None => false,
     }
 }
 
 /// Whether a get that brings a key to a node comes before a get in every run. Of the gets of a process
 /// the first one does, if any does.
-pub(crate) fn get_comes_surely(plan: &Plan, marks: &Marks, asked: KeyRead, node: u32) -> bool
-    requires marks { AreMarks (plan_of plan.now) marks.now }
-    requires once { IsPutOnce (plan_of plan.now) asked.owner.number asked.key }
-    ensures { IsTrue result ↔ IsSureByGet (plan_of plan.now) asked.owner.number asked.key node (event_of asked.get_now) }
+pub(crate) fn get_comes_surely(marked: &MarkedPlan<'_>, asked: KeyRead, node: u32) -> bool
+    requires once { IsPutOnce (plan_of marked.now) asked.owner.number asked.key }
+    ensures { IsTrue result ↔ IsSureByGet (plan_of marked.now) asked.owner.number asked.key node (event_of asked.get_now) }
 {
-    let gets = plan.gets_to(asked.owner, asked.key, node);
-    if own_is_before(marks, gets, asked.get_now) {
+    let gets = marked.plan().gets_to(asked.owner, asked.key, node);
+    if own_is_before(marked, gets, asked.get_now) {
         return true;
     }
     let mut place = 0;
     'processes: while place < gets.len() {
-        if marks.before(gets[place], asked.get_now) {
+        if marked.before(gets[place], asked.get_now) {
             return true;
         }
         place = process_end(gets, place);
@@ -83,32 +79,31 @@ pub(crate) fn get_comes_surely(plan: &Plan, marks: &Marks, asked: KeyRead, node:
 }
 
 /// Whether a get that brings a key is live, and a get that is answered at once isn't before it.
-fn may_race(marks: &Marks, get: Event, get_now: Event) -> bool
-    ensures { (plan : runs.Plan) → AreMarks plan marks.now → (IsTrue result ↔ MayRace plan (event_of get) (event_of get_now)) }
+fn may_race(marked: &MarkedPlan<'_>, get: Event, get_now: Event) -> bool
+    ensures { IsTrue result ↔ MayRace (plan_of marked.now) (event_of get) (event_of get_now) }
 {
-    marks.live(get) && !marks.before(get_now, get)
+    marked.live(get) && !marked.before(get_now, get)
 }
 
 /// Adds the races of a get with the gets that bring its key to its node, none of which comes surely before
 /// it. Of the gets of a process those that may race are the first ones.
 pub(crate) fn add_get_races(
-    plan: &Plan,
-    marks: &Marks,
+    marked: &MarkedPlan<'_>,
     found: &mut Found,
     asked: KeyRead,
     node: u32,
 ) -> Result<(), AllocError>
-    requires marks { AreMarks (plan_of plan.now) marks.now }
-    requires found { AreFound (plan_of plan.now) found.old }
-    requires late { IsUnsure (plan_of plan.now) (event_of asked.get_now) asked.owner.number asked.key }
-    requires node { node ≡ node_of (plan_of plan.now) asked.get_now.proc.number }
-    ensures { OnOk result (Adds (plan_of plan.now) found.old found.new
-        (AreRacesByGets (plan_of plan.now) (event_of asked.get_now) asked.owner.number asked.key (node_of (plan_of plan.now) asked.get_now.proc.number))) }
+    requires found { AreFound (plan_of marked.now) found.old }
+    requires late { IsUnsure (plan_of marked.now) (event_of asked.get_now) asked.owner.number asked.key }
+    requires node { node ≡ node_of (plan_of marked.now) asked.get_now.proc.number }
+    ensures { OnOk result (Adds (plan_of marked.now) found.old found.new
+        (AreRacesByGets (plan_of marked.now) (event_of asked.get_now) asked.owner.number asked.key (node_of (plan_of marked.now) asked.get_now.proc.number))) }
 {
+    let plan = marked.plan();
     let gets = plan.gets_to(asked.owner, asked.key, node);
     let mut place = 0;
     'gets: while place < gets.len() {
-        if may_race(marks, gets[place], asked.get_now) {
+        if may_race(marked, gets[place], asked.get_now) {
             add_race(plan, found, gets[place], asked)?;
             place += 1;
         } else {

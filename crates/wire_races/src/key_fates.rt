@@ -116,7 +116,7 @@ fn away_reply(marked: &MarkedPlan<'_>, event: Event, put: Event, key: u32) -> Re
         owner: put.proc,
         key,
     };
-    if comes_surely(plan, marked.marks(), asked, plan.node_of(event.proc)) {
+    if comes_surely(marked, asked, plan.node_of(event.proc)) {
         value_reply(plan, put)
     } else {
         Reply::bare(Status::NotFound)

@@ -9,7 +9,6 @@ ghost use Rattle.wire_runs.specs.Order.{IsArrival, Live};
 ghost use Rattle.wire_runs.specs.Races.{IsUnordered, IsPutOnce, ComesSurely};
 ghost use Rattle.wire_runs.specs.Findings.{IsKeyRace};
 ghost use Rattle.wire_plan.specs.Index.{AreArrivals, IsDelivering};
-ghost use Rattle.wire_marks.specs.Clocks.{AreMarks};
 ghost use Rattle.wire_findings.specs.Findings.{shown};
 ghost use Rattle.wire_findings.specs.Collected.{AreFound};
 ghost use Rattle.wire_races.specs.FindingKinds.{IsOfKey, AllAdded};
@@ -24,7 +23,7 @@ use rayon::prelude::*;
 use std::alloc::{AllocError, Global};
 use std::thread::Threads;
 use wire_findings::{Finding, Found};
-use wire_marks::Marks;
+use wire_marks::MarkedPlan;
 use wire_plan::{Kind, Plan};
 use wire_types::{Event, Proc};
 
@@ -44,10 +43,10 @@ fn is_lower(x: Event, y: Event) -> bool
 }
 
 /// Whether two events are live and neither is before the other.
-pub(crate) fn are_unordered(marks: &Marks, x: Event, y: Event) -> bool
-    ensures { (plan : runs.Plan) → AreMarks plan marks.now → (IsTrue result ↔ IsUnordered plan (event_of x) (event_of y)) }
+pub(crate) fn are_unordered(marked: &MarkedPlan<'_>, x: Event, y: Event) -> bool
+    ensures { IsTrue result ↔ IsUnordered (plan_of marked.now) (event_of x) (event_of y) }
 {
-    marks.live(x) && marks.live(y) && !marks.before(x, y) && !marks.before(y, x)
+    marked.live(x) && marked.live(y) && !marked.before(x, y) && !marked.before(y, x)
 }
 
 /// The race of a get with an event, the lower call first.
@@ -80,21 +79,20 @@ pub(crate) fn add_race(
 
 /// Adds the race of a get with the commit that stores its key on the same node, if they race.
 fn add_node_race(
-    plan: &Plan,
-    marks: &Marks,
+    marked: &MarkedPlan<'_>,
     found: &mut Found,
     asked: KeyRead,
 ) -> Result<(), AllocError>
-    requires marks { AreMarks (plan_of plan.now) marks.now }
-    requires found { AreFound (plan_of plan.now) found.old }
-    requires get { IsOpen (plan_of plan.now) (event_of asked.get_now) asked.owner.number asked.key }
-    requires node { same_node (plan_of plan.now) asked.owner.number asked.get_now.proc.number ≡ true }
-    ensures { OnOk result (Adds (plan_of plan.now) found.old found.new (IsKeyRaceBy (plan_of plan.now) (event_of asked.get_now))) }
+    requires found { AreFound (plan_of marked.now) found.old }
+    requires get { IsOpen (plan_of marked.now) (event_of asked.get_now) asked.owner.number asked.key }
+    requires node { same_node (plan_of marked.now) asked.owner.number asked.get_now.proc.number ≡ true }
+    ensures { OnOk result (Adds (plan_of marked.now) found.old found.new (IsKeyRaceBy (plan_of marked.now) (event_of asked.get_now))) }
 {
+    let plan = marked.plan();
     let Some(commit) = plan.store_of(asked.owner, asked.key) else {
         return Ok(());
     };
-    if are_unordered(marks, commit, asked.get_now) {
+    if are_unordered(marked, commit, asked.get_now) {
         add_race(plan, found, commit, asked)
     } else {
         Ok(())
@@ -127,11 +125,11 @@ fn all_arrivals(plan: &Plan, arrival: Event) -> &[Event]
 }
 
 /// Whether each of these events is live.
-fn all_live(marks: &Marks, events: &[Event]) -> bool
-    ensures { (plan : runs.Plan) → AreMarks plan marks.now → (IsTrue result ↔ AllLive plan (map event_of events.now)) }
+fn all_live(marked: &MarkedPlan<'_>, events: &[Event]) -> bool
+    ensures { IsTrue result ↔ AllLive (plan_of marked.now) (map event_of events.now) }
 {
     for x in events {
-        if !marks.live(*x) {
+        if !marked.live(*x) {
             return false;
         }
     }
@@ -139,11 +137,11 @@ fn all_live(marks: &Marks, events: &[Event]) -> bool
 }
 
 /// Whether a get is before none of these events.
-fn is_before_none(marks: &Marks, get_now: Event, events: &[Event]) -> bool
-    ensures { (plan : runs.Plan) → AreMarks plan marks.now → (IsTrue result ↔ NoneAfter plan (event_of get_now) (map event_of events.now)) }
+fn is_before_none(marked: &MarkedPlan<'_>, get_now: Event, events: &[Event]) -> bool
+    ensures { IsTrue result ↔ NoneAfter (plan_of marked.now) (event_of get_now) (map event_of events.now) }
 {
     for x in events {
-        if marks.before(get_now, *x) {
+        if marked.before(get_now, *x) {
             return false;
         }
     }
@@ -151,11 +149,11 @@ fn is_before_none(marks: &Marks, get_now: Event, events: &[Event]) -> bool
 }
 
 /// The first of these events that isn't before a get.
-fn first_not_before(marks: &Marks, events: &[Event], get_now: Event) -> Option<Event>
-    ensures { (plan : runs.Plan) → AreMarks plan marks.now → IsFirstLate plan (event_of get_now) (map event_of events.now) result }
+fn first_not_before(marked: &MarkedPlan<'_>, events: &[Event], get_now: Event) -> Option<Event>
+    ensures { IsFirstLate (plan_of marked.now) (event_of get_now) (map event_of events.now) result }
 {
     for x in events {
-        if !marks.before(*x, get_now) {
+        if !marked.before(*x, get_now) {
             return Some(*x);
         }
     }
@@ -187,38 +185,35 @@ fn is_behind_own(arrivals: &[Event], event: Event) -> bool
 /// Whether all arrivals at the fence of an arrival are live and before a live get. A get that stands
 /// behind its own process's arrival at the fence comes after the end of the fence, and so after all of
 /// them.
-fn is_sure(plan: &Plan, marks: &Marks, get_now: Event, arrival: Event) -> bool
-    requires marks { AreMarks (plan_of plan.now) marks.now }
-    requires live { Live (plan_of plan.now) (event_of get_now) }
-    requires fence { Arrives (plan_of plan.now) (event_of arrival) }
-    ensures { IsTrue result ↔ IsSure (plan_of plan.now) (event_of get_now) (event_of arrival) }
+fn is_sure(marked: &MarkedPlan<'_>, get_now: Event, arrival: Event) -> bool
+    requires live { Live (plan_of marked.now) (event_of get_now) }
+    requires fence { Arrives (plan_of marked.now) (event_of arrival) }
+    ensures { IsTrue result ↔ IsSure (plan_of marked.now) (event_of get_now) (event_of arrival) }
 {
-    let arrivals = all_arrivals(plan, arrival);
+    let arrivals = all_arrivals(marked.plan(), arrival);
     if is_behind_own(arrivals, get_now) {
         return true;
     }
-    all_live(marks, arrivals) && first_not_before(marks, arrivals, get_now).is_none()
+    all_live(marked, arrivals) && first_not_before(marked, arrivals, get_now).is_none()
 }
 
 /// Whether all arrivals at the fence of an arrival are live, and a get is before none of them.
-fn may_be_late(plan: &Plan, marks: &Marks, get_now: Event, arrival: Event) -> bool
-    requires marks { AreMarks (plan_of plan.now) marks.now }
-    requires fence { Arrives (plan_of plan.now) (event_of arrival) }
-    ensures { IsTrue result ↔ MayBeLate (plan_of plan.now) (event_of get_now) (event_of arrival) }
+fn may_be_late(marked: &MarkedPlan<'_>, get_now: Event, arrival: Event) -> bool
+    requires fence { Arrives (plan_of marked.now) (event_of arrival) }
+    ensures { IsTrue result ↔ MayBeLate (plan_of marked.now) (event_of get_now) (event_of arrival) }
 {
-    let arrivals = all_arrivals(plan, arrival);
-    all_live(marks, arrivals) && is_before_none(marks, get_now, arrivals)
+    let arrivals = all_arrivals(marked.plan(), arrival);
+    all_live(marked, arrivals) && is_before_none(marked, get_now, arrivals)
 }
 
 /// The first arrival, in process order, at the fence of an arrival that isn't before a get. All
 /// arrivals there are live, and the get is before none of them.
-fn late_source(plan: &Plan, marks: &Marks, get_now: Event, arrival: Event) -> Option<Event>
-    requires marks { AreMarks (plan_of plan.now) marks.now }
-    requires may { MayBeLate (plan_of plan.now) (event_of get_now) (event_of arrival) }
-    ensures { MatchOption result ((x : runs.Event) → IsLate (plan_of plan.now) (event_of get_now) (event_of arrival) x → ⊥)
-        (λ x. IsLate (plan_of plan.now) (event_of get_now) (event_of arrival) (event_of x)) }
+fn late_source(marked: &MarkedPlan<'_>, get_now: Event, arrival: Event) -> Option<Event>
+    requires may { MayBeLate (plan_of marked.now) (event_of get_now) (event_of arrival) }
+    ensures { MatchOption result ((x : runs.Event) → IsLate (plan_of marked.now) (event_of get_now) (event_of arrival) x → ⊥)
+        (λ x. IsLate (plan_of marked.now) (event_of get_now) (event_of arrival) (event_of x)) }
 {
-    first_not_before(marks, all_arrivals(plan, arrival), get_now)
+    first_not_before(marked, all_arrivals(marked.plan(), arrival), get_now)
 }
 
 /// The next arrival of a process, from its event of this number on, that brings its key to a node.
@@ -231,50 +226,46 @@ fn next_arrival(plan: &Plan, owner: Proc, key: u32, node: u32, from: u32) -> Opt
 
 /// Whether a delivery of a key to a node by a fence comes before a get in every run. If any does, the
 /// first one does: all arrivals at its fence are before each later arrival of the owner.
-fn fence_comes_surely(plan: &Plan, marks: &Marks, asked: KeyRead, node: u32) -> bool
-    requires marks { AreMarks (plan_of plan.now) marks.now }
-    requires live { Live (plan_of plan.now) (event_of asked.get_now) }
-    requires once { IsPutOnce (plan_of plan.now) asked.owner.number asked.key }
-    ensures { IsTrue result ↔ IsSureByFence (plan_of plan.now) asked.owner.number asked.key node (event_of asked.get_now) }
+fn fence_comes_surely(marked: &MarkedPlan<'_>, asked: KeyRead, node: u32) -> bool
+    requires live { Live (plan_of marked.now) (event_of asked.get_now) }
+    requires once { IsPutOnce (plan_of marked.now) asked.owner.number asked.key }
+    ensures { IsTrue result ↔ IsSureByFence (plan_of marked.now) asked.owner.number asked.key node (event_of asked.get_now) }
 {
-    match next_arrival(plan, asked.owner, asked.key, node, 0) {
-        Some(first) => is_sure(plan, marks, asked.get_now, first),
+    match next_arrival(marked.plan(), asked.owner, asked.key, node, 0) {
+        Some(first) => is_sure(marked, asked.get_now, first),
         None => false,
     }
 }
 
 /// Whether a delivery of a key to a node, by a fence or by a get, comes before a get in every run.
-pub(crate) fn comes_surely(plan: &Plan, marks: &Marks, asked: KeyRead, node: u32) -> bool
-    requires marks { AreMarks (plan_of plan.now) marks.now }
-    requires live { Live (plan_of plan.now) (event_of asked.get_now) }
-    requires once { IsPutOnce (plan_of plan.now) asked.owner.number asked.key }
-    ensures { IsTrue result ↔ ComesSurely (plan_of plan.now) asked.owner.number asked.key node (event_of asked.get_now) }
+pub(crate) fn comes_surely(marked: &MarkedPlan<'_>, asked: KeyRead, node: u32) -> bool
+    requires live { Live (plan_of marked.now) (event_of asked.get_now) }
+    requires once { IsPutOnce (plan_of marked.now) asked.owner.number asked.key }
+    ensures { IsTrue result ↔ ComesSurely (plan_of marked.now) asked.owner.number asked.key node (event_of asked.get_now) }
 {
-    if fence_comes_surely(plan, marks, asked, node) {
+    if fence_comes_surely(marked, asked, node) {
         return true;
     }
-    get_comes_surely(plan, marks, asked, node)
+    get_comes_surely(marked, asked, node)
 }
 
 /// Adds the race of a get with the delivery of an arrival, if they race.
 fn add_late(
-    plan: &Plan,
-    marks: &Marks,
+    marked: &MarkedPlan<'_>,
     found: &mut Found,
     asked: KeyRead,
     arrival: Event,
 ) -> Result<(), AllocError>
-    requires marks { AreMarks (plan_of plan.now) marks.now }
-    requires found { AreFound (plan_of plan.now) found.old }
-    requires late { IsUnsure (plan_of plan.now) (event_of asked.get_now) asked.owner.number asked.key }
-    requires may { MayBeLate (plan_of plan.now) (event_of asked.get_now) (event_of arrival) }
+    requires found { AreFound (plan_of marked.now) found.old }
+    requires late { IsUnsure (plan_of marked.now) (event_of asked.get_now) asked.owner.number asked.key }
+    requires may { MayBeLate (plan_of marked.now) (event_of asked.get_now) (event_of arrival) }
     requires proc { arrival.proc ≡ asked.owner }
-    requires delivers { IsDelivering (plan_of plan.now) asked.owner.number asked.key (node_of (plan_of plan.now) asked.get_now.proc.number) arrival.at }
-    ensures { OnOk result (Adds (plan_of plan.now) found.old found.new
-        (IsLateBy (plan_of plan.now) (event_of asked.get_now) asked.owner.number asked.key (node_of (plan_of plan.now) asked.get_now.proc.number) arrival.at)) }
+    requires delivers { let plan = plan_of marked.now in IsDelivering plan asked.owner.number asked.key (node_of plan asked.get_now.proc.number) arrival.at }
+    ensures { let plan = plan_of marked.now in OnOk result (Adds plan found.old found.new
+        (IsLateBy plan (event_of asked.get_now) asked.owner.number asked.key (node_of plan asked.get_now.proc.number) arrival.at)) }
 {
-    match late_source(plan, marks, asked.get_now, arrival) {
-        Some(source) => add_race(plan, found, source, asked),
+    match late_source(marked, asked.get_now, arrival) {
+        Some(source) => add_race(marked.plan(), found, source, asked),
         None => Ok(()),
     }
 }
@@ -283,30 +274,29 @@ fn add_late(
 /// one can't come late, since the get is before an arrival at its fence or one of these isn't live, no
 /// later one can.
 fn add_all_late(
-    plan: &Plan,
-    marks: &Marks,
+    marked: &MarkedPlan<'_>,
     found: &mut Found,
     asked: KeyRead,
     node: u32,
 ) -> Result<(), AllocError>
-    requires marks { AreMarks (plan_of plan.now) marks.now }
-    requires found { AreFound (plan_of plan.now) found.old }
-    requires late { IsUnsure (plan_of plan.now) (event_of asked.get_now) asked.owner.number asked.key }
-    requires node { node ≡ node_of (plan_of plan.now) asked.get_now.proc.number }
-    ensures { OnOk result (Adds (plan_of plan.now) found.old found.new
-        (AreLateBelow (plan_of plan.now) (event_of asked.get_now) asked.owner.number asked.key (node_of (plan_of plan.now) asked.get_now.proc.number)
-        (event_count (plan_of plan.now) asked.owner.number))) }
+    requires found { AreFound (plan_of marked.now) found.old }
+    requires late { IsUnsure (plan_of marked.now) (event_of asked.get_now) asked.owner.number asked.key }
+    requires node { node ≡ node_of (plan_of marked.now) asked.get_now.proc.number }
+    ensures { OnOk result (Adds (plan_of marked.now) found.old found.new
+        (AreLateBelow (plan_of marked.now) (event_of asked.get_now) asked.owner.number asked.key (node_of (plan_of marked.now) asked.get_now.proc.number)
+        (event_count (plan_of marked.now) asked.owner.number))) }
 {
+    let plan = marked.plan();
     let count = plan.event_count(asked.owner);
     let mut from = 0;
     'deliveries: while from < count {
         let Some(arrival) = next_arrival(plan, asked.owner, asked.key, node, from) else {
             return Ok(());
         };
-        if !may_be_late(plan, marks, asked.get_now, arrival) {
+        if !may_be_late(marked, asked.get_now, arrival) {
             return Ok(());
         }
-        add_late(plan, marks, found, asked, arrival)?;
+        add_late(marked, found, asked, arrival)?;
         from = arrival.at + 1;
     }
     Ok(())
@@ -314,105 +304,93 @@ fn add_all_late(
 
 /// Adds the races of a get with the deliveries of its key from another node.
 fn add_delivery_races(
-    plan: &Plan,
-    marks: &Marks,
+    marked: &MarkedPlan<'_>,
     found: &mut Found,
     asked: KeyRead,
 ) -> Result<(), AllocError>
-    requires marks { AreMarks (plan_of plan.now) marks.now }
-    requires found { AreFound (plan_of plan.now) found.old }
-    requires get { IsOpen (plan_of plan.now) (event_of asked.get_now) asked.owner.number asked.key }
-    requires node { same_node (plan_of plan.now) asked.owner.number asked.get_now.proc.number ≡ false }
-    ensures { OnOk result (Adds (plan_of plan.now) found.old found.new (IsKeyRaceBy (plan_of plan.now) (event_of asked.get_now))) }
+    requires found { AreFound (plan_of marked.now) found.old }
+    requires get { IsOpen (plan_of marked.now) (event_of asked.get_now) asked.owner.number asked.key }
+    requires node { same_node (plan_of marked.now) asked.owner.number asked.get_now.proc.number ≡ false }
+    ensures { OnOk result (Adds (plan_of marked.now) found.old found.new (IsKeyRaceBy (plan_of marked.now) (event_of asked.get_now))) }
 {
-    let node = plan.node_of(asked.get_now.proc);
-    if comes_surely(plan, marks, asked, node) {
+    let node = marked.plan().node_of(asked.get_now.proc);
+    if comes_surely(marked, asked, node) {
         return Ok(());
     }
-    add_all_late(plan, marks, found, asked, node)?;
-    add_get_races(plan, marks, found, asked, node)
+    add_all_late(marked, found, asked, node)?;
+    add_get_races(marked, found, asked, node)
 }
 
 /// Whether a get that is answered at once is live, and of a key that another process puts once.
-fn is_open(plan: &Plan, marks: &Marks, asked: KeyRead) -> bool
-    requires marks { AreMarks (plan_of plan.now) marks.now }
-    requires get { kind (plan_of plan.now) (event_of asked.get_now) ≡ Some (GetNow asked.owner.number asked.key) }
-    ensures { IsTrue result ↔ IsOpen (plan_of plan.now) (event_of asked.get_now) asked.owner.number asked.key }
+fn is_open(marked: &MarkedPlan<'_>, asked: KeyRead) -> bool
+    requires get { kind (plan_of marked.now) (event_of asked.get_now) ≡ Some (GetNow asked.owner.number asked.key) }
+    ensures { IsTrue result ↔ IsOpen (plan_of marked.now) (event_of asked.get_now) asked.owner.number asked.key }
 {
     asked.get_now.proc.number != asked.owner.number
-        && plan.put_count(asked.owner, asked.key) == 1
-        && marks.live(asked.get_now)
+        && marked.plan().put_count(asked.owner, asked.key) == 1
+        && marked.live(asked.get_now)
 }
 
 /// Adds the races of a get that is answered at once.
-fn add_get_now(
-    plan: &Plan,
-    marks: &Marks,
-    found: &mut Found,
-    asked: KeyRead,
-) -> Result<(), AllocError>
-    requires marks { AreMarks (plan_of plan.now) marks.now }
-    requires found { AreFound (plan_of plan.now) found.old }
-    requires get { kind (plan_of plan.now) (event_of asked.get_now) ≡ Some (GetNow asked.owner.number asked.key) }
-    ensures { OnOk result (Adds (plan_of plan.now) found.old found.new (IsKeyRaceBy (plan_of plan.now) (event_of asked.get_now))) }
+fn add_get_now(marked: &MarkedPlan<'_>, found: &mut Found, asked: KeyRead) -> Result<(), AllocError>
+    requires found { AreFound (plan_of marked.now) found.old }
+    requires get { kind (plan_of marked.now) (event_of asked.get_now) ≡ Some (GetNow asked.owner.number asked.key) }
+    ensures { OnOk result (Adds (plan_of marked.now) found.old found.new (IsKeyRaceBy (plan_of marked.now) (event_of asked.get_now))) }
 {
-    if !is_open(plan, marks, asked) {
+    if !is_open(marked, asked) {
         return Ok(());
     }
+    let plan = marked.plan();
     let home = plan.node_of(asked.owner);
     let away = plan.node_of(asked.get_now.proc);
     if home == away {
-        add_node_race(plan, marks, found, asked)
+        add_node_race(marked, found, asked)
     } else {
-        add_delivery_races(plan, marks, found, asked)
+        add_delivery_races(marked, found, asked)
     }
 }
 
 /// Adds the races of an event of the plan, where it is a get that is answered at once.
 pub(crate) fn add_event(
-    plan: &Plan,
-    marks: &Marks,
+    marked: &MarkedPlan<'_>,
     found: &mut Found,
     event: Event,
 ) -> Result<(), AllocError>
-    requires marks { AreMarks (plan_of plan.now) marks.now }
-    requires found { AreFound (plan_of plan.now) found.old }
-    requires there { event.at < event_count (plan_of plan.now) event.proc.number }
-    ensures { OnOk result (Adds (plan_of plan.now) found.old found.new (IsKeyRaceBy (plan_of plan.now) (event_of event))) }
+    requires found { AreFound (plan_of marked.now) found.old }
+    requires there { event.at < event_count (plan_of marked.now) event.proc.number }
+    ensures { OnOk result (Adds (plan_of marked.now) found.old found.new (IsKeyRaceBy (plan_of marked.now) (event_of event))) }
 {
-    match plan.kind(event) {
+    match marked.plan().kind(event) {
         Kind::GetNow { owner, key } => {
             let asked = KeyRead {
                 get_now: event,
                 owner,
                 key,
             };
-            add_get_now(plan, marks, found, asked)
+            add_get_now(marked, found, asked)
         }
         _ => Ok(()),
     }
 }
 
 /// Adds the races of the gets of a process.
-fn add_process(plan: &Plan, marks: &Marks, found: &mut Found, proc: Proc) -> Result<(), AllocError>
-    requires marks { AreMarks (plan_of plan.now) marks.now }
-    requires found { AreFound (plan_of plan.now) found.old }
-    ensures { OnOk result (Adds (plan_of plan.now) found.old found.new
-        (ToldIn (IsKeyRaceBy (plan_of plan.now)) proc.number (event_count (plan_of plan.now) proc.number))) }
+fn add_process(marked: &MarkedPlan<'_>, found: &mut Found, proc: Proc) -> Result<(), AllocError>
+    requires found { AreFound (plan_of marked.now) found.old }
+    ensures { OnOk result (Adds (plan_of marked.now) found.old found.new
+        (ToldIn (IsKeyRaceBy (plan_of marked.now)) proc.number (event_count (plan_of marked.now) proc.number))) }
 {
-    for at in 0..plan.event_count(proc) {
-        add_event(plan, marks, found, Event { proc, at })?;
+    for at in 0..marked.plan().event_count(proc) {
+        add_event(marked, found, Event { proc, at })?;
     }
     Ok(())
 }
 
 /// The races of the gets of a process: a piece of the search.
-fn make_piece(alloc: Global, plan: &Plan, marks: &Marks, proc: Proc) -> Result<Found, AllocError>
-    requires { AreMarks (plan_of plan.now) marks.now }
-    ensures { IfOk result (IsPiece (plan_of plan.now) (IsKeyRaceOf (plan_of plan.now) proc.number)) }
+fn make_piece(alloc: Global, marked: &MarkedPlan<'_>, proc: Proc) -> Result<Found, AllocError>
+    ensures { IfOk result (IsPiece (plan_of marked.now) (IsKeyRaceOf (plan_of marked.now) proc.number)) }
 {
     let mut found = Found::new(alloc);
-    add_process(plan, marks, &mut found, proc)?;
+    add_process(marked, &mut found, proc)?;
     Ok(found)
 }
 
@@ -428,40 +406,36 @@ fn least_processes(plan: &Plan) -> usize
 fn make_pieces(
     rt: &(impl Threads + Sync),
     alloc: Global,
-    plan: &Plan,
-    marks: &Marks,
+    marked: &MarkedPlan<'_>,
 ) -> Result<Vec<Found>, AllocError>
-    requires { AreMarks (plan_of plan.now) marks.now }
-    ensures { IfOk result (λ pieces. ArePieces (plan_of plan.now) (process_count (plan_of plan.now)) (IsKeyRaceOf (plan_of plan.now)) pieces.items) }
+    ensures { IfOk result (λ pieces. ArePieces (plan_of marked.now) (process_count (plan_of marked.now)) (IsKeyRaceOf (plan_of marked.now)) pieces.items) }
 {
+    let plan = marked.plan();
     (0..plan.process_count())
         .into_par_iter()
         .with_min_len(least_processes(plan))
         .map(
             |number: u32| -> Result<Found, AllocError>
-                requires { AreMarks (plan_of plan.now) marks.now }
-                ensures { IfOk result (IsPiece (plan_of plan.entry.now) (IsKeyRaceOf (plan_of plan.entry.now) number)) }
-            { make_piece(alloc, plan, marks, Proc { number }) },
+                ensures { IfOk result (IsPiece (plan_of marked.entry.now) (IsKeyRaceOf (plan_of marked.entry.now) number)) }
+            { make_piece(alloc, marked, Proc { number }) },
         )
         .collect::<Result<Vec<_>, AllocError>>(rt, alloc)?
 }
 
 /// Adds all races on keys: of each get that is answered at once, with the commit that stores the
 /// key on its node, or with the fences, and the gets whose values are kept, that bring it to its node (PMIx
-/// Standard 5.0, PMIx_Get with PMIX_IMMEDIATE, PMIx_Commit, and PMIx_Fence with PMIX_COLLECT_DATA). The marks are those of the
-/// plan. The one error is that memory ran out.
+/// Standard 5.0, PMIx_Get with PMIX_IMMEDIATE, PMIx_Commit, and PMIx_Fence with PMIX_COLLECT_DATA). The one error is
+/// that memory ran out.
 pub(crate) fn add_key_races(
     rt: &(impl Threads + Sync),
     alloc: Global,
-    plan: &Plan,
-    marks: &Marks,
+    marked: &MarkedPlan<'_>,
     found: &mut Found,
 ) -> Result<(), AllocError>
-    requires marks { AreMarks (plan_of plan.now) marks.now }
-    requires found { AreFound (plan_of plan.now) found.old }
-    ensures found { OnOk result (AreFound (plan_of plan.now) found.new) }
-    ensures all { OnOk result (AllAdded (plan_of plan.now) IsOfKey found.old found.new) }
+    requires found { AreFound (plan_of marked.now) found.old }
+    ensures found { OnOk result (AreFound (plan_of marked.now) found.new) }
+    ensures all { OnOk result (AllAdded (plan_of marked.now) IsOfKey found.old found.new) }
 {
-    let pieces = make_pieces(rt, alloc, plan, marks)?;
+    let pieces = make_pieces(rt, alloc, marked)?;
     add_pieces(found, pieces)
 }

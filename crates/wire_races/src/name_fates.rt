@@ -2,17 +2,15 @@
 
 ghost use Rattle.std.specs.Prelude.{◌<◌, ◌≤◌, ℕ, length, option_map, IfSome};
 ghost use Rattle.wire_runs.specs.Plan.{event_of, event_count};
-ghost use Rattle.wire_runs.specs.Plan as runs;
 ghost use Rattle.wire_content.specs.Planned.{plan_of};
 ghost use Rattle.wire_runs.specs.Order.{Live, Before};
 ghost use Rattle.wire_runs.specs.Races.{IsSettled};
-ghost use Rattle.wire_marks.specs.Clocks.{AreMarks};
 ghost use Rattle.wire_marks.specs.Updates.{AreUpdates};
 ghost use Rattle.wire_races.specs.NameRaces.{IsCut};
 ghost use Rattle.wire_races.specs.Pasts.{events_in, IsStanding, GivesPublish, GivesLookup, GivesUnpublish, WaitsFor};
 
 use crate::fate::Fate;
-use wire_marks::{MarkedPlan, Marks, Update};
+use wire_marks::{MarkedPlan, Update};
 use wire_plan::Plan;
 use wire_types::{Event, Proc, Reply, Status, Value};
 
@@ -63,11 +61,12 @@ pub(crate) fn waiting_fate(plan: &Plan, standing: Option<Event>) -> Fate
 
 /// How many of the updates of a name are before an event, by bisection: in a settled plan each is before those
 /// that stand behind it.
-fn count_before(marks: &Marks, updates: &[Update], event: Event) -> usize
+fn count_before(marked: &MarkedPlan<'_>, updates: &[Update], event: Event) -> usize
     ensures within { result ≤ length updates.now }
-    ensures cut { (plan : runs.Plan) (name : ℕ) → IsSettled plan → AreMarks plan marks.now → AreUpdates plan (Live plan) name updates.now
+    ensures cut { let plan = plan_of marked.now in (name : ℕ) → IsSettled plan → AreUpdates plan (Live plan) name updates.now
         → IsCut (λ z. Before plan z (event_of event)) (events_in updates.now) result }
 {
+    let marks = marked.marks();
     let mut low = 0;
     let mut high = updates.len();
     'bisection: while low < high {
@@ -89,7 +88,7 @@ pub(crate) fn standing_publish(marked: &MarkedPlan<'_>, event: Event, name: u32)
 {
     let marks = marked.marks();
     let updates = marks.updates(name);
-    let count = count_before(marks, updates, event);
+    let count = count_before(marked, updates, event);
     if count == 0 {
         return None;
     }

@@ -8,7 +8,6 @@ ghost use Rattle.wire_runs.specs.Names.{calls_name, writes_name};
 ghost use Rattle.wire_runs.specs.Order.{Live};
 ghost use Rattle.wire_runs.specs.Findings.{NameRace};
 ghost use Rattle.wire_plan.specs.Index.{is_plain_call, AreNameCalls};
-ghost use Rattle.wire_marks.specs.Clocks.{AreMarks};
 ghost use Rattle.wire_findings.specs.Findings.{shown};
 ghost use Rattle.wire_races.specs.FindingKinds.{IsOfName, AllAdded};
 ghost use Rattle.wire_findings.specs.Collected.{AreFound};
@@ -26,7 +25,7 @@ use rayon::prelude::*;
 use std::alloc::{AllocError, Global};
 use std::thread::Threads;
 use wire_findings::Found;
-use wire_marks::{MarkedPlan, Marks};
+use wire_marks::MarkedPlan;
 use wire_plan::{Kind, Plan};
 use wire_types::{Event, Proc};
 
@@ -272,20 +271,18 @@ fn make_piece(alloc: Global, marked: &MarkedPlan<'_>, name: u32) -> Result<Found
 fn make_pieces(
     rt: &(impl Threads + Sync),
     alloc: Global,
-    plan: &Plan,
-    marks: &Marks,
+    marked: &MarkedPlan<'_>,
 ) -> Result<Vec<Found>, AllocError>
-    requires { AreMarks (plan_of plan.now) marks.now }
-    ensures { IfOk result (λ pieces. ArePieces (plan_of plan.now) (length plan.now.names) (IsRaceOn (plan_of plan.now)) pieces.items) }
+    ensures { IfOk result (λ pieces. ArePieces (plan_of marked.now) (length marked.now.names) (IsRaceOn (plan_of marked.now)) pieces.items) }
 {
+    let plan = marked.plan();
     (0..plan.scripts().names().len())
         .into_par_iter()
         .with_min_len(16)
         .map(
             |name: u32| -> Result<Found, AllocError>
-                requires { AreMarks (plan_of plan.now) marks.now }
-                ensures { IfOk result (IsPiece (plan_of plan.entry.now) (IsRaceOn (plan_of plan.entry.now) name)) }
-            { make_piece(alloc, &marks.with(plan), name) },
+                ensures { IfOk result (IsPiece (plan_of marked.entry.now) (IsRaceOn (plan_of marked.entry.now) name)) }
+            { make_piece(alloc, marked, name) },
         )
         .collect::<Result<Vec<_>, AllocError>>(rt, alloc)?
 }
@@ -310,9 +307,8 @@ pub(crate) fn add_name_races(
     ensures all { OnOk result (AllAdded (plan_of marked.now) IsOfName found.old found.new) }
 {
     // Scripts are sound, so each call on a name is on one of theirs.
-    let plan = marked.plan();
-    let _ = plan.scripts();
-    let pieces = make_pieces(rt, alloc, plan, marked.marks())?;
+    let _ = marked.plan().scripts();
+    let pieces = make_pieces(rt, alloc, marked)?;
     add_pieces(found, pieces)?;
     add_sweep_races(alloc, marked, found)
 }

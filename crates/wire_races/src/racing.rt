@@ -33,8 +33,8 @@ fn race_on_key(
 {
     let plan = marked.plan();
     let mut found = Found::new(alloc);
-    add_event(plan, marked.marks(), &mut found, plan.first_event(x))?;
-    add_event(plan, marked.marks(), &mut found, plan.first_event(y))?;
+    add_event(marked, &mut found, plan.first_event(x))?;
+    add_event(marked, &mut found, plan.first_event(y))?;
     let list = found.as_met();
     Ok(is_reported(&list, x, y))
 }
@@ -120,7 +120,7 @@ fn race_on_name(
     requires y_there { y.at < event_count (plan_of marked.now) y.proc.number }
     ensures { IfOk result (λ race. IsTrue race ↔ RaceOnName (plan_of marked.now) (event_of x) (event_of y)) }
 {
-    if x.proc.number == y.proc.number || !are_unordered(marked.marks(), x, y) {
+    if x.proc.number == y.proc.number || !are_unordered(marked, x, y) {
         return Ok(false);
     }
     let plan = marked.plan();

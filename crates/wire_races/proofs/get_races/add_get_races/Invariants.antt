@@ -6,8 +6,8 @@ use Rattle.wire_races.specs.GetRaces.{AreRacesBelow}
 use Rattle.wire_races.proofs.get_races.add_get_races.Given as goal
 
 abbrev pub invariant-gets : goal.invariant-gets
-invariant-gets l = Adds (plan_of l.plan) l.initial.found l.found
-    (AreRacesBelow (plan_of l.plan) (event_of l.asked.get_now) l.asked.owner.number l.asked.key (node_of (plan_of l.plan) l.asked.get_now.proc.number) (map event_of l.gets) l.place)
+invariant-gets l = Adds (plan_of l.marked) l.initial.found l.found
+    (AreRacesBelow (plan_of l.marked) (event_of l.asked.get_now) l.asked.owner.number l.asked.key (node_of (plan_of l.marked) l.asked.get_now.proc.number) (map event_of l.gets) l.place)
 
 abbrev pub decreases-gets : goal.decreases-gets
 decreases-gets l = length l.gets - l.place

@@ -5,7 +5,7 @@ use Rattle.wire_races.proofs.ByGets.{NoneBefore}
 use Rattle.wire_races.proofs.get_races.get_comes_surely.Given as goal
 
 abbrev pub invariant-processes : goal.invariant-processes
-invariant-processes l = NoneBefore (plan_of l.plan) (event_of l.asked.get_now) (map event_of l.gets) l.place
+invariant-processes l = NoneBefore (plan_of l.marked) (event_of l.asked.get_now) (map event_of l.gets) l.place
 
 abbrev pub decreases-processes : goal.decreases-processes
 decreases-processes l = length l.gets - l.place

@@ -14,7 +14,7 @@ node_of-requires c = rw c.plan-plan.ensures (
     process_within (plan_of c.args.marked.now) c.args.event.proc.number c.args.event.at v.0 v.1)
 
 pub comes_surely-requires-clause-once : goal.comes_surely-requires-clause-once
-comes_surely-requires-clause-once c = rw c.plan-plan.ensures (once (plan_of c.args.marked.now) c.requires.settled (event_of c.args.put) c.args.key c.requires.put)
+comes_surely-requires-clause-once c = once (plan_of c.args.marked.now) c.requires.settled (event_of c.args.put) c.args.key c.requires.put
 
 pub value_reply-requires : goal.value_reply-requires
 value_reply-requires c = rw c.plan-plan.ensures (event_within (plan_of c.args.marked.now) c.args.put.proc.number c.args.put.at _ c.requires.put.is)
@@ -24,13 +24,13 @@ returns-then-comes_surely c = λ s cut got.
     let plan = plan_of c.args.marked.now in
     brought_sure plan c.requires.settled (event_of c.args.put) c.args.key c.requires.put (event_of c.args.event) c.requires.away s cut got c.value_reply.result
     (subst (λ n. ComesSurely plan c.args.put.proc.number c.args.key n (event_of c.args.event)) (rw c.plan-plan.ensures at c.node_of.ensures)
-    ((rw c.plan-plan.ensures at c.comes_surely.ensures).0 c.if-comes_surely.true))
+    (c.comes_surely.ensures.0 c.if-comes_surely.true))
     (rw c.plan-plan.ensures at c.value_reply.ensures)
 
 pub returns-else-comes_surely : goal.returns-else-comes_surely
 returns-else-comes_surely c = λ s cut got.
     let plan = plan_of c.args.marked.now in
     brought_unsure plan c.requires.settled (event_of c.args.put) c.args.key c.requires.put (event_of c.args.event) c.requires.away s cut got c.bare.result
-    (λ sure. true≢false (sym ((rw c.plan-plan.ensures at c.comes_surely.ensures).1
+    (λ sure. true≢false (sym (c.comes_surely.ensures.1
     (subst (λ n. ComesSurely plan c.args.put.proc.number c.args.key n (event_of c.args.event)) (sym (rw c.plan-plan.ensures at c.node_of.ensures)) sure)) ∙ c.if-comes_surely.false))
     (ap (λ r. r ∷ []) (sym c.bare.ensures))

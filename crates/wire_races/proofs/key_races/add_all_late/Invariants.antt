@@ -6,8 +6,8 @@ use Rattle.wire_races.specs.KeyRaces.{AreLateBelow}
 use Rattle.wire_races.proofs.key_races.add_all_late.Given as goal
 
 abbrev pub invariant-deliveries : goal.invariant-deliveries
-invariant-deliveries l = Adds (plan_of l.plan) l.initial.found l.found
-    (AreLateBelow (plan_of l.plan) (event_of l.asked.get_now) l.asked.owner.number l.asked.key (node_of (plan_of l.plan) l.asked.get_now.proc.number) l.from)
+invariant-deliveries l = Adds (plan_of l.marked) l.initial.found l.found
+    (AreLateBelow (plan_of l.marked) (event_of l.asked.get_now) l.asked.owner.number l.asked.key (node_of (plan_of l.marked) l.asked.get_now.proc.number) l.from)
 
 abbrev pub decreases-deliveries : goal.decreases-deliveries
 decreases-deliveries l = l.count - l.from

@@ -7,13 +7,13 @@ use Rattle.wire_races.proofs.key_races.add_key_races.Goals as goal
 
 pub returns-clause-found : goal.returns-clause-found
 returns-clause-found g c =
-    let plan = plan_of c.args.plan.now in
+    let plan = plan_of c.args.marked.now in
     on_ok_weaker c.add_pieces.result (λ h. (h plan c.requires.found (all_found plan (process_count plan) (IsKeyRaceOf plan) c.in_ok-pieces.pieces.items c.in_ok-pieces.ensures)).found)
     c.add_pieces.ensures
 
 pub returns-clause-all : goal.returns-clause-all
 returns-clause-all g c =
-    let plan = plan_of c.args.plan.now in
+    let plan = plan_of c.args.marked.now in
     let pieces = c.in_ok-pieces.ensures in
     on_ok_weaker c.add_pieces.result (λ h. key_pieces_added plan c.in_ok-pieces.pieces.items c.args.found.now c.add_pieces.new.found pieces
     (h plan c.requires.found (all_found plan (process_count plan) (IsKeyRaceOf plan) c.in_ok-pieces.pieces.items pieces))) c.add_pieces.ensures

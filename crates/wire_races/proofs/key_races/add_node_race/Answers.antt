@@ -8,13 +8,18 @@ use Rattle.wire_races.proofs.key_races.add_node_race.Goals as goal
 
 pub returns-then-are_unordered : goal.returns-then-are_unordered
 returns-then-are_unordered c =
-    let plan = plan_of c.args.plan.now in
+    let plan = plan_of c.args.marked.now in
+    let stores = rw c.plan-plan.ensures at c.in-Some.ensures in
     on_ok_weaker c.add_race.result (λ h. adds_node plan (event_of c.args.asked.get_now) c.args.asked.owner.number c.args.asked.key c.requires.get c.requires.node c.args.found.now c.add_race.new.found
     (event_of c.in-Some.commit)
-    (ap (λ q. q.number) c.in-Some.ensures.0) c.in-Some.ensures.1 ((c.are_unordered.ensures plan c.requires.marks).0 c.if-are_unordered.true) h) c.add_race.ensures
+    (ap (λ q. q.number) stores.0) stores.1 (c.are_unordered.ensures.0 c.if-are_unordered.true) h) (rw c.plan-plan.ensures at c.add_race.ensures)
 
 pub returns-else-are_unordered : goal.returns-else-are_unordered
 returns-else-are_unordered c =
-    let plan = plan_of c.args.plan.now in
+    let plan = plan_of c.args.marked.now in
+    let stores = rw c.plan-plan.ensures at c.in-Some.ensures in
     ordered_commit plan (event_of c.args.asked.get_now) c.args.asked.owner.number c.args.asked.key c.requires.get c.requires.node c.args.found.now (event_of c.in-Some.commit)
-    (ap (λ q. q.number) c.in-Some.ensures.0) c.in-Some.ensures.1 (λ u. true≢false (sym ((c.are_unordered.ensures plan c.requires.marks).1 u) ∙ c.if-are_unordered.false)) c.requires.found
+    (ap (λ q. q.number) stores.0) stores.1 (λ u. true≢false (sym (c.are_unordered.ensures.1 u) ∙ c.if-are_unordered.false)) c.requires.found
+
+pub add_race-requires-clause-found : goal.add_race-requires-clause-found
+add_race-requires-clause-found c = rw c.plan-plan.ensures c.requires.found

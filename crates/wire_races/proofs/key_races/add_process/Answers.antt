@@ -6,6 +6,6 @@ use Rattle.wire_races.proofs.key_races.add_process.Goals as goal
 
 pub loop-at-preserved : goal.loop-at-preserved
 loop-at-preserved c =
-    let plan = plan_of c.args.plan.now in
+    let plan = plan_of c.args.marked.now in
     one_event plan (IsKeyRaceBy plan) c.args.found.now c.loop-at.found c.add_event.new.found c.args.proc.number c.loop-at.at (c.loop-at.at + 1) (omega arith) c.loop-at.invariant
     c.in_ok-add_event.ensures

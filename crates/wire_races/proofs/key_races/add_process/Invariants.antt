@@ -4,4 +4,4 @@ use Rattle.wire_races.specs.KeyRaces.{IsKeyRaceBy}
 use Rattle.wire_races.proofs.key_races.add_process.Given as goal
 
 abbrev pub invariant-loop-at : goal.invariant-loop-at
-invariant-loop-at l = Adds (plan_of l.plan) l.initial.found l.found (ToldIn (IsKeyRaceBy (plan_of l.plan)) l.proc.number l.at)
+invariant-loop-at l = Adds (plan_of l.marked) l.initial.found l.found (ToldIn (IsKeyRaceBy (plan_of l.marked)) l.proc.number l.at)

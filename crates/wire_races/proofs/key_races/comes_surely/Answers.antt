@@ -7,14 +7,14 @@ use Rattle.wire_races.proofs.key_races.comes_surely.Goals as goal
 
 pub returns-then-fence_comes_surely : goal.returns-then-fence_comes_surely
 returns-then-fence_comes_surely c =
-    let plan = plan_of c.args.plan.now in (
+    let plan = plan_of c.args.marked.now in (
       (λ t. fence_sure plan (event_of c.args.asked.get_now) c.args.asked.owner.number c.args.asked.key c.args.node (c.fence_comes_surely.ensures.0 c.if-fence_comes_surely.true)),
       (λ s. refl),
     )
 
 pub returns : goal.returns
 returns c =
-    let plan = plan_of c.args.plan.now in
+    let plan = plan_of c.args.marked.now in
     let get = event_of c.args.asked.get_now in
     let p = c.args.asked.owner.number in (
       (λ t. get_sure plan get p c.args.asked.key c.args.node (c.get_comes_surely.ensures.0 t)),

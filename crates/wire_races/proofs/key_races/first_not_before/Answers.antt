@@ -1,10 +1,12 @@
 use Rattle.std.proofs.Common.{◌+◌, map, arith}
 use Rattle.wire_runs.specs.Plan.{event_of}
+use Rattle.wire_content.specs.Planned.{plan_of}
 use Rattle.wire_runs.specs.Order.{Before}
 use Rattle.wire_races.proofs.Arrivals.{item, one_more}
 use Rattle.wire_races.proofs.key_races.first_not_before.Goals as goal
 
 pub loop-x-preserved : goal.loop-x-preserved
-loop-x-preserved c = λ plan m.
+loop-x-preserved c =
+    let plan = plan_of c.args.marked.now in
     one_more (λ z. Before plan z (event_of c.args.get_now)) (map event_of c.args.events.now) c.loop-x.x-index (c.loop-x.x-index + 1) _ (omega arith)
-    (item c.args.events.now c.loop-x.x-index _ c.loop-x-test.true) (c.loop-x.invariant plan m) ((c.before-in-loop-x.ensures plan m).0 c.if-not-before.false)
+    (item c.args.events.now c.loop-x.x-index _ c.loop-x-test.true) c.loop-x.invariant (c.before-in-loop-x.ensures.0 c.if-not-before.false)

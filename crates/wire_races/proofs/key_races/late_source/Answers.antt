@@ -6,11 +6,11 @@ use Rattle.wire_races.proofs.key_races.late_source.Goals as goal
 
 pub returns : goal.returns
 returns c =
-    let plan = plan_of c.args.plan.now in
+    let plan = plan_of c.args.marked.now in
     let get = event_of c.args.get_now in
     let arrival = event_of c.args.arrival in
     let fence = c.requires.may.fence in
     let places = map event_of c.all_arrivals.result.now in
-    let those = c.all_arrivals.ensures in
-    late_tells plan get arrival fence places those c.first_not_before.result (c.first_not_before.ensures plan c.requires.marks) (may_live plan get arrival fence places those c.requires.may)
+    let those = rw c.plan.ensures at c.all_arrivals.ensures in
+    late_tells plan get arrival fence places those c.first_not_before.result c.first_not_before.ensures (may_live plan get arrival fence places those c.requires.may)
     (may_none_after plan get arrival fence places those c.requires.may)

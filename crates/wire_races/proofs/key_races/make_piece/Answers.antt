@@ -5,5 +5,5 @@ use Rattle.wire_races.proofs.key_races.make_piece.Goals as goal
 
 pub returns : goal.returns
 returns c =
-    let plan = plan_of c.args.plan.now in
+    let plan = plan_of c.args.marked.now in
     piece_of plan (IsKeyRaceOf plan c.args.proc.number) c.new-found.result c.add_process.new.found c.new-found.ensures c.in_ok-add_process.ensures

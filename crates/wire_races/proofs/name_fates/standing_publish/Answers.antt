@@ -9,7 +9,7 @@ returns-then-count-eq0-clause-standing c =
     let settled = c.requires in
     let marks = c.marks-marks.ensures in
     let are = c.updates-updates.ensures plan marks in
-    let cut = c.count_before-count.ensures.cut plan c.args.name settled marks are in
+    let cut = c.count_before-count.ensures.cut c.args.name settled are in
     standing_none plan settled c.marks-marks.result.now marks c.args.name c.updates-updates.result.now are (event_of c.args.event) c.count_before-count.result cut c.if-count-eq0.true
 
 pub returns : goal.returns
@@ -19,7 +19,7 @@ returns c = record {
       let settled = c.requires in
       let marks = c.marks-marks.ensures in
       let are = c.updates-updates.ensures plan marks in
-      let cut = c.count_before-count.ensures.cut plan c.args.name settled marks are in
+      let cut = c.count_before-count.ensures.cut c.args.name settled are in
       standing_found plan settled c.marks-marks.result.now marks c.args.name c.updates-updates.result.now are (event_of c.args.event) c.count_before-count.result cut _
       c.count_before-count.ensures.within c.if-count-eq0.false;
   there =
@@ -27,7 +27,7 @@ returns c = record {
       let settled = c.requires in
       let marks = c.marks-marks.ensures in
       let are = c.updates-updates.ensures plan marks in
-      let cut = c.count_before-count.ensures.cut plan c.args.name settled marks are in
+      let cut = c.count_before-count.ensures.cut c.args.name settled are in
       standing_within plan (event_of c.args.event) c.args.name _
       (standing_found plan settled c.marks-marks.result.now marks c.args.name c.updates-updates.result.now are (event_of c.args.event) c.count_before-count.result cut _
       c.count_before-count.ensures.within c.if-count-eq0.false);

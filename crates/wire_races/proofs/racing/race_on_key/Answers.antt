@@ -6,13 +6,13 @@ use Rattle.wire_races.proofs.racing.race_on_key.Goals as goal
 
 pub add_event-requires-clause-there : goal.add_event-requires-clause-there
 add_event-requires-clause-there c =
-    let plan = plan_of c.plan-plan.result.now in
-    subst (λ (z : Event). z.at < event_count plan z.proc) (sym c.first_event.ensures) (first_there plan c.args.x (rw (← c.plan-plan.ensures) at c.requires.x_there))
+    let plan = plan_of c.args.marked.now in
+    subst (λ (z : Event). z.at < event_count plan z.proc) (sym (rw c.plan-plan.ensures at c.first_event.ensures)) (first_there plan c.args.x c.requires.x_there)
 
 pub add_event-requires-2-clause-there : goal.add_event-requires-2-clause-there
 add_event-requires-2-clause-there c =
-    let plan = plan_of c.plan-plan.result.now in
-    subst (λ (z : Event). z.at < event_count plan z.proc) (sym c.first_event-2.ensures) (first_there plan c.args.y (rw (← c.plan-plan.ensures) at c.requires.y_there))
+    let plan = plan_of c.args.marked.now in
+    subst (λ (z : Event). z.at < event_count plan z.proc) (sym (rw c.plan-plan.ensures at c.first_event-2.ensures)) (first_there plan c.args.y c.requires.y_there)
 
 pub returns : goal.returns
 returns c =

@@ -6,7 +6,7 @@ use Rattle.wire_races.proofs.racing.race_on_name.Goals as goal
 pub returns : goal.returns
 returns c =
     let plan = plan_of c.args.marked.now in
-    let u = (c.are_unordered.ensures plan c.marks.ensures).0 c.if-not-are_unordered.false in
+    let u = c.are_unordered.ensures.0 c.if-not-are_unordered.false in
     let names = rw c.plan-plan.ensures at c.in_ok-names.ensures in
     let contested = rw (c.plan-plan.ensures, c.as_slice.ensures.value) at c.is_one_contested.ensures in
     let told = one_contested plan (event_of c.args.x) (event_of c.args.y) c.in_ok-names.names.items c.if-x-y.false u names in
