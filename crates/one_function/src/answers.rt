@@ -143,7 +143,7 @@ fn of_marks(alloc: Global, plan: &Plan, stage: &mut Stage) -> Result<Vec<u8>, Fa
     *stage = Stage::Within;
     let marks = Marks::of(alloc, plan)?;
     *stage = Stage::After;
-    let text = marks_text(alloc, plan, &marks);
+    let text = marks_text(alloc, &marks.with(plan));
     drop(marks);
     Ok(text?.into_bytes())
 }
@@ -156,7 +156,7 @@ fn of_findings(
 ) -> Result<Vec<u8>, Fault> {
     let marks = Marks::of(rt.alloc(), plan)?;
     *stage = Stage::Within;
-    let found = findings(rt, rt.alloc(), plan, &marks);
+    let found = findings(rt, rt.alloc(), &marks.with(plan));
     drop(marks);
     let found = found?;
     *stage = Stage::After;
@@ -208,7 +208,7 @@ fn judge(
     ensures findings { IfOk result (λ r. AreFindings plan.now r.1.items) }
 {
     let marks = Marks::of(rt.alloc(), plan)?;
-    let found = findings(rt, rt.alloc(), plan, &marks)?;
+    let found = findings(rt, rt.alloc(), &marks.with(plan))?;
     Ok((marks, found))
 }
 

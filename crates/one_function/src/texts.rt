@@ -8,7 +8,7 @@ ghost use Rattle.wire_content.specs.Planned.{plan_of};
 use std::alloc::{AllocError, Global};
 use std::fmt::Write;
 use wire_board::{Board, Seat};
-use wire_marks::Marks;
+use wire_marks::MarkedPlan;
 use wire_plan::Plan;
 use wire_races::Settled;
 use wire_sched::{Pass, Piece};
@@ -82,43 +82,34 @@ fn push_names(text: &mut String, plan: &Plan) -> Result<(), AllocError> {
 }
 
 /// The marks of a plan: the clock of each event, and the updates of each name.
-pub fn marks_text(alloc: Global, plan: &Plan, marks: &Marks) -> Result<String, AllocError> {
+pub fn marks_text(alloc: Global, marked: &MarkedPlan<'_>) -> Result<String, AllocError> {
+    let plan = marked.plan();
     let mut text = String::new(alloc);
     for number in 0..plan.process_count() {
-        push_clocks(&mut text, plan, marks, Proc::new(number))?;
+        push_clocks(&mut text, marked, Proc::new(number))?;
     }
     for name in 0..plan.scripts().names().len() {
-        let updates = marks.updates(name);
+        let updates = marked.marks().updates(name);
         writeln!(text, "{name} {updates:?}")?;
     }
     Ok(text)
 }
 
 /// The clocks of the events of a process.
-fn push_clocks(
-    text: &mut String,
-    plan: &Plan,
-    marks: &Marks,
-    proc: Proc,
-) -> Result<(), AllocError> {
-    for at in 0..plan.event_count(proc) {
-        push_clock(text, plan, marks, Event { proc, at })?;
+fn push_clocks(text: &mut String, marked: &MarkedPlan<'_>, proc: Proc) -> Result<(), AllocError> {
+    for at in 0..marked.plan().event_count(proc) {
+        push_clock(text, marked, Event { proc, at })?;
     }
     Ok(())
 }
 
 /// The clock of an event: a number for each process, and whether the event is live.
-fn push_clock(
-    text: &mut String,
-    plan: &Plan,
-    marks: &Marks,
-    event: Event,
-) -> Result<(), AllocError> {
-    for number in 0..plan.process_count() {
-        let clock = marks.clock(event, Proc::new(number));
+fn push_clock(text: &mut String, marked: &MarkedPlan<'_>, event: Event) -> Result<(), AllocError> {
+    for number in 0..marked.plan().process_count() {
+        let clock = marked.marks().clock(event, Proc::new(number));
         write!(text, "{clock} ")?;
     }
-    let is_live = marks.live(event);
+    let is_live = marked.live(event);
     writeln!(text, "{is_live:?}")
 }
 

@@ -101,7 +101,7 @@ fn report_of(alloc: Global, plan: &Plan) -> Result<Vec<u8>, Fault> {
 /// All findings of a plan.
 fn list_of(rt: &(impl Threads + Sync), alloc: Global, plan: &Plan) -> Result<FindingList, Fault> {
     let marks = Marks::of(alloc, plan)?;
-    let found = finding_list(rt, alloc, plan, &marks);
+    let found = finding_list(rt, alloc, &marks.with(plan));
     drop(marks);
     found
 }

@@ -52,7 +52,8 @@ fn text_between(
     ensures err { IfErr result (λ e. e ≡ Memory) }
 {
     let marks = Marks::of(alloc, plan)?;
-    chain_text(alloc, plan, &marks, calls, json)
+    let marked = marks.with(plan);
+    chain_text(alloc, &marked, calls, json)
 }
 
 /// The text of the answer to a question about a plan.

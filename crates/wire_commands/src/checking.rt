@@ -72,7 +72,8 @@ fn check_plan<W: Sink>(
         ⊎ (BreaksOffVerdict json plan.now (W.written writer.old) (W.written writer.new) e × (W.failures writer.new ≡ one_more (W.failures writer.old)))) }
 {
     let marks = Marks::of(alloc, plan)?;
-    let found = finding_list(rt, alloc, plan, &marks)?;
+    let marked = marks.with(plan);
+    let found = finding_list(rt, alloc, &marked)?;
     settled_exactly();
     let ended = Ended::of_count(found.len());
     write_findings(alloc, plan.scripts(), &found, json, writer)?;

@@ -36,7 +36,8 @@ fn text_between(
     ensures err { IfErr result (λ e. e ≡ Memory) }
 {
     let marks = Marks::of(alloc, plan)?;
-    chain_text(alloc, plan, &marks, telling, calls)
+    let marked = marks.with(plan);
+    chain_text(alloc, &marked, telling, calls)
 }
 
 /// The answer to a question about a plan.

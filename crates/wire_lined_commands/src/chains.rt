@@ -7,7 +7,6 @@ ghost use Rattle.wire_types.specs.declared.Fault.TheVariants.{Memory};
 ghost use Rattle.wire_runs.specs.Plan.{event_count, event_of};
 ghost use Rattle.wire_content.specs.Planned.{plan_of};
 ghost use Rattle.wire_runs.specs.Ends.{calls_of};
-ghost use Rattle.wire_marks.specs.Clocks.{AreMarks};
 ghost use Rattle.wire_report.specs.Chain.{AreDead};
 ghost use Rattle.wire_report.specs.There.{AreThere};
 ghost use Rattle.wire_lined_commands.specs.Chains as spec;
@@ -17,7 +16,7 @@ use crate::lined::{chain_json, unordered_json};
 use std::alloc::{AllocError, Global};
 use wire_content::Scripts;
 use wire_located::{Places, push_place};
-use wire_marks::Marks;
+use wire_marks::MarkedPlan;
 use wire_plan::Plan;
 use wire_report::{chain_steps, find_dead_calls, order_line, push_dead_line, push_event};
 use wire_types::{CallAt, Event, Fault};
@@ -26,18 +25,18 @@ use wire_types::{CallAt, Event, Fault};
 /// lines of the calls. The one fault is `Fault::Memory`.
 pub(crate) fn chain_text(
     alloc: Global,
-    plan: &Plan,
-    marks: &Marks,
+    marked: &MarkedPlan<'_>,
     telling: Telling<'_>,
     calls: (CallAt, CallAt),
 ) -> Result<Vec<u8>, Fault>
-    requires marks { AreMarks (plan_of plan.now) marks.now }
-    requires x_there { calls.0.call < length (calls_of (plan_of plan.now) calls.0.proc.number) }
-    requires y_there { calls.1.call < length (calls_of (plan_of plan.now) calls.1.proc.number) }
+    requires x_there { calls.0.call < length (calls_of (plan_of marked.now) calls.0.proc.number) }
+    requires y_there { calls.1.call < length (calls_of (plan_of marked.now) calls.1.proc.number) }
     ensures ok { IfOk result (λ text. spec.IsPlacedChain telling.entry.json telling.entry.places.name.now (map (λ row. row.items) telling.entry.places.rows.now)
-        plan.now calls.0 calls.1 text.items) }
+        marked.now calls.0 calls.1 text.items) }
     ensures err { IfErr result (λ e. e ≡ Memory) }
 {
+    let plan = marked.plan();
+    let marks = marked.marks();
     let from = plan.first_event(calls.0);
     let to = plan.first_event(calls.1);
     if let Some(chain) = marks.chain(alloc, plan, from, to)? {
@@ -46,7 +45,7 @@ pub(crate) fn chain_text(
     if let Some(chain) = marks.chain(alloc, plan, to, from)? {
         return ordered_text(alloc, plan, telling, false, chain.as_slice());
     }
-    unordered_text(alloc, plan, marks, telling, calls)
+    unordered_text(alloc, marked, telling, calls)
 }
 
 /// The text of a chain of events of the plan that leads from the first of two calls to the second, or the other way
@@ -90,21 +89,19 @@ fn ordered_json(
 /// The text of two calls that no chain orders, and which of them are dead.
 fn unordered_text(
     alloc: Global,
-    plan: &Plan,
-    marks: &Marks,
+    marked: &MarkedPlan<'_>,
     telling: Telling<'_>,
     calls: (CallAt, CallAt),
 ) -> Result<Vec<u8>, Fault>
-    requires marks { AreMarks (plan_of plan.now) marks.now }
-    requires x_there { calls.0.call < length (calls_of (plan_of plan.now) calls.0.proc.number) }
-    requires y_there { calls.1.call < length (calls_of (plan_of plan.now) calls.1.proc.number) }
-    ensures ok { IfOk result (λ text. (dead : List CallPlace) × AreDead (plan_of plan.now) calls.0 calls.1 dead
+    requires x_there { calls.0.call < length (calls_of (plan_of marked.now) calls.0.proc.number) }
+    requires y_there { calls.1.call < length (calls_of (plan_of marked.now) calls.1.proc.number) }
+    ensures ok { IfOk result (λ text. (dead : List CallPlace) × AreDead (plan_of marked.now) calls.0 calls.1 dead
         × (text.items ≡ spec.unordered_form telling.entry.json telling.entry.places.name.now (map (λ row. row.items) telling.entry.places.rows.now)
-        plan.now dead)) }
+        marked.now dead)) }
     ensures err { IfErr result (λ e. e ≡ Memory) }
 {
-    let dead = find_dead_calls(alloc, plan, marks, calls)?;
-    let text = dead_text(alloc, plan.scripts(), telling, dead.as_slice())?;
+    let dead = find_dead_calls(alloc, marked, calls)?;
+    let text = dead_text(alloc, marked.plan().scripts(), telling, dead.as_slice())?;
     Ok(text)
 }
 

@@ -69,7 +69,8 @@ fn plan_answer(
     ensures err { IfErr result (λ e. e ≡ Memory) }
 {
     let marks = Marks::of(alloc, plan)?;
-    let found = finding_list(rt, alloc, plan, &marks)?;
+    let marked = marks.with(plan);
+    let found = finding_list(rt, alloc, &marked)?;
     settled_exactly();
     let text = grouped_text(alloc, plan.scripts(), telling, &found)?;
     Ok(Answer {

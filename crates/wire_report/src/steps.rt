@@ -8,14 +8,13 @@ ghost use Rattle.wire_runs.specs.Plan.{event_count, event_of};
 ghost use Rattle.wire_content.specs.Planned.{plan_of};
 ghost use Rattle.wire_runs.specs.Ends.{calls_of};
 ghost use Rattle.wire_plan.specs.Kinds.{kind_of};
-ghost use Rattle.wire_marks.specs.Clocks.{AreMarks};
 ghost use Rattle.wire_report.specs.Chain as spec;
 ghost use Rattle.wire_report.specs.There.{AreThere};
 
 use std::alloc::{AllocError, Global};
 use wire_content::Scripts;
 use wire_json::{ChainStep, Half, chain_json, unordered_json};
-use wire_marks::Marks;
+use wire_marks::MarkedPlan;
 use wire_plan::{Kind, Plan};
 use wire_types::{CallAt, Event, Fault};
 use wire_words::{push_call, verb_at};
@@ -106,37 +105,33 @@ fn half_of(kind: Kind) -> Half
 /// The text of two calls that no chain orders, and which of them are dead: in lines, or as JSON.
 pub fn unordered_text(
     alloc: Global,
-    plan: &Plan,
-    marks: &Marks,
+    marked: &MarkedPlan<'_>,
     calls: (CallAt, CallAt),
     json: bool,
 ) -> Result<Vec<u8>, Fault>
-    requires marks { AreMarks (plan_of plan.now) marks.now }
-    requires x_there { calls.0.call < length (calls_of (plan_of plan.now) calls.0.proc.number) }
-    requires y_there { calls.1.call < length (calls_of (plan_of plan.now) calls.1.proc.number) }
-    ensures ok { IfOk result (λ text. (dead : List CallPlace) × spec.AreDead (plan_of plan.now) calls.0 calls.1 dead
-        × (text.items ≡ spec.unordered_form json plan.now dead)) }
+    requires x_there { calls.0.call < length (calls_of (plan_of marked.now) calls.0.proc.number) }
+    requires y_there { calls.1.call < length (calls_of (plan_of marked.now) calls.1.proc.number) }
+    ensures ok { IfOk result (λ text. (dead : List CallPlace) × spec.AreDead (plan_of marked.now) calls.0 calls.1 dead
+        × (text.items ≡ spec.unordered_form json marked.now dead)) }
     ensures err { IfErr result (λ e. e ≡ Memory) }
 {
-    let dead = find_dead_calls(alloc, plan, marks, calls)?;
-    let text = dead_text(alloc, plan.scripts(), dead.as_slice(), json)?;
+    let dead = find_dead_calls(alloc, marked, calls)?;
+    let text = dead_text(alloc, marked.plan().scripts(), dead.as_slice(), json)?;
     Ok(text)
 }
 
 /// Those of two calls whose event isn't live, once where they are one.
 pub fn find_dead_calls(
     alloc: Global,
-    plan: &Plan,
-    marks: &Marks,
+    marked: &MarkedPlan<'_>,
     calls: (CallAt, CallAt),
 ) -> Result<Vec<CallAt>, AllocError>
-    requires marks { AreMarks (plan_of plan.now) marks.now }
-    requires x_there { calls.0.call < length (calls_of (plan_of plan.now) calls.0.proc.number) }
-    requires y_there { calls.1.call < length (calls_of (plan_of plan.now) calls.1.proc.number) }
-    ensures { IfOk result (λ dead. spec.AreDead (plan_of plan.now) calls.0 calls.1 dead.items) }
+    requires x_there { calls.0.call < length (calls_of (plan_of marked.now) calls.0.proc.number) }
+    requires y_there { calls.1.call < length (calls_of (plan_of marked.now) calls.1.proc.number) }
+    ensures { IfOk result (λ dead. spec.AreDead (plan_of marked.now) calls.0 calls.1 dead.items) }
 {
     let mut dead = Vec::new(alloc);
-    push_both_dead(&mut dead, plan, marks, calls.0, calls.1)?;
+    push_both_dead(&mut dead, marked, calls.0, calls.1)?;
     Ok(dead)
 }
 
@@ -170,21 +165,19 @@ fn push_dead_lines(out: &mut Vec<u8>, scripts: &Scripts, dead: &[CallAt]) -> Res
 /// Appends those of two calls whose event isn't live, once where they are one.
 fn push_both_dead(
     out: &mut Vec<CallAt>,
-    plan: &Plan,
-    marks: &Marks,
+    marked: &MarkedPlan<'_>,
     x: CallAt,
     y: CallAt,
 ) -> Result<(), AllocError>
-    requires marks { AreMarks (plan_of plan.now) marks.now }
-    requires x_there { x.call < length (calls_of (plan_of plan.now) x.proc.number) }
-    requires y_there { y.call < length (calls_of (plan_of plan.now) y.proc.number) }
-    ensures { OnOk result ((dead : List CallPlace) × spec.AreDead (plan_of plan.now) x y dead × (out.new.items ≡ out.old.items ++ dead)) }
+    requires x_there { x.call < length (calls_of (plan_of marked.now) x.proc.number) }
+    requires y_there { y.call < length (calls_of (plan_of marked.now) y.proc.number) }
+    ensures { OnOk result ((dead : List CallPlace) × spec.AreDead (plan_of marked.now) x y dead × (out.new.items ≡ out.old.items ++ dead)) }
 {
-    push_dead(out, plan, marks, x)?;
+    push_dead(out, marked, x)?;
     if is_same(x, y) {
         return Ok(());
     }
-    push_dead(out, plan, marks, y)?;
+    push_dead(out, marked, y)?;
     Ok(())
 }
 
@@ -196,17 +189,11 @@ fn is_same(x: CallAt, y: CallAt) -> bool
 }
 
 /// Appends a call whose event isn't live; nothing where it is.
-fn push_dead(
-    out: &mut Vec<CallAt>,
-    plan: &Plan,
-    marks: &Marks,
-    call: CallAt,
-) -> Result<(), AllocError>
-    requires marks { AreMarks (plan_of plan.now) marks.now }
-    requires there { call.call < length (calls_of (plan_of plan.now) call.proc.number) }
-    ensures { OnOk result ((dead : List CallPlace) × spec.IsDeadPart (plan_of plan.now) call dead × (out.new.items ≡ out.old.items ++ dead)) }
+fn push_dead(out: &mut Vec<CallAt>, marked: &MarkedPlan<'_>, call: CallAt) -> Result<(), AllocError>
+    requires there { call.call < length (calls_of (plan_of marked.now) call.proc.number) }
+    ensures { OnOk result ((dead : List CallPlace) × spec.IsDeadPart (plan_of marked.now) call dead × (out.new.items ≡ out.old.items ++ dead)) }
 {
-    if marks.live(plan.first_event(call)) {
+    if marked.live(marked.plan().first_event(call)) {
         return Ok(());
     }
     push_call_at(out, call)

@@ -86,7 +86,7 @@ fn find_races(
     ensures err { IfErr result (λ e. e ≡ Memory) }
 {
     let marks = Marks::of(alloc, plan)?;
-    let found = finding_list(rt, alloc, plan, &marks)?;
+    let found = finding_list(rt, alloc, &marks.with(plan))?;
     Ok((marks, found))
 }
 

@@ -65,10 +65,10 @@ fn plan_answer(
     ensures err { IfErr result (λ e. e ≡ Memory) }
 {
     let marks = Marks::of(alloc, plan)?;
-    let found = finding_list(rt, alloc, plan, &marks)?;
+    let marked = marks.with(plan);
+    let found = finding_list(rt, alloc, &marked)?;
     let races = take_races(alloc, &found, tries.most)?;
     let count = count_races(&found);
-    let marked = marks.with(plan);
     let answer = races_answer(alloc, &marked, races.as_slice(), count, tries.json)?;
     Ok(answer)
 }

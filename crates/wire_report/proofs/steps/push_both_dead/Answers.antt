@@ -6,6 +6,6 @@ pub returns : goal.returns
 returns c =
     let first = c.in_ok-push_dead.ensures in
     let second = c.in_ok-push_dead-2.ensures in
-    two_dead (plan_of c.args.plan.now) c.args.x c.args.y c.args.out.now.items _ c.push_dead-2.new.out.items first.0 second.0
+    two_dead (plan_of c.args.marked.now) c.args.x c.args.y c.args.out.now.items _ c.push_dead-2.new.out.items first.0 second.0
     (λ e. cc (e, c.if-is_same.false, c.is_same.ensures.1 e)) first.1 first.2 second.1
     second.2

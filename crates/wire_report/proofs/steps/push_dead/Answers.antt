@@ -8,16 +8,16 @@ use Rattle.wire_report.proofs.steps.push_dead.Goals as goal
 
 pub returns-then-live : goal.returns-then-live
 returns-then-live c =
-    let live = (c.live.ensures (plan_of c.args.plan.now) c.requires.marks).0 c.if-live.true in
-    ([], Alive (subst (Live (plan_of c.args.plan.now)) c.first_event.ensures live) refl, sym (append-nil _))
+    let at = rw c.plan.ensures at c.first_event.ensures in
+    ([], Alive (subst (Live (plan_of c.args.marked.now)) at (c.live.ensures.0 c.if-live.true)) refl, sym (append-nil _))
 
 pub returns : goal.returns
 returns c =
+    let at = rw c.plan.ensures at c.first_event.ensures in
     on_ok_weaker c.push_call_at.result
     (λ e. (
       c.args.call ∷ [],
-      Dead (λ l. cc
-          (c.if-live.false, (c.live.ensures (plan_of c.args.plan.now) c.requires.marks).1 (subst (Live (plan_of c.args.plan.now)) (sym c.first_event.ensures) l))) refl,
+      Dead (λ l. cc (c.if-live.false, c.live.ensures.1 (subst (Live (plan_of c.args.marked.now)) (sym at) l))) refl,
       e,
     ))
     c.push_call_at.ensures
