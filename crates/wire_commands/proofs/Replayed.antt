@@ -45,7 +45,7 @@ only_refused coming e (inr (inl is)) memory read write = absurd (read is)
 only_refused coming e (inr (inr refuses)) memory read write = refuses
 
 -- memory that ran out is no failed read and no failed write
-pub memory_no_read : (r : Result (Unit {0}) Fault) (e : Fault) → IsErrAnd r (λ d. d ≡ e) → e ≡ Memory → r ≡ Err Read → ⊥
+pub memory_no_read : {A : Type 0} (r : Result A Fault) (e : Fault) → IsErrAnd r (λ d. d ≡ e) → e ≡ Memory → r ≡ Err Read → ⊥
 memory_no_read r e is memory at = let bad : Memory ≡ Read = sym memory ∙ same_error r e Read is at in cc
 
 pub memory_no_write : (r : Result (Unit {0}) Fault) (e : Fault) (n : ℕ) → IsErrAnd r (λ d. d ≡ e) → e ≡ Memory → r ≡ Err (Write n) → ⊥
@@ -73,7 +73,7 @@ breaks_off coming old new s text (Err e) n read is (m, carries, (short, front)) 
     }
 
 -- the writing is no failed read
-pub no_read_writing : (old new : Option (List ℕ)) (text : List ℕ) (r : Result (Unit {0}) Fault) → IfErr r (WritesFront old new text) → r ≡ Err Read → ⊥
+pub no_read_writing : {A : Type 0} (old new : Option (List ℕ)) (text : List ℕ) (r : Result A Fault) → IfErr r (WritesFront old new text) → r ≡ Err Read → ⊥
 no_read_writing old new text (Ok x) front is = let bad : Ok x ≡ Err Read = is in cc
 no_read_writing old new text (Err e) (m, carries, (short, front)) is = let bad : Write m ≡ Read = cc in cc
 

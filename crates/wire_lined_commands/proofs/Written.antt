@@ -1,8 +1,8 @@
 -- From what the parts of a command answer to what it writes.
-use Rattle.std.proofs.Common.{◌≡◌, ◌≢◌, ◌∙◌, ◌⊎◌, inl, inr, sym, subst, ℕ, List, Option, Result, Ok, Err, IfOk, IfErr}
+use Rattle.std.proofs.Common.{◌≡◌, ◌⊎◌, inr, sym, subst, ℕ, List, Option, Result, Ok, Err, IfOk, IfErr}
 use Rattle.std.specs.Io.KnownBytes.{Appends}
 use Rattle.wire_types.specs.declared.Fault.{Fault}
-use Rattle.wire_types.specs.declared.Fault.TheVariants.{Memory, Read, Write}
+use Rattle.wire_types.specs.declared.Fault.TheVariants.{Memory}
 use Rattle.wire_types.specs.Front.{WritesFront}
 use Rattle.wire_content.specs.Scripts.{Scripts}
 use Rattle.wire_script.specs.declared.Size.{Size}
@@ -32,12 +32,3 @@ pub wrong_word : {size : Size} (coming : Option (List ℕ)) (words : List (List 
     ReadPlaced size coming s rows → (e ≡ Memory) ⊎ Asks s words (Err e) →
     StopsBeforeAnswer size coming words e
 wrong_word coming words s rows e read wrong = word_stops coming words s e (record { bytes = read.bytes; came = read.came; reads = read.reads }) wrong
-
--- the writing is no failed read
-pub no_read_writing : {A : Type 0} (old new : Option (List ℕ)) (text : List ℕ) (r : Result A Fault) → IfErr r (WritesFront old new text) → r ≡ Err Read → ⊥
-no_read_writing old new text (Ok x) front is = let bad : Ok x ≡ Err Read = is in cc
-no_read_writing old new text (Err e) (m, carries, (short, front)) is = let bad : Write m ≡ Read = cc in cc
-
--- memory that ran out is no failed read
-pub memory_no_read : (e : Fault) → e ≡ Memory → e ≢ Read
-memory_no_read e memory is = let bad : Memory ≡ Read = sym memory ∙ is in cc

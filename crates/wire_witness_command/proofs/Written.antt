@@ -1,13 +1,12 @@
 -- From what the parts of the commands answer to what they answer.
-use Rattle.std.proofs.Common.{◌≡◌, ◌≢◌, ◌∙◌, ap, subst, sym, refl, ℕ, Bool, List, ◌⊎◌, inl, inr, Option, Result, Ok, Err, IfOk, IfErr, OnOk}
+use Rattle.std.proofs.Common.{◌≡◌, ◌⊎◌, inr, subst, sym, ℕ, Bool, List, Option, Result, Ok, Err, IfOk, IfErr}
 use Rattle.std.specs.Io.KnownBytes.{Appends}
 use Rattle.wire_types.specs.declared.Fault.{Fault}
-use Rattle.wire_types.specs.declared.Fault.TheVariants.{Memory, Read, Write}
 use Rattle.wire_types.specs.Front.{WritesFront}
 use Rattle.wire_content.specs.Scripts.{Scripts}
 use Rattle.wire_script.specs.declared.Size.TheVariants.{OfVersion}
 use Rattle.wire_commands.specs.declared.checking.Ended.{Ended}
-use Rattle.wire_commands.specs.Plain.{ReadAs, Refuses}
+use Rattle.wire_commands.specs.Plain.{ReadAs}
 use Rattle.wire_commands.specs.Why.{StopsBeforeAnswer}
 use Rattle.wire_commands.specs.Check.{StopsBeforeFindings}
 use Rattle.wire_witness_command.specs.declared.part.Part.{Part}
@@ -44,12 +43,3 @@ pub tried_err : {json : Bool} (coming : Option (List ℕ)) (most : ℕ) (old new
 tried_err coming most old new s text ended kept failed (Ok e) read tells front count = tt
 tried_err coming most old new s text ended kept failed (Err e) read tells front count =
     inr (record { scripts = s; read = read; text = text; ended = ended; tells = tells; wrote = front }, count)
-
--- the writing is no failed read
-pub no_read_writing : (old new : Option (List ℕ)) (text : List ℕ) (r : Result Ended Fault) → IfErr r (WritesFront old new text) → r ≡ Err Read → ⊥
-no_read_writing old new text (Ok x) front is = let bad : Ok x ≡ Err Read = is in cc
-no_read_writing old new text (Err e) (m, carries, (short, front)) is = let bad : Write m ≡ Read = cc in cc
-
--- memory that ran out is no failed read
-pub memory_no_read : (e : Fault) → e ≡ Memory → e ≢ Read
-memory_no_read e memory is = let bad : Memory ≡ Read = sym memory ∙ is in cc

@@ -1,10 +1,10 @@
 use Rattle.std.proofs.Common.{inl, refl, ap, Err, map}
-use Rattle.wire_commands.proofs.Replayed.{handed_on, not_ok, not_on_ok, same_error}
+use Rattle.wire_commands.proofs.Replayed.{handed_on, not_ok, not_on_ok, same_error, no_read_writing}
 use Rattle.wire_commands.proofs.Followed.{on_ok_too, err_always}
 use Rattle.wire_commands.proofs.Questioned.{file_stops, no_read_of_words}
 use Rattle.wire_commands.specs.Why.{StopsBeforeAnswer}
 use Rattle.wire_lined_commands.specs.Paired.{ShowsPlaced}
-use Rattle.wire_lined_commands.proofs.Written.{wrote_all, wrote_front, no_read_writing, wrong_word}
+use Rattle.wire_lined_commands.proofs.Written.{wrote_all, wrote_front, wrong_word}
 use Rattle.wire_lined_commands.proofs.pair.witness_located.Goals as goal
 
 pub returns-in_err-scripts-clause-ok : goal.returns-in_err-scripts-clause-ok

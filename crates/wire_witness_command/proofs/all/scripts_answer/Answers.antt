@@ -1,5 +1,4 @@
 use Rattle.std.proofs.Common.{subst, IfOk}
-use Rattle.wire_commands.proofs.Replayed.{not_ok}
 use Rattle.wire_witness_command.specs.All.{IsTriedText}
 use Rattle.wire_witness_command.proofs.all.scripts_answer.Goals as goal
 

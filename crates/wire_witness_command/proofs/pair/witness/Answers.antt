@@ -1,8 +1,8 @@
 use Rattle.std.proofs.Common.{inl, refl, map, ap, Err}
-use Rattle.wire_commands.proofs.Replayed.{handed_on, not_ok, not_on_ok, same_error}
+use Rattle.wire_commands.proofs.Replayed.{handed_on, not_ok, not_on_ok, same_error, no_read_writing}
 use Rattle.wire_commands.proofs.Followed.{on_ok_too, err_always}
 use Rattle.wire_commands.proofs.Questioned.{file_stops, word_stops, no_read_of_words}
-use Rattle.wire_witness_command.proofs.Written.{pair_ok, pair_err, no_read_writing}
+use Rattle.wire_witness_command.proofs.Written.{pair_ok, pair_err}
 use Rattle.wire_witness_command.proofs.pair.witness.Goals as goal
 
 pub returns-in_err-scripts-clause-ok : goal.returns-in_err-scripts-clause-ok
