@@ -44,7 +44,7 @@ only_refused coming e (inr (inr refuses)) memory read write = refuses
 pub memory_is_no_read : (e : Fault) → e ≡ Memory → e ≢ Read
 memory_is_no_read e memory is = let bad : Memory ≡ Read = sym memory ∙ is in cc
 
-pub memory_no_read : (r : Result (Unit {0}) Fault) (e : Fault) → IsErrAnd r (λ d. d ≡ e) → e ≡ Memory → r ≡ Err Read → ⊥
+pub memory_no_read : {A : Type 0} (r : Result A Fault) (e : Fault) → IsErrAnd r (λ d. d ≡ e) → e ≡ Memory → r ≡ Err Read → ⊥
 memory_no_read r e is memory at = memory_is_no_read e memory (same_error r e Read is at)
 
 pub memory_no_write : (r : Result (Unit {0}) Fault) (e : Fault) (n : ℕ) → IsErrAnd r (λ d. d ≡ e) → e ≡ Memory → r ≡ Err (Write n) → ⊥

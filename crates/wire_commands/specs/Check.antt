@@ -1,5 +1,5 @@
 -- What a check writes: all findings of the scripts that were to come from the reader.
-use Rattle.std.specs.Prelude.{◌≡◌, ◌⊎◌, ◌↔◌, ℕ, Bool, List, [], ◌∷◌, Option, length}
+use Rattle.std.specs.Prelude.{◌≡◌, ◌⊎◌, ◌↔◌, ◌==◌, ℕ, Bool, if◌then◌else◌, List, [], ◌∷◌, Option, length}
 use Rattle.std.specs.Io.KnownBytes.{Appends}
 use Rattle.wire_types.specs.Front.{WritesFront}
 use Rattle.wire_types.specs.declared.Fault.{Fault}
@@ -17,6 +17,10 @@ use Rattle.wire_script.specs.declared.Size.{Size}
 use Rattle.wire_commands.specs.declared.checking.Ended.{Ended}
 use Rattle.wire_commands.specs.declared.checking.Ended.TheVariants.{Clean, Found}
 use Rattle.wire_commands.specs.Plain.{ReadAs, Refuses}
+
+-- how a command ends that finds so many
+abbrev pub ended_of : ℕ → Ended
+ended_of count = if count == 0 then Clean else Found count
 
 -- how a check or a rehearsal ends that has these findings
 abbrev pub ended_with : List Finding → Ended

@@ -22,7 +22,7 @@ use wire_report::write_findings;
 use wire_script::Size;
 use wire_types::{Fault, Sink, Source};
 
-/// How a check or a rehearsal ended: without findings, or with so many.
+/// How a command ended: without findings, or with so many. `witness` finds the races that it shows.
 #[derive(Clone, Copy, Debug, PartialEq, Eq)]
 pub enum Ended {
     Clean,
@@ -47,9 +47,10 @@ impl Ended {
         Ended::of_count(findings.len())
     }
 
-    /// How a check ends that has so many findings.
+    /// How a command ends that has so many findings.
     pub fn of_count(count: usize) -> Ended
-        ensures { (findings : List Told) → count ≡ length findings → result ≡ spec.ended_with findings }
+        ensures counted { result ≡ spec.ended_of count }
+        ensures found { (findings : List Told) → count ≡ length findings → result ≡ spec.ended_with findings }
     {
         match count {
             0 => Ended::Clean,

@@ -2,6 +2,7 @@
 //! which of two calls comes first, and the same plan under version 2 of the format.
 #![tactic(auto)]
 
+mod answer;
 mod asking;
 mod checking;
 mod following;
@@ -10,6 +11,7 @@ mod migrating;
 mod plain_run;
 mod reading;
 
+pub use answer::{Answer, write_answer};
 pub use asking::{read_pair, why, why_in_form, why_sized};
 pub use checking::{Ended, check, check_in_form, check_sized};
 pub use following::{follow, follow_in_form, follow_sized};

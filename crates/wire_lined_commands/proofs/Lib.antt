@@ -3,5 +3,4 @@ mod Fits
 mod Grouped
 mod Listed
 mod Ordered
-mod Paired
 mod Written

@@ -14,8 +14,9 @@ use Rattle.wire_report.specs.Findings.{finding_words}
 use Rattle.wire_located.specs.Label.{pair_of}
 use Rattle.wire_located.specs.Place.{line_of}
 use Rattle.wire_witness.specs.declared.witness.Witness.{Witness}
-use Rattle.wire_witness_command.specs.declared.tried.TriedRace.{TriedRace}
-use Rattle.wire_witness_command.specs.Tried.{counts_of}
+use Rattle.wire_witness.specs.declared.all.RaceSearch.{RaceSearch}
+use Rattle.wire_witness.specs.declared.tried.TriedRace.{TriedRace}
+use Rattle.wire_witness.specs.Searches.{counts_of}
 
 -- a call, or a half of a fence, with its line
 unfoldable pub json_step : List (List ℕ) → Scripts → ChainStep → List ℕ
@@ -57,9 +58,9 @@ json_groups rows scripts found groups =
     codes "{\"findings\":" ++ bracketed (map (json_finding rows scripts) found) ++ codes ",\"groups\":" ++ bracketed (map json_group groups) ++ codes "}\n"
 
 -- two runs that show a race, the call that ends differently in them, and the other call of the race
-abbrev pub json_witness : List (List ℕ) → Scripts → CallAt → Witness → List ℕ
-json_witness rows scripts other witness =
-    codes "{\"first\":" ++ json_run scripts witness.first_end (numbers_of witness.first.items) ++ codes ",\"other\":" ++ json_call rows scripts other
+abbrev pub json_witness : List (List ℕ) → Scripts → Witness → List ℕ
+json_witness rows scripts witness =
+    codes "{\"first\":" ++ json_run scripts witness.first_end (numbers_of witness.first.items) ++ codes ",\"other\":" ++ json_call rows scripts witness.other
     ++ codes ",\"race\":true,\"second\":" ++ json_run scripts witness.second_end (numbers_of witness.second.items) ++ codes ",\"shown\":"
     ++ json_call rows scripts witness.call ++ codes "}\n"
 
@@ -72,7 +73,7 @@ json_shown rows scripts None = codes "null"
 abbrev pub json_tried : List (List ℕ) → Scripts → TriedRace → List ℕ
 json_tried rows scripts tried = finding_members rows scripts tried.race ++ codes ",\"shown\":" ++ json_shown rows scripts tried.shown ++ codes "}"
 
--- the races that were tried, of so many in all
-abbrev pub json_races : List (List ℕ) → Scripts → List TriedRace → ℕ → List ℕ
-json_races rows scripts tried count =
-    codes "{\"counts\":" ++ json_counts (counts_of tried count) ++ codes ",\"races\":" ++ bracketed (map (json_tried rows scripts) tried) ++ codes "}\n"
+-- the races that were tried, and how many there are
+abbrev pub json_races : List (List ℕ) → Scripts → RaceSearch → List ℕ
+json_races rows scripts search =
+    codes "{\"counts\":" ++ json_counts (counts_of search) ++ codes ",\"races\":" ++ bracketed (map (json_tried rows scripts) search.tried.items) ++ codes "}\n"

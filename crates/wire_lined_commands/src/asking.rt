@@ -14,13 +14,12 @@ use crate::chains::chain_text;
 use crate::file::{PlanFile, Telling};
 use crate::reading::read_placed;
 use std::alloc::Global;
-use wire_commands::{Ended, read_pair};
+use wire_commands::{Answer, Ended, read_pair, write_answer};
 use wire_content::Scripts;
 use wire_located::Places;
 use wire_marks::Marks;
 use wire_plan::Plan;
 use wire_types::{CallAt, Fault, Sink, Source};
-use wire_witness_command::{Answer, write_answer};
 
 /// The text of the order of two calls of a plan.
 fn text_between(

@@ -13,7 +13,7 @@ use crate::lined::groups_json;
 use crate::reading::read_placed;
 use std::alloc::Global;
 use std::thread::Threads;
-use wire_commands::Ended;
+use wire_commands::{Answer, Ended, write_answer};
 use wire_content::Scripts;
 use wire_findings::FindingList;
 use wire_located::{Places, group_findings, grouped_lines};
@@ -22,7 +22,6 @@ use wire_plan::Plan;
 use wire_races::finding_list;
 use wire_races::laws::settled_exactly;
 use wire_types::{Fault, Sink, Source};
-use wire_witness_command::{Answer, write_answer};
 
 /// Findings in groups, as JSON.
 fn grouped_json(

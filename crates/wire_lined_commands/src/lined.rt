@@ -18,8 +18,7 @@ use wire_json::{
 use wire_located::{line_of, pair_of};
 use wire_report::push_finding;
 use wire_types::CallAt;
-use wire_witness::Witness;
-use wire_witness_command::{TriedRace, counts_of};
+use wire_witness::{RaceSearch, TriedRace, Witness};
 use wire_words::push_number;
 
 /// A call, or a half of a fence, with its line.
@@ -261,16 +260,15 @@ pub(crate) fn witness_json(
     alloc: Global,
     scripts: &Scripts,
     rows: &[Vec<u64>],
-    other: CallAt,
     witness: &Witness,
 ) -> Result<Vec<u8>, AllocError>
-    ensures { IfOk result (λ text. text.items ≡ spec.json_witness (map (λ row. row.items) rows.now) scripts.now other witness.now) }
+    ensures { IfOk result (λ text. text.items ≡ spec.json_witness (map (λ row. row.items) rows.now) scripts.now witness.now) }
 {
     let mut text = Vec::new(alloc);
     text.extend_from_slice(b"{\"first\":")?;
     push_first(alloc, &mut text, scripts, witness)?;
     text.extend_from_slice(b",\"other\":")?;
-    push_call(alloc, &mut text, scripts, rows, other)?;
+    push_call(alloc, &mut text, scripts, rows, witness.other)?;
     text.extend_from_slice(b",\"race\":true,\"second\":")?;
     push_second(alloc, &mut text, scripts, witness)?;
     text.extend_from_slice(b",\"shown\":")?;
@@ -362,18 +360,17 @@ fn tried_texts(
     Ok(texts)
 }
 
-/// The races that were tried, of so many in all.
+/// The races that were tried, and how many there are.
 pub(crate) fn races_json(
     alloc: Global,
     scripts: &Scripts,
     rows: &[Vec<u64>],
-    tried: &[TriedRace],
-    count: usize,
+    search: &RaceSearch,
 ) -> Result<Vec<u8>, AllocError>
-    ensures { IfOk result (λ text. text.items ≡ spec.json_races (map (λ row. row.items) rows.now) scripts.now tried.now count) }
+    ensures { IfOk result (λ text. text.items ≡ spec.json_races (map (λ row. row.items) rows.now) scripts.now search.now) }
 {
-    let races = tried_texts(alloc, scripts, rows, tried)?;
-    let counts = counts_json(alloc, counts_of(tried, count))?;
+    let races = tried_texts(alloc, scripts, rows, search.tried.as_slice())?;
+    let counts = counts_json(alloc, search.counts())?;
     let mut text = Vec::new(alloc);
     text.extend_from_slice(b"{\"counts\":")?;
     text.extend_from_slice(counts.as_slice())?;

@@ -7,29 +7,24 @@ ghost use Rattle.wire_types.specs.Counting.{one_more};
 ghost use Rattle.wire_commands.specs.Check.{StopsBeforeFindings};
 ghost use Rattle.wire_lined_commands.specs.Placed.{WritesPlaced, BreaksOffPlaced};
 ghost use Rattle.wire_lined_commands.specs.Raced as spec;
-ghost use Rattle.wire_lined_commands.specs.Raced.{ArePlaced, TriesPlaced};
+ghost use Rattle.wire_lined_commands.specs.Raced.{TriesPlaced};
 
 use crate::file::{PlanFile, Telling};
 use crate::lined::races_json;
 use crate::reading::read_placed;
 use std::alloc::{AllocError, Global};
 use std::thread::Threads;
-use wire_commands::Ended;
+use wire_commands::{Answer, Ended, write_answer};
 use wire_content::Scripts;
-use wire_findings::Finding;
 use wire_located::{Places, pair_of, push_place, push_second};
-use wire_marks::{MarkedPlan, Marks};
 use wire_plan::Plan;
-use wire_races::finding_list;
+use wire_report::{push_counts, push_tried};
 use wire_types::{Fault, Sink, Source};
-use wire_witness_command::{
-    Answer, TriedRace, count_races, count_shown, ended_of, push_counts, push_tried, take_races,
-    try_races, write_answer,
-};
+use wire_witness::{RaceSearch, TriedRace, search_races};
 
 /// How many races are tried at most, and how they are told.
 #[derive(Clone, Copy)]
-struct Search<'a> {
+struct Tries<'a> {
     most: usize,
     telling: Telling<'a>,
 }
@@ -45,7 +40,7 @@ fn push_race(
         ++ spec.placed_race places.entry.name.now (map (λ row. row.items) places.entry.rows.now) scripts.now tried) }
 {
     push_place(out, places, pair_of(tried.race).lower)?;
-    push_tried(out, scripts, tried)?;
+    push_tried(out, scripts, tried.race, tried.shown)?;
     push_second(out, places, scripts, tried.race)
 }
 
@@ -65,51 +60,23 @@ fn push_races(
     Ok(())
 }
 
-/// The text of these races, of so many in all: in lines, or as JSON.
+/// The text of a search: in lines, or as JSON.
 fn races_text(
     alloc: Global,
     scripts: &Scripts,
     telling: Telling<'_>,
-    tried: &[TriedRace],
-    count: usize,
+    search: &RaceSearch,
 ) -> Result<Vec<u8>, AllocError>
     ensures { IfOk result (λ text. text.items ≡ spec.races_form telling.entry.json telling.entry.places.name.now
-        (map (λ row. row.items) telling.entry.places.rows.now) scripts.now tried.now count) }
+        (map (λ row. row.items) telling.entry.places.rows.now) scripts.now search.now) }
 {
     if telling.json {
-        return races_json(alloc, scripts, telling.places.rows, tried, count);
+        return races_json(alloc, scripts, telling.places.rows, search);
     }
     let mut text = Vec::new(alloc);
-    push_races(&mut text, scripts, telling.places, tried)?;
-    push_counts(&mut text, tried, count)?;
+    push_races(&mut text, scripts, telling.places, search.tried.as_slice())?;
+    push_counts(&mut text, search.counts())?;
     Ok(text)
-}
-
-/// The answer about these races of a plan, of so many in all.
-fn races_answer(
-    alloc: Global,
-    marked: &MarkedPlan<'_>,
-    telling: Telling<'_>,
-    races: &[Finding],
-    count: usize,
-) -> Result<Answer, Fault>
-    ensures ok { IfOk result (λ answer. ArePlaced telling.entry.json telling.entry.places.name.now (map (λ row. row.items) telling.entry.places.rows.now)
-        marked.now races.now count answer.text.items answer.ended) }
-    ensures err { IfErr result (λ e. e ≡ Memory) }
-{
-    let tried = try_races(alloc, marked, races)?;
-    let shown = count_shown(tried.as_slice());
-    let text = races_text(
-        alloc,
-        marked.plan().scripts(),
-        telling,
-        tried.as_slice(),
-        count,
-    )?;
-    Ok(Answer {
-        text,
-        ended: ended_of(shown),
-    })
 }
 
 /// The answer about the races of a plan.
@@ -117,19 +84,18 @@ fn plan_answer(
     rt: &(impl Threads + Sync),
     alloc: Global,
     plan: &Plan,
-    search: Search<'_>,
+    tries: Tries<'_>,
 ) -> Result<Answer, Fault>
-    ensures ok { IfOk result (λ answer. TriesPlaced search.entry.telling.json search.entry.telling.places.name.now search.entry.most plan.now
-        (map (λ row. row.items) search.entry.telling.places.rows.now) answer.text.items answer.ended) }
+    ensures ok { IfOk result (λ answer. TriesPlaced tries.entry.telling.json tries.entry.telling.places.name.now tries.entry.most plan.now
+        (map (λ row. row.items) tries.entry.telling.places.rows.now) answer.text.items answer.ended) }
     ensures err { IfErr result (λ e. e ≡ Memory) }
 {
-    let marks = Marks::of(alloc, plan)?;
-    let marked = marks.with(plan);
-    let found = finding_list(rt, alloc, &marked)?;
-    let races = take_races(alloc, &found, search.most)?;
-    let count = count_races(&found);
-    let answer = races_answer(alloc, &marked, search.telling, races.as_slice(), count)?;
-    Ok(answer)
+    let search = search_races(rt, alloc, plan, tries.most)?;
+    let text = races_text(alloc, plan.scripts(), tries.telling, &search)?;
+    Ok(Answer {
+        text,
+        ended: Ended::of_count(search.count_shown()),
+    })
 }
 
 /// The answer about the races of scripts.
@@ -137,19 +103,19 @@ fn scripts_answer(
     rt: &(impl Threads + Sync),
     alloc: Global,
     scripts: Scripts,
-    search: Search<'_>,
+    tries: Tries<'_>,
 ) -> Result<Answer, Fault>
-    ensures ok { IfOk result (λ answer. TriesPlaced search.entry.telling.json search.entry.telling.places.name.now search.entry.most scripts
-        (map (λ row. row.items) search.entry.telling.places.rows.now) answer.text.items answer.ended) }
+    ensures ok { IfOk result (λ answer. TriesPlaced tries.entry.telling.json tries.entry.telling.places.name.now tries.entry.most scripts
+        (map (λ row. row.items) tries.entry.telling.places.rows.now) answer.text.items answer.ended) }
     ensures err { IfErr result (λ e. e ≡ Memory) }
 {
     let plan = Plan::build(alloc, scripts)?;
-    let answer = plan_answer(rt, alloc, &plan, search);
+    let answer = plan_answer(rt, alloc, &plan, tries);
     drop(plan);
     answer
 }
 
-/// Tries to show the races of a plan as `wire_witness_command::witnesses` does, with the places of their calls: the
+/// Tries to show the races of a plan as `witnesses` does, with the places of their calls: the
 /// line of a race stands behind the name of the file and the line of its lower call, and is followed by the place
 /// of the other. As JSON each race has its two calls with the numbers of their lines.
 ///
@@ -185,6 +151,6 @@ pub fn witnesses_located<R: Source, W: Sink>(
     };
     let json = file.json;
     let telling = Telling { places, json };
-    let answer = scripts_answer(rt, alloc, scripts, Search { most, telling })?;
+    let answer = scripts_answer(rt, alloc, scripts, Tries { most, telling })?;
     write_answer(writer, &answer)
 }

@@ -1,4 +1,5 @@
 pub mod Chains
+pub mod Counts
 pub mod LinesLeft
 pub mod Room
 pub mod Rows

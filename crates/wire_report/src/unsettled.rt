@@ -61,7 +61,11 @@ pub fn write_unsettled<S: Sink>(
 }
 
 /// Appends how many steps were taken, and their lines.
-pub fn push_order(out: &mut Vec<u8>, scripts: &Scripts, order: &[Proc]) -> Result<(), AllocError>
+pub(crate) fn push_order(
+    out: &mut Vec<u8>,
+    scripts: &Scripts,
+    order: &[Proc],
+) -> Result<(), AllocError>
     ensures { OnOk result (out.new.items ≡ out.old.items ++ spec.order_text scripts.now (numbers_of order.now)) }
 {
     out.extend_from_slice(b"order ")?;

@@ -1,2 +1,4 @@
 pub mod Comes
+pub mod Fronts
 pub mod Laid
+pub mod Shown

@@ -1,2 +1,5 @@
 pub mod Witness
 pub mod Runs
+pub mod Races
+pub mod Tried
+pub mod Searches

@@ -33,11 +33,15 @@ pub record IsRunWithFirst (plan : Plan) (steps : List ℕ) (x y : CallAt) : Type
 abbrev pub end_after : Plan → List ℕ → CallAt → Option CallEnd
 end_after plan steps call = slice_get (row plan (run plan steps) call.proc.number) call.call
 
+-- one of two calls, and the other
+abbrev pub AreBoth : (x y one other : CallAt) → Type 0
+AreBoth x y one other = ((one ≡ x) × (other ≡ y)) ⊎ ((one ≡ y) × (other ≡ x))
+
 -- in the first run x comes first, in the second y; and the ends of one of the two calls differ as they are written
 pub record IsWitness (scripts : Scripts) (x y : CallAt) (witness : Witness) : Type 0 where
   pub first : IsRunWithFirst (plan_of scripts) (numbers_of witness.first.items) x y
   pub second : IsRunWithFirst (plan_of scripts) (numbers_of witness.second.items) y x
-  pub of_them : (witness.call ≡ x) ⊎ (witness.call ≡ y)
+  pub both : AreBoth x y witness.call witness.other
   pub first_end : end_after (plan_of scripts) (numbers_of witness.first.items) witness.call ≡ Some witness.first_end
   pub second_end : end_after (plan_of scripts) (numbers_of witness.second.items) witness.call ≡ Some witness.second_end
   pub differ : end_text scripts witness.first_end ≢ end_text scripts witness.second_end

@@ -25,10 +25,11 @@ struct Pair {
     y: CallAt,
 }
 
-/// Two ends of one call that differ as they are written.
+/// Two ends of one call of a pair that differ as they are written, and the other call.
 #[derive(Clone, Copy)]
 struct Difference {
     call: CallAt,
+    other: CallAt,
     first_end: CallEnd,
     second_end: CallEnd,
 }
@@ -73,6 +74,7 @@ fn find_difference(
     if !read_alike(alloc, scripts, &first.first_end, &second.other_end)? {
         return Ok(Some(Difference {
             call: pair.x,
+            other: pair.y,
             first_end: first.first_end,
             second_end: second.other_end,
         }));
@@ -80,6 +82,7 @@ fn find_difference(
     if !read_alike(alloc, scripts, &first.other_end, &second.first_end)? {
         return Ok(Some(Difference {
             call: pair.y,
+            other: pair.x,
             first_end: first.other_end,
             second_end: second.first_end,
         }));
@@ -96,7 +99,7 @@ fn witness_of(
 ) -> Result<Witness, AllocError>
     ensures first { IfOk result (λ w. numbers_of w.first.items ≡ first.now.core.history) }
     ensures second { IfOk result (λ w. numbers_of w.second.items ≡ second.now.core.history) }
-    ensures apart { IfOk result (λ w. (w.call ≡ apart.call) × (w.first_end ≡ apart.first_end) × (w.second_end ≡ apart.second_end)) }
+    ensures apart { IfOk result (λ w. (w.call ≡ apart.call) × (w.other ≡ apart.other) × (w.first_end ≡ apart.first_end) × (w.second_end ≡ apart.second_end)) }
 {
     let steps = first.core.history().to_vec(alloc)?;
     let others = second.core.history().to_vec(alloc)?;
@@ -104,6 +107,7 @@ fn witness_of(
         first: steps,
         second: others,
         call: apart.call,
+        other: apart.other,
         first_end: apart.first_end,
         second_end: apart.second_end,
     })

@@ -12,6 +12,8 @@ pub struct Witness {
     pub second: Vec<Proc>,
     /// The call that ends differently.
     pub call: CallAt,
+    /// The other of the two.
+    pub other: CallAt,
     /// How it ends in the first run.
     pub first_end: CallEnd,
     /// How it ends in the second run.

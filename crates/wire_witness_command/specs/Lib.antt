@@ -1,4 +1,3 @@
-pub mod Races
 pub mod Texts
 pub mod Tried
 pub mod Pair

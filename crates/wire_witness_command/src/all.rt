@@ -4,21 +4,17 @@ ghost use Rattle.std.specs.Prelude.{◌≡◌, ◌≢◌, ◌⊎◌, false, Err,
 ghost use Rattle.wire_types.specs.declared.Fault.TheVariants.{Memory, Read};
 ghost use Rattle.wire_types.specs.Counting.{one_more};
 ghost use Rattle.wire_commands.specs.Check.{StopsBeforeFindings};
-ghost use Rattle.wire_witness_command.specs.All.{AreTold, BreaksOffTried, IsTriedText, WritesTried};
+ghost use Rattle.wire_witness_command.specs.All.{BreaksOffTried, IsTriedText, WritesTried};
 
-use crate::answer::{Answer, ended_of, write_answer};
-use crate::races::{count_races, take_races};
-use crate::tried::{count_shown, races_text, try_races};
+use crate::tried::races_form;
 use std::alloc::Global;
 use std::thread::Threads;
-use wire_commands::{Ended, read_scripts};
+use wire_commands::{Answer, Ended, read_scripts, write_answer};
 use wire_content::Scripts;
-use wire_findings::Finding;
-use wire_marks::{MarkedPlan, Marks};
 use wire_plan::Plan;
-use wire_races::finding_list;
 use wire_script::Size;
 use wire_types::{Fault, Sink, Source};
+use wire_witness::search_races;
 
 /// How many races are tried at most, and in which form they are told.
 #[derive(Clone, Copy, Debug, PartialEq, Eq)]
@@ -26,32 +22,6 @@ pub struct Tries {
     pub most: usize,
     /// JSON in place of lines.
     pub json: bool,
-}
-
-/// The answer about these races of a plan, of so many in all.
-fn races_answer(
-    alloc: Global,
-    marked: &MarkedPlan<'_>,
-    races: &[Finding],
-    count: usize,
-    json: bool,
-) -> Result<Answer, Fault>
-    ensures ok { IfOk result (λ answer. AreTold json marked.now races.now count answer.text.items answer.ended) }
-    ensures err { IfErr result (λ e. e ≡ Memory) }
-{
-    let tried = try_races(alloc, marked, races)?;
-    let shown = count_shown(tried.as_slice());
-    let text = races_text(
-        alloc,
-        marked.plan().scripts(),
-        tried.as_slice(),
-        count,
-        json,
-    )?;
-    Ok(Answer {
-        text,
-        ended: ended_of(shown),
-    })
 }
 
 /// The answer about the races of a plan, of which so many are tried at most.
@@ -64,13 +34,12 @@ fn plan_answer(
     ensures ok { IfOk result (λ answer. IsTriedText tries.json plan.now tries.most answer.text.items answer.ended) }
     ensures err { IfErr result (λ e. e ≡ Memory) }
 {
-    let marks = Marks::of(alloc, plan)?;
-    let marked = marks.with(plan);
-    let found = finding_list(rt, alloc, &marked)?;
-    let races = take_races(alloc, &found, tries.most)?;
-    let count = count_races(&found);
-    let answer = races_answer(alloc, &marked, races.as_slice(), count, tries.json)?;
-    Ok(answer)
+    let search = search_races(rt, alloc, plan, tries.most)?;
+    let text = races_form(alloc, plan.scripts(), &search, tries.json)?;
+    Ok(Answer {
+        text,
+        ended: Ended::of_count(search.count_shown()),
+    })
 }
 
 /// The answer about the races of scripts.

@@ -1,46 +1,45 @@
-//! The text of a witness.
+//! The text of a search for two runs that show the race of two calls.
 
-ghost use Rattle.std.specs.Prelude.{◌≡◌, ◌++◌, IfOk, OnOk};
+ghost use Rattle.std.specs.Prelude.{◌≡◌, IfOk};
 ghost use Rattle.wire_content.specs.Scripts.{numbers_of};
 ghost use Rattle.wire_witness_command.specs.Texts as spec;
 
 use crate::part::Part;
 use std::alloc::{AllocError, Global};
 use wire_content::Scripts;
-use wire_json::{RunTold, unshown_json, witness_json};
-use wire_report::{push_order, push_steps};
-use wire_types::{CallAt, CallEnd, Proc};
-use wire_witness::Witness;
-use wire_words::{push_call, push_end, verb_at};
+use wire_json::{RunTold, witness_json};
+use wire_report::{push_ends, push_orders, push_shown, push_steps, unshown_text};
+use wire_types::Proc;
+use wire_witness::{PairSearch, Witness};
 
-/// What is written of two calls of which no race is reported.
-pub(crate) fn no_race_text(alloc: Global, part: Part) -> Result<Vec<u8>, AllocError>
-    ensures { IfOk result (λ text. text.items ≡ spec.no_race_text part) }
+/// The text of a search: the witness that was found, or that there is no race, or that none was found.
+pub(crate) fn pair_text(
+    alloc: Global,
+    scripts: &Scripts,
+    search: &PairSearch,
+    part: Part,
+) -> Result<Vec<u8>, AllocError>
+    ensures { IfOk result (λ text. text.items ≡ spec.pair_text part scripts.now search.now) }
 {
-    match part {
-        Part::Json => unshown_json(alloc, false),
-        Part::Whole | Part::FirstOrder | Part::SecondOrder => Vec::from_slice(
-            alloc,
-            b"no race\n`check` reports no race of these two calls. `why` tells whether a chain orders them.\n".as_slice(),
-        ),
+    match search {
+        PairSearch::NoRace => unshown_text(alloc, false, is_json(part)),
+        PairSearch::NotShown => unshown_text(alloc, true, is_json(part)),
+        PairSearch::Shown(witness) => witness_text(alloc, scripts, witness, part),
     }
 }
 
-/// What is written of a race of which no witness was found.
-pub(crate) fn not_shown_text(alloc: Global, part: Part) -> Result<Vec<u8>, AllocError>
-    ensures { IfOk result (λ text. text.items ≡ spec.not_shown_text part) }
+/// Whether what is written of a witness is JSON.
+fn is_json(part: Part) -> bool
+    ensures { result ≡ spec.is_json part }
 {
     match part {
-        Part::Json => unshown_json(alloc, true),
-        Part::Whole | Part::FirstOrder | Part::SecondOrder => Vec::from_slice(
-            alloc,
-            b"not shown\nNo run that was tried shows this race. Another run may show it all the same.\n".as_slice(),
-        ),
+        Part::Json => true,
+        Part::Whole | Part::FirstOrder | Part::SecondOrder => false,
     }
 }
 
 /// The text of a witness, or of one of its orders.
-pub(crate) fn witness_text(
+fn witness_text(
     alloc: Global,
     scripts: &Scripts,
     witness: &Witness,
@@ -56,12 +55,19 @@ pub(crate) fn witness_text(
     }
 }
 
-/// The lines of a witness.
+/// The lines of a witness: the call that ends differently, how it ends in each run, and the orders of both.
 fn whole_text(alloc: Global, scripts: &Scripts, witness: &Witness) -> Result<Vec<u8>, AllocError>
     ensures { IfOk result (λ text. text.items ≡ spec.whole_text scripts.now witness.now) }
 {
     let mut text = Vec::new(alloc);
-    push_whole(&mut text, scripts, witness)?;
+    push_shown(&mut text, scripts, witness.call)?;
+    push_ends(&mut text, scripts, &witness.first_end, &witness.second_end)?;
+    push_orders(
+        &mut text,
+        scripts,
+        witness.first.as_slice(),
+        witness.second.as_slice(),
+    )?;
     Ok(text)
 }
 
@@ -87,47 +93,4 @@ fn whole_json(alloc: Global, scripts: &Scripts, witness: &Witness) -> Result<Vec
         order: witness.second.as_slice(),
     };
     witness_json(alloc, scripts, witness.call, first, second)
-}
-
-/// Appends all of a witness.
-fn push_whole(out: &mut Vec<u8>, scripts: &Scripts, witness: &Witness) -> Result<(), AllocError>
-    ensures { OnOk result (out.new.items ≡ out.old.items ++ spec.whole_text scripts.now witness.now) }
-{
-    push_ends(out, scripts, witness)?;
-    push_order(out, scripts, witness.first.as_slice())?;
-    push_order(out, scripts, witness.second.as_slice())
-}
-
-/// Appends the call that ends differently, and how it ends in each run.
-fn push_ends(out: &mut Vec<u8>, scripts: &Scripts, witness: &Witness) -> Result<(), AllocError>
-    ensures { OnOk result (out.new.items ≡ out.old.items ++ spec.ends_text scripts.now witness.now) }
-{
-    push_shown(out, scripts, witness.call)?;
-    push_end_line(out, b"first ".as_slice(), scripts, &witness.first_end)?;
-    push_end_line(out, b"second ".as_slice(), scripts, &witness.second_end)
-}
-
-/// Appends the line of the call that ends differently.
-pub fn push_shown(out: &mut Vec<u8>, scripts: &Scripts, call: CallAt) -> Result<(), AllocError>
-    ensures { OnOk result (out.new.items ≡ out.old.items ++ spec.shown_line scripts.now call) }
-{
-    out.extend_from_slice(b"shown ")?;
-    push_call(out, scripts, call)?;
-    out.extend_from_slice(b" ")?;
-    out.extend_from_slice(verb_at(scripts, call).as_bytes())?;
-    out.extend_from_slice(b"\n")
-}
-
-/// Appends the line of how a call ends in a run.
-pub fn push_end_line(
-    out: &mut Vec<u8>,
-    run: &[u8],
-    scripts: &Scripts,
-    end: &CallEnd,
-) -> Result<(), AllocError>
-    ensures { OnOk result (out.new.items ≡ out.old.items ++ spec.end_line run.now scripts.now end.now) }
-{
-    out.extend_from_slice(run)?;
-    push_end(out, scripts, end)?;
-    out.extend_from_slice(b"\n")
 }

@@ -8,4 +8,4 @@ returns-clause-ok g c =
     grouped_so c.args.telling.json c.args.telling.places.name.now c.args.plan.now c.scripts.result.now
     (map (λ row. row.items) c.args.telling.places.rows.now) c.in_ok-found.found c.in_ok-text.text.items
     c.of_count.result (c.settled_exactly.ensures c.args.plan.now c.in_ok-found.found ok) ok c.scripts.ensures.scripts c.in_ok-text.ensures.ok
-    (c.of_count.ensures c.in_ok-found.found c.len.ensures)
+    (c.of_count.ensures.found c.in_ok-found.found c.len.ensures)

@@ -4,5 +4,5 @@ use Rattle.wire_lined_commands.proofs.races.scripts_answer.Goals as goal
 
 pub returns-clause-ok : goal.returns-clause-ok
 returns-clause-ok g c =
-    subst (λ s. IfOk c.plan_answer-answer.result (λ a. TriesPlaced c.args.search.telling.json c.args.search.telling.places.name.now c.args.search.most s
-    (map (λ row. row.items) c.args.search.telling.places.rows.now) a.text.items a.ended)) c.in_ok-plan.ensures.ok c.plan_answer-answer.ensures.ok
+    subst (λ s. IfOk c.plan_answer-answer.result (λ a. TriesPlaced c.args.tries.telling.json c.args.tries.telling.places.name.now c.args.tries.most s
+    (map (λ row. row.items) c.args.tries.telling.places.rows.now) a.text.items a.ended)) c.in_ok-plan.ensures.ok c.plan_answer-answer.ensures.ok

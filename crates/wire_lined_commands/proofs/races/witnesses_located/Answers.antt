@@ -1,6 +1,6 @@
 use Rattle.std.proofs.Common.{inl, refl, ap, Err}
 use Rattle.std.proofs.lemmas.Result.{on_ok_weaker}
-use Rattle.wire_commands.proofs.Replayed.{handed_on, not_ok, not_on_ok, same_error, no_read_writing, memory_is_no_read}
+use Rattle.wire_commands.proofs.Replayed.{handed_on, not_ok, not_on_ok, same_error, no_read_writing, memory_no_read}
 use Rattle.wire_commands.proofs.Followed.{err_always}
 use Rattle.wire_commands.specs.Check.{StopsBeforeFindings}
 use Rattle.wire_lined_commands.specs.Raced.{TriesPlaced}
@@ -38,7 +38,7 @@ returns-in_err-answer-clause-err g c =
 
 pub returns-in_err-answer-clause-read_failed : goal.returns-in_err-answer-clause-read_failed
 returns-in_err-answer-clause-read_failed g c is =
-    absurd (memory_is_no_read _ c.in_err-answer.ensures.err (same_error _ _ _ c.from_residual-in_err-answer.ensures.1 is))
+    absurd (memory_no_read c.from_residual-in_err-answer.result c.in_err-answer.field-0.0 c.from_residual-in_err-answer.ensures.1 c.in_err-answer.ensures.err is)
 
 pub returns-in_err-answer-clause-unfailed : goal.returns-in_err-answer-clause-unfailed
 returns-in_err-answer-clause-unfailed g c =
