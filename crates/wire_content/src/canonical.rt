@@ -66,7 +66,6 @@ fn write_put(
 
 /// Writes the line of a fence of a process of this job.
 fn write_fence(
-    alloc: Global,
     out: &mut Vec<u8>,
     scripts: &Scripts,
     job: u32,
@@ -77,7 +76,7 @@ fn write_fence(
         ++ line_text (said.Calls (said.Fence
         (set_said scripts.now job (set_at scripts.now.sets set)) collect))) }
 {
-    let word = set_word(alloc, scripts, job, set)?;
+    let word = set_word(*out.allocator(), scripts, job, set)?;
     if collect {
         write_line(
             out,
@@ -91,7 +90,6 @@ fn write_fence(
 
 /// Writes the line of a get, of either kind, which its first word tells.
 fn write_get(
-    alloc: Global,
     out: &mut Vec<u8>,
     scripts: &Scripts,
     verb: &[u8],
@@ -103,7 +101,7 @@ fn write_get(
         ∷ text_at scripts.now.keys key ∷ [])) }
 {
     let (job, rank) = job_and_rank(scripts, owner);
-    let word = proc_word(alloc, scripts.jobs().text(job), rank)?;
+    let word = proc_word(*out.allocator(), scripts.jobs().text(job), rank)?;
     write_line(out, verb, &[word.as_slice(), scripts.keys().text(key)])
 }
 
@@ -137,13 +135,7 @@ fn write_named(
 }
 
 /// Writes the line of a call of a process of this job.
-fn write_call(
-    alloc: Global,
-    out: &mut Vec<u8>,
-    scripts: &Scripts,
-    job: u32,
-    call: &Call,
-) -> Result<(), AllocError>
+fn write_call(out: &mut Vec<u8>, scripts: &Scripts, job: u32, call: &Call) -> Result<(), AllocError>
     ensures { OnOk result (out.new.items ≡ out.old.items
         ++ line_text (said.Calls (call_said scripts.now job call.now))) }
 {
@@ -152,10 +144,10 @@ fn write_call(
             write_put(out, scripts, scope_word(scope), key, value)
         }
         Call::Commit => write_line(out, b"commit".as_slice(), &[]),
-        Call::Fence { set, collect } => write_fence(alloc, out, scripts, job, set, collect),
-        Call::Get { owner, key } => write_get(alloc, out, scripts, b"get".as_slice(), owner, key),
+        Call::Fence { set, collect } => write_fence(out, scripts, job, set, collect),
+        Call::Get { owner, key } => write_get(out, scripts, b"get".as_slice(), owner, key),
         Call::GetNow { owner, key } => {
-            write_get(alloc, out, scripts, b"get-now".as_slice(), owner, key)
+            write_get(out, scripts, b"get-now".as_slice(), owner, key)
         }
         Call::Publish { name, value } => write_publish(out, scripts, name, value),
         Call::Lookup { name } => write_named(out, scripts, b"lookup".as_slice(), name),
@@ -165,12 +157,7 @@ fn write_call(
     }
 }
 
-fn write_process(
-    alloc: Global,
-    out: &mut Vec<u8>,
-    scripts: &Scripts,
-    process: &Process,
-) -> Result<(), AllocError>
+fn write_process(out: &mut Vec<u8>, scripts: &Scripts, process: &Process) -> Result<(), AllocError>
     ensures { OnOk result (out.new.items ≡ out.old.items
         ++ flat_map line_text (process_said scripts.now process.now)) }
 {
@@ -180,24 +167,19 @@ fn write_process(
         &[scripts.nodes().text(process.node())],
     )?;
     for call in process.calls() {
-        write_call(alloc, out, scripts, process.job(), call)?;
+        write_call(out, scripts, process.job(), call)?;
     }
     Ok(())
 }
 
-fn write_job(
-    alloc: Global,
-    out: &mut Vec<u8>,
-    scripts: &Scripts,
-    job: u32,
-) -> Result<(), AllocError>
+fn write_job(out: &mut Vec<u8>, scripts: &Scripts, job: u32) -> Result<(), AllocError>
     ensures { OnOk result (out.new.items ≡ out.old.items
         ++ flat_map line_text (job_said scripts.now job (text_at scripts.now.jobs job))) }
 {
     write_line(out, b"job".as_slice(), &[scripts.jobs().text(job)])?;
     for process in scripts.processes() {
         if process.job() == job {
-            write_process(alloc, out, scripts, process)?;
+            write_process(out, scripts, process)?;
         }
     }
     Ok(())
@@ -213,12 +195,12 @@ fn write_nodes(out: &mut Vec<u8>, scripts: &Scripts) -> Result<(), AllocError>
     Ok(())
 }
 
-fn write_jobs(alloc: Global, out: &mut Vec<u8>, scripts: &Scripts) -> Result<(), AllocError>
+fn write_jobs(out: &mut Vec<u8>, scripts: &Scripts) -> Result<(), AllocError>
     ensures { OnOk result (out.new.items ≡ out.old.items
         ++ flat_map line_text (jobs_said scripts.now 0 scripts.now.jobs)) }
 {
     for job in 0..scripts.jobs().len() {
-        write_job(alloc, out, scripts, job)?;
+        write_job(out, scripts, job)?;
     }
     Ok(())
 }
@@ -253,7 +235,7 @@ impl Scripts {
         )?;
         write_keep(&mut out, self)?;
         write_nodes(&mut out, self)?;
-        write_jobs(alloc, &mut out, self)?;
+        write_jobs(&mut out, self)?;
         Ok(out)
     }
 }

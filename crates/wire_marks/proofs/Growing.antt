@@ -6,6 +6,8 @@ use Rattle.std.proofs.lemmas.Option.{slice_get_past, slice_get_within, same_Some
 use Rattle.wire_runs.specs.Plan.{Event}
 use Rattle.wire_runs.specs.Plan.{Plan, Kind, kind, event_count, process_count, kinds, process_kinds}
 use Rattle.wire_runs.specs.Order.{Edge, may_come, Live, Before, edge, further}
+use Rattle.wire_content.specs.Scripts.{Scripts}
+use Rattle.wire_content.specs.Planned.{plan_of}
 use Rattle.wire_runs.proofs.Basics.{event_within}
 use Rattle.wire_runs.proofs.Due.{live_source, live_may, place_path}
 use Rattle.wire_runs.proofs.Histories.{no_cycle, before_live}
@@ -232,11 +234,15 @@ module _ (plan : Plan) (old new : Clocks) (p n : ℕ) (there : p < process_count
       sum_falls (process_count plan) _ _ there (omega (arith, within, here)) (λ q ne. ap (λ n. event_count plan q - n) (count_other q ne))
 
 -- what is left is told by what is marked
-pub left_same : (plan : Plan) (old new : Clocks) → new.roots.items ≡ old.roots.items → unmarked plan new ≡ unmarked plan old
-left_same plan old new same = ap (λ ns. sum_to (process_count plan) (λ p. event_count plan p - length (items_at ns p))) same
+pub left_same : (s t : Scripts) (old new : Clocks) → t ≡ s → new.roots.items ≡ old.roots.items → unmarked (plan_of t) new ≡ unmarked (plan_of s) old
+left_same s t old new is same =
+    ap (λ ns. sum_to (process_count (plan_of t)) (λ p. event_count (plan_of t) p - length (items_at ns p))) same
+    ∙ ap (λ v. unmarked (plan_of v) old) is
 
-pub stuck_same : (plan : Plan) (old new : Clocks) (p : ℕ) → new.roots.items ≡ old.roots.items → IsStuckAt plan old p → IsStuckAt plan new p
-stuck_same plan old new p same stuck = subst (λ ns. IsReady plan (λ q. length (items_at ns q)) (record { proc = p; at = length (items_at ns p) }) → ⊥) (sym same) stuck
+pub stuck_same : (s t : Scripts) (old new : Clocks) (p : ℕ) → t ≡ s → new.roots.items ≡ old.roots.items → IsStuckAt (plan_of s) old p → IsStuckAt (plan_of t) new p
+stuck_same s t old new p is same stuck =
+    let here : IsStuckAt (plan_of t) old p = subst (λ v. IsStuckAt (plan_of v) old p) (sym is) stuck in
+    subst (λ ns. IsReady (plan_of t) (λ q. length (items_at ns q)) (record { proc = p; at = length (items_at ns p) }) → ⊥) (sym same) here
 
 -- where no process of the plan has a ready event, the marks are whole
 pub marks_whole : (plan : Plan) (clocks : Clocks) → AreClocks plan clocks → ((p : ℕ) → p < process_count plan → IsStuckAt plan clocks p) → AreMarks plan clocks

@@ -16,7 +16,7 @@ use Rattle.wire_marks.specs.declared.joins.Meeting.{Meeting}
 use Rattle.wire_clocks.specs.ClockTrees.{IsRoot, Holds}
 use Rattle.wire_marks.specs.Clocks.{Clocks, items_in, items_at, marked_count, root_at, base_at, own_of, clock_of, LeadsTo}
 use Rattle.wire_marks.specs.Marking.{AreBased, AreClocks, IsReady, IsBase, next_of, IsNextBase, IsGrown, Adds, root_or_zero, root_before, Counts, IsRaised, Notes}
-use Rattle.wire_marks.specs.Meeting.{AreMarked, IsJoin, IsJoined, IsMeeting, IsMeetingAt, IsEmpty, AreMeetings, AreGrowing, AreAdded, AreOthersKept, IsLeaveOf}
+use Rattle.wire_marks.specs.Meeting.{AreMarked, IsJoin, IsJoined, IsMeeting, IsMeetingAt, IsEmpty, AreMeetings, AreAdded, AreOthersKept, IsLeaveOf}
 use Rattle.wire_marks.proofs.Tables.{slice_get-set_same, slice_get-set_other}
 use Rattle.wire_marks.proofs.Same.{at_head, same_places}
 use Rattle.wire_marks.proofs.Marking.{own_rises, leads_through}
@@ -161,13 +161,13 @@ pub meetings_kept : (plan : Plan) (table : FenceTable) (old new : Clocks) (meeti
 meetings_kept plan table old new meetings keeps h = λ n info list f a meeting g. meeting_kept old new list meeting keeps (h n info list f a meeting g)
 
 -- what is kept stays right when an event is marked
-pub growing_added : (plan : Plan) (table : FenceTable) (old new : Clocks) (meetings : List Meeting) (p n : ℕ) → p < process_count plan → AreGrowing plan table old meetings →
-    IsNextBase plan old p n →
-    Adds old new p n → Notes plan (next_of old p) old new → AreGrowing plan table new meetings
-growing_added plan table old new meetings p n there growing next adds notes = record {
-  marked = sound_added plan old new p n there growing.marked next adds notes;
-  kept = meetings_kept plan table old new meetings (added_keeps plan old new p n there growing.marked next adds) growing.kept;
-}
+pub growing_added : (plan : Plan) (table : FenceTable) (old new : Clocks) (meetings : List Meeting) (p n : ℕ) → p < process_count plan → AreClocks plan old →
+    AreMeetings plan table old meetings → IsNextBase plan old p n →
+    Adds old new p n → Notes plan (next_of old p) old new → AreClocks plan new × AreMeetings plan table new meetings
+growing_added plan table old new meetings p n there marked kept next adds notes = (
+  sound_added plan old new p n there marked next adds notes,
+  meetings_kept plan table old new meetings (added_keeps plan old new p n there marked next adds) kept,
+)
 
 -- the three parts of a list of sources
 pub awaited_edge : (plan : Plan) (y : Event) (previous awaited : Option Event) (xs : List Event) → AreSources plan y (option_to_list previous ++ (option_to_list awaited ++ xs)) → (z : Event) →

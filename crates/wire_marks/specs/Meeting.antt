@@ -3,13 +3,14 @@ use Rattle.std.specs.Prelude.{◌≡◌, ◌≢◌, ◌⊎◌, ◌<◌, ◌≤�
 use Rattle.wire_runs.specs.Plan.{Plan, Event, Leave, kind}
 use Rattle.wire_content.specs.Scripts.{Scripts}
 use Rattle.wire_content.specs.Planned.{plan_of}
-use Rattle.wire_fence.specs.FenceTable.{FenceInfo, FenceTable, fence_at}
+use Rattle.wire_fence.specs.FenceTable.{FenceInfo, FenceTable, AreFencesOf, fence_at}
 use Rattle.wire_fence.specs.declared.table.FenceId.{FenceId}
 use Rattle.wire_plan.specs.Index.{AreArrivals}
 use Rattle.wire_plan.specs.Meetings.{IsMet}
 use Rattle.wire_clocks.specs.ClockTrees.{IsRoot}
 use Rattle.wire_marks.specs.Clocks.{Clocks, marked_count, base_at, clock_of}
-use Rattle.wire_marks.specs.Marking.{AreClocks}
+use Rattle.wire_marks.specs.Marking.{AreClocks, IsStuckAt, unmarked}
+use Rattle.wire_marks.specs.declared.joins.Growth.{Growth}
 use Rattle.wire_marks.specs.declared.joins.Meeting.{Meeting}
 
 -- each of the first n events is marked
@@ -46,10 +47,23 @@ AreMeetings plan table clocks meetings =
     (n : ℕ) (info : FenceInfo) (places : List Event) →
     fence_at table n ≡ Some info → AreArrivals plan info.members info.nth places → IsMeetingAt clocks meetings n places
 
--- what holds of both while they grow
-pub record AreGrowing (plan : Plan) (table : FenceTable) (clocks : Clocks) (meetings : List Meeting) : Type 0 where
-  pub marked : AreClocks plan clocks
-  pub kept : AreMeetings plan table clocks meetings
+-- the plan of which it is
+abbrev pub plan_in : Growth → Plan
+plan_in growth = plan_of growth.plan.now
+
+-- how many events of its plan aren't marked
+abbrev pub left_in : Growth → ℕ
+left_in growth = unmarked (plan_in growth) growth.clocks
+
+-- the process's next event isn't ready
+abbrev pub IsStuckIn : Growth → ℕ → Type 0
+IsStuckIn growth p = IsStuckAt (plan_in growth) growth.clocks p
+
+-- what holds while it grows: the fences are its plan's, and so are the clocks and what is kept of each fence
+pub record IsGrowing (growth : Growth) : Type 0 where
+  pub fences : AreFencesOf growth.plan.now growth.fences.now
+  pub marked : AreClocks (plan_in growth) growth.clocks
+  pub kept : AreMeetings (plan_in growth) growth.fences.now growth.clocks growth.meetings.items
 
 -- the event at y is the end of the fence of this number
 pub record IsLeaveOf (s : Scripts) (table : FenceTable) (y : Event) (number : ℕ) : Type 0 where

@@ -4,10 +4,9 @@ ghost use Rattle.std.specs.Prelude.{◌≡◌, ◌<◌, ◌≤◌, ◌^◌, ℕ,
 ghost use Rattle.std.specs.Bool.{OnTrue, OnFalse};
 ghost use Rattle.wire_runs.specs.Plan.{process_count};
 ghost use Rattle.wire_content.specs.Planned.{plan_of};
-ghost use Rattle.wire_fence.specs.FenceTable.{AreFencesOf};
 ghost use Rattle.wire_marks.specs.Clocks.{items_at, marked_count, AreMarks};
-ghost use Rattle.wire_marks.specs.Marking.{AreClocks, IsStuckAt, IsNextBase, unmarked};
-ghost use Rattle.wire_marks.specs.Meeting.{AreGrowing};
+ghost use Rattle.wire_marks.specs.Marking.{AreClocks, IsNextBase};
+ghost use Rattle.wire_marks.specs.Meeting.{plan_in, left_in, IsStuckIn, IsGrowing};
 
 use crate::clocks::Clocks;
 use crate::joins::{Growth, find_ended_fence, meet};
@@ -15,7 +14,6 @@ use crate::updates::Updates;
 use crate::way::{Way, waits_for};
 use std::alloc::{AllocError, Global};
 use wire_clocks::ClockTrees;
-use wire_fence::Fences;
 use wire_plan::Plan;
 use wire_types::{Event, Proc};
 
@@ -46,19 +44,15 @@ fn no_clocks(alloc: Global, plan: &Plan) -> Result<Clocks, AllocError>
 }
 
 // The root of a base for the process's next event, if it is ready.
-fn next_base(
-    plan: &Plan,
-    fences: &Fences,
-    growth: &mut Growth,
-    proc: Proc,
-) -> Result<Option<u32>, AllocError>
-    requires fences { AreFencesOf plan.now fences.now }
-    requires growing { AreGrowing (plan_of plan.now) fences.now growth.old.clocks growth.old.meetings.items }
-    ensures growing { OnOk result (AreGrowing (plan_of plan.now) fences.now growth.new.clocks growth.new.meetings.items) }
+fn next_base(growth: &mut Growth<'_>, proc: Proc) -> Result<Option<u32>, AllocError>
+    requires { IsGrowing growth.old }
+    ensures growing { OnOk result (IsGrowing growth.new) }
+    ensures plan { growth.new.plan.now ≡ growth.old.plan.now }
     ensures same { OnOk result (growth.new.clocks.roots.items ≡ growth.old.clocks.roots.items) }
-    ensures next { IfOk result (λ o. MatchOption o (IsStuckAt (plan_of plan.now) growth.old.clocks proc.number)
-        (λ n. IsNextBase (plan_of plan.now) growth.new.clocks proc.number n)) }
+    ensures next { IfOk result (λ o. MatchOption o (IsStuckIn growth.new proc.number)
+        (λ n. IsNextBase (plan_in growth.new) growth.new.clocks proc.number n)) }
 {
+    let plan = growth.plan;
     let at = growth.clocks.marked(proc);
     if at >= plan.event_count(proc) as usize {
         return Ok(None);
@@ -74,7 +68,7 @@ fn next_base(
     if !growth.clocks.is_source_marked(sources.awaited) {
         return Ok(None);
     }
-    let Some(fence) = find_ended_fence(plan, fences, event) else {
+    let Some(fence) = find_ended_fence(growth, event) else {
         let clocks = &mut growth.clocks;
         let root = clocks.base_after(sources.previous, sources.awaited)?;
         return Ok(Some(root));
@@ -89,69 +83,53 @@ fn next_base(
 }
 
 // Marks the next event of a process, where it is ready. Whether it was.
-fn mark_next(
-    alloc: Global,
-    plan: &Plan,
-    fences: &Fences,
-    growth: &mut Growth,
-    proc: Proc,
-) -> Result<bool, AllocError>
-    requires fences { AreFencesOf plan.now fences.now }
-    requires growing { AreGrowing (plan_of plan.now) fences.now growth.old.clocks growth.old.meetings.items }
-    ensures growing { OnOk result (AreGrowing (plan_of plan.now) fences.now growth.new.clocks growth.new.meetings.items) }
-    ensures falls { IfOk result (λ b. OnTrue b (unmarked (plan_of plan.now) growth.new.clocks < unmarked (plan_of plan.now) growth.old.clocks)) }
+fn mark_next(alloc: Global, growth: &mut Growth<'_>, proc: Proc) -> Result<bool, AllocError>
+    requires { IsGrowing growth.old }
+    ensures growing { OnOk result (IsGrowing growth.new) }
+    ensures plan { growth.new.plan.now ≡ growth.old.plan.now }
+    ensures falls { IfOk result (λ b. OnTrue b (left_in growth.new < left_in growth.old)) }
     ensures same { IfOk result (λ b. OnFalse b (growth.new.clocks.roots.items ≡ growth.old.clocks.roots.items)) }
-    ensures stuck { IfOk result (λ b. OnFalse b (IsStuckAt (plan_of plan.now) growth.new.clocks proc.number)) }
+    ensures stuck { IfOk result (λ b. OnFalse b (IsStuckIn growth.new proc.number)) }
 {
-    let Some(root) = next_base(plan, fences, growth, proc)? else {
+    let Some(root) = next_base(growth, proc)? else {
         return Ok(false);
     };
     let at = growth.clocks.marked(proc) as u32;
     let event = Event { proc, at };
+    let plan = growth.plan;
     growth.clocks.mark(alloc, plan, event, root)?;
     Ok(true)
 }
 
 // Marks the events of a process as long as they are ready. Whether any was.
-fn mark_run(
-    alloc: Global,
-    plan: &Plan,
-    fences: &Fences,
-    growth: &mut Growth,
-    proc: Proc,
-) -> Result<bool, AllocError>
-    requires fences { AreFencesOf plan.now fences.now }
-    requires growing { AreGrowing (plan_of plan.now) fences.now growth.old.clocks growth.old.meetings.items }
-    ensures growing { OnOk result (AreGrowing (plan_of plan.now) fences.now growth.new.clocks growth.new.meetings.items) }
-    ensures not_more { OnOk result (unmarked (plan_of plan.now) growth.new.clocks ≤ unmarked (plan_of plan.now) growth.old.clocks) }
-    ensures falls { IfOk result (λ b. OnTrue b (unmarked (plan_of plan.now) growth.new.clocks < unmarked (plan_of plan.now) growth.old.clocks)) }
+fn mark_run(alloc: Global, growth: &mut Growth<'_>, proc: Proc) -> Result<bool, AllocError>
+    requires { IsGrowing growth.old }
+    ensures growing { OnOk result (IsGrowing growth.new) }
+    ensures plan { growth.new.plan.now ≡ growth.old.plan.now }
+    ensures not_more { OnOk result (left_in growth.new ≤ left_in growth.old) }
+    ensures falls { IfOk result (λ b. OnTrue b (left_in growth.new < left_in growth.old)) }
     ensures same { IfOk result (λ b. OnFalse b (growth.new.clocks.roots.items ≡ growth.old.clocks.roots.items)) }
-    ensures stuck { OnOk result (IsStuckAt (plan_of plan.now) growth.new.clocks proc.number) }
+    ensures stuck { OnOk result (IsStuckIn growth.new proc.number) }
 {
     let mut moved = false;
-    'events: while mark_next(alloc, plan, fences, growth, proc)? {
+    'events: while mark_next(alloc, growth, proc)? {
         moved = true;
     }
     Ok(moved)
 }
 
 // Passes over the processes, each with its run of ready events. Whether any event was marked.
-fn mark_once(
-    alloc: Global,
-    plan: &Plan,
-    fences: &Fences,
-    growth: &mut Growth,
-) -> Result<bool, AllocError>
-    requires fences { AreFencesOf plan.now fences.now }
-    requires growing { AreGrowing (plan_of plan.now) fences.now growth.old.clocks growth.old.meetings.items }
-    ensures growing { OnOk result (AreGrowing (plan_of plan.now) fences.now growth.new.clocks growth.new.meetings.items) }
-    ensures not_more { OnOk result (unmarked (plan_of plan.now) growth.new.clocks ≤ unmarked (plan_of plan.now) growth.old.clocks) }
-    ensures falls { IfOk result (λ b. OnTrue b (unmarked (plan_of plan.now) growth.new.clocks < unmarked (plan_of plan.now) growth.old.clocks)) }
-    ensures stuck { IfOk result (λ b. OnFalse b ((p : ℕ) → p < process_count (plan_of plan.now) → IsStuckAt (plan_of plan.now) growth.new.clocks p)) }
+fn mark_once(alloc: Global, growth: &mut Growth<'_>) -> Result<bool, AllocError>
+    requires { IsGrowing growth.old }
+    ensures growing { OnOk result (IsGrowing growth.new) }
+    ensures plan { growth.new.plan.now ≡ growth.old.plan.now }
+    ensures not_more { OnOk result (left_in growth.new ≤ left_in growth.old) }
+    ensures falls { IfOk result (λ b. OnTrue b (left_in growth.new < left_in growth.old)) }
+    ensures stuck { IfOk result (λ b. OnFalse b ((p : ℕ) → p < process_count (plan_in growth.new) → IsStuckIn growth.new p)) }
 {
     let mut moved = false;
-    for number in 0..plan.process_count() {
-        if mark_run(alloc, plan, fences, growth, Proc::new(number))? {
+    for number in 0..growth.plan.process_count() {
+        if mark_run(alloc, growth, Proc::new(number))? {
             moved = true;
         }
     }
@@ -159,21 +137,15 @@ fn mark_once(
 }
 
 // Marks what is ready in the processes of a way, the last one first.
-fn mark_way_back(
-    alloc: Global,
-    plan: &Plan,
-    fences: &Fences,
-    growth: &mut Growth,
-    way: &[Proc],
-) -> Result<(), AllocError>
-    requires fences { AreFencesOf plan.now fences.now }
-    requires growing { AreGrowing (plan_of plan.now) fences.now growth.old.clocks growth.old.meetings.items }
-    ensures growing { OnOk result (AreGrowing (plan_of plan.now) fences.now growth.new.clocks growth.new.meetings.items) }
-    ensures not_more { OnOk result (unmarked (plan_of plan.now) growth.new.clocks ≤ unmarked (plan_of plan.now) growth.old.clocks) }
+fn mark_way_back(alloc: Global, growth: &mut Growth<'_>, way: &[Proc]) -> Result<(), AllocError>
+    requires { IsGrowing growth.old }
+    ensures growing { OnOk result (IsGrowing growth.new) }
+    ensures plan { growth.new.plan.now ≡ growth.old.plan.now }
+    ensures not_more { OnOk result (left_in growth.new ≤ left_in growth.old) }
 {
     for k in 0..way.len() {
         let proc = way[way.len() - 1 - k];
-        mark_run(alloc, plan, fences, growth, proc)?;
+        mark_run(alloc, growth, proc)?;
     }
     Ok(())
 }
@@ -182,24 +154,22 @@ fn mark_way_back(
 // the way.
 fn mark_way_down(
     alloc: Global,
-    plan: &Plan,
-    fences: &Fences,
-    growth: &mut Growth,
+    growth: &mut Growth<'_>,
     way: &mut Way,
     first: Proc,
 ) -> Result<(), AllocError>
-    requires fences { AreFencesOf plan.now fences.now }
-    requires growing { AreGrowing (plan_of plan.now) fences.now growth.old.clocks growth.old.meetings.items }
-    ensures growing { OnOk result (AreGrowing (plan_of plan.now) fences.now growth.new.clocks growth.new.meetings.items) }
-    ensures not_more { OnOk result (unmarked (plan_of plan.now) growth.new.clocks ≤ unmarked (plan_of plan.now) growth.old.clocks) }
+    requires { IsGrowing growth.old }
+    ensures growing { OnOk result (IsGrowing growth.new) }
+    ensures plan { growth.new.plan.now ≡ growth.old.plan.now }
+    ensures not_more { OnOk result (left_in growth.new ≤ left_in growth.old) }
 {
     let mut proc = first;
-    for _step in 0..plan.process_count() {
+    for _step in 0..growth.plan.process_count() {
         if !way.take(proc)? {
             return Ok(());
         }
-        mark_run(alloc, plan, fences, growth, proc)?;
-        let Some(next) = waits_for(plan, fences, growth, proc) else {
+        mark_run(alloc, growth, proc)?;
+        let Some(next) = waits_for(growth, proc) else {
             return Ok(());
         };
         proc = next;
@@ -209,22 +179,18 @@ fn mark_way_down(
 
 // Marks what is ready, each process after the one that it waits for, as far as that goes in one round: the
 // passes are then few.
-fn mark_along_waits(
-    alloc: Global,
-    plan: &Plan,
-    fences: &Fences,
-    growth: &mut Growth,
-) -> Result<(), AllocError>
-    requires fences { AreFencesOf plan.now fences.now }
-    requires growing { AreGrowing (plan_of plan.now) fences.now growth.old.clocks growth.old.meetings.items }
-    ensures growing { OnOk result (AreGrowing (plan_of plan.now) fences.now growth.new.clocks growth.new.meetings.items) }
-    ensures not_more { OnOk result (unmarked (plan_of plan.now) growth.new.clocks ≤ unmarked (plan_of plan.now) growth.old.clocks) }
+fn mark_along_waits(alloc: Global, growth: &mut Growth<'_>) -> Result<(), AllocError>
+    requires { IsGrowing growth.old }
+    ensures growing { OnOk result (IsGrowing growth.new) }
+    ensures plan { growth.new.plan.now ≡ growth.old.plan.now }
+    ensures not_more { OnOk result (left_in growth.new ≤ left_in growth.old) }
 {
-    let mut way = Way::new(alloc, plan.process_count() as usize)?;
-    for number in 0..plan.process_count() {
-        mark_way_down(alloc, plan, fences, growth, &mut way, Proc::new(number))?;
+    let count = growth.plan.process_count();
+    let mut way = Way::new(alloc, count as usize)?;
+    for number in 0..count {
+        mark_way_down(alloc, growth, &mut way, Proc::new(number))?;
     }
-    mark_way_back(alloc, plan, fences, growth, &way.procs)?;
+    mark_way_back(alloc, growth, &way.procs)?;
     Ok(())
 }
 
@@ -233,15 +199,16 @@ pub(crate) fn mark_all(alloc: Global, plan: &Plan) -> Result<Clocks, AllocError>
     ensures marks { IfOk result (λ clocks. AreMarks (plan_of plan.now) clocks) }
     ensures few { IfOk result (λ clocks. (p : ℕ) → marked_count clocks p < 2 ^ 32) }
 {
-    let fences = plan.fences();
     let mut growth = Growth {
+        plan,
+        fences: plan.fences(),
         clocks: no_clocks(alloc, plan)?,
         meetings: Vec::new(alloc),
     };
     let mut moved = true;
     'passes: while moved {
-        mark_along_waits(alloc, plan, fences, &mut growth)?;
-        moved = mark_once(alloc, plan, fences, &mut growth)?;
+        mark_along_waits(alloc, &mut growth)?;
+        moved = mark_once(alloc, &mut growth)?;
     }
     Ok(growth.clocks)
 }

@@ -5,10 +5,9 @@ ghost use Rattle.std.specs.Prelude.{◌≡◌, ◌<◌, ◌≤◌, ℕ, Some, le
 ghost use Rattle.std.specs.Bool.{OnTrue, OnFalse};
 ghost use Rattle.wire_runs.specs.Plan.{event_of, event_count};
 ghost use Rattle.wire_runs.specs.Plan as runs;
-ghost use Rattle.wire_content.specs.Planned.{plan_of};
-ghost use Rattle.wire_fence.specs.FenceTable.{AreFencesOf};
 ghost use Rattle.wire_marks.specs.Marking.{AreBased, IsGrown};
 ghost use Rattle.wire_marks.specs.Meeting.{AreMarked, IsJoined, IsMeeting, IsMeetingAt, AreAdded, AreOthersKept, IsEndOf};
+ghost use Rattle.wire_marks.specs.Meeting.{plan_in, IsGrowing};
 
 use crate::clocks::Clocks;
 use std::alloc::AllocError;
@@ -32,9 +31,12 @@ fn arrival_at(arrivals: &[Event], k: usize) -> Event
     arrivals[k]
 }
 
-/// What is marked so far: the clocks of the marked events, and which arrivals have met at each fence.
+/// What is marked so far of a plan with these fences: the clocks of the marked events, and which arrivals have
+/// met at each fence.
 #[derive(Drop)]
-pub(crate) struct Growth {
+pub(crate) struct Growth<'a> {
+    pub plan: &'a Plan,
+    pub fences: &'a Fences,
     pub clocks: Clocks,
     pub meetings: Vec<Meeting>,
 }
@@ -141,13 +143,13 @@ pub(crate) fn missing_at(meetings: &[Meeting], fence: FenceId, arrivals: &[Event
 }
 
 /// The fence whose end an event is, if it is one.
-pub(crate) fn find_ended_fence(plan: &Plan, fences: &Fences, event: Event) -> Option<FenceId>
-    requires fences { AreFencesOf plan.now fences.now }
-    requires there { event.at < event_count (plan_of plan.now) event.proc.number }
-    ensures { IsEndOf plan.now fences.now (event_of event) result }
+pub(crate) fn find_ended_fence(growth: &Growth<'_>, event: Event) -> Option<FenceId>
+    requires growing { IsGrowing growth.now }
+    requires there { event.at < event_count (plan_in growth.now) event.proc.number }
+    ensures { IsEndOf growth.now.plan.now growth.now.fences.now (event_of event) result }
 {
-    match plan.kind(event) {
-        Kind::Leave { .. } => Some(fence_of(plan, fences, event)),
+    match growth.plan.kind(event) {
+        Kind::Leave { .. } => Some(fence_of(growth.plan, growth.fences, event)),
         _ => None,
     }
 }

@@ -3,16 +3,13 @@
 
 ghost use Rattle.std.specs.Prelude.{◌≡◌, ◌++◌, ◌∷◌, [], IfOk, IfSome};
 ghost use Rattle.wire_runs.specs.Plan as runs;
-ghost use Rattle.wire_content.specs.Planned.{plan_of};
-ghost use Rattle.wire_fence.specs.FenceTable.{AreFencesOf};
 ghost use Rattle.wire_runs.specs.Order.{Edge};
 ghost use Rattle.wire_marks.specs.Marking.{next_of};
+ghost use Rattle.wire_marks.specs.Meeting.{plan_in, IsGrowing};
 ghost use Rattle.std.specs.Bool.{OnTrue, OnFalse};
 
 use crate::joins::{Growth, find_ended_fence, missing_at};
 use std::alloc::{AllocError, Global};
-use wire_fence::Fences;
-use wire_plan::Plan;
 use wire_types::{Event, Proc};
 
 /// Processes in the order in which they were looked at, each once.
@@ -49,10 +46,11 @@ impl Way {
 
 /// A process whose event the next event of a process waits for, if there is one: of the event that is awaited,
 /// or of an arrival at the fence that it ends.
-pub(crate) fn waits_for(plan: &Plan, fences: &Fences, growth: &Growth, proc: Proc) -> Option<Proc>
-    requires { AreFencesOf plan.now fences.now }
-    ensures { IfSome result (λ q. (z : runs.Event) × Edge (plan_of plan.now) z (next_of growth.now.clocks proc.number) × (z.proc ≡ q.number)) }
+pub(crate) fn waits_for(growth: &Growth<'_>, proc: Proc) -> Option<Proc>
+    requires { IsGrowing growth.now }
+    ensures { IfSome result (λ q. (z : runs.Event) × Edge (plan_in growth.now) z (next_of growth.now.clocks proc.number) × (z.proc ≡ q.number)) }
 {
+    let plan = growth.plan;
     let at = growth.clocks.marked(proc);
     if at >= plan.event_count(proc) as usize {
         return None;
@@ -65,7 +63,7 @@ pub(crate) fn waits_for(plan: &Plan, fences: &Fences, growth: &Growth, proc: Pro
     if let Some(awaited) = sources.awaited {
         return Some(awaited.proc);
     }
-    let Some(fence) = find_ended_fence(plan, fences, event) else {
+    let Some(fence) = find_ended_fence(growth, event) else {
         return None;
     };
     missing_at(&growth.meetings, fence, sources.arrivals)

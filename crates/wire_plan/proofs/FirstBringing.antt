@@ -1,8 +1,10 @@
 -- The arrivals that bring data, as the events are looked at one after the other, and the first of them from an event on.
 use Rattle.std.proofs.Common.{◌≡◌, ◌≢◌, ◌∙◌, ap, sym, subst, refl, ℕ, zero, suc, ◌+◌, ◌<◌, ◌≤◌, List, [], ◌∷◌, ◌++◌, length}
-use Rattle.std.proofs.Common.{map, Bool, true, false, ◌||◌, ◌==◌, Some, None, arith, inl, inr, get_or, nat_lt}
+use Rattle.std.proofs.Common.{map, Bool, true, false, cond, ◌||◌, ◌&&◌, ◌==◌, Some, None, arith, inl, inr, get_or, nat_lt}
 use Rattle.std.specs.Prelude.{slice_get, option_map}
 use Rattle.std.specs.List.Sorted.{IsPartitionedBy}
+use Rattle.std.specs.declared.cmp.Ordering.TheVariants.{Less, Equal, Greater}
+use Rattle.std.specs.Ordering.{nat_cmp, is_lt, is_some_and, partial_ordering_then}
 use Rattle.std.proofs.lemmas.Bool.{true≢false, cases_lt, cases_eq, eq-eqb, eqb-true, lt-ltb, le-ltb, ltb-true, and_parts, and_from, or_cases}
 use Rattle.std.proofs.lemmas.List.{map-append}
 use Rattle.std.proofs.lemmas.Option.{slice_get-get_or, slice_get-map, slice_get_within, same_Some, none-some}
@@ -10,7 +12,7 @@ use Rattle.wire_runs.specs.Plan.{Plan, Event, event_of, event_count, process_cou
 use Rattle.wire_runs.specs.Fences.{has_node}
 use Rattle.wire_runs.specs.EventLists.{IsLower, AreAll}
 use Rattle.wire_types.specs.declared.Event.{Event as CodeEvent}
-use Rattle.wire_plan.specs.Bringing.{Brings, BringsTo, IsArrivalFrom, NoneInFront, IsFirstFrom, IsRising, is_below}
+use Rattle.wire_plan.specs.Bringing.{Brings, BringsTo, NoneInFront, IsFirstFrom, IsRising, is_below}
 use Rattle.wire_runs.proofs.Basics.{event_within, process_within}
 use Rattle.wire_plan.proofs.Grown.{place, Earlier, one_more, whole_process, whole_plan}
 
@@ -34,6 +36,18 @@ process_looked_at plan p n xs le are = whole_process (Brings plan) p n xs (λ i 
 
 pub plan_looked_at : (plan : Plan) (n : ℕ) (xs : List Event) → process_count plan ≤ n → AreAll (Earlier (Brings plan) n 0) xs → AreAll (Brings plan) xs
 plan_looked_at plan n xs le are = whole_plan (Brings plan) n xs (λ x b. let lt = process_within plan x.proc x.at _ b.arrival.is in omega (arith, lt, le)) are
+
+-- events are compared by process, then by place
+less_first : (p q r s : Bool) → is_some_and is_lt (partial_ordering_then (Some (cond p Less (cond q Equal Greater))) (Some (cond r Less (cond s Equal Greater)))) ≡ (p || (q && r))
+less_first true q r s = refl
+less_first false true true s = refl
+less_first false true false true = refl
+less_first false true false false = refl
+less_first false false r s = refl
+
+pub less_below : (x y : CodeEvent) →
+    is_some_and is_lt (partial_ordering_then (Some (nat_cmp x.proc.number y.proc.number)) (Some (nat_cmp x.at y.at))) ≡ is_below (event_of x) (event_of y)
+less_below x y = less_first (nat_lt x.proc.number y.proc.number) (x.proc.number == y.proc.number) (nat_lt x.at y.at) (x.at == y.at)
 
 -- what the test tells
 below_lower : (x y : Event) → is_below x y ≡ true → IsLower x y

@@ -21,19 +21,12 @@ fn brings(fences: &Fences, fence: FenceId) -> bool
     fences.full(fence) && fences.collects(fence)
 }
 
-// Whether an event is of a lower process, or earlier in the same one.
-fn is_lower(x: Event, y: Event) -> bool
-    ensures { result ≡ is_below (event_of x) (event_of y) }
-{
-    x.proc.number < y.proc.number || x.proc.number == y.proc.number && x.at < y.at
-}
-
 // How many events of a list in process order are lower than an event, by bisection.
 fn count_lower(list: &[Event], event: Event) -> usize
     ensures { IsRising (map event_of list.now) → (k : ℕ) (x : runs.Event) → slice_get (map event_of list.now) k ≡ Some x →
         is_below x (event_of event) ≡ nat_lt k result }
 {
-    list.partition_point(|x| is_lower(*x, event))
+    list.partition_point(|x| *x < event)
 }
 
 /// The arrivals at fences that bring data, in process order. A fence brings data to the nodes of its members

@@ -1,8 +1,9 @@
 -- Races on names: where the calls stand that race with one call, and how the findings grow.
 use Rattle.std.proofs.Common.{◌≡◌, ◌≢◌, ◌⊎◌, ◌↔◌, inl, inr, ⊎_elim, ℕ, ◌+◌, ◌<◌, ◌≤◌, List, [], ◌∷◌, ◌++◌, map, length, true, Option, Some}
 use Rattle.std.proofs.Common.{refl, sym, ap, ◌∙◌, subst, arith, length-append}
-use Rattle.std.specs.Prelude.{slice_get, option_map, nat_lt}
-use borrow.Author.Tests.{ltb-true, ltb-false}
+use Rattle.std.specs.Prelude.{false, leb, slice_get, slice_index_or, option_map, nat_lt}
+use Rattle.std.specs.List.Sorted.{IsNonDecreasingBy, IsPartitionPoint}
+use borrow.Author.Tests.{ltb-true, ltb-false, leb-true, leb-false}
 use Rattle.std.proofs.lemmas.Option.{same_Some, slice_get_within, slice_get_cases, slice_get-map}
 use Rattle.std.proofs.lemmas.Bool.{cases_eq, cases_lt, cond_both, true≢false}
 use Rattle.wire_runs.specs.Plan.{Plan, Event, Kind, Publish, Lookup, LookupWait, Unpublish, UnpublishAll, kind, event_count, event_of}
@@ -16,15 +17,16 @@ use Rattle.wire_runs.specs.Findings.{Finding, NameRace, IsFound}
 use Rattle.wire_findings.specs.declared.finding.Finding.{Finding as Told}
 use Rattle.wire_plan.specs.Index.{is_plain_call, AreNameCalls}
 use Rattle.wire_runs.proofs.Histories.{before_live, joined, same_process}
+use Rattle.wire_plan.proofs.FirstBringing.{stands_at}
 use Rattle.wire_findings.specs.Collected.{Tells, AreFound, IsAdded}
 use Rattle.wire_races.specs.FindingKinds.{IsOfName}
 use Rattle.wire_races.specs.Adding.{Adds}
-use Rattle.wire_races.specs.NameRaces.{IsRaceOn, IsPlainRaceOn, IsRaceFrom, IsRaceWith, AllRace, race_between, AreCallsOn, AreOf, AreRising}
+use Rattle.wire_races.specs.NameRaces.{IsRaceOn, IsPlainRaceOn, IsRaceFrom, IsRaceWith, AllRace, race_between, AreOf, AreRising}
 use Rattle.wire_races.specs.NameRaces.{AreRivals, AreHigher, HasRivals, IsBelow, IsCut, AreUnordered}
 use Rattle.wire_races.specs.SweepRaces.{IsSweepRace}
 use Rattle.wire_races.specs.declared.call_races.Border.{Border}
 use Rattle.wire_races.specs.declared.call_races.Border.TheVariants.{FirstNotBefore, FirstAfter}
-use Rattle.wire_races.proofs.Lists.{in_index, index_in, in_left, in_right, in_parts, get_left, get_right, first_calls, other_calls}
+use Rattle.wire_races.proofs.Lists.{place_at, in_index, index_in, in_left, in_right, in_parts, get_left, get_right, first_calls, other_calls}
 use Rattle.wire_findings.proofs.Calls.{writes_calls, starts_within, starts_named}
 use Rattle.wire_races.proofs.Growing.{adds_one, adds_both}
 
@@ -79,11 +81,23 @@ up_to : (p : ℕ) (y z : Event) → IsLower y z → z.proc ≤ p → y.proc ≤ 
 up_to p y z (inl lt) le = omega (arith, lt, le)
 up_to p y z (inr h) le = let same = h.0 in omega (arith, same, le)
 
-pub above_not : (m p : ℕ) → p < m → m ≤ p → ⊥
-above_not m p lt le = omega (arith, lt, le)
+-- in process order
+pub processes_rise : (xs : List CodeEvent) → AreRising (map event_of xs) → IsNonDecreasingBy (λ (y : CodeEvent). y.proc.number) xs
+processes_rise xs rising i j d le lt = elim (cases_eq i j) [
+  | inl same ↦ subst (λ k. (slice_index_or xs i d).proc.number ≤ (slice_index_or xs k d).proc.number) same (omega arith)
+  | inr other ↦ up_to (slice_index_or xs j d).proc.number _ _ (rising i j _ _ (omega (arith, le, other)) (place_at xs i d (omega (arith, le, lt))) (place_at xs j d lt)) (omega arith)
+]
 
-pub processes : (plan : Plan) (name p : ℕ) (calls : List Event) → AreCallsOn plan name calls → HoldsInFront (λ z. z.proc ≤ p) calls
-processes plan name p calls are k l y z lt e f le = up_to p y z (are.rising k l y z lt e f) le
+abbrev nothing : CodeEvent
+nothing = record { proc = record { number = 0 }; at = 0 }
+
+-- the first calls are those of processes up to p
+pub cut_upto : (p : ℕ) (xs : List CodeEvent) (n : ℕ) → IsPartitionPoint (λ (y : CodeEvent). leb y.proc.number p ≡ true) (λ (y : CodeEvent). leb y.proc.number p ≡ false) xs n →
+    IsCut (λ z. z.proc ≤ p) (map event_of xs) n
+cut_upto p xs n point = record {
+  below = λ k z lt is. let at = stands_at xs k z nothing is in subst (λ (v : Event). v.proc ≤ p) at.1 (leb-true _ _ (point.0 k nothing (omega arith) lt));
+  above = λ k z le is. let at = stands_at xs k z nothing is in subst (λ (v : Event). v.proc ≤ p → ⊥) at.1 (λ upto. let past = leb-false _ _ (point.1 k nothing le at.0) in omega (arith, upto, past));
+}
 
 pub turned : (plan : Plan) (x y : Event) → IsUnordered plan x y → IsUnordered plan y x
 turned plan x y u = record { live_x = u.live_y; live_y = u.live_x; not_before = u.not_after; not_after = u.not_before }

@@ -69,17 +69,7 @@ fn count_upto(calls: &[Event], proc: Proc) -> usize
     ensures cut { (plan : runs.Plan) (name : ℕ) → AreCallsOn plan name (map event_of calls.now) →
         IsCut (λ z. z.proc ≤ proc.number) (map event_of calls.now) result }
 {
-    let mut low = 0;
-    let mut high = calls.len();
-    'bisection: while low < high {
-        let middle = low + (high - low) / 2;
-        if calls[middle].proc.number <= proc.number {
-            low = middle + 1;
-        } else {
-            high = middle;
-        }
-    }
-    low
+    calls.partition_point(|call| call.proc.number <= proc.number)
 }
 
 // How many of the first of these calls in process order are of this process, which is that of the first one.

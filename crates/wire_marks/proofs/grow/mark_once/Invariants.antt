@@ -1,13 +1,12 @@
 use Rattle.std.proofs.Common.{◌≡◌, ◌<◌, ◌≤◌, true, false, ℕ}
-use Rattle.wire_content.specs.Planned.{plan_of}
-use Rattle.wire_marks.specs.Marking.{IsStuckAt, unmarked}
-use Rattle.wire_marks.specs.Meeting.{AreGrowing}
+use Rattle.wire_marks.specs.Meeting.{left_in, IsStuckIn, IsGrowing}
 use Rattle.wire_marks.proofs.grow.mark_once.Given as goal
 
 abbrev pub invariant-loop-number : goal.invariant-loop-number
 invariant-loop-number l = record {
-  growing : AreGrowing (plan_of l.plan) l.fences l.growth.clocks l.growth.meetings.items;
-  not_more : unmarked (plan_of l.plan) l.growth.clocks ≤ unmarked (plan_of l.plan) l.initial.growth.clocks;
-  falls : l.moved ≡ true → unmarked (plan_of l.plan) l.growth.clocks < unmarked (plan_of l.plan) l.initial.growth.clocks;
-  stuck : l.moved ≡ false → (p : ℕ) → p < l.number → IsStuckAt (plan_of l.plan) l.growth.clocks p;
+  growing : IsGrowing l.growth;
+  plan : l.growth.plan.now ≡ l.initial.growth.plan.now;
+  not_more : left_in l.growth ≤ left_in l.initial.growth;
+  falls : l.moved ≡ true → left_in l.growth < left_in l.initial.growth;
+  stuck : l.moved ≡ false → (p : ℕ) → p < l.number → IsStuckIn l.growth p;
 }

@@ -1,11 +1,10 @@
-use Rattle.std.proofs.Common.{◌≤◌}
-use Rattle.wire_content.specs.Planned.{plan_of}
-use Rattle.wire_marks.specs.Marking.{unmarked}
-use Rattle.wire_marks.specs.Meeting.{AreGrowing}
+use Rattle.std.proofs.Common.{◌≡◌, ◌≤◌}
+use Rattle.wire_marks.specs.Meeting.{left_in, IsGrowing}
 use Rattle.wire_marks.proofs.grow.mark_way_back.Given as goal
 
 abbrev pub invariant-loop-k : goal.invariant-loop-k
 invariant-loop-k l = record {
-  growing : AreGrowing (plan_of l.plan) l.fences l.growth.clocks l.growth.meetings.items;
-  not_more : unmarked (plan_of l.plan) l.growth.clocks ≤ unmarked (plan_of l.plan) l.initial.growth.clocks;
+  growing : IsGrowing l.growth;
+  plan : l.growth.plan.now ≡ l.initial.growth.plan.now;
+  not_more : left_in l.growth ≤ left_in l.initial.growth;
 }
