@@ -22,6 +22,14 @@ pub fn push_all(
     Ok(())
 }
 
+/// A call with its number in its process, from 1, and what became of it.
+#[derive(Clone, Copy)]
+struct EndedCall<'a> {
+    number: usize,
+    call: &'a Call,
+    end: &'a CallEnd,
+}
+
 /// Appends the lines of a process.
 fn push_process_lines(
     out: &mut Vec<u8>,
@@ -32,28 +40,28 @@ fn push_process_lines(
     ensures { OnOk result (out.new.items ≡ out.old.items ++ process_lines scripts.now process.now ends.now) }
 {
     for (i, (call, end)) in process.calls().iter().zip(ends).enumerate() {
-        push_line(out, scripts, process, i + 1, call, end)?;
+        let number = i + 1;
+        push_line(out, scripts, process, EndedCall { number, call, end })?;
     }
     Ok(())
 }
 
-/// Appends the line of a process's call, by the number of the call from 1.
+/// Appends the line of a process's call.
 fn push_line(
     out: &mut Vec<u8>,
     scripts: &Scripts,
     process: &Process,
-    number: usize,
-    call: &Call,
-    end: &CallEnd,
+    ended: EndedCall<'_>,
 ) -> Result<(), AllocError>
-    ensures { OnOk result (out.new.items ≡ out.old.items ++ call_line scripts.now process.now number call.now end.now) }
+    ensures { OnOk result (out.new.items ≡ out.old.items
+        ++ call_line scripts.now process.now ended.entry.number ended.entry.call.now ended.entry.end.now) }
 {
     push_process(out, scripts, process)?;
     out.extend_from_slice(b" ")?;
-    push_number(out, number as u64)?;
+    push_number(out, ended.number as u64)?;
     out.extend_from_slice(b" ")?;
-    out.extend_from_slice(verb(call).as_bytes())?;
+    out.extend_from_slice(verb(ended.call).as_bytes())?;
     out.extend_from_slice(b" ")?;
-    push_end(out, scripts, end)?;
+    push_end(out, scripts, ended.end)?;
     out.extend_from_slice(b"\n")
 }

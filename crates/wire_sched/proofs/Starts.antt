@@ -11,15 +11,10 @@ use Rattle.wire_sched.specs.Views.{deque_view, all_parts}
 use Rattle.wire_sched.specs.Shares.{share_of}
 use Rattle.wire_sched.specs.Rounds.{Thief, Permit, ArePassesOf, workers_of, worker_of, own_view, permit_views}
 use Rattle.wire_sched.specs.Taken.{all_of, taken_by, taken_by_all}
-use Rattle.wire_sched.specs.Deques.{EachPair, SameDeque, IsCut, IsPermitOf, IsStart}
+use Rattle.wire_sched.specs.Deques.{EachPair, SameDeque, IsCut, IsPermitOf, IsStart, Made, Cutting}
 use Rattle.wire_sched.proofs.Rows.{get_snoc, get_within, get_there, get_same}
 use Rattle.wire_sched.proofs.Rising.{rises_nothing}
 use Rattle.wire_sched.proofs.Bounds.{within_nothing}
-
-pub record Made (round ranks workers : ℕ) (passes : List Pass) (thieves : List Thief) (n : ℕ) : Type 0 where
-  pub passes_so_far : length passes ≡ n
-  pub thieves_so_far : length thieves ≡ n
-  pub start : (k : ℕ) (p : Pass) (s : Thief) → get_elem? passes k ≡ some p → get_elem? thieves k ≡ some s → IsStart (share_of k workers round ranks) k p s
 
 pub made_more : (round ranks workers : ℕ) (passes : List Pass) (thieves : List Thief) (n : ℕ) (p : Pass) (s : Thief) → Made round ranks workers passes thieves n →
     IsStart (share_of n workers round ranks) n p s
@@ -38,13 +33,6 @@ made_more round ranks workers passes thieves n p s h new = record {
       subst (λ j. IsStart (share_of j workers round ranks) j q u) k_is
       (subst (λ z. IsStart (share_of n workers round ranks) n z u) is.1 (subst (IsStart (share_of n workers round ranks) n p) is'.1 new))) (get_snoc thieves s u k y)) (get_snoc passes p q k x);
 }
-
--- after n rows of permits
-pub record Cutting (first now : List Pass) (n : ℕ) : Type 0 where
-  pub same_length : length now ≡ length first
-  pub same : (k : ℕ) (a b : Pass) → get_elem? first k ≡ some a → get_elem? now k ≡ some b → (b.worker ≡ a.worker) × SameDeque a.own b.own
-  pub views : (k : ℕ) (a b : Pass) → get_elem? first k ≡ some a → get_elem? now k ≡ some b → deque.worker_view b.own ≡ deque_view (all_parts - n) 0 (deque.worker_view a.own).dealt []
-  pub permits : (k : ℕ) (b : Pass) → get_elem? now k ≡ some b → k < n → EachPair (λ p t. IsPermitOf p.own t) first b.permits.items
 
 -- a permit of a deque is one however many were cut before
 permit_kept : (first now : List Pass) (n : ℕ) (ts : List Permit) → Cutting first now n → EachPair (λ p t. IsPermitOf p.own t) now ts → EachPair (λ p t. IsPermitOf p.own t) first ts

@@ -7,6 +7,7 @@ use Rattle.wire_sched.specs.declared.rule.Piece.{Piece}
 use Rattle.wire_sched.specs.declared.round.Pass.{Pass}
 use Rattle.wire_sched.specs.Views.{deque_view, all_parts}
 use Rattle.wire_sched.specs.Rules.{joined}
+use Rattle.wire_sched.specs.Shares.{share_of}
 use Rattle.wire_sched.specs.Rounds.{Owner, Thief, Permit, own_view}
 use Rattle.wire_sched.specs.Taken.{stolen}
 
@@ -36,6 +37,19 @@ abbrev pub IsCut : Pass → Pass → Type 0
 IsCut a b =
     (b.worker ≡ a.worker) × SameDeque a.own b.own × (b.permits ≡ a.permits)
     × (own_view b ≡ deque_view ((own_view a).parts - 1) (own_view a).below (own_view a).dealt (own_view a).taken)
+
+-- the passes of the first n workers with no permit yet, with a handle for thieves of each
+pub record Made (round ranks workers : ℕ) (passes : List Pass) (thieves : List Thief) (n : ℕ) : Type 0 where
+  pub passes_so_far : length passes ≡ n
+  pub thieves_so_far : length thieves ≡ n
+  pub start : (k : ℕ) (p : Pass) (s : Thief) → get_elem? passes k ≡ some p → get_elem? thieves k ≡ some s → IsStart (share_of k workers round ranks) k p s
+
+-- these passes after n rows of permits were cut, of which the first n have one each
+pub record Cutting (first now : List Pass) (n : ℕ) : Type 0 where
+  pub same_length : length now ≡ length first
+  pub same : (k : ℕ) (a b : Pass) → get_elem? first k ≡ some a → get_elem? now k ≡ some b → (b.worker ≡ a.worker) × SameDeque a.own b.own
+  pub views : (k : ℕ) (a b : Pass) → get_elem? first k ≡ some a → get_elem? now k ≡ some b → deque.worker_view b.own ≡ deque_view (all_parts - n) 0 (deque.worker_view a.own).dealt []
+  pub permits : (k : ℕ) (b : Pass) → get_elem? now k ≡ some b → k < n → EachPair (λ p t. IsPermitOf p.own t) first b.permits.items
 
 -- the permit is one of the deque of the pass
 abbrev pub CanTake : Pass → Permit → Type 0

@@ -7,7 +7,7 @@ ghost use Rattle.wire_sched.specs.Views.{deque_view, Takes};
 ghost use Rattle.wire_sched.specs.Rules.{joined, Finds, IsDrained};
 ghost use Rattle.wire_sched.specs.Shares.{share_of};
 ghost use Rattle.wire_sched.specs.Rounds.{own_view, MatchTake};
-ghost use Rattle.wire_sched.specs.Deques.{EachPair, IsFilled, IsCut, IsPermitOf, SameDeque, IsStart, CanTake, AreJoined, CanJoinAll, AreGathered};
+ghost use Rattle.wire_sched.specs.Deques.{EachPair, IsFilled, IsCut, IsPermitOf, SameDeque, IsStart, Made, Cutting, CanTake, AreJoined, CanJoinAll, AreGathered};
 ghost use Rattle.crossbeam_deque.specs.Handles as deque;
 ghost use Rattle.crossbeam_deque.specs.Handles.{view, SamePass, stealer_deque, stealer_flavor, worker_deque, worker_flavor, worker_view};
 
@@ -56,7 +56,7 @@ fn cut_permit(own: &mut Owner) -> Permit
 }
 
 // Cuts one permit of each deque from the passes.
-pub(crate) fn cut_permits(alloc: Global, passes: &mut Vec<Pass>) -> Result<Vec<Permit>, Fault>
+fn cut_permits(alloc: Global, passes: &mut Vec<Pass>) -> Result<Vec<Permit>, Fault>
     requires { (k : ℕ) (p : Pass) → get_elem? passes.old.items k ≡ some p → 1 < (own_view p).parts }
     ensures cut { OnOk result (EachPair IsCut passes.old.items passes.new.items) }
     ensures permits { IfOk result (λ permits. EachPair (λ p t. IsPermitOf p.own t) passes.old.items permits.items) }
@@ -70,7 +70,7 @@ pub(crate) fn cut_permits(alloc: Global, passes: &mut Vec<Pass>) -> Result<Vec<P
 }
 
 // A worker's pass with no permit yet, and a handle with which others steal from it.
-pub(crate) fn start(
+fn start(
     alloc: Global,
     round: u64,
     ranks: u32,
@@ -89,6 +89,40 @@ pub(crate) fn start(
         permits: Vec::new(alloc),
     };
     Ok((pass, thief))
+}
+
+// The passes of all workers, with no permit yet, and handles with which others steal from their deques.
+pub(crate) fn start_all(
+    alloc: Global,
+    round: u64,
+    ranks: u32,
+    workers: usize,
+) -> Result<(Vec<Pass>, Vec<Thief>), Fault>
+    ensures made { IfOk result (λ r. Made round ranks workers r.0.items r.1.items workers) }
+    ensures memory { IsOkUnless result Fault.Memory }
+{
+    let mut passes = Vec::with_capacity(alloc, workers)?;
+    let mut thieves = Vec::with_capacity(alloc, workers)?;
+    'starts: for worker in 0..workers {
+        let (pass, thief) = start(alloc, round, ranks, workers, worker)?;
+        passes.push_reserved(pass);
+        thieves.push_reserved(thief);
+    }
+    Ok((passes, thieves))
+}
+
+// Gives each pass a permit of each deque. No permit was cut before.
+pub(crate) fn give_permits(alloc: Global, passes: &mut Vec<Pass>) -> Result<(), Fault>
+    requires { Cutting passes.old.items passes.old.items 0 }
+    ensures cut { OnOk result (Cutting passes.old.items passes.new.items (length passes.old.items)) }
+    ensures memory { IsOkUnless result Fault.Memory }
+{
+    'cuts: for to in 0..passes.len() {
+        let permits = cut_permits(alloc, passes)?;
+        let pass = &mut passes[to];
+        pass.permits = permits;
+    }
+    Ok(())
 }
 
 // Takes the front piece of a deque.

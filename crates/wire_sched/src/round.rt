@@ -2,7 +2,7 @@
 
 ghost use Rattle.std.specs.Prelude.{◌≡◌, ◌<◌, ◌≤◌, [], vec_capacity, vec_len};
 
-use crate::deques::{cut_permits, drain, join_all, start, steal_from, take_front};
+use crate::deques::{drain, give_permits, join_all, start_all, steal_from, take_front};
 use crate::rule::{Owner, Permit, Piece, Thief};
 use std::alloc::Global;
 use wire_types::Fault;
@@ -61,18 +61,8 @@ impl Round {
         ensures memory { IsOkUnless result Fault.Memory }
     {
         let left = Vec::with_capacity(alloc, ranks as usize)?;
-        let mut passes = Vec::with_capacity(alloc, workers)?;
-        let mut thieves = Vec::with_capacity(alloc, workers)?;
-        'starts: for worker in 0..workers {
-            let (pass, thief) = start(alloc, round, ranks, workers, worker)?;
-            passes.push_reserved(pass);
-            thieves.push_reserved(thief);
-        }
-        'cuts: for to in 0..workers {
-            let permits = cut_permits(alloc, &mut passes)?;
-            let pass = &mut passes[to];
-            pass.permits = permits;
-        }
+        let (mut passes, thieves) = start_all(alloc, round, ranks, workers)?;
+        give_permits(alloc, &mut passes)?;
         let dealt = Round {
             round,
             ranks,
