@@ -7,7 +7,8 @@ ghost use Rattle.wire_sched.specs.Views.{deque_view, Takes};
 ghost use Rattle.wire_sched.specs.Rules.{joined, Finds, IsDrained};
 ghost use Rattle.wire_sched.specs.Shares.{share_of};
 ghost use Rattle.wire_sched.specs.Rounds.{own_view, MatchTake};
-ghost use Rattle.wire_sched.specs.Deques.{EachPair, IsFilled, IsCut, IsPermitOf, SameDeque, IsStart, Made, Cutting, CanTake, AreJoined, CanJoinAll, AreGathered};
+ghost use Rattle.wire_sched.specs.Deques.{EachPair, IsFilled, IsCut, IsPermitOf, SameDeque, IsStart, Made, Cutting};
+ghost use Rattle.wire_sched.specs.Deques.{CanTake, AreJoined, CanJoinAll, AreGathered};
 ghost use Rattle.crossbeam_deque.specs.Handles as deque;
 ghost use Rattle.crossbeam_deque.specs.Handles.{view, SamePass, stealer_deque, stealer_flavor, worker_deque, worker_flavor, worker_view};
 
