@@ -1,4 +1,5 @@
 -- The arrivals that bring data, as the events are looked at one after the other, and the first of them from an event on.
+use Rattle.std.proofs.Common.{refl, Bool, false, ◌||◌}
 use Rattle.std.proofs.Common.{◌≡◌, ◌≢◌, ◌∙◌, ap, sym, subst, ℕ, zero, suc, ◌+◌, ◌<◌, ◌≤◌, List, [], ◌∷◌, ◌++◌, length, map, true, ◌==◌, Some, None, arith, inl, inr, get_or, nat_lt, cond, ◌&&◌}
 use Rattle.std.specs.Prelude.{slice_get, option_map}
 use Rattle.std.specs.List.Sorted.{IsPartitionedBy}
