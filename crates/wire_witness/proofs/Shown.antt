@@ -11,7 +11,6 @@ use Rattle.wire_witness.specs.declared.witness.Witness.{Witness}
 use Rattle.wire_races.specs.Reported.{race_calls}
 use Rattle.wire_witness.specs.Tried.{IsShownBy, IsTried, AreTried}
 use Rattle.wire_witness.specs.declared.tried.TriedRace.{TriedRace}
-use Rattle.wire_witness.proofs.Fronts.{next}
 
 with_one : (scripts : Scripts) (tried : List TriedRace) (one : TriedRace) → AreTried scripts tried → IsTried scripts one → AreTried scripts (tried ++ one ∷ [])
 with_one scripts [] one are is = (is, tt)
