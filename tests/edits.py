@@ -6,8 +6,8 @@ Usage: python3 tests/edits.py              all edits
 
 An edit is a wrong body: `crates/NAME/edits/MISTAKE.edit` has lines 'file: src/FILE.rt', 'old: TEXT' and 'new: TEXT', where TEXT is one line.
 The proof of a function depends only on the contracts of the functions that it calls, so wrong bodies of several functions don't disturb each
-other. A batch has at most one edit of each function, and one check of these functions (`rattle check --only`), from nothing, gives a verdict
-for each. An edit is refused if its own function has no proof for a reason of its own, and not only because it calls another that isn't proved.
+other. A batch has at most one edit of each function, and one check of these functions (`rattle check --only`) gives a verdict for each. It
+begins with nothing but what the batches before it, of the same crate and in this run, have proved. An edit is refused if its own function has no proof for a reason of its own, and not only because it calls another that isn't proved.
 A batch shows nothing if it isn't checked to its end, or if a function without an edit has no proof for a reason of its own. Then its
 halves are tried, and so on.
 
