@@ -156,7 +156,7 @@ fn of_findings(
 ) -> Result<Vec<u8>, Fault> {
     let marks = Marks::of(rt.alloc(), plan)?;
     *stage = Stage::Within;
-    let found = findings(rt, rt.alloc(), &marks.with(plan));
+    let found = findings(rt, rt.alloc(), plan, &marks);
     drop(marks);
     let found = found?;
     *stage = Stage::After;
@@ -208,7 +208,7 @@ fn judge(
     ensures findings { IfOk result (λ r. AreFindings plan.now r.1.items) }
 {
     let marks = Marks::of(rt.alloc(), plan)?;
-    let found = findings(rt, rt.alloc(), &marks.with(plan))?;
+    let found = findings(rt, rt.alloc(), plan, &marks)?;
     Ok((marks, found))
 }
 

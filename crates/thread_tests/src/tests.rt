@@ -182,7 +182,7 @@ fn judge<R: Threads + Sync>(
     ensures findings { IfOk result (λ r. AreFindings plan.now r.1.items) }
 {
     let marks = Marks::of(alloc, plan)?;
-    let found = findings(rt, alloc, &marks.with(plan))?;
+    let found = findings(rt, alloc, plan, &marks)?;
     Ok((marks, found))
 }
 

@@ -21,6 +21,20 @@ const JSON: Argument<'static> = Argument {
     help: "Writes JSON instead of text",
 };
 
+/// Whether `witness` writes only the first of its two orders.
+const FIRST_ORDER: Argument<'static> = Argument {
+    name: "first",
+    kind: Kind::Flag,
+    help: "Writes only the order of the run in which the first call comes first, for 'follow'",
+};
+
+/// Whether `witness` writes only the second of its two orders.
+const SECOND_ORDER: Argument<'static> = Argument {
+    name: "second",
+    kind: Kind::Flag,
+    help: "Writes only the order of the run in which the second call comes first, for 'follow'",
+};
+
 /// Lines of the file, where an answer tells of calls one by one.
 const LINES: Argument<'static> = Argument {
     name: "lines",
@@ -175,16 +189,8 @@ fn witness_command<'a>() -> Subcommand<'a>
         name: "witness",
         about: "Looks for two runs in which the calls of a race come in different orders and one ends differently",
         arguments: &[
-            Argument {
-                name: "first",
-                kind: Kind::Flag,
-                help: "Writes only the order of the run in which the first call comes first, for 'follow'",
-            },
-            Argument {
-                name: "second",
-                kind: Kind::Flag,
-                help: "Writes only the order of the run in which the second call comes first, for 'follow'",
-            },
+            FIRST_ORDER,
+            SECOND_ORDER,
             Argument {
                 name: "most",
                 kind: Kind::Number,

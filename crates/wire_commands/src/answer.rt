@@ -16,7 +16,8 @@ pub struct Answer {
     pub ended: Ended,
 }
 
-/// Writes the text of an answer, and says how the command ends.
+/// Writes the text of an answer, and says how the command ends. The one fault is `Fault::Write`, with the number of
+/// bytes that went out.
 pub fn write_answer<W: Sink>(writer: &mut W, answer: &Answer) -> Result<Ended, Fault>
     ensures ok { IfOk result (λ ended. (ended ≡ answer.now.ended) × Appends (W.written writer.old) (W.written writer.new) answer.now.text.items) }
     ensures quiet { OnOk result (W.failures writer.new ≡ W.failures writer.old) }

@@ -1,4 +1,4 @@
--- What is found so far: for the contracts of private functions.
+-- What is found so far: for the contracts of `Found`, and of private functions.
 use Rattle.std.specs.Prelude.{◌≡◌, ◌⊎◌, ◌↔◌, List}
 use Rattle.wire_runs.specs.Plan.{Plan}
 use Rattle.wire_runs.specs.Findings.{Finding, IsFound, Has}

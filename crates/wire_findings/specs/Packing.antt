@@ -1,4 +1,4 @@
--- Findings in few bytes, and what they stand for: for private functions, and for what a `FindingList` stands for.
+-- Findings in few bytes, and what they stand for: for private functions, and for what a `Found` and a `FindingList` stand for.
 use Rattle.std.specs.Prelude.{◌≡◌, ◌++◌, ◌<◌, ◌≤◌, ◌-◌, ◌==◌, ⊤, ℕ, Bool, true, false, List, [], ◌∷◌, Option, Some, None, length, map, slice_get}
 use Rattle.wire_types.specs.declared.CallAt.{CallAt}
 use Rattle.wire_findings.specs.declared.finding.Finding.{Finding as Told}

@@ -1,4 +1,4 @@
--- Where a finding stands in the list: for the contracts of private functions.
+-- Where a finding stands in the list: for the contracts of `Found`, and of private functions.
 use Rattle.std.specs.Prelude.{◌≡◌, ◌<◌, true, false, ℕ, List, [], length}
 use Rattle.std.specs.List.{AllAdjacentBelow}
 use Rattle.std.specs.Cmp.Lexicographic.{slice_cmp}

@@ -121,9 +121,11 @@ impl Found {
         Ok(())
     }
 
-    /// Adds a finding.
+    /// Adds a finding, behind the others. The one error is that memory ran out: nothing is said of what is there
+    /// then, and a caller drops it.
     pub fn add(&mut self, finding: Finding) -> Result<(), AllocError>
-        ensures { OnOk result ((plan : runs.Plan) → IsAdded plan self.old self.new (shown plan finding)) }
+        ensures added { OnOk result ((plan : runs.Plan) → IsAdded plan self.old self.new (shown plan finding)) }
+        ensures behind { OnOk result (self.new ≡ self.old ++ finding ∷ []) }
     {
         self.push(finding)
     }
@@ -138,7 +140,8 @@ impl Found {
         Ok(())
     }
 
-    /// Adds the findings of a piece. Where nothing is there yet, they needn't be moved.
+    /// Adds the findings of a piece, behind the others. Where nothing is there yet, they needn't be moved. The one error
+    /// is that memory ran out: a part of the piece may be there then, and a caller drops it.
     pub fn append(&mut self, piece: Found) -> Result<(), AllocError>
         ensures { OnOk result (self.new ≡ self.old ++ piece) }
     {

@@ -22,3 +22,4 @@ pub use list::{finding_list, findings};
 pub use racing::are_racing;
 pub use reported::race_calls;
 pub use settled::{Settled, Unsettled};
+pub use wire_findings::{Finding, FindingList};

@@ -1,6 +1,8 @@
 //! The list of the findings.
 
 ghost use Rattle.std.specs.Prelude.{IfOk, IsOkUnless};
+ghost use Rattle.wire_content.specs.Planned.{plan_of};
+ghost use Rattle.wire_marks.specs.Clocks.{AreMarks};
 ghost use Rattle.wire_findings.specs.Findings.{AreFindings};
 
 use crate::key_races::add_key_races;
@@ -9,7 +11,8 @@ use crate::rewrites::add_rewrites;
 use std::alloc::{AllocError, Global};
 use std::thread::Threads;
 use wire_findings::{Finding, FindingList, Found};
-use wire_marks::MarkedPlan;
+use wire_marks::{MarkedPlan, Marks};
+use wire_plan::Plan;
 use wire_types::Fault;
 
 // All findings of a plan, in their order.
@@ -64,18 +67,22 @@ pub fn finding_list(
 
 /// The findings of a plan, each once: the rewrites by the later put, then the races by the lower
 /// event and the higher one, and those of one pair by the bytes of their names. Several threads look for the races, and the list is the same whatever
-/// pieces they take. The one fault is `Fault::Memory`.
+/// pieces they take. The caller ensures that the marks are those of the plan. The one fault is
+/// `Fault::Memory`.
 ///
 /// The `Vec` is made from the list that [`finding_list`] gives, and while it is made there are both. What
 /// counts as memory that ran out there does so here.
 pub fn findings(
     rt: &(impl Threads + Sync),
     alloc: Global,
-    marked: &MarkedPlan<'_>,
+    plan: &Plan,
+    marks: &Marks,
 ) -> Result<Vec<Finding>, Fault>
-    ensures ok { IfOk result (λ found. AreFindings marked.now found.items) }
+    requires { AreMarks (plan_of plan.now) marks.now }
+    ensures ok { IfOk result (λ found. AreFindings plan.now found.items) }
     ensures memory { IsOkUnless result Fault.Memory }
 {
-    let found = vec_of_findings(rt, alloc, marked)?;
+    let marked = marks.with(plan);
+    let found = vec_of_findings(rt, alloc, &marked)?;
     Ok(found)
 }

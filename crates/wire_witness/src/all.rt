@@ -5,7 +5,7 @@ ghost use Rattle.wire_types.specs.declared.Fault.TheVariants.{Memory};
 ghost use Rattle.wire_witness.specs.Searches as spec;
 ghost use Rattle.wire_witness.specs.Searches.{IsRaceSearch};
 
-use crate::races::{count_races, first_races};
+use crate::races::{count_races, take_races};
 use crate::tried::{TriedRace, count_shown, try_races};
 use std::alloc::Global;
 use std::thread::Threads;
@@ -57,10 +57,10 @@ pub fn search_races(
     ensures err { IfErr result (λ e. e ≡ Memory) }
 {
     let marks = Marks::of(alloc, plan)?;
-    let found = finding_list(rt, alloc, plan, &marks)?;
-    let races = first_races(alloc, &found, most)?;
-    let count = count_races(&found);
     let marked = marks.with(plan);
+    let found = finding_list(rt, alloc, &marked)?;
+    let races = take_races(alloc, &found, most)?;
+    let count = count_races(&found);
     let tried = try_races(alloc, &marked, races.as_slice())?;
     Ok(RaceSearch { tried, count })
 }

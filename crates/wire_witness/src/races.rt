@@ -31,7 +31,7 @@ pub(crate) fn count_races(list: &FindingList) -> usize
 }
 
 /// The first races among the findings, so many at most.
-pub(crate) fn first_races(
+pub(crate) fn take_races(
     alloc: Global,
     list: &FindingList,
     most: usize,

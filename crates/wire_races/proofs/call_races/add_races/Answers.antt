@@ -29,7 +29,7 @@ loop-y-preserved c =
     let those = c.args.those.now in
     let n = c.loop-y.y-index in
     let race = c.requires.races n _ (place_at those n _ c.loop-y-test.true) in
-    let told = subst (λ f. IsAdded plan c.loop-y.found c.add.new.self f) c.race_of.ensures (c.in_ok-add.ensures plan) in
+    let told = subst (λ f. IsAdded plan c.loop-y.found c.add.new.self f) c.race_of.ensures (c.in_ok-add.ensures.added plan) in
     subst (λ l. Adds plan c.args.found.now c.add.new.self (IsRaceWith plan name x l)) (sym (map_more event_of those n _ c.loop-y-test.true))
     (one_more_race plan name x (map event_of (take n those)) _ c.args.found.now c.loop-y.found c.add.new.self c.loop-y.invariant race told)
 

@@ -2,8 +2,8 @@ use Rattle.std.proofs.Common.{◌∙◌, ◌<◌, ◌≤◌, ap, sym, length, Ve
 use Rattle.wire_findings.specs.declared.finding.Finding.{Finding}
 use Rattle.wire_witness.specs.Races.{is_race}
 use Rattle.wire_witness.proofs.Fronts.{takes_race, is_full, is_none}
-use Rattle.wire_witness.proofs.races.first_races.Goals.{then-is_race+then-len-most+in_ok-push, else-is_race, else-is_race-via-then-is_race+else-len-most, else-is_race-via-else-is_race}
-use Rattle.wire_witness.proofs.races.first_races.Goals as goal
+use Rattle.wire_witness.proofs.races.take_races.Goals.{then-is_race+then-len-most+in_ok-push, else-is_race, else-is_race-via-then-is_race+else-len-most, else-is_race-via-else-is_race}
+use Rattle.wire_witness.proofs.races.take_races.Goals as goal
 
 pub loop-number-preserved : goal.loop-number-preserved
 loop-number-preserved c =
