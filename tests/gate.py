@@ -38,7 +38,8 @@ import witnesses
 BUILT = os.path.join(progress.TOP, "crates", "program", "out", "program")
 # What users and tests run, of what `rt ci` builds in the copy.
 KEPT = (BUILT, bench.PARTS)
-BUDGET = 110
+# Minutes of processor time: for the 30 crates that there were when it was set, and for each since.
+BUDGET, FOR_EACH, WERE = 110, 4, 30
 # How much of what a part said is told again at the end, where it failed: so many of its last lines, and so much of each.
 LINES, WIDTH = 8, 160
 # The lines of `rt ci` that tell how far it is.
@@ -209,10 +210,11 @@ def judge(room, files, watch, failures):
 
 def tell_costs(watch, seconds):
     """Prints what the gate cost, and keeps it in a file."""
-    told = watch.report(progress.crates_below(None), seconds)
+    crates = progress.crates_below(None)
+    told, budget = watch.report(crates, seconds), BUDGET + FOR_EACH * (len(crates) - WERE)
     with open(os.path.join(progress.LOGS, "gate-costs.md"), "w", encoding="utf-8") as it:
         it.write(f"{told}\n")
-    print(f"{told} The budget is {BUDGET}: more is a reason to look, and no failure, as machines differ.", flush=True)
+    print(f"{told} The budget is {budget}: more is a reason to look, and no failure, as machines differ.", flush=True)
 
 
 def main():
