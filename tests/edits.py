@@ -7,7 +7,8 @@ Usage: python3 tests/edits.py              all edits
 An edit is a wrong body: `crates/NAME/edits/MISTAKE.edit` has lines 'file: src/FILE.rt', 'old: TEXT' and 'new: TEXT', where TEXT is one line.
 The proof of a function depends only on the contracts of the functions that it calls, so wrong bodies of several functions don't disturb each
 other. A batch has at most one edit of each function, and one check of these functions (`rattle check --only`) gives a verdict for each. It
-begins with nothing but what the batches before it, of the same crate and in this run, have proved. An edit is refused if its own function has no proof for a reason of its own, and not only because it calls another that isn't proved.
+begins with nothing but what the batches before it, of the same crate and in this run, have proved. An edit is refused if its own
+function has no proof for a reason of its own, and not only because it calls another that isn't proved.
 A batch shows nothing if it isn't checked to its end, or if a function without an edit has no proof for a reason of its own. Then its
 halves are tried, and so on.
 
@@ -22,6 +23,7 @@ import os
 import re
 import signal
 import sys
+import tempfile
 
 sys.dont_write_bytecode = True
 import progress
@@ -225,24 +227,36 @@ def is_judged(ran, texts, batch):
     return all(any(belongs_to(it.function, path) for it in batch) for path, _ in own_failures(ran.stdout))
 
 
-def check(batch):
-    """Checks the functions of a batch, and answers what became of each of its edits, by its path, as far as that shows it."""
+def check(batch, kept=None):
+    """Checks the functions of a batch, and answers what became of each of its edits, by its path, as far as that shows it. What an earlier
+    check of the same crate kept in a folder isn't checked again, and what this one checks is kept there for the next."""
     texts = texts_of(batch)
     only = [word for it in batch for word in ("--only", it.function.path)]
-    ran = rt.checked(batch[0].crate, texts, ["--jobs", "1", *only], None)
+    ran = rt.checked(batch[0].crate, texts, ["--jobs", "1", *only], kept)
     if not is_judged(ran, texts, batch):
         return {}
     found = {it.path: judged(it, ran.stdout) for it in batch}
     return {path: outcome for path, outcome in found.items() if outcome}
 
 
-def check_in_parts(batch):
+def check_in_parts(batch, kept=None):
     """What became of each edit of a batch. Where one check doesn't show it, such as because of an edit that can't be read, each half is
     checked by itself."""
-    found, half = check(batch), len(batch) // 2
+    found, half = check(batch, kept), len(batch) // 2
     if found or not half:
         return found
-    return {**check_in_parts(batch[:half]), **check_in_parts(batch[half:])}
+    return {**check_in_parts(batch[:half], kept), **check_in_parts(batch[half:], kept)}
+
+
+def check_one_by_one(batches, ended):
+    """What became of each edit of a crate's batches. `ended` is called after each. The proofs that two batches share are checked once: those
+    of functions without an edit that the edited ones call, and whatever the crate's definitions and lemmas need."""
+    found = {}
+    with tempfile.TemporaryDirectory(prefix="wire-up-edits-") as kept:
+        for batch in batches:
+            found.update(check_in_parts(batch, kept if len(batches) > 1 else None))
+            ended()
+    return found
 
 
 def try_alone(edit):
@@ -257,16 +271,11 @@ def try_whole(edit):
     return Outcome(answer in REFUSALS, text)
 
 
-def side_by_side(work, ended):
-    """What calls give, by the key of each, one to a processor. Work is a crate and a call, by key. `ended` is called after each."""
+def side_by_side(work):
+    """What calls give, by the key of each, one to a processor. Work is a crate and a call, by key."""
 
     def task_of(crate, call):
-        def run(_given, _jobs):
-            found = call()
-            ended()
-            return found
-
-        return [], crate.count(rb"\n"), rt.need(crate), run
+        return [], crate.count(rb"\n"), rt.need(crate), lambda _given, _jobs: call()
 
     tasks = {(key, "edits"): task_of(*it) for key, it in work.items()}
     return {key: it for (key, _), it in rt.in_lanes(tasks).items()}
@@ -292,14 +301,20 @@ def try_all(files, tell=lambda state: None):
     for edit in edits:
         if edit.function:
             by_crate[edit.crate].append(edit)
-    batches = [batch for it in by_crate.values() for batch in batches_of(it)]
-    count, alone = itertools.count(1), itertools.count(1)
-    work = {n: (it[0].crate, lambda it=it: check_in_parts(it)) for n, it in enumerate(batches)}
-    for shown in side_by_side(work, lambda: tell(f"batch {next(count)} of {len(batches)}")).values():
+    batches = {crate: batches_of(it) for crate, it in by_crate.items()}
+    count, total = itertools.count(1), sum(map(len, batches.values()))
+    work = {it.name: (it, lambda it=it: check_one_by_one(batches[it], lambda: tell(f"batch {next(count)} of {total}"))) for it in batches}
+    for shown in side_by_side(work).values():
         found.update(shown)
     left = [it for it in edits if it.path not in found]
-    work = {it.path: (it.crate, lambda it=it: try_alone(it)) for it in left}
-    found.update(side_by_side(work, lambda: tell(f"{next(alone)} of {len(left)} that are tried alone")))
+    count, total = itertools.count(1), len(left)
+
+    def try_next(edit):
+        outcome = try_alone(edit)
+        tell(f"{next(count)} of {total} that are tried alone")
+        return outcome
+
+    found.update(side_by_side({it.path: (it.crate, lambda it=it: try_next(it)) for it in left}))
     return {path: found[path] for _, path in files}
 
 
