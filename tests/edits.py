@@ -6,24 +6,29 @@ Usage: python3 tests/edits.py              all edits
 
 An edit is a wrong body: `crates/NAME/edits/MISTAKE.edit` has lines 'file: src/FILE.rt', 'old: TEXT' and 'new: TEXT', where TEXT is one line.
 The proof of a function depends only on the contracts of the functions that it calls, so wrong bodies of several functions don't disturb each
-other. A batch has at most one edit of each function, and one check of these functions (`rattle check --only`) gives a verdict for each. It
-begins with nothing but what the batches before it, of the same crate and in this run, have proved. An edit is refused if its own
-function has no proof for a reason of its own, and not only because it calls another that isn't proved.
+other. They make up a batch, and one check of these functions (`rattle check --only`) gives a verdict for each. Where a function has several
+edits, the first stands in its place, and each other one in a copy of the function and of its proof files, under a name of its own. One more
+copy, without an edit, has to be proved: so what is refused in a copy isn't refused for its name. Where no copy can be made, the second edit goes
+into a second batch. That begins with nothing but what the batches before it, of the same crate and in this run, have proved. An edit is
+refused if its own function has no proof for a reason of its own, and not only because it calls another that isn't proved.
 A batch shows nothing if it isn't checked to its end, or if a function without an edit has no proof for a reason of its own. Then its
 halves are tried, and so on.
 
 What a batch doesn't show refused is tried alone: first its function by itself, and where that doesn't show it either, the whole crate, as
 `rt must-fail` tries an edit. So is an edit of more than one body, or of none.
-The crates themselves are proved first. Prints a line for each edit, and last 'N passed, M failed'.
+The crates themselves are proved first. Prints a line for each edit, those whose function took long, and last 'N passed, M failed'.
 """
 import collections
 import functools
 import itertools
 import os
 import re
+import shutil
 import signal
+import subprocess
 import sys
 import tempfile
+import time
 
 sys.dont_write_bytecode = True
 import progress
@@ -39,21 +44,31 @@ LAST = re.compile(r"^only=\d+ proved=\d+\n*\Z", re.M)
 PLACED = re.compile(r"(?:note: )?(?:\./)?((?:src|proofs)/\S+?):(\d+):\d+:")
 # A proof file that names what an edit took away, or that rests on such a proof: it says little of the contract.
 NAMES = re.compile(r"(\./)?proofs/.*(has no field|is not in scope|has no `|was not admitted)")
+# A line that tells that the proof of a function was tried to its end.
+TRIED = re.compile(r"checked (\S+), \d+ of \d+$")
 # A part of a verdict that blames other functions.
 OTHERS = re.compile(r"it (?:calls|passes the block) .*, which (?:is|are) not (?:proved|assumed)")
 # A verdict on a body that the prover has no rules for: no contract was tried, and a right body would fare the same.
 UNCOVERED = "the borrow checker does not cover this function"
 ONLY_A_NAME = " (only because a proof file names what the edit took away, so this says little of the contract: change a value and keep the names)"
 
-# A function of a source file: its path below the crate, and where its text, and in that its body, begins and ends.
-Function = collections.namedtuple("Function", "path begin body end")
+# A function of a source file: its path below the crate, where its text, and in that its body, begins and ends, and whether a trait asks for it.
+Function = collections.namedtuple("Function", "path begin body end is_of_trait", defaults=[False])
 # An edit that can be applied: the texts of the files that it changes, and if it changes one body alone, its file, the file's text, its function.
 Edit = collections.namedtuple("Edit", "crate path texts file was function")
 # What `rt.must_fail` answers of an edit that is refused: a word in some versions of the kit, "yes" in others. A limit that the prover meets
 # wherever it checks the same is a refusal, as for `rt`.
 REFUSALS = True, getattr(rt, "REFUSED", True), getattr(rt, "AT_LIMIT", True)
-# What became of an edit, the words that say so, and whether it was tried alone.
-Outcome = collections.namedtuple("Outcome", "is_refused text is_alone", defaults=[False])
+# An edit in its place in a batch: the path of the function that has its wrong body, and the lines from which and to which that stands.
+Placed = collections.namedtuple("Placed", "edit path first last")
+# A batch as it is checked: the texts of the source files that it changes, the proof files of copies, the edits in their places, and all functions.
+Texts = collections.namedtuple("Texts", "sources proofs placed only")
+# What became of an edit, the words that say so, whether it was tried alone, and how many seconds its function took in a batch.
+Outcome = collections.namedtuple("Outcome", "is_refused text is_alone seconds", defaults=[False, 0])
+# What a check answered, and how many seconds each function took, by its path below the crate.
+Checked = collections.namedtuple("Checked", "returncode stdout seconds")
+# An edit whose function takes longer is worth a look.
+LONG = 20
 
 
 def label_of(crate, path):
@@ -69,10 +84,14 @@ def without_parameters(text):
     return text
 
 
+def head_of(words):
+    """What stands behind `impl`, without parameters and bounds."""
+    return re.sub(r"^<[^<>]*(?:<[^<>]*>[^<>]*)*>", "", words.strip()).partition(" where ")[0]
+
+
 def owner_of(words):
     """The name that the prover gives the methods of an `impl`: its type's, and then its trait's where it has one."""
-    words = re.sub(r"^<[^<>]*(?:<[^<>]*>[^<>]*)*>", "", words.strip()).partition(" where ")[0]
-    trait, is_of_trait, of = words.partition(" for ")
+    trait, is_of_trait, of = head_of(words).partition(" for ")
     if not is_of_trait:
         return re.sub(r"\W", "", without_parameters(trait).rpartition("::")[2])
     argument = re.search(r"<(\w+)>", trait)
@@ -116,13 +135,13 @@ def functions_of(crate, file, text):
     homes, impls, found = {**homes_of(crate), **{it: module_of(file) for it in TYPE.findall(text)}}, [], []
     for it in IMPL.finditer(text):
         owner = owner_of(it[1])
-        impls.append((it.start(), end_of(text, it.start(), ""), [*homes.get(owner, module_of(file)), owner]))
+        impls.append((it.start(), end_of(text, it.start(), ""), [*homes.get(owner, module_of(file)), owner], " for " in head_of(it[1])))
     headers = list(HEADER.finditer(text))
     for it, later in zip(headers, [*headers[1:], None]):
         end = end_of(text, it.start(), it[1])
         if later is None or later.start() > end:
-            around = next((path for begin, close, path in impls if begin <= it.start() < close), module_of(file))
-            found.append(Function("::".join([*around, it[2]]), it.start(), body_of(text, it.start(), end, it[1]), end))
+            around, is_of_trait = next((each[2:] for each in impls if each[0] <= it.start() < each[1]), (module_of(file), False))
+            found.append(Function("::".join([*around, it[2]]), it.start(), body_of(text, it.start(), end, it[1]), end, is_of_trait))
     return found
 
 
@@ -152,44 +171,105 @@ def paths_of(crate):
     return [os.path.join(folder, it) for it in sorted(os.listdir(folder))] if os.path.isdir(folder) else []
 
 
+def attributes_of(text, function):
+    """The attributes of a function, each a line of its own between the function and the line above its comment."""
+    above = text[: function.begin].split("\n")[:-1]
+    own = itertools.takewhile(lambda it: it.lstrip().startswith(("#[", "///")), reversed(above))
+    return "".join(f"{it}\n" for it in reversed(list(own)) if it.lstrip().startswith("#["))
+
+
+def can_be_copied(edit):
+    """Whether the function of an edit can stand a second time under another name: no trait asks for it, and it doesn't call itself."""
+    name = edit.function.path.rpartition("::")[2]
+    own = edit.was[edit.function.body : edit.function.end]
+    return not edit.function.is_of_trait and "#[cycle" not in attributes_of(edit.was, edit.function) and not re.search(rf"\b{name}\b", own)
+
+
 def batches_of(edits):
-    """Edits of a crate in batches, each with at most one edit of a function."""
+    """Edits of a crate in batches, each with at most one edit of a function that can't be copied."""
     batches = []
     for edit in edits:
         place = edit.file, edit.function
-        free = next((it for it in batches if place not in it), None)
+        free = next((it for it in batches if can_be_copied(edit) or all((each.file, each.function) != place for each in it)), None)
         if free is None:
-            free = {}
+            free = []
             batches.append(free)
-        free[place] = edit
-    return [list(it.values()) for it in batches]
+        free.append(edit)
+    return batches
+
+
+def wrong_of(edit):
+    """The text of an edit's function with the wrong body."""
+    new = edit.texts[edit.file]
+    return new[edit.function.begin : len(new) - (len(edit.was) - edit.function.end)]
+
+
+def copies_of(edits):
+    """Copies of the function of several edits, by name: one for each edit but the first, and one without an edit."""
+    function, was = edits[0].function, edits[0].was
+    name = function.path.rpartition("::")[2]
+    bodies = {f"{name}_wrong_{number}": wrong_of(it) for number, it in enumerate(edits[1:], 2)}
+    bodies[f"{name}_as_it_is"] = was[function.begin : function.end]
+    return {new: attributes_of(was, function) + re.sub(rf"\bfn {name}\b", f"fn {new}", text, count=1) for new, text in bodies.items()}
+
+
+def proofs_of_copy(crate, path, name):
+    """The proof files of a function, as those of its copy of another name."""
+    *around, own = path.split("::")
+    found = {}
+    for inner in (around, [*around, "fn"]):
+        folder, to = (os.path.join("proofs", *inner, it) for it in (own, name))
+        module = re.compile(rf"(?<=\.proofs\.){re.escape('.'.join([*inner, own]))}(?=\.)")
+        for at, _, files in os.walk(os.path.join(crate.folder, folder)):
+            for it in files:
+                place = os.path.relpath(os.path.join(at, it), os.path.join(crate.folder, folder))
+                found[os.path.join(to, place)] = module.sub(".".join([*inner, name]), rt.rtlib.text_of(os.path.join(at, it)))
+    return found
+
+
+def lines_of(text, function):
+    """The first and the last line of a function."""
+    return text.count("\n", 0, function.begin) + 1, text.count("\n", 0, function.end) + 1
 
 
 def texts_of(batch):
-    """The texts of the files that a batch changes, with the function of each edit in its place."""
-    texts = {}
-    for edit in sorted(batch, key=lambda it: -it.function.begin):
-        text, new = texts.get(edit.file, edit.was), edit.texts[edit.file]
-        wrong = new[edit.function.begin : len(new) - (len(edit.was) - edit.function.end)]
-        texts[edit.file] = text[: edit.function.begin] + wrong + text[edit.function.end :]
-    return texts
+    """A batch as it is checked."""
+    by_function = collections.defaultdict(list)
+    for edit in batch:
+        by_function[edit.file, edit.function].append(edit)
+    sources, proofs, names = {}, {}, {}
+    for (file, function), edits in sorted(by_function.items(), key=lambda it: -it[0][1].begin):
+        copies = copies_of(edits) if len(edits) > 1 else {}
+        text, around = sources.get(file, edits[0].was), function.path.rpartition("::")[0]
+        own = "\n\n".join([wrong_of(edits[0]), *copies.values()])
+        sources[file] = text[: function.begin] + own + text[function.end :]
+        paths = [function.path, *("::".join(filter(None, [around, it])) for it in copies)]
+        names.update(zip(paths, [*edits, *[None] * len(copies)]))
+        for name in copies:
+            proofs.update(proofs_of_copy(edits[0].crate, function.path, name))
+    return Texts(sources, proofs, placed_in(batch[0].crate, sources, names), list(names))
 
 
-def belongs_to(function, path):
-    """Whether a path of the prover's names a function or a closure in it: of a closure in `a::f` it begins with `a::fn::f`."""
-    own = function.path.split("::")
+def placed_in(crate, sources, names):
+    """The edits in their places, by the paths of the functions that have their wrong bodies."""
+    found = [(it.path, *lines_of(text, it)) for file, text in sources.items() for it in functions_of(crate, file, text)]
+    return [Placed(names[path], path, first, last) for path, first, last in found if names.get(path)]
+
+
+def belongs_to(placed, path):
+    """Whether a path of the prover's names the function of an edit or a closure in it: of a closure in `a::f` it begins with `a::fn::f`."""
+    own = placed.path.split("::")
     return [it for it in path if it != "fn"][: len(own)] == own
 
 
-def is_about(edit, line):
-    """Whether a line of the prover is about a place in the function of an edit. The texts of an edit are lines, so no other line moves."""
+def is_about(placed, line):
+    """Whether a line of the prover is about a place in the function of an edit."""
     at = PLACED.match(line)
     if not at:
         return False
     if at[1].startswith("proofs/"):
-        return belongs_to(edit.function, at[1].split("/")[1:])
-    begin = edit.was.count("\n", 0, edit.function.begin) + 1
-    return at[1] == edit.file and begin <= int(at[2]) <= edit.was.count("\n", 0, edit.function.end) + 1
+        return belongs_to(placed, at[1].split("/")[1:])
+    return at[1] == placed.edit.file and placed.first <= int(at[2]) <= placed.last
 
 
 def is_own(verdict):
@@ -205,38 +285,77 @@ def own_failures(said):
     return [(path.split("::")[1:], words) for path, words in VERDICT.findall(said) if is_own(words)]
 
 
-def judged(edit, said):
+def judged(placed, said):
     """What a check says of an edit's own function: the outcome, or nothing where it doesn't show that the edit is refused."""
-    verdicts = [words for path, words in own_failures(said) if belongs_to(edit.function, path)]
+    edit, verdicts = placed.edit, [words for path, words in own_failures(said) if belongs_to(placed, path)]
     if not verdicts:
         return None
     if any(UNCOVERED in it for it in verdicts):
         return Outcome(False, f"{label_of(edit.crate, edit.path)}: BAD EDIT: no contract was tried: {verdicts[0]}")
-    told = [line for line in said.splitlines() if is_about(edit, line) and (": error" in line or line.startswith("note: "))]
+    told = [line for line in said.splitlines() if is_about(placed, line) and (": error" in line or line.startswith("note: "))]
     reason = next((line for line in told if not NAMES.match(line)), "")
     only_a_name = ONLY_A_NAME if told and not reason else ""
     return Outcome(True, f"{label_of(edit.crate, edit.path)}: refused, as it must be{only_a_name}: {(reason or (told or verdicts)[0])[:160]}")
 
 
-def is_judged(ran, texts, batch):
+def is_judged(ran, texts):
     """Whether a check of a batch came to its end, and blames no function that has no edit."""
     if ran.returncode != 1 or not LAST.search(ran.stdout) or rt.rtlib.STALE.search(ran.stdout):
         return False
-    if any(rt.unread(line, texts) for line in ran.stdout.splitlines()):
+    if any(rt.unread(line, texts.sources) for line in ran.stdout.splitlines()):
         return False
-    return all(any(belongs_to(it.function, path) for it in batch) for path, _ in own_failures(ran.stdout))
+    return all(any(belongs_to(it, path) for it in texts.placed) for path, _ in own_failures(ran.stdout))
+
+
+def checked(crate, texts, flags, kept):
+    """Checks a copy of a crate with these texts in place of its own, as `rt.checked` does, and takes the time of each function."""
+    with tempfile.TemporaryDirectory(prefix="wire-up-edits-") as room:
+        for part in rt.rtlib.PARTS:
+            if os.path.isdir(f"{crate.folder}/{part}"):
+                shutil.copytree(f"{crate.folder}/{part}", f"{room}/{part}")
+        for path, text in texts.items():
+            os.makedirs(os.path.dirname(f"{room}/{path}"), exist_ok=True)
+            with open(f"{room}/{path}", "w", encoding="utf-8") as it:
+                it.write(text)
+        words = [rt.rtlib.RATTLE, "check", *crate.words(flags, keeps=False), *(["--incremental", kept] if kept else [])]
+        how = {"cwd": room, "stdin": subprocess.DEVNULL, "stdout": subprocess.PIPE, "stderr": subprocess.STDOUT, "text": True, "errors": "replace"}
+        with subprocess.Popen([*rt.rtlib.guarded(), *words], **how) as it:
+            said, seconds = heard(it.stdout)
+        return Checked(it.returncode, said, seconds)
+
+
+def heard(lines):
+    """The lines of a check, and how many seconds each function took, by its path below the crate."""
+    said, seconds, before = [], {}, time.monotonic()
+    for line in lines:
+        said.append(line)
+        if it := TRIED.match(line):
+            seconds[tuple(it[1].split("::")[1:])] = time.monotonic() - before
+            before = time.monotonic()
+    return "".join(said), seconds
 
 
 def check(batch, kept=None):
     """Checks the functions of a batch, and answers what became of each of its edits, by its path, as far as that shows it. What an earlier
     check of the same crate kept in a folder isn't checked again, and what this one checks is kept there for the next."""
     texts = texts_of(batch)
-    only = [word for it in batch for word in ("--only", it.function.path)]
-    ran = rt.checked(batch[0].crate, texts, ["--jobs", "1", *only], kept)
-    if not is_judged(ran, texts, batch):
+    only = [word for it in texts.only for word in ("--only", it)]
+    ran = checked(batch[0].crate, {**texts.sources, **texts.proofs}, ["--jobs", "1", "--progress", *only], kept)
+    if not is_judged(ran, texts):
         return {}
-    found = {it.path: judged(it, ran.stdout) for it in batch}
-    return {path: outcome for path, outcome in found.items() if outcome}
+    found = [(it, judged(it, ran.stdout)) for it in texts.placed]
+    return {it.edit.path: outcome._replace(seconds=seconds_of(it, ran)) for it, outcome in found if outcome}
+
+
+def seconds_of(placed, ran):
+    """How many seconds a check took for the function of an edit."""
+    return sum(seconds for path, seconds in ran.seconds.items() if belongs_to(placed, path))
+
+
+def slow_ones(outcomes):
+    """A line for each edit whose function took long, the longest first."""
+    slow = sorted((it for it in outcomes if it.seconds >= LONG), key=lambda it: -it.seconds)
+    return [f"{it.seconds:.0f} seconds: {it.text.partition(':')[0]}" for it in slow]
 
 
 def check_in_parts(batch, kept=None):
@@ -350,6 +469,8 @@ def main(words):
     found = prove_and_try(asked_for(words, crates), crates)
     for outcome in found.values():
         print(f"rt: {outcome.text}")
+    for line in slow_ones(found.values()):
+        print(line)
     refused = sum(it.is_refused for it in found.values())
     print(f"{refused} passed, {len(found) - refused} failed")
     return 0 if refused == len(found) else 1

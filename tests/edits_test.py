@@ -94,7 +94,9 @@ EDITS = {
     "another_argument": (["exact(a) // the same", "exact(0)"], REFUSED, None),
     "right_in_another_way": (["exact(a) // not greater either", "exact(a).min(3)"], NOT_REFUSED, True),
     "method_of_a_type": (["second: a }", "second: 0 }"], REFUSED, False),
-    # In the function of another edit, so in another batch.
+    # In the functions of other edits, so over copies of these: one that must be proved, and one with a proof file.
+    "more_than_the_number": (["exact(a) // not greater either", "exact(a).saturating_add(1)"], REFUSED, False),
+    "picked_ten": (["    if a < 9 { a } else { 9 }", "    if a < 9 { a } else { 10 }"], REFUSED, False),
     "number_and_one": (["    a // the number", "    a.saturating_add(1)"], REFUSED, False),
     "name_of_a_goal": (["    if a < 9 { a } else { 9 }", "    a.min(9)"], edits.ONLY_A_NAME, False),
     "outside_of_functions": (["MOST: u8 = 9", "MOST: u8 = 8"], REFUSED, True),
@@ -163,9 +165,10 @@ def judged_wrong(wrong_bodies):
 def misread_verdicts():
     """Counts the verdicts that are read in another way than they must be, and prints them."""
     edit = edits.Edit(types.SimpleNamespace(name="tiny"), "most.edit", {}, "src/lib.rt", "", edits.Function("most", 0, 0, 0))
+    placed = edits.Placed(edit, "most", 0, 0)
     count = 0
     for words, wanted in VERDICTS.items():
-        found = edits.judged(edit, f"fn tiny::exact: not proved\nfn tiny::most: {words}\n")
+        found = edits.judged(placed, f"fn tiny::exact: not proved\nfn tiny::most: {words}\n")
         if (found and found.is_refused) is not wanted:
             print(f"tests/edits_test.py: {words}: wanted {wanted}, and not {found}")
             count += 1

@@ -33,6 +33,7 @@ import recording
 import refuse
 import report
 import soak
+import tables
 import witnesses
 
 BUILT = os.path.join(progress.TOP, "crates", "program", "out", "program")
@@ -147,6 +148,7 @@ def refuse_edits(files):
         found = list(edits.try_all(files, line.now).values())
     with open(os.path.join(progress.LOGS, "gate.log"), "a", encoding="utf-8") as it:
         it.writelines(f"{outcome.text}\n" for outcome in found)
+        it.writelines(f"{outcome.seconds:.1f} seconds: {outcome.text.partition(':')[0]}\n" for outcome in found)
     for outcome in found:
         if not outcome.is_refused or edits.ONLY_A_NAME in outcome.text:
             print(outcome.text)
@@ -159,6 +161,7 @@ def run_program(failures):
     """Runs what was built as its users would. Gives the counts of each part, and its seconds of processor time, by name."""
     parts = {
         "program": program.all_runs,
+        "tables": tables.all_tables,
         "hostile": hostile.all_hostile,
         "refuse": refuse.all_refusals,
         "recording": recording.all_runs,

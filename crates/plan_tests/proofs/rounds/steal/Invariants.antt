@@ -1,5 +1,0 @@
-use Rattle.wire_sched.specs.Rounds.{ArePassesOf}
-use Rattle.plan_tests.proofs.rounds.steal.Given as goal
-
-abbrev pub invariant-loop : goal.invariant-loop
-invariant-loop l = ArePassesOf l.round l.passes.items
