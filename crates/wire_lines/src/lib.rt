@@ -7,8 +7,9 @@ mod sets;
 mod text;
 mod word;
 
-pub use call::{CallLine, Verb};
-pub use line::{Line, Version, header_version, read_line, says_once};
+pub use call::CallLine;
+pub use line::{Line, header_version, read_line, says_once};
 pub use sets::{Item, Set};
 pub use text::{cut_piece, cut_words, line_past, trim_return};
-pub use word::{ProcName, is_reserved, number_of, proc_word, write_proc};
+pub use wire_spelling::{Verb, Version, is_reserved, proc_word, write_proc};
+pub use word::{ProcName, number_of};

@@ -1,24 +1,18 @@
 //! What one line says.
 
 ghost use Rattle.std.specs.Prelude.{[], ◌≡◌, ◌≢◌, ℕ, ◌↔◌, List, ◌∷◌, IsTrue, map, codes, IfOk, IfSome, IfNone};
-ghost use Rattle.wire_lines.specs.Said as spec;
-ghost use Rattle.wire_lines.specs.Said.{Said, Header, Says};
+ghost use Rattle.wire_spelling.specs.Said as spec;
+ghost use Rattle.wire_spelling.specs.Said.{Said, Header, Says};
 ghost use Rattle.wire_lines.specs.Shown.{said_by};
 ghost use Rattle.wire_lines.specs.Kind.{text_of};
 ghost use Rattle.wire_lines.specs.Once.{SaysOnce};
 ghost use Rattle.wire_lines.specs.declared.line.Kind.{Kind};
-ghost use Rattle.wire_lines.specs.declared.line.Version.{Version};
+ghost use Rattle.wire_spelling.specs.declared.version.Version.{Version};
 
-use crate::call::{CallLine, Verb, call_of, verb_of};
+use crate::call::{CallLine, call_of, verb_of};
 use crate::word::is_name;
 use std::alloc::{AllocError, Global};
-
-/// The version of the format, as the header says it.
-#[derive(Clone, Copy, Debug, PartialEq, Eq)]
-pub enum Version {
-    One,
-    Two,
-}
+use wire_spelling::{Verb, Version};
 
 /// A line, with its parts as they stand in the text.
 #[derive(Drop)]

@@ -2,13 +2,11 @@
 
 ghost use Rattle.std.specs.List.{list_all};
 ghost use Rattle.std.specs.Prelude.{not, true, position, ◌==◌, ◌≡◌, ◌≢◌, ℕ, ◌+◌, ◌^◌, ◌<◌, ◌↔◌, List, ◌∷◌, ◌++◌, IsTrue, decimal, codes, get_or, length};
-ghost use Rattle.std.specs.Prelude.{IfSome, IfNone, IfOk, OnOk};
+ghost use Rattle.std.specs.Prelude.{IfSome, IfNone};
 ghost use Rattle.wire_types.specs.declared.Scope.{Scope};
-ghost use Rattle.wire_lines.specs.Said as spec;
-ghost use Rattle.wire_lines.specs.Said.{spelled_proc, spelled_scope};
+ghost use Rattle.wire_spelling.specs.Said as spec;
+ghost use Rattle.wire_spelling.specs.Said.{spelled_proc, spelled_scope};
 
-use itoa::Buffer;
-use std::alloc::{AllocError, Global};
 use std::str;
 use wire_types::Scope;
 
@@ -59,14 +57,6 @@ pub fn is_key(word: &[u8]) -> bool
     ensures { result ≡ spec.is_key word.now }
 {
     is_word(word) && word != b"*".as_slice()
-}
-
-/// Whether the standard keeps the key for itself.
-#[tactic(auto, unfolding(crate::specs::Said::is_reserved))]
-pub fn is_reserved(key: &[u8]) -> bool
-    ensures { result ≡ spec.is_reserved key.now }
-{
-    key.starts_with(b"pmix".as_slice()) || key.starts_with(b"PMIX_".as_slice())
 }
 
 /// The scope that the word names.
@@ -131,26 +121,6 @@ pub fn proc_of(word: &[u8]) -> Option<ProcName<'_>>
         Some(rank) => Some(ProcName { job, rank }),
         None => None,
     }
-}
-
-/// Writes the word of a process: the name of its job, a colon and its rank.
-pub fn write_proc(out: &mut Vec<u8>, job: &[u8], rank: u32) -> Result<(), AllocError>
-    ensures { OnOk result (out.new.items ≡ out.old.items ++ spelled_proc job.now rank) }
-{
-    out.extend_from_slice(job)?;
-    out.push(b':')?;
-    let mut digits = Buffer::new();
-    out.extend_from_slice(digits.format(rank).as_bytes())?;
-    Ok(())
-}
-
-/// The word of a process.
-pub fn proc_word(alloc: Global, job: &[u8], rank: u32) -> Result<Vec<u8>, AllocError>
-    ensures { IfOk result (λ word. word.items ≡ spelled_proc job.now rank) }
-{
-    let mut word = Vec::new(alloc);
-    write_proc(&mut word, job, rank)?;
-    Ok(word)
 }
 
 /// What stands before the first colon and after it.

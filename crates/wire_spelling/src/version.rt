@@ -1,0 +1,8 @@
+//! The versions of the format.
+
+/// The version of the format, as the header says it.
+#[derive(Clone, Copy, Debug, PartialEq, Eq)]
+pub enum Version {
+    One,
+    Two,
+}
