@@ -1,10 +1,10 @@
 //! The events of one process.
 
-ghost use Rattle.std.specs.Prelude.{◌≡◌, ◌+◌, ◌<◌, ◌^◌, ◌∷◌, ◌++◌, [], length, map, OnOk, IfOk};
+ghost use Rattle.std.specs.Prelude.{◌≡◌, ◌+◌, ◌<◌, ◌^◌, ◌∷◌, ◌++◌, [], ℕ, List, length, map, replicate, OnOk, IfOk};
 ghost use Rattle.wire_runs.specs.Plan.{kinds_of};
 ghost use Rattle.wire_content.specs.Planned.{planned_call};
 ghost use Rattle.wire_procmap.specs.Map.{map_of};
-ghost use Rattle.wire_plan.specs.Kinds.{kind_of, calls_from, starts_from};
+ghost use Rattle.wire_plan.specs.Kinds.{kind_of, kinds_after, calls_from, starts_from};
 
 use crate::kind::{Kind, first_kind};
 use std::alloc::{AllocError, Global};
@@ -33,6 +33,20 @@ impl ProcessEvents {
     }
 }
 
+// Adds the event of a call after its first, if there is one.
+fn add_rest(row: &mut ProcessEvents, call: Call, number: u32) -> Result<(), AllocError>
+    ensures kinds { OnOk result ((sets : List (List ℕ)) → map (kind_of sets) row.new.kinds.items ≡ map (kind_of sets) row.old.kinds.items
+        ++ kinds_after sets call) }
+    ensures calls { OnOk result ((sets : List (List ℕ)) → row.new.calls.items ≡ row.old.calls.items
+        ++ replicate (length (kinds_after sets call)) number) }
+    ensures starts { OnOk result (row.new.starts.items ≡ row.old.starts.items) }
+{
+    let Call::Fence { set, .. } = call else {
+        return Ok(());
+    };
+    row.add(Kind::Leave { set }, number)
+}
+
 /// Adds the events of a call.
 fn add_call(
     row: &mut ProcessEvents,
@@ -50,10 +64,7 @@ fn add_call(
 {
     row.starts.push(row.kinds.len() as u32)?;
     row.add(first_kind(scripts, places, call), number)?;
-    if let Call::Fence { set, .. } = call {
-        row.add(Kind::Leave { set }, number)?;
-    }
-    Ok(())
+    add_rest(row, call, number)
 }
 
 /// The events of a process that makes these calls.
