@@ -22,6 +22,19 @@ pub(crate) struct ProcessEvents {
 }
 
 impl ProcessEvents {
+    // No event, with room for those of so many calls.
+    fn with_room(alloc: Global, count: usize) -> Result<ProcessEvents, AllocError>
+        ensures kinds { IfOk result (λ row. row.kinds.items ≡ []) }
+        ensures calls { IfOk result (λ row. row.calls.items ≡ []) }
+        ensures starts { IfOk result (λ row. row.starts.items ≡ []) }
+    {
+        Ok(ProcessEvents {
+            kinds: Vec::with_capacity(alloc, count)?,
+            calls: Vec::with_capacity(alloc, count)?,
+            starts: Vec::with_capacity(alloc, count)?,
+        })
+    }
+
     fn add(&mut self, kind: Kind, call: u32) -> Result<(), AllocError>
         ensures kinds { OnOk result (self.new.kinds.items ≡ self.old.kinds.items ++ kind ∷ []) }
         ensures calls { OnOk result (self.new.calls.items ≡ self.old.calls.items ++ call ∷ []) }
@@ -80,11 +93,7 @@ pub(crate) fn events_of(
     ensures calls { IfOk result (λ row. row.calls.items ≡ calls_from 0 (map (planned_call scripts.now) calls.now)) }
     ensures starts { IfOk result (λ row. row.starts.items ≡ starts_from 0 (map (planned_call scripts.now) calls.now)) }
 {
-    let mut row = ProcessEvents {
-        kinds: Vec::with_capacity(alloc, calls.len())?,
-        calls: Vec::with_capacity(alloc, calls.len())?,
-        starts: Vec::with_capacity(alloc, calls.len())?,
-    };
+    let mut row = ProcessEvents::with_room(alloc, calls.len())?;
     let mut number = 0;
     for call in calls {
         add_call(&mut row, scripts, places, *call, number)?;
