@@ -2,6 +2,7 @@
 use Rattle.std.proofs.Common.{◌≡◌, ◌≢◌, ◌∙◌, ap, refl, ℕ, zero, suc, ◌<◌, List, [], ◌∷◌, ◌++◌, length, arith, map, get_or}
 use Rattle.std.specs.Prelude.{slice_set, Vec}
 use Rattle.std.specs.declared.alloc.Global.{Global}
+use Rattle.wire_marks.specs.Clocks.{items_at}
 
 abbrev pub items_in : {A : Type 0} → Vec A Global → List A
 items_in list = list.items
@@ -36,3 +37,10 @@ append_others (list ∷ lists) zero zero now ne = absurd (ne refl)
 append_others (list ∷ lists) zero (suc n) now ne = refl
 append_others (list ∷ lists) (suc i) zero now ne = refl
 append_others (list ∷ lists) (suc i) (suc n) now ne = append_others lists i n now (λ e. ne (ap suc e))
+
+-- where none of these lists has anything, that is so with one more that has nothing
+pub none_more : {A : Type 0} (lists : List (Vec A Global)) (new : Vec A Global) → new.items ≡ [] → ((p : ℕ) → items_at lists p ≡ []) → (p : ℕ) → items_at (lists ++ new ∷ []) p ≡ []
+none_more [] new none_there all zero = none_there
+none_more [] new none_there all (suc p) = refl
+none_more (list ∷ lists) new none_there all zero = all zero
+none_more (list ∷ lists) new none_there all (suc p) = none_more lists new none_there (λ k. all (suc k)) p

@@ -1,10 +1,10 @@
 //! The events of one process.
 
-ghost use Rattle.std.specs.Prelude.{◌≡◌, ◌+◌, ◌<◌, ◌^◌, ◌∷◌, ◌++◌, [], length, map, OnOk, IfOk};
+ghost use Rattle.std.specs.Prelude.{◌≡◌, ◌+◌, ◌<◌, ◌^◌, ◌∷◌, ◌++◌, [], ℕ, List, length, map, replicate, OnOk, IfOk};
 ghost use Rattle.wire_runs.specs.Plan.{kinds_of};
 ghost use Rattle.wire_content.specs.Planned.{planned_call};
 ghost use Rattle.wire_procmap.specs.Map.{map_of};
-ghost use Rattle.wire_plan.specs.Kinds.{kind_of, calls_from, starts_from};
+ghost use Rattle.wire_plan.specs.Kinds.{kind_of, kinds_after, calls_from, starts_from};
 
 use crate::kind::{Kind, first_kind};
 use std::alloc::{AllocError, Global};
@@ -22,6 +22,19 @@ pub(crate) struct ProcessEvents {
 }
 
 impl ProcessEvents {
+    // No event, with room for those of so many calls.
+    fn with_room(alloc: Global, count: usize) -> Result<ProcessEvents, AllocError>
+        ensures kinds { IfOk result (λ row. row.kinds.items ≡ []) }
+        ensures calls { IfOk result (λ row. row.calls.items ≡ []) }
+        ensures starts { IfOk result (λ row. row.starts.items ≡ []) }
+    {
+        Ok(ProcessEvents {
+            kinds: Vec::with_capacity(alloc, count)?,
+            calls: Vec::with_capacity(alloc, count)?,
+            starts: Vec::with_capacity(alloc, count)?,
+        })
+    }
+
     fn add(&mut self, kind: Kind, call: u32) -> Result<(), AllocError>
         ensures kinds { OnOk result (self.new.kinds.items ≡ self.old.kinds.items ++ kind ∷ []) }
         ensures calls { OnOk result (self.new.calls.items ≡ self.old.calls.items ++ call ∷ []) }
@@ -31,6 +44,20 @@ impl ProcessEvents {
         self.calls.push(call)?;
         Ok(())
     }
+}
+
+// Adds the event of a call after its first, if there is one.
+fn add_rest(row: &mut ProcessEvents, call: Call, number: u32) -> Result<(), AllocError>
+    ensures kinds { OnOk result ((sets : List (List ℕ)) → map (kind_of sets) row.new.kinds.items ≡ map (kind_of sets) row.old.kinds.items
+        ++ kinds_after sets call) }
+    ensures calls { OnOk result ((sets : List (List ℕ)) → row.new.calls.items ≡ row.old.calls.items
+        ++ replicate (length (kinds_after sets call)) number) }
+    ensures starts { OnOk result (row.new.starts.items ≡ row.old.starts.items) }
+{
+    let Call::Fence { set, .. } = call else {
+        return Ok(());
+    };
+    row.add(Kind::Leave { set }, number)
 }
 
 /// Adds the events of a call.
@@ -50,10 +77,7 @@ fn add_call(
 {
     row.starts.push(row.kinds.len() as u32)?;
     row.add(first_kind(scripts, places, call), number)?;
-    if let Call::Fence { set, .. } = call {
-        row.add(Kind::Leave { set }, number)?;
-    }
-    Ok(())
+    add_rest(row, call, number)
 }
 
 /// The events of a process that makes these calls.
@@ -69,11 +93,7 @@ pub(crate) fn events_of(
     ensures calls { IfOk result (λ row. row.calls.items ≡ calls_from 0 (map (planned_call scripts.now) calls.now)) }
     ensures starts { IfOk result (λ row. row.starts.items ≡ starts_from 0 (map (planned_call scripts.now) calls.now)) }
 {
-    let mut row = ProcessEvents {
-        kinds: Vec::with_capacity(alloc, calls.len())?,
-        calls: Vec::with_capacity(alloc, calls.len())?,
-        starts: Vec::with_capacity(alloc, calls.len())?,
-    };
+    let mut row = ProcessEvents::with_room(alloc, calls.len())?;
     let mut number = 0;
     for call in calls {
         add_call(&mut row, scripts, places, *call, number)?;
