@@ -50,10 +50,12 @@ get-now app:0 k
         b"""\
 rehearsal 1
 node n0
-job "a\rank n0
+job "a\\
+rank n0
 put global "k\\ v
 put global "k\\ \\v/"
-get "a\\:0 "ket "a\\:0 PMIX_RANK
+get "a\\:0 "k\\
+get "a\\:0 PMIX_RANK
 get "a\\:0 none
 commit
 """,
