@@ -81,6 +81,10 @@ class Costs:
                 crate = it.words[it.words.index("--crate-name") + 1]
                 self.spent[number, it.began, crate, self.phase or kind_of(it.words)] = it.seconds
 
+    def whole(self):
+        """All that was used since this was made, in seconds."""
+        return used() - self.began
+
     def rows(self, crates):
         """The seconds of each crate, by kind."""
         table = {it: collections.Counter() for it in crates}
@@ -88,6 +92,12 @@ class Costs:
             if crate in table:
                 table[crate][kind] += seconds
         return table
+
+    def beside(self, steady):
+        """The seconds that the proofs of some crates took before, by crate, and those that they took now, of the crates that were proved now."""
+        table = self.rows(steady)
+        proved = [it for it in steady if table[it]["proof"] >= 1]
+        return sum(steady[it] for it in proved), sum(table[it]["proof"] for it in proved)
 
     def report(self, crates, others):
         """The table, in whole seconds, and the sum in minutes. `others` has the seconds of what else was done, by name."""
@@ -97,7 +107,7 @@ class Costs:
             lines.append(f"| `{crate}` | {' | '.join(f'{row[it]:.0f}' if row[it] >= 0.5 else '' for it in KINDS)} |")
         sums = [sum(row[it] for row in table.values()) for it in KINDS]
         lines.append(f"| together | {' | '.join(f'{it:.0f}' for it in sums)} |")
-        whole = used() - self.began
+        whole = self.whole()
         lines += ["", "| what else | seconds |", "|---|---|"]
         lines += [f"| {name} | {seconds:.0f} |" for name, seconds in others.items()]
         lines.append(f"| the rest | {whole - sum(sums) - sum(others.values()):.0f} |")

@@ -51,6 +51,14 @@ OTHERS = re.compile(r"it (?:calls|passes the block) .*, which (?:is|are) not (?:
 # A verdict on a body that the prover has no rules for: no contract was tried, and a right body would fare the same.
 UNCOVERED = "the borrow checker does not cover this function"
 ONLY_A_NAME = " (only because a proof file names what the edit took away, so this says little of the contract: change a value and keep the names)"
+# What `rt` says of a refusal of the same sort, where an edit is tried alone.
+ONLY_A_LIMIT = " (only by a limit of the prover, so this says less of the contract: choose a change that it refuses sooner)"
+LIMITS = getattr(rt, "LIMITS", re.compile(r"antt ran out of"))
+# A verdict on a body with a loop that no file tells anything of. A loop that may never end has no measure; but no clause was tried.
+UNMEASURED = re.compile(r"no proof: expected .* in \./proofs/\S+/Invariants\.antt")
+ONLY_A_LOOP = " (only because it has a loop without a measure or an invariant, so no clause was tried)"
+# The refusals that the gate prints.
+POOR = ONLY_A_NAME, ONLY_A_LIMIT, ONLY_A_LOOP
 
 # A function of a source file: its path below the crate, where its text, and in that its body, begins and ends, and whether a trait asks for it.
 Function = collections.namedtuple("Function", "path begin body end is_of_trait", defaults=[False])
@@ -172,17 +180,21 @@ def paths_of(crate):
 
 
 def attributes_of(text, function):
-    """The attributes of a function, each a line of its own between the function and the line above its comment."""
+    """The attributes of a function, each a line of its own between the function and what stands above it; nothing where other lines stand
+    there, such as those of a long attribute."""
     above = text[: function.begin].split("\n")[:-1]
-    own = itertools.takewhile(lambda it: it.lstrip().startswith(("#[", "///")), reversed(above))
-    return "".join(f"{it}\n" for it in reversed(list(own)) if it.lstrip().startswith("#["))
+    own = list(itertools.takewhile(lambda it: it.strip() and not it.endswith(("{", "}")), reversed(above)))
+    if not all(it.lstrip().startswith(("#[", "//")) for it in own):
+        return None
+    return "".join(f"{it}\n" for it in reversed(own) if it.lstrip().startswith("#["))
 
 
 def can_be_copied(edit):
-    """Whether the function of an edit can stand a second time under another name: no trait asks for it, and it doesn't call itself."""
+    """Whether the function of an edit can stand a second time under another name: no trait asks for it, its attributes can be read, and it doesn't
+    call itself."""
     name = edit.function.path.rpartition("::")[2]
-    own = edit.was[edit.function.body : edit.function.end]
-    return not edit.function.is_of_trait and "#[cycle" not in attributes_of(edit.was, edit.function) and not re.search(rf"\b{name}\b", own)
+    own, attributes = edit.was[edit.function.body : edit.function.end], attributes_of(edit.was, edit.function)
+    return not edit.function.is_of_trait and attributes is not None and "#[cycle" not in attributes and not re.search(rf"\b{name}\b", own)
 
 
 def batches_of(edits):
@@ -294,8 +306,17 @@ def judged(placed, said):
         return Outcome(False, f"{label_of(edit.crate, edit.path)}: BAD EDIT: no contract was tried: {verdicts[0]}")
     told = [line for line in said.splitlines() if is_about(placed, line) and (": error" in line or line.startswith("note: "))]
     reason = next((line for line in told if not NAMES.match(line)), "")
-    only_a_name = ONLY_A_NAME if told and not reason else ""
-    return Outcome(True, f"{label_of(edit.crate, edit.path)}: refused, as it must be{only_a_name}: {(reason or (told or verdicts)[0])[:160]}")
+    only = only_why(told, reason, verdicts)
+    return Outcome(True, f"{label_of(edit.crate, edit.path)}: refused, as it must be{only}: {(reason or (told or verdicts)[0])[:160]}")
+
+
+def only_why(told, reason, verdicts):
+    """Why a refusal says little, if it does."""
+    if all(UNMEASURED.match(it) for it in verdicts):
+        return ONLY_A_LOOP
+    if told and not reason:
+        return ONLY_A_NAME
+    return ONLY_A_LIMIT if any(LIMITS.search(it) for it in told) else ""
 
 
 def is_judged(ran, texts):
@@ -304,7 +325,13 @@ def is_judged(ran, texts):
         return False
     if any(rt.unread(line, texts.sources) for line in ran.stdout.splitlines()):
         return False
-    return all(any(belongs_to(it, path) for it in texts.placed) for path, _ in own_failures(ran.stdout))
+    return are_proved(texts, ran.stdout) and all(any(belongs_to(it, path) for it in texts.placed) for path, _ in own_failures(ran.stdout))
+
+
+def are_proved(texts, said):
+    """Whether each copy without an edit has a proof, or has none only because of others."""
+    edited, verdicts = {it.path for it in texts.placed}, {path.partition("::")[2]: words for path, words in VERDICT.findall(said)}
+    return all(it in verdicts and not is_own(verdicts[it]) for it in texts.only if it not in edited)
 
 
 def checked(crate, texts, flags, kept):

@@ -119,7 +119,18 @@ VERDICTS = {
     "no proof: it calls `tiny::exact`, which is not proved": None,
     "no proof: it calls `tiny::exact` and `tiny::loose`, which are not proved; it passes the block `tiny::fn::a`, which is not proved": None,
     "no proof: expected `most_spec` in ./proofs/most/Proof.antt; the borrow checker does not cover this function yet: src/lib.rt:9:1": False,
+    "no proof: expected a measure in ./proofs/most/Invariants.antt": True,
     "could not tell": None,
+}
+
+# Verdicts on a copy without an edit, of a function that has two, and whether a check with it shows anything of these: not if the copy has no proof
+# for its own reasons, such as its name.
+CONTROLS = {
+    "fn tiny::most_as_it_is: proved\n": True,
+    "fn tiny::most_as_it_is: no proof: it calls `tiny::exact`, which is not proved\n": True,
+    "fn tiny::most_as_it_is: not proved\n": False,
+    "fn tiny::most_as_it_is: no proof: expected answers in ./proofs/most_as_it_is/Answers.antt; `search` did not prove `returns`\n": False,
+    "": False,
 }
 
 
@@ -175,10 +186,23 @@ def misread_verdicts():
     return count
 
 
+def misread_controls():
+    """Counts the verdicts on copies without an edit that are read in another way than they must be, and prints them."""
+    placed = [edits.Placed(None, path, 0, 0) for path in ("most", "most_wrong_2")]
+    texts = edits.Texts({}, {}, placed, ["most", "most_wrong_2", "most_as_it_is"])
+    edited, count = "fn tiny::most: not proved\nfn tiny::most_wrong_2: not proved\n", 0
+    for words, wanted in CONTROLS.items():
+        said = f"{edited}{words}only=3 proved=1\n"
+        if edits.is_judged(types.SimpleNamespace(returncode=1, stdout=said), texts) is not wanted:
+            print(f"tests/edits_test.py: {words.strip() or 'no copy'}: wanted {wanted}")
+            count += 1
+    return count
+
+
 def all_cases():
     """Tries all edits, and answers how many cases were judged as they must be, and how many weren't."""
-    failed = misread_verdicts() + judged_wrong(EDITS) + judged_wrong(UNREAD)
-    passed = len(VERDICTS) + len(EDITS) + len(UNREAD) - failed
+    failed = misread_verdicts() + misread_controls() + judged_wrong(EDITS) + judged_wrong(UNREAD)
+    passed = len(VERDICTS) + len(CONTROLS) + len(EDITS) + len(UNREAD) - failed
     print(f"tests/edits_test.py: {passed} passed, {failed} failed", flush=True)
     return passed, failed
 

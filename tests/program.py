@@ -186,6 +186,7 @@ def follows(room):
     yield Run("too little memory for an order", ["follow", large, example], status=3, said=memory, set_up=with_little_memory)
     yield Run("no such order", ["follow", none, example], status=4, said=read)
     yield Run("no such order, with a file that is refused", ["follow", none, odd], status=4, said=read)
+    yield Run("a folder as order, with a file that is refused", ["follow", room, odd], status=2, said=line)
     yield Run("no such file to follow an order on", ["follow", unknown, none], status=4, said=read)
     yield Run("a folder as order", ["follow", room, example], status=4, said=read)
     yield Run("an order, and standard input closed", ["follow", order], status=4, said=read, set_up=closed(0))

@@ -10,7 +10,8 @@ tests/rows/__init__.py says what a row of each sort holds. Each row is run by al
 - As `migrate` writes the plan under version 2, it has the same findings and the same report, and is migrated to itself.
 - What is refused has one line of fault and the status of that fault, and nothing is written.
 
-A build without proofs runs `check`, `replay`, `why`, `witness` and `migrate` of the plans that are no larger than a few lines.
+A build without proofs runs `check`, `replay`, `why`, `witness` and `migrate` of the plans that are no larger than a few lines. Their statuses and
+what they write are compared, and not their lines of fault.
 Prints a line for each run that went otherwise, and last 'N passed, M failed'.
 """
 import collections
@@ -115,8 +116,9 @@ class Tables:
     def of_large(self, row):
         pieces = (row.piece % number if b"%d" in row.piece else row.piece for number in range(row.times))
         plan = b"".join([row.head, *pieces, row.tail])
-        yield Run([PLAIN], plan, answered(row.answer, PLAIN), is_tail=True)
-        yield Run(["replay"], plan, answered(row.answer), is_tail=True)
+        is_tail = not isinstance(row.answer, Fault)
+        yield Run([PLAIN], plan, answered(row.answer, PLAIN), is_tail)
+        yield Run(["replay"], plan, answered(row.answer), is_tail)
 
     def of_shown(self, row):
         is_shown = row.text.startswith(b"shown ")
@@ -126,6 +128,10 @@ class Tables:
         words, ended = found(row.findings, ["--json"])
         yield Run(words, row.plan, ended)
         yield Run(["replay", "--json"], row.plan, ended if ended.status else Ended(wrote=row.report))
+        if row.order:
+            yield Run(["follow", "--json", self.written(row, "order", row.order)], row.plan, Ended(wrote=row.report))
+        if row.unsettled:
+            yield Run(["replay", "--json", "--anyway"], row.plan, Ended(1, row.unsettled))
 
     def runs_of(self, row):
         """The runs of a row, by its sort."""
@@ -195,6 +201,11 @@ class Untried(Tables):
         return [it for it in super().runs_of(row) if it.words[0] in own and it.plan]
 
 
+def went_well(end, run):
+    """Whether a case of `rt try` ended as its run must."""
+    return bool(end) and end[:2] == ("ended", str(run.ended.status)) and "output=differs" not in end[2]
+
+
 def try_all(names):
     """Runs what can be run by a build without proofs. Answers how many runs passed and failed."""
     wanted = {}
@@ -208,8 +219,8 @@ def try_all(names):
                     program.written(room, f"{name}.args", "".join(f"{it}\n" for it in run.words).encode())
                     program.written(room, f"{name}.stdout", run.ended.wrote)
         ran = subprocess.run(["rt", "try", "--cases", room], cwd=os.path.join(program.TOP, "crates", "program"), capture_output=True, text=True, errors="replace", check=False)
-    ends = {name: (how, status) for name, how, status, _ in CASE.findall(ran.stdout + ran.stderr)}
-    wrong = [name for name, (_, run) in wanted.items() if ends.get(name) != ("ended", str(run.ended.status))]
+    ends = {name: (how, status, rest) for name, how, status, rest in CASE.findall(ran.stdout + ran.stderr)}
+    wrong = [name for name, (_, run) in wanted.items() if not went_well(ends.get(name), run)]
     for name in wrong:
         print(f"{wanted[name][0]}: {ends.get(name, 'did not run')}")
     if not ends:

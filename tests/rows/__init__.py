@@ -20,8 +20,9 @@ Canonical = collections.namedtuple("Canonical", "name plan text")
 Large = collections.namedtuple("Large", "name head piece times tail answer")
 # A plan, the words for two of its calls, and what `witness` writes of them.
 Shown = collections.namedtuple("Shown", "name plan words text")
-# A plan, the report of its plain run, and its findings, as JSON.
-Formed = collections.namedtuple("Formed", "name plan report findings")
+# A plan, the report of its plain run, and its findings, as JSON. Where there are findings, also the order of the plain run; and if no other run
+# is possible, what `--anyway` writes.
+Formed = collections.namedtuple("Formed", "name plan report findings order unsettled", defaults=(b"", b""))
 # Why a command refuses what it is given: the word and the number of its line of fault.
 Fault = collections.namedtuple("Fault", "words")
 

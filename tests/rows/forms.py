@@ -44,6 +44,7 @@ get-now app:0 k
 """,
         b'{"ranks":[{"calls":[{"reply":"PMIX_SUCCESS","verb":"put"},{"reply":"PMIX_SUCCESS","verb":"commit"}],"proc":"app:0"},{"calls":[{"reply":"PMIX_SUCCESS","value":"v","verb":"get-now"}],"proc":"app:1"}],"waiting":0}\n',
         b'{"findings":["race app:0 2 app:1 1 key app:0 k"]}\n',
+        b"app:0\napp:0\napp:1\n",
     ),
     Formed(
         "quotes and backslashes, and a number",
@@ -61,5 +62,7 @@ commit
 """,
         b'{"ranks":[{"calls":[{"reply":"PMIX_SUCCESS","verb":"put"},{"reply":"PMIX_SUCCESS","verb":"put"},{"reply":"PMIX_SUCCESS","value":"\\\\v/\\"","verb":"get"},{"reply":"PMIX_SUCCESS","value":"0","verb":"get"},{"reply":"waiting","verb":"get"},{"reply":"unreached","verb":"commit"}],"proc":"\\"a\\\\:0"}],"waiting":1}\n',
         b'{"findings":["rewrite \\"a\\\\:0 1 2 \\"k\\\\"]}\n',
+        b'"a\\:0\n"a\\:0\n"a\\:0\n"a\\:0\n',
+        b'{"order":["\\"a\\\\:0","\\"a\\\\:0","\\"a\\\\:0","\\"a\\\\:0"],"ranks":[{"calls":[{"reply":"PMIX_SUCCESS","verb":"put"},{"reply":"PMIX_SUCCESS","verb":"put"},{"reply":"PMIX_SUCCESS","value":"\\\\v/\\"","verb":"get"},{"reply":"PMIX_SUCCESS","value":"0","verb":"get"},{"reply":"waiting","verb":"get"},{"reply":"unreached","verb":"commit"}],"proc":"\\"a\\\\:0"}],"unsettled":true,"waiting":1}\n',
     ),
 ]

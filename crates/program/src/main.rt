@@ -2,6 +2,7 @@
 //! with a status: 0 done without findings, 1 findings or a call that fails, 2 refused, 3 memory, 4 reading or writing, 5 usage.
 #![tactic(auto)]
 
+mod commands;
 mod kept;
 mod terminal_line;
 
@@ -9,9 +10,13 @@ ghost use Rattle.std.specs.Thread.{IsSync};
 
 use clap::Error;
 use clap::error::ErrorKind;
+use commands::{
+    DONE, OrderWatch, answer_question, check_plan, follow_order, judge_read, length_of,
+    migrate_plan, replay_plan, show_race, show_races, size_of,
+};
 use kept::{Kept, KeptReader};
 use std::alloc::{AllocError, Global};
-use std::fs::{File, OpenFile};
+use std::fs::File;
 use std::io::Read;
 use std::process::ExitCode;
 use std::rt::{Env, Files};
@@ -19,23 +24,11 @@ use std::sync::Wait;
 use std::thread::Threads;
 use std::time::Clock;
 use std::{env, io, thread};
-use terminal_line::{NotedReader, NotedWriter, Progress, Streams, start_line};
+use terminal_line::{NotedReader, NotedWriter, Progress, Streams, Work, start_line};
 use wire_explain::{explain_order, explain_plan, explain_word};
-use wire_lined_commands::{
-    PlanFile, check_located, why_located, witness_located, witnesses_located,
-};
-use wire_sched::OpenGate;
 use wire_stops::explain_stop;
 use wire_types::{Fault, FromRead, ToWrite, write_out};
-use wire_up::{
-    CallWords, CheckRequest, FollowRequest, Form, Manner, MigrateRequest, Mode, Orders,
-    PairRequest, Part, RacesRequest, Refusal, ReplayRequest, Request, Size, Tries, WhyRequest,
-    check_in_form, follow_in_form, migrate_sized, read_request, rehearse_complete, rehearse_sized,
-    why_in_form, witness, witnesses_in_form,
-};
-
-/// The exit status of what was done, where nothing is to be told by it.
-const DONE: u8 = 0;
+use wire_up::{CallWords, Refusal, Request, Size, read_request};
 
 /// The exit status of a command line that can't be read.
 const USAGE: u8 = 5;
@@ -112,25 +105,27 @@ fn obey<'a>(
     }
 }
 
-/// The limits that hold: the large ones, or those of the plan's version.
-fn size_of(large: bool) -> Size {
-    if large { Size::Large } else { Size::OfVersion }
-}
-
-/// Within which limits a command reads, and in which form it writes.
-fn form_of(large: bool, json: bool) -> Form {
-    let size = size_of(large);
-    Form { size, json }
-}
-
-/// What a command does once it has read all, in one word.
-fn work_of(request: &Request<'_>) -> &'static str {
+/// What a command does once it has read all.
+fn work_of(request: &Request<'_>) -> Work {
     match request {
-        Request::Check(_) => "judging",
-        Request::Replay(_) => "running",
-        Request::Follow(_) => "following",
-        Request::Why(_) | Request::Witness(_) | Request::Witnesses(_) => "searching",
-        Request::Migrate(_) => "migrating",
+        Request::Check(_) => Work::Judging,
+        Request::Replay(_) => Work::Running,
+        Request::Follow(_) => Work::Following,
+        Request::Why(_) | Request::Witness(_) | Request::Witnesses(_) => Work::Searching,
+        Request::Migrate(_) => Work::Migrating,
+    }
+}
+
+/// The plan that a command reads, where one is named.
+fn plan_of<'a>(request: &Request<'a>) -> Option<&'a str> {
+    match request {
+        Request::Check(asked) => asked.plan,
+        Request::Replay(asked) => asked.plan,
+        Request::Follow(asked) => asked.plan,
+        Request::Why(asked) => asked.plan,
+        Request::Migrate(asked) => asked.plan,
+        Request::Witness(asked) => asked.plan,
+        Request::Witnesses(asked) => asked.plan,
     }
 }
 
@@ -313,20 +308,32 @@ fn serve_explained(
     }
 }
 
-/// Runs the command that was requested, and answers the exit status.
+/// Opens the plan of the command that was requested, runs the command, and answers the exit status.
 fn serve(
     rt: &(impl Files + Input + Print + Eprint + AllocGlobal + Threads + Wait + Sync),
     request: Request<'_>,
     watch: &mut Watch<'_, '_>,
 ) -> Result<u8, Fault> {
+    let progress = watch.progress;
+    let mut reader = open_plan(rt, plan_of(&request), progress, &mut watch.plan)?;
+    let mut writer = ToWrite::new(NotedWriter::new(rt, progress));
+    let (reader, writer) = (&mut reader, &mut writer);
     match request {
-        Request::Check(asked) => check_plan(rt, asked, watch),
-        Request::Replay(asked) => replay_plan(rt, asked, watch),
-        Request::Follow(asked) => follow_order(rt, asked, watch),
-        Request::Why(asked) => answer_question(rt, asked, watch),
-        Request::Migrate(asked) => migrate_plan(rt, asked, watch),
-        Request::Witness(asked) => show_race(rt, asked, watch),
-        Request::Witnesses(asked) => show_races(rt, asked, watch),
+        Request::Check(asked) => check_plan(rt, asked, reader, writer),
+        Request::Replay(asked) => replay_plan(rt, asked, progress, reader, writer),
+        Request::Follow(asked) => {
+            if asked.plan.is_none() {
+                // Where standard input is closed, the order would be opened in its place, and be read as the
+                // plan. A read of no bytes fails there, and takes nothing anywhere else.
+                judge_read(reader.inner.read(&mut [0; 0]))?;
+            }
+            let kept = &mut watch.order;
+            follow_order(rt, asked, OrderWatch { progress, kept }, reader, writer)
+        }
+        Request::Why(asked) => answer_question(rt.alloc(), asked, reader, writer),
+        Request::Migrate(asked) => migrate_plan(rt.alloc(), asked, reader, writer),
+        Request::Witness(asked) => show_race(rt.alloc(), asked, reader, writer),
+        Request::Witnesses(asked) => show_races(rt, asked, reader, writer),
     }
 }
 
@@ -360,17 +367,6 @@ impl<F: Read, S: Read> Read for Opened<F, S> {
     }
 }
 
-/// What the system answered, where each error of it is the fault `Read`.
-fn judge_read<T>(answer: io::Result<T>) -> Result<T, Fault> {
-    match answer {
-        Ok(value) => Ok(value),
-        Err(error) => {
-            drop(error);
-            Err(Fault::Read)
-        }
-    }
-}
-
 /// Opens a plan: a file, or standard input where none is named.
 fn open_plan<'p, R: Files + Input + Eprint + Wait>(
     rt: &R,
@@ -391,213 +387,6 @@ fn open_plan<'p, R: Files + Input + Eprint + Wait>(
     };
     let noted = NotedReader::new(opened, progress, size);
     Ok(FromRead::new(KeptReader::new(noted, kept)))
-}
-
-/// How many bytes a file has, where the system says it.
-fn length_of(file: &impl OpenFile) -> Option<u64> {
-    match file.metadata() {
-        Ok(about) => Some(about.len()),
-        Err(_) => None,
-    }
-}
-
-/// The name by which a plan is told of.
-fn name_of(plan: Option<&str>) -> &str {
-    match plan {
-        Some(path) => path,
-        None => "<stdin>",
-    }
-}
-
-/// The file of a plan, as a command that tells the lines of calls reads and writes it.
-fn file_of<'a>(plan: Option<&'a str>, large: bool, json: bool) -> PlanFile<'a> {
-    let size = size_of(large);
-    PlanFile {
-        name: name_of(plan).as_bytes(),
-        size,
-        json,
-    }
-}
-
-/// Checks a plan.
-fn check_plan(
-    rt: &(impl Files + Input + Print + Eprint + AllocGlobal + Threads + Wait + Sync),
-    asked: CheckRequest<'_>,
-    watch: &mut Watch<'_, '_>,
-) -> Result<u8, Fault> {
-    let progress = watch.progress;
-    let mut reader = open_plan(rt, asked.plan, progress, &mut watch.plan)?;
-    let mut writer = ToWrite::new(NotedWriter::new(rt, progress));
-    let ended = if asked.lines {
-        let file = file_of(asked.plan, asked.large, asked.json);
-        check_located(rt, rt.alloc(), file, &mut reader, &mut writer)?
-    } else {
-        let form = form_of(asked.large, asked.json);
-        check_in_form(rt, rt.alloc(), form, &mut reader, &mut writer)?
-    };
-    Ok(ended.status())
-}
-
-/// Replays a plan. It is opened before the number of workers is judged.
-fn replay_plan(
-    rt: &(impl Files + Input + Print + Eprint + AllocGlobal + Threads + Wait + Sync),
-    asked: ReplayRequest<'_>,
-    watch: &mut Watch<'_, '_>,
-) -> Result<u8, Fault> {
-    let (json, anyway) = (asked.json, asked.anyway);
-    let manner = Manner {
-        size: size_of(asked.large),
-        workers: asked.workers,
-        mode: Mode { json, anyway },
-        gate: &OpenGate,
-    };
-    if asked.complete {
-        return replay_completely(rt, asked.plan, manner, watch);
-    }
-    let progress = watch.progress;
-    let mut reader = open_plan(rt, asked.plan, progress, &mut watch.plan)?;
-    let mut writer = ToWrite::new(NotedWriter::new(rt, progress));
-    Ok(rehearse_sized(rt, rt.alloc(), &mut reader, &mut writer, manner)?.status())
-}
-
-/// Replays a plan, and names the first call that doesn't succeed.
-fn replay_completely(
-    rt: &(impl Files + Input + Print + Eprint + AllocGlobal + Threads + Wait + Sync),
-    plan: Option<&str>,
-    manner: Manner<'_, OpenGate>,
-    watch: &mut Watch<'_, '_>,
-) -> Result<u8, Fault> {
-    let progress = watch.progress;
-    let mut reader = open_plan(rt, plan, progress, &mut watch.plan)?;
-    let mut writer = ToWrite::new(NotedWriter::new(rt, progress));
-    let rehearsed = rehearse_complete(rt, rt.alloc(), &mut reader, &mut writer, manner)?;
-    if let Some(line) = &rehearsed.failure {
-        progress.close(rt);
-        tell_call(rt, line.as_slice());
-    }
-    Ok(rehearsed.status())
-}
-
-/// Tells the line of a call on standard error. All words of a plan are printable ASCII.
-fn tell_call(rt: &impl Eprint, line: &[u8]) {
-    if let Ok(text) = str::from_utf8(line) {
-        let _ = rt.eprint("wire_up: ");
-        let _ = rt.eprint(text);
-    }
-}
-
-/// Follows the order of a file on a plan, which is opened first.
-fn follow_order(
-    rt: &(impl Files + Input + Print + Eprint + AllocGlobal + Wait),
-    asked: FollowRequest<'_>,
-    watch: &mut Watch<'_, '_>,
-) -> Result<u8, Fault> {
-    let progress = watch.progress;
-    let mut reader = open_plan(rt, asked.plan, progress, &mut watch.plan)?;
-    if asked.plan.is_none() {
-        // Where standard input is closed, the order would be opened in its place, and be read as the
-        // plan. A read of no bytes fails there, and takes nothing anywhere else.
-        judge_read(reader.inner.read(&mut [0; 0]))?;
-    }
-    let order = judge_read(File::open(rt, asked.order))?;
-    let size_of_order = length_of(&order);
-    let noted = NotedReader::new(order, progress, size_of_order);
-    let mut order = FromRead::new(KeptReader::new(noted, &mut watch.order));
-    let mut writer = ToWrite::new(NotedWriter::new(rt, progress));
-    let form = form_of(asked.large, asked.json);
-    follow_in_form(rt.alloc(), form, &mut reader, &mut order, &mut writer)?;
-    Ok(DONE)
-}
-
-/// Answers a question about a plan.
-fn answer_question(
-    rt: &(impl Files + Input + Print + Eprint + AllocGlobal + Wait),
-    asked: WhyRequest<'_>,
-    watch: &mut Watch<'_, '_>,
-) -> Result<u8, Fault> {
-    let progress = watch.progress;
-    let mut reader = open_plan(rt, asked.plan, progress, &mut watch.plan)?;
-    let mut writer = ToWrite::new(NotedWriter::new(rt, progress));
-    let words = words_of(asked.first, asked.second);
-    if asked.lines {
-        let file = file_of(asked.plan, asked.large, asked.json);
-        return Ok(why_located(rt.alloc(), file, &mut reader, &mut writer, words)?.status());
-    }
-    let form = form_of(asked.large, asked.json);
-    why_in_form(rt.alloc(), form, &mut reader, &mut writer, words)?;
-    Ok(DONE)
-}
-
-/// Writes a plan under version 2 of the format.
-fn migrate_plan(
-    rt: &(impl Files + Input + Print + Eprint + AllocGlobal + Wait),
-    asked: MigrateRequest<'_>,
-    watch: &mut Watch<'_, '_>,
-) -> Result<u8, Fault> {
-    let progress = watch.progress;
-    let mut reader = open_plan(rt, asked.plan, progress, &mut watch.plan)?;
-    let mut writer = ToWrite::new(NotedWriter::new(rt, progress));
-    migrate_sized(rt.alloc(), size_of(asked.large), &mut reader, &mut writer)?;
-    Ok(DONE)
-}
-
-/// The four words of a question.
-fn words_of<'a>(first: CallWords<'a>, second: CallWords<'a>) -> [&'a str; 4] {
-    [first.proc, first.number, second.proc, second.number]
-}
-
-/// What is written of a witness.
-fn part_of(orders: Orders, json: bool) -> Part {
-    match orders {
-        Orders::Both => { if json { Part::Json } else { Part::Whole } }
-        Orders::OfFirst => Part::FirstOrder,
-        Orders::OfSecond => Part::SecondOrder,
-    }
-}
-
-/// Shows the race of two calls of a plan.
-fn show_race(
-    rt: &(impl Files + Input + Print + Eprint + AllocGlobal + Wait),
-    asked: PairRequest<'_>,
-    watch: &mut Watch<'_, '_>,
-) -> Result<u8, Fault> {
-    let progress = watch.progress;
-    let mut reader = open_plan(rt, asked.plan, progress, &mut watch.plan)?;
-    let mut writer = ToWrite::new(NotedWriter::new(rt, progress));
-    let words = words_of(asked.first, asked.second);
-    let ended = if asked.lines {
-        let file = file_of(asked.plan, false, asked.json);
-        witness_located(rt.alloc(), file, &mut reader, &mut writer, words)?
-    } else {
-        let part = part_of(asked.orders, asked.json);
-        witness(rt.alloc(), &mut reader, &mut writer, words, part)?
-    };
-    Ok(ended.status())
-}
-
-/// Tells which races of a plan are shown, so many at most.
-fn show_races(
-    rt: &(impl Files + Input + Print + Eprint + AllocGlobal + Threads + Wait + Sync),
-    asked: RacesRequest<'_>,
-    watch: &mut Watch<'_, '_>,
-) -> Result<u8, Fault> {
-    let progress = watch.progress;
-    let mut reader = open_plan(rt, asked.plan, progress, &mut watch.plan)?;
-    let mut writer = ToWrite::new(NotedWriter::new(rt, progress));
-    let (most, json) = (asked.most, asked.json);
-    let ended = if asked.lines {
-        let file = file_of(asked.plan, false, json);
-        witnesses_located(rt, rt.alloc(), file, &mut reader, &mut writer, most)?
-    } else {
-        witnesses_in_form(
-            rt,
-            rt.alloc(),
-            &mut reader,
-            &mut writer,
-            Tries { most, json },
-        )?
-    };
-    Ok(ended.status())
 }
 
 fn run(

@@ -61,6 +61,29 @@ struct Line {
     is_closed: bool,
 }
 
+/// What a command does once it has read all.
+#[derive(Clone, Copy)]
+pub enum Work {
+    Judging,
+    Running,
+    Following,
+    Searching,
+    Migrating,
+}
+
+impl Work {
+    /// Its word.
+    fn word(self) -> &'static str {
+        match self {
+            Work::Judging => "judging",
+            Work::Running => "running",
+            Work::Following => "following",
+            Work::Searching => "searching",
+            Work::Migrating => "migrating",
+        }
+    }
+}
+
 /// What a command is at.
 #[derive(Clone, Copy)]
 enum Stage {
@@ -72,8 +95,8 @@ enum Stage {
 /// How far a command is. The thread that does the command notes it, and another one shows it.
 #[derive(Drop)]
 pub struct Progress {
-    /// What is done once all is read, in one word.
-    work: &'static str,
+    /// What is done once all is read.
+    work: Work,
     streams: Streams,
     is_reading: AtomicBool,
     is_writing: AtomicBool,
@@ -88,7 +111,7 @@ pub struct Progress {
 
 impl Progress {
     /// A command that has read nothing.
-    pub fn new(work: &'static str, streams: Streams) -> Progress {
+    pub fn new(work: Work, streams: Streams) -> Progress {
         Progress {
             work,
             streams,
@@ -163,7 +186,7 @@ impl Progress {
                 "{BLANK}wire_up: reading {} MB, {percent}%",
                 bytes / 1_000_000
             ),
-            Stage::Working => eprint!(rt; "{BLANK}wire_up: {}, {seconds} s", self.work),
+            Stage::Working => eprint!(rt; "{BLANK}wire_up: {}, {seconds} s", self.work.word()),
             Stage::Writing => eprint!(rt; "{BLANK}wire_up: writing, {seconds} s"),
         };
     }

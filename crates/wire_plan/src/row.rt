@@ -22,7 +22,7 @@ pub(crate) struct ProcessEvents {
 }
 
 impl ProcessEvents {
-    // No event, with room for those of so many calls.
+    // No event, with room for one event of each of so many calls.
     fn with_room(alloc: Global, count: usize) -> Result<ProcessEvents, AllocError>
         ensures kinds { IfOk result (λ row. row.kinds.items ≡ []) }
         ensures calls { IfOk result (λ row. row.calls.items ≡ []) }

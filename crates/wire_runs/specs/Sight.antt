@@ -5,7 +5,8 @@ use Rattle.wire_runs.specs.State.{Answer, Value, State}
 use Rattle.wire_runs.specs.Puts.{own, stored, scope_of}
 use Rattle.wire_runs.specs.Fences.{arrivals, is_member, is_complete, is_collecting, has_node}
 
--- nothing, something that isn't for the reader's node, or the value of the owner's put of this number
+-- nothing, where a get waits and a get-now replies PMIX_ERR_NOT_FOUND; something that isn't for the reader's node, where both reply
+-- PMIX_ERR_EXISTS_OUTSIDE_SCOPE; or the value of the owner's put of this number
 pub data Sight : Type 0 where
   Nothing : Sight
   Outside : Sight
@@ -85,7 +86,7 @@ abbrev pub brought : Plan → State → ℕ → ℕ → ℕ → Option ℕ
 brought plan s p key node =
     greater (for_others plan p (delivered plan s.done p node key (event_count plan p))) (kept plan s p key node)
 
--- what a get-now sees
+-- what a get-now by q, its event number i, sees of p's key
 abbrev pub get_now_sees : Plan → State → ℕ → ℕ → ℕ → ℕ → Sight
 get_now_sees plan s q i p key =
     if q == p then held (own plan p key i)

@@ -1,4 +1,4 @@
-//! How the words of a plan are spelled: versions, verbs, ranks, scopes and sets, as text.
+//! How the words of a plan are spelled. Code here writes versions, verbs and ranks; the definitions also spell scopes and sets.
 #![tactic(auto)]
 
 mod verb;
