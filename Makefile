@@ -3,7 +3,7 @@
 
 PREFIX ?= /usr/local
 
-.PHONY: run try test edits soak bench record record-mpi install deb picture
+.PHONY: run libraries try test edits soak bench record record-mpi install deb picture
 
 MPICC ?= mpicc
 CFLAGS ?= -O2 -Wall -Wextra
@@ -12,6 +12,10 @@ SHARED = -std=gnu11 $(CFLAGS) -shared -fPIC -pthread
 # An example without proofs, then the proof, and the same example by the proved ./wire_up.
 run:
 	@python3 tests/build.py run
+
+# For developers: all libraries, proved and built in their own folders, so that `rt check` in a crate begins at once.
+libraries:
+	@python3 tests/build.py libraries
 
 # `make try FILE=my.plan`: checks and replays a file by a build without proofs.
 try:

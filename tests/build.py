@@ -1,9 +1,15 @@
-"""What `make try` and `make run` do.
+"""What `make try`, `make run` and `make libraries` do.
 
 Usage: python3 tests/build.py try FILE     checks and replays FILE, by a build without proofs
        python3 tests/build.py run          does that for an example, while it proves the program, builds it as ./wire_up, and does it again
                                            (only the latter where there is a ./wire_up already)
+       python3 tests/build.py libraries    proves and builds all libraries in their own folders, for checks in the crates above them
+
+`run` proves in a copy, by `rt ci`: there a library holds no more than what crates above can cite, and the kit has a store of what it proved.
+Who can't write that store proves in place, as `libraries` does: that keeps each function's proof beside its crate, so that a check after a
+change proves only what the change touched.
 """
+import itertools
 import os
 import re
 import shutil
@@ -13,14 +19,16 @@ import tempfile
 import threading
 
 sys.dont_write_bytecode = True
+import ci
 import kit
 import progress
 
 EXAMPLE = "examples/business-card.plan"
 COMMANDS = ("check", "replay")
 PROGRAM = os.path.join("crates", "program")
-BUILT = os.path.join(progress.TOP, PROGRAM, "out", "program")
 PLACE = os.path.join(progress.TOP, "wire_up")
+# The program that was proved, until it takes its place.
+MADE = os.path.join(progress.LOGS, "wire_up")
 
 
 def fail(what, log):
@@ -68,10 +76,10 @@ def try_it(file, top=progress.TOP):
     return 0
 
 
-def expected(crates):
+def expected(crates, is_done=lambda crate: False):
     """About how many minutes the proofs of crates take: as long as the longest chain of them, or as all of them by all processors."""
     minutes, chain = progress.minutes_of(), {}
-    left = {it.name: minutes.get(it.name, 1) for it in crates if it.is_program or not it.is_built()}
+    left = {it.name: minutes.get(it.name, 1) for it in crates if not is_done(it)}
     for crate in crates:
         chain[crate.name] = left.get(crate.name, 0) + max((chain[it.name] for it in crate.deps), default=0)
     return max(*chain.values(), sum(left.values()) / kit.rt.processors())
@@ -85,23 +93,31 @@ class Proof(threading.Thread):
         wanted = progress.crates_below("program")
         self.crates = [it for it in kit.crates_at(progress.TOP) if it.name in wanted]
         self.line, self.log = progress.Progress("proving", expected(self.crates)), log
-        self.proved, self.failed = 0, "the proof was broken off"
+        self.failed = "the proof was broken off"
         self.start()
 
     def run(self):
-        with open(self.log, "a", encoding="utf-8") as to, kit.locked(self.crates):
-            failed = kit.build([it for it in self.crates if not it.is_program], to, self.tell)
-        self.failed = f"not proved: {' '.join(failed)}" if failed else self.program_failed()
+        self.failed = self.in_copy() if ci.has_store() else self.in_place()
 
-    def program_failed(self):
-        """Proves and builds the program. Says how that failed, if it did."""
+    def in_copy(self):
+        """Proves and builds all in a copy, over the kit's store. Says how that failed, if it did."""
+        with tempfile.TemporaryDirectory(prefix="wire-up-proof-") as room:
+            kit.copy_to(room, progress.TOP)
+            ci.keep_only(room, ["program"])
+            status = ci.run(room, self.log, ci.Course(self.line, len(self.crates)).take)
+            return f"not proved: rt ci ended with status {status}" if status else self.take(room)
+
+    def in_place(self):
+        """Proves and builds all in the crates' own folders. Says how that failed, if it did."""
+        failed = prove_libraries([it for it in self.crates if not it.is_program], self.line, self.log)
+        if failed:
+            return f"not proved: {' '.join(failed)}"
         status = progress.keep(["rt", "run", "--jobs", "1", "--", "--version"], os.path.join(progress.TOP, PROGRAM), self.log)
-        return f"the program was not proved: rt ended with status {status}" if status else None
+        return f"the program was not proved: rt ended with status {status}" if status else self.take(progress.TOP)
 
-    def tell(self, name):
-        """Says that a library is proved."""
-        self.proved += 1
-        self.line.now(f"{self.proved} of {len(self.crates)} crates proved, last {name}")
+    def take(self, top):
+        """Takes the program out of a repository in which it was built."""
+        shutil.copy(os.path.join(top, PROGRAM, "out", "program"), MADE)
 
     def end(self):
         """Waits for the end. Says what failed, if anything did."""
@@ -129,12 +145,27 @@ def run():
             try_it(EXAMPLE, room)
     failed = proof.end()
     if failed:
-        fail(f"{failed}. ./wire_up is as it was", log)
-    made = os.path.join(progress.LOGS, "wire_up")
-    shutil.copy(BUILT, made)
-    os.replace(made, PLACE)
+        print(ci.reasons(log), end="")
+        sys.exit(f"{failed}. ./wire_up is as it was. The whole output is in {progress.shown(log)}")
+    os.replace(MADE, PLACE)
     print("Proved, and built as ./wire_up:", flush=True)
     show()
+
+
+def prove_libraries(crates, line, log):
+    """Proves and builds libraries in their own folders, as far as they changed. Answers the names of those that failed."""
+    count = itertools.count(1)
+    with open(log, "a", encoding="utf-8") as to, kit.locked(crates):
+        return kit.build(crates, to, lambda name: line.now(f"{next(count)} of {len(crates)} libraries proved, last {name}"))
+
+
+def build_libraries():
+    """Proves and builds all libraries in their own folders, as far as they changed."""
+    log, crates = progress.log_at("libraries.log"), [it for it in kit.crates_at(progress.TOP) if not it.is_program]
+    with progress.Progress("proving", expected(crates, lambda it: it.is_built())) as line:
+        failed = prove_libraries(crates, line, log)
+    if failed:
+        fail(f"not proved: {' '.join(failed)}", log)
 
 
 def leave(status):
@@ -149,6 +180,8 @@ def leave(status):
 def main(words):
     if words == ["run"]:
         return run()
+    if words == ["libraries"]:
+        return build_libraries()
     if len(words) == 2 and words[0] == "try":
         return try_it(words[1])
     sys.exit(__doc__)

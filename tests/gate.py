@@ -11,7 +11,6 @@ what failed, so that the end of a log tells it.
 import contextlib
 import filecmp
 import os
-import re
 import shutil
 import subprocess
 import sys
@@ -20,6 +19,7 @@ import traceback
 
 sys.dont_write_bytecode = True
 import bench
+import ci
 import costs
 import edits
 import edits_test
@@ -46,27 +46,6 @@ BUDGET, FOR_EACH, WERE = 110, 4, 30
 STEADY = {"wire_store": 23, "wire_fence": 71, "wire_locked": 28, "wire_board": 58, "wire_outcome": 35, "wire_order": 32, "wire_words": 42}
 # How much of what a part said is told again at the end, where it failed: so many of its last lines, and so much of each.
 LINES, WIDTH = 8, 160
-# The lines of `rt ci` that tell how far it is.
-JUDGED = re.compile(r"rt: (\w+)(: its tests are)? (proved|NOT PROVED)\b")
-COUNTS = re.compile(r"(\d+) passed, (\d+) failed")
-
-
-class Course:
-    """How far `rt ci` is, and its counts, by the lines that it prints."""
-
-    def __init__(self, line):
-        self.line, self.crates = line, len(progress.crates_below(None))
-        self.proved, self.counts = 0, None
-
-    def take(self, said):
-        """Takes the next line."""
-        judged = JUDGED.match(said)
-        self.counts = COUNTS.fullmatch(said)
-        if judged and judged[3] != "proved":
-            self.line.note(said)
-        elif judged and not judged[2]:
-            self.proved += 1
-            self.line.now(f"{self.proved} of {self.crates} crates proved, last {judged[1]}")
 
 
 class Copied:
@@ -97,22 +76,6 @@ def heard(name, failures, part, *words):
     return passed, failed
 
 
-def reasons(log):
-    """What a log of `rt ci` says of what failed: all about each crate that isn't proved, and the last lines."""
-    block, told = [], []
-    with open(log, encoding="utf-8", errors="replace") as it:
-        for line in it:
-            judged = JUDGED.match(line)
-            if line.startswith("== ") or (judged and judged[3] == "proved"):
-                block = []
-            elif judged:
-                told += [*block[-progress.TAIL :], line]
-                block = []
-            elif not progress.is_routine(line):
-                block.append(line)
-    return "".join(told + block[-progress.TAIL :])
-
-
 def not_formatted(room):
     """What `rt fmt` would lay out in another way: it does so in the copy."""
     found = []
@@ -131,16 +94,14 @@ def not_applied(files):
 
 
 def prove(room):
-    """Runs `rt ci` in the copy, and answers its counts; where it ends without them, one failure. One process proves a crate, whatever processors
-    are idle: two or more that share a proof each load all that is below it."""
+    """Runs `rt ci` in the copy, and answers its counts; where it ends without them, one failure."""
     log = progress.log_at("gate.log")
-    words = ["env", f"RT_JOBS={kit.lanes_for(kit.crates_at(room))}", "rt", "ci"]
     with progress.Progress("rt ci", progress.minutes_of()["gate"]) as line:
-        course = Course(line)
-        status = progress.keep(words, room, log, course.take)
+        course = ci.Course(line, len(progress.crates_below(None)))
+        status = ci.run(room, log, course.take)
     passed, failed = (int(course.counts[1]), int(course.counts[2])) if course.counts else (0, 1)
     if status or failed:
-        print(reasons(log), end="")
+        print(ci.reasons(log), end="")
         print(f"rt ci failed. The whole output is in {progress.shown(log)}")
         failed = failed or 1
     print(f"rt ci: {passed} passed, {failed} failed", flush=True)

@@ -55,8 +55,6 @@ def crates_at(top):
 
 remember(rt.rtlib.Crate)
 
-# How much of the memory that the kit reckons with for a check one process takes at most.
-SHARE = 0.6
 # What is made in any folder, and isn't copied.
 MADE = shutil.ignore_patterns("out", "*.so", "__pycache__")
 
@@ -95,12 +93,6 @@ def build(crates, log=sys.stdout, tell=lambda name: None):
         log.write(f"$ rt lib, in crates/{name}\n{said}")
     log.flush()
     return list(failed)
-
-
-def lanes_for(crates):
-    """How many crates are proved side by side by one process each: one to a processor, as many as memory has room for. A check by one process
-    takes a part of what the kit reckons with."""
-    return max(1, min(rt.processors(), int(0.85 * rt.free() / (SHARE * max(map(rt.need, crates))))))
 
 
 def waits_of(crate):

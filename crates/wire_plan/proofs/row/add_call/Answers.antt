@@ -30,8 +30,8 @@ module _ {K E : Type 0} (f : K → E) where
 pub returns-clause-kinds : goal.returns-clause-kinds
 returns-clause-kinds c =
     let sets = c.args.scripts.now.sets in
-    on_ok_weaker c.add_rest.result (λ rest. kinds_join (kind_of sets) c.args.row.now.kinds.items c.add.new.self.kinds.items c.add_rest.new.row.kinds.items c.first_kind.result (kinds_after sets c.args.call) _
-    c.in_ok-add.ensures.kinds (rest sets) c.first_kind.ensures) c.add_rest.ensures.kinds
+    on_ok_weaker c.add_rest.result (λ rest. kinds_join (kind_of sets) c.args.row.now.kinds.items c.add.new.self.kinds.items c.add_rest.new.row.kinds.items c.first_kind.result
+    (kinds_after sets c.args.call) _ c.in_ok-add.ensures.kinds (rest sets) c.first_kind.ensures) c.add_rest.ensures.kinds
 
 pub returns-clause-calls : goal.returns-clause-calls
 returns-clause-calls c =
