@@ -1,4 +1,4 @@
-# What a user and a developer of wire_up call. `run`, `try` and `test` need the kit's `rt` on the path, and python3. `record` needs a C
+# What a user and a developer of wire_up call. `run`, `libraries`, `try`, `test` and `edits` need the kit's `rt` on the path, and python3. `record` needs a C
 # compiler and the headers of PMIx, `record-mpi` also `mpicc`.
 
 PREFIX ?= /usr/local
@@ -22,7 +22,7 @@ try:
 	@test -n "$(FILE)" || { echo "which file? make try FILE=my.plan"; exit 1; }
 	@python3 tests/build.py try "$(FILE)"
 
-# The gate: every proof from nothing, every test, and the program as a user calls it.
+# The gate: every proof, every test, and the program as a user calls it.
 test:
 	@python3 tests/gate.py
 

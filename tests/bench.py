@@ -258,9 +258,10 @@ class Bench:
 
 
 def has_parts():
-    """Whether there is the program that has functions by themselves. It is built where it isn't there."""
+    """Whether there is the program that has functions by themselves. It is built where it isn't there: that takes minutes, or as long as
+    `make libraries` where that wasn't done."""
     if not os.path.exists(PARTS):
-        print("building crates/one_function", file=sys.stderr, flush=True)
+        print("proving and building crates/one_function, and the libraries below it as far as `make libraries` hasn't", file=sys.stderr, flush=True)
         subprocess.run(["rt", "run"], cwd=os.path.join(TOP, "crates", "one_function"), capture_output=True, check=False)
     return os.path.exists(PARTS)
 

@@ -6,17 +6,21 @@ Usage: python3 tests/build.py try FILE     checks and replays FILE, by a build w
        python3 tests/build.py libraries    proves and builds all libraries in their own folders, for checks in the crates above them
 
 `run` proves in a copy, by `rt ci`: there a library holds no more than what crates above can cite, and the kit has a store of what it proved.
-Who can't write that store proves in place, as `libraries` does: that keeps each function's proof beside its crate, so that a check after a
+A user who can't write that store proves in place, as `libraries` does: that keeps each function's proof beside its crate, so that a check after a
 change proves only what the change touched.
 """
+import contextlib
+import fcntl
 import itertools
 import os
 import re
 import shutil
+import signal
 import subprocess
 import sys
 import tempfile
 import threading
+import time
 
 sys.dont_write_bytecode = True
 import ci
@@ -29,6 +33,8 @@ PROGRAM = os.path.join("crates", "program")
 PLACE = os.path.join(progress.TOP, "wire_up")
 # The program that was proved, until it takes its place.
 MADE = os.path.join(progress.LOGS, "wire_up")
+# The proofs that were begun here.
+UNDER_WAY = []
 
 
 def fail(what, log):
@@ -93,7 +99,8 @@ class Proof(threading.Thread):
         wanted = progress.crates_below("program")
         self.crates = [it for it in kit.crates_at(progress.TOP) if it.name in wanted]
         self.line, self.log = progress.Progress("proving", expected(self.crates)), log
-        self.failed = "the proof was broken off"
+        self.room, self.child, self.failed = tempfile.mkdtemp(prefix="wire-up-proof-"), None, "the proof was broken off"
+        UNDER_WAY.append(self)
         self.start()
 
     def run(self):
@@ -101,11 +108,14 @@ class Proof(threading.Thread):
 
     def in_copy(self):
         """Proves and builds all in a copy, over the kit's store. Says how that failed, if it did."""
-        with tempfile.TemporaryDirectory(prefix="wire-up-proof-") as room:
-            kit.copy_to(room, progress.TOP)
-            ci.keep_only(room, ["program"])
-            status = ci.run(room, self.log, ci.Course(self.line, len(self.crates)).take)
-            return f"not proved: rt ci ended with status {status}" if status else self.take(room)
+        kit.copy_to(self.room, progress.TOP)
+        ci.keep_only(self.room, ["program"])
+        status = ci.run(self.room, self.log, ci.Course(self.line, len(self.crates)).take, self.begun)
+        return f"not proved: rt ci ended with status {status}" if status else self.take(self.room)
+
+    def begun(self, child):
+        """Notes the process of `rt ci`."""
+        self.child = child
 
     def in_place(self):
         """Proves and builds all in the crates' own folders. Says how that failed, if it did."""
@@ -123,7 +133,20 @@ class Proof(threading.Thread):
         """Waits for the end. Says what failed, if anything did."""
         with self.line:
             self.join()
+        self.stop()
         return self.failed
+
+    def stop(self):
+        """Ends the proof where it is under way, and takes its copy away."""
+        if self.child and self.child.poll() is None:
+            self.child.kill()
+            self.child.wait()
+        for _ in range(10):
+            # (what was started by the process that was killed ends a little later)
+            shutil.rmtree(self.room, ignore_errors=True)
+            if not os.path.exists(self.room):
+                return
+            time.sleep(0.1)
 
 
 def show():
@@ -135,8 +158,27 @@ def show():
             sys.exit(f"./wire_up {command} ended with status {status}")
 
 
+@contextlib.contextmanager
+def alone():
+    """Waits until no other `make run` works here."""
+    os.makedirs(progress.LOGS, exist_ok=True)
+    with open(os.path.join(progress.LOGS, "run.lock"), "w", encoding="utf-8") as it:
+        try:
+            fcntl.flock(it, fcntl.LOCK_EX | fcntl.LOCK_NB)
+        except BlockingIOError:
+            print("Another `make run` works here. This one waits for it.", flush=True)
+            fcntl.flock(it, fcntl.LOCK_EX)
+        yield
+
+
 def run():
     """The answer without proofs where there is no other yet, and meanwhile the proof; then the same answer."""
+    with alone():
+        run_alone()
+
+
+def run_alone():
+    """The same, where no other `make run` works here."""
     log = progress.log_at("run.log")
     proof = Proof(log)
     if not os.path.exists(PLACE):
@@ -161,6 +203,8 @@ def prove_libraries(crates, line, log):
 
 def build_libraries():
     """Proves and builds all libraries in their own folders, as far as they changed."""
+    # As `rt` does: Python would wait for the threads' checks.
+    signal.signal(signal.SIGINT, signal.SIG_DFL)
     log, crates = progress.log_at("libraries.log"), [it for it in kit.crates_at(progress.TOP) if not it.is_program]
     with progress.Progress("proving", expected(crates, lambda it: it.is_built())) as line:
         failed = prove_libraries(crates, line, log)
@@ -172,6 +216,8 @@ def leave(status):
     """Ends at once, and with it a proof that is under way: the guard of `rt` ends all that was started here."""
     if isinstance(status, str):
         print(status, file=sys.stderr)
+    for it in UNDER_WAY:
+        it.stop()
     sys.stdout.flush()
     sys.stderr.flush()
     os._exit(1 if isinstance(status, str) else status or 0)

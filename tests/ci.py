@@ -12,6 +12,8 @@ import progress
 
 # How much of the memory that the kit reckons with for a check one process takes at most.
 SHARE = 0.6
+# About how many MB of disk the proof of all crates takes.
+TAKEN = 4_500
 # The lines of `rt ci` that tell how far it is.
 JUDGED = re.compile(r"rt: (\w+)(: its tests are)? (proved|NOT PROVED|is kept)\b")
 COUNTS = re.compile(r"(\d+) passed, (\d+) failed")
@@ -41,15 +43,19 @@ def lanes_for(crates):
     return max(1, min(rt.processors(), int(0.85 * rt.free() / (SHARE * max(map(rt.need, crates))))))
 
 
-def run(room, log, take):
-    """Runs `rt ci` in the copy, adds all that it prints to the log, hands each line on, and answers its status."""
+def run(room, log, take, begun=lambda child: None):
+    """Runs `rt ci` in the copy, adds all that it prints to the log, hands each line on, and answers its status. `begun` is told of its process."""
+    # It is the top of a repository, wherever it stands, and `rt ci` has a place there for what it moves aside.
+    os.makedirs(os.path.join(room, ".git"), exist_ok=True)
     words = ["env", f"RT_JOBS={lanes_for(kit.crates_at(room))}", "rt", "ci"]
-    return progress.keep([*kit.rt.rtlib.guarded(), *words], room, log, take)
+    return progress.keep(words, room, log, take, begun, kit.rt.rtlib.guarded())
 
 
 def has_store():
-    """Whether the kit can keep what `rt ci` proves: its store stands beside the kit, and belongs to who used it first."""
-    return kit.rt.Kept([]).at is not None
+    """Whether the kit can keep all that `rt ci` proves here. Its store stands beside the kit, belongs to the user who began it, and takes nothing more
+    where the disk is nearly full."""
+    at = kit.rt.Kept([]).at
+    return at is not None and shutil.disk_usage(at).free >> 20 > kit.rt.STORE_LEAVES + TAKEN
 
 
 def keep_only(room, names):
@@ -60,9 +66,10 @@ def keep_only(room, names):
         lines = it.readlines()
     with open(path, "w", encoding="utf-8") as it:
         it.writelines(line for line in lines if line.partition("#")[0].partition(":")[0].strip() in {"", *wanted})
-    for name in os.listdir(os.path.join(room, "crates")):
-        if name not in wanted:
-            shutil.rmtree(os.path.join(room, "crates", name))
+    with os.scandir(os.path.join(room, "crates")) as found:
+        for it in found:
+            if it.is_dir() and it.name not in wanted:
+                shutil.rmtree(it.path)
 
 
 def reasons(log):

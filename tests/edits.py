@@ -51,14 +51,15 @@ OTHERS = re.compile(r"it (?:calls|passes the block) .*, which (?:is|are) not (?:
 # A verdict on a body that the prover has no rules for: no contract was tried, and a right body would fare the same.
 UNCOVERED = "the borrow checker does not cover this function"
 ONLY_A_NAME = " (only because a proof file names what the edit took away, so this says little of the contract: change a value and keep the names)"
-# What `rt` says of a refusal of the same sort, where an edit is tried alone.
-ONLY_A_LIMIT = " (only by a limit of the prover, so this says less of the contract: choose a change that it refuses sooner)"
+# The same of a limit of the prover, in words that `rt` begins with too, where an edit is tried alone.
+BY_A_LIMIT = "(only by a limit of the prover"
+ONLY_A_LIMIT = f" {BY_A_LIMIT}, so this says less of the contract: choose a change that it refuses sooner)"
 LIMITS = getattr(rt, "LIMITS", re.compile(r"antt ran out of"))
 # A verdict on a body with a loop that no file tells anything of. A loop that may never end has no measure; but no clause was tried.
 UNMEASURED = re.compile(r"no proof: expected .* in \./proofs/\S+/Invariants\.antt")
 ONLY_A_LOOP = " (only because it has a loop without a measure or an invariant, so no clause was tried)"
 # The refusals that the gate prints.
-POOR = ONLY_A_NAME, ONLY_A_LIMIT, ONLY_A_LOOP
+POOR = ONLY_A_NAME, BY_A_LIMIT, ONLY_A_LOOP
 
 # A function of a source file: its path below the crate, where its text, and in that its body, begins and ends, and whether a trait asks for it.
 Function = collections.namedtuple("Function", "path begin body end is_of_trait", defaults=[False])
@@ -331,7 +332,8 @@ def is_judged(ran, texts):
 def are_proved(texts, said):
     """Whether each copy without an edit has a proof, or has none only because of others."""
     edited, verdicts = {it.path for it in texts.placed}, {path.partition("::")[2]: words for path, words in VERDICT.findall(said)}
-    return all(it in verdicts and not is_own(verdicts[it]) for it in texts.only if it not in edited)
+    controls = [verdicts.get(it, "") for it in texts.only if it not in edited]
+    return all(it == "proved" or (it.startswith("no proof") and not is_own(it)) for it in controls)
 
 
 def checked(crate, texts, flags, kept):

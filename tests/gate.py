@@ -1,7 +1,8 @@
 """The gate: `rt ci`, the edits that the prover must refuse, then the program that was proved and built, run as a user would, the
 recorder, and the commands that the documents show.
 
-It works on a copy of the repository, so nothing that earlier checks kept counts, and nothing of it is lost. The last line is
+It works on a copy of the repository, so nothing that checks kept in it counts, and nothing of it is lost. (What an earlier `rt ci` proved of the same
+files on this machine counts: the kit keeps it.) The last line is
 'N passed, M failed' for all of it, and the status is 1 where anything failed. A line tells how far it is; what `rt ci` prints goes to
 out/gate.log, and where something failed, what the log says of it is printed too. What it cost, crate by crate, is printed and goes to
 out/gate-costs.md. `rt ci` wants each file as `rt fmt` lays it out, and says so only after the proofs of a crate: so that is looked at
@@ -43,7 +44,7 @@ KEPT = (BUILT, bench.PARTS)
 BUDGET, FOR_EACH, WERE = 110, 4, 30
 # Machines differ, and one machine from hour to hour. So a gate is measured by crates in which little changed since the budget was set: the seconds
 # of processor time that their proofs took then.
-STEADY = {"wire_store": 23, "wire_fence": 71, "wire_locked": 28, "wire_board": 58, "wire_outcome": 35, "wire_order": 32, "wire_words": 42}
+STEADY = {"wire_store": 23, "wire_locked": 28, "wire_outcome": 35, "wire_order": 32, "wire_words": 42}
 # How much of what a part said is told again at the end, where it failed: so many of its last lines, and so much of each.
 LINES, WIDTH = 8, 160
 
@@ -179,10 +180,10 @@ def judge(room, files, watch, failures):
 
 def in_minutes_then(watch):
     """Says what the gate would have taken on the machine on which the budget was set."""
-    then, now = watch.beside(STEADY)
-    if not then:
+    proved, then, now = watch.beside(STEADY)
+    if not proved:
         return ""
-    names = ", ".join(f"`{it}`" for it in STEADY)
+    names = ", ".join(f"`{it}`" for it in proved)
     told = f"The proofs of {names}, in which little changed since the budget was set, took {then} seconds then and {now:.0f} now."
     return f" {told} So this gate is {watch.whole() / 60 * then / now:.0f} minutes of the machine of that day."
 
