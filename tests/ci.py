@@ -53,9 +53,11 @@ def run(room, log, take, begun=lambda child: None):
 
 def has_store():
     """Whether the kit can keep all that `rt ci` proves here. Its store stands beside the kit, belongs to the user who began it, and takes nothing more
-    where the disk is nearly full."""
+    where the disk is nearly full. Where the program was kept before, there was room."""
     at = kit.rt.Kept([]).at
-    return at is not None and shutil.disk_usage(at).free >> 20 > kit.rt.STORE_LEAVES + TAKEN
+    if at is None:
+        return False
+    return any(it.startswith("proof-program-") for it in os.listdir(at)) or shutil.disk_usage(at).free >> 20 > kit.rt.STORE_LEAVES + TAKEN
 
 
 def keep_only(room, names):
