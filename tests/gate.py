@@ -40,8 +40,8 @@ import witnesses
 BUILT = os.path.join(progress.TOP, "crates", "program", "out", "program")
 # What users and tests run, of what `rt ci` builds in the copy.
 KEPT = (BUILT, bench.PARTS)
-# Minutes of processor time: for the 30 crates that there were when it was set, and for each since.
-BUDGET, FOR_EACH, WERE = 110, 4, 30
+# Minutes of processor time: for the 30 crates that there were when it was set, which are 32 since two of them were cut in two, and for each further one.
+BUDGET, FOR_EACH, WERE = 110, 4, 32
 # Machines differ, and one machine from hour to hour. So a gate is measured by crates in which little changed since the budget was set: the seconds
 # of processor time that their proofs took then.
 STEADY = {"wire_store": 23, "wire_locked": 28, "wire_outcome": 35, "wire_order": 32, "wire_words": 42}

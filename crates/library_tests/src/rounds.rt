@@ -1,6 +1,6 @@
 //! Pieces of a round that are taken, stolen and left, and a core under its lock.
 ghost use Rattle.std.specs.Prelude.{◌≡◌, ◌≢◌, ◌<◌};
-ghost use Rattle.wire_sched.specs.Rounds.{ArePassesOf, workers_of};
+ghost use Rattle.wire_rounds.specs.Rounds.{ArePassesOf, workers_of};
 
 use crate::workers::{WAITING, plan_of_file};
 use std::alloc::Global;

@@ -14,8 +14,8 @@ use std::alloc::{AllocError, Global};
 use std::collections::LinkedList;
 use std::marker::Model;
 use wire_content::Scripts;
+use wire_fates::Settled;
 use wire_plan::Plan;
-use wire_races::Settled;
 use wire_types::{Fault, Proc};
 
 /// One atomic word for each process: the number of its events that are done. Between any two steps of any

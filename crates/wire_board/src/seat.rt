@@ -9,8 +9,8 @@ ghost use Rattle.wire_board.specs.Seats.{SeatIs, place_of, ShowsNext};
 use crate::hold::TableSeat;
 use crate::shown::{find_next_fate, shows_event, skip_shown};
 use std::marker::Model;
+use wire_fates::Settled;
 use wire_plan::Sources;
-use wire_races::Settled;
 use wire_types::{Event, Proc};
 
 /// The owner of one rank: it alone moves the word of that rank. It knows a position of each process: a

@@ -5,12 +5,12 @@ ghost use Rattle.std.specs.List.{list_all};
 ghost use Rattle.wire_runs.specs.Plan.{event_of, event_count};
 ghost use Rattle.wire_content.specs.Planned.{plan_of};
 ghost use Rattle.wire_plan.specs.Index.{source_list};
-ghost use Rattle.wire_races.specs.Fates.{IsFateOf};
+ghost use Rattle.wire_fates.specs.Fates.{IsFateOf};
 ghost use Rattle.wire_board.specs.Cuts.{shows_event, skip_shown, ShowsSources};
 ghost use Rattle.wire_board.specs.Positions.{hold, next_in, ShowsNextIn};
 
+use wire_fates::{Fate, Settled};
 use wire_plan::{Plan, Sources};
-use wire_races::{Fate, Settled};
 use wire_types::{Event, Proc};
 
 /// Whether the positions show that an event is done.

@@ -1,9 +1,9 @@
 -- The last of the first passes.
 use Rattle.std.proofs.Common.{◌≡◌, ℕ, List, [], ◌∷◌, ◌++◌, length, subst, sym, Option, Some, None, option_to_list, IfSome, append-nil, ⊎_elim, ◌∙◌}
-use Rattle.wire_sched.specs.declared.round.Round.{Round}
-use Rattle.wire_sched.specs.declared.round.Pass.{Pass}
-use Rattle.wire_sched.specs.Rounds.{IsPassOf, worker_of}
-use Rattle.wire_sched.proofs.Rows.{get_snoc, get_longer, get_last}
+use Rattle.wire_rounds.specs.declared.round.Round.{Round}
+use Rattle.wire_rounds.specs.declared.round.Pass.{Pass}
+use Rattle.wire_rounds.specs.Rounds.{IsPassOf, worker_of}
+use Rattle.wire_rounds.proofs.Rows.{get_snoc, get_longer, get_last}
 use Rattle.wire_collect.specs.Passes.{AreFirstPasses}
 
 first_passes : (r : Round) (ps : List Pass) (p : Pass) → AreFirstPasses r (ps ++ p ∷ []) → AreFirstPasses r ps

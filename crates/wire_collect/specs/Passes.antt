@@ -2,9 +2,9 @@
 use Rattle.std.specs.Prelude.{◌≡◌, ℕ, List}
 use mathlib.Core.Option.{some}
 use lib.ListN.{get_elem?}
-use Rattle.wire_sched.specs.declared.round.Round.{Round}
-use Rattle.wire_sched.specs.declared.round.Pass.{Pass}
-use Rattle.wire_sched.specs.Rounds.{IsPassOf, worker_of}
+use Rattle.wire_rounds.specs.declared.round.Round.{Round}
+use Rattle.wire_rounds.specs.declared.round.Pass.{Pass}
+use Rattle.wire_rounds.specs.Rounds.{IsPassOf, worker_of}
 
 -- the passes of the first workers of the round, in order
 abbrev pub AreFirstPasses : Round → List Pass → Type 0

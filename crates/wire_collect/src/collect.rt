@@ -14,8 +14,8 @@ use std::alloc::Global;
 use std::sync::Wait;
 use std::thread::Threads;
 use wire_core::{Core, plain_outcome};
+use wire_fates::Settled;
 use wire_plan::Plan;
-use wire_races::Settled;
 use wire_sched::Gate;
 use wire_types::{Fault, Outcome, Proc};
 

@@ -1,8 +1,8 @@
 //! What a worker can do in a round.
 
 ghost use Rattle.std.specs.Prelude.{◌≡◌};
-ghost use Rattle.wire_sched.specs.declared.round.Round.{Round};
-ghost use Rattle.wire_sched.specs.Rounds.{IsPassOf, worker_of};
+ghost use Rattle.wire_rounds.specs.declared.round.Round.{Round};
+ghost use Rattle.wire_rounds.specs.Rounds.{IsPassOf, worker_of};
 
 use std::sync::Wait;
 use wire_sched::{Crew, Gate, Pass, Round, Serves, take_turns};

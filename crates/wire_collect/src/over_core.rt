@@ -1,7 +1,7 @@
 //! Rounds of workers over one locked core.
 
 ghost use Rattle.std.specs.Prelude.{◌<◌, IsOkUnless};
-ghost use Rattle.wire_sched.specs.Rounds.{ArePassesOf};
+ghost use Rattle.wire_rounds.specs.Rounds.{ArePassesOf};
 
 use crate::rounds::{Dealt, serve_round, workers_after};
 use std::alloc::Global;

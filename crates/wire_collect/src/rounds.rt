@@ -1,7 +1,7 @@
 //! One round of workers, whatever they serve.
 
 ghost use Rattle.std.specs.Prelude.{◌<◌};
-ghost use Rattle.wire_sched.specs.Rounds.{ArePassesOf};
+ghost use Rattle.wire_rounds.specs.Rounds.{ArePassesOf};
 
 use crate::threads::run_round;
 use std::alloc::Global;

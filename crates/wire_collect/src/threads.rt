@@ -2,7 +2,7 @@
 
 ghost use Rattle.std.specs.Prelude.{◌≡◌, ◌+◌, ◌<◌, IfOk, IfErr, IfSome, OnSome, IfNone, vec_len, vec_capacity};
 ghost use Rattle.std.specs.Thread.{IsSync};
-ghost use Rattle.wire_sched.specs.Rounds.{IsPassOf, worker_of};
+ghost use Rattle.wire_rounds.specs.Rounds.{IsPassOf, worker_of};
 ghost use Rattle.wire_collect.specs.Passes.{AreFirstPasses};
 
 use crate::crew::Works;

@@ -9,7 +9,7 @@ use Rattle.wire_runs.specs.Fences.{arrivals}
 use Rattle.wire_runs.specs.Order.{IsArrival, Edge, Follows, Meets, Feeds, Announces}
 use Rattle.wire_runs.proofs.Lists.{slice_get-map_kept}
 use Rattle.wire_plan.specs.Index.{AreArrivals}
-use Rattle.wire_races.proofs.First.{leave_next}
+use Rattle.wire_fates.proofs.First.{leave_next}
 use Rattle.wire_board.specs.Cuts.{shows_event, ImpliesSources}
 use Rattle.wire_board.specs.Seats.{SeatIs, next_of}
 use Rattle.wire_lanes.specs.Lanes.{WaitsForMore}

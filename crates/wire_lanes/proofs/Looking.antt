@@ -12,9 +12,9 @@ use Rattle.wire_runs.proofs.Lists.{set_raises, not_in_empty}
 use Rattle.wire_content.specs.Scripts.{Scripts}
 use Rattle.wire_content.specs.Planned.{plan_of}
 use Rattle.wire_plan.specs.Index.{AreSources}
-use Rattle.wire_races.specs.declared.Fate.{Fate}
-use Rattle.wire_races.specs.declared.Fate.TheVariants.{Waits as CodeWaits}
-use Rattle.wire_races.specs.Fates.{IsFateOf}
+use Rattle.wire_fates.specs.declared.Fate.{Fate}
+use Rattle.wire_fates.specs.declared.Fate.TheVariants.{Waits as CodeWaits}
+use Rattle.wire_fates.specs.Fates.{IsFateOf}
 use Rattle.wire_board.specs.Cuts.{shows_event, skip_shown, ShowsSources, ImpliesSources}
 use Rattle.wire_board.specs.Seats.{BoardIs, SeatIs, place_of, hold_of, next_of, ShowsNext, ImpliesNext}
 use Rattle.wire_board.proofs.Cuts.{shown_implied}

@@ -2,7 +2,7 @@
 use Rattle.std.proofs.Common.{◌∙◌, ap, arith}
 use Rattle.std.proofs.lemmas.Option.{slice_get_within}
 use Rattle.wire_runs.proofs.SoFar.{replies_are_plain}
-use Rattle.wire_races.specs.Fates.{fate_told}
+use Rattle.wire_fates.specs.Fates.{fate_told}
 use Rattle.wire_lanes.specs.PlainTrails.{TrailsArePlain}
 
 pub trails_are_plain : TrailsArePlain

@@ -7,7 +7,7 @@ use Rattle.std.proofs.lemmas.List.{reverse-append, nil_from_length}
 use Rattle.std.proofs.lemmas.Option.{same_Some, slice_get_cases, slice_get_within, none-some}
 use Rattle.wire_runs.specs.Plan.{Plan, process_count}
 use Rattle.wire_runs.proofs.Lists.{not_in_empty, slice_get-append_kept, slice_get_push_last}
-use Rattle.wire_races.specs.declared.Fate.{Fate}
+use Rattle.wire_fates.specs.declared.Fate.{Fate}
 use Rattle.wire_lanes.specs.Lanes.{LaneIs, AreFates, IsLaneOf, AreLanesOf, IsTrailOf, Tell, IsToldBy, AreTrails}
 
 -- these are lanes of the ranks from r on, and their trails

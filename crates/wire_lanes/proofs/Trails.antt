@@ -8,10 +8,10 @@ use Rattle.wire_runs.specs.Plan.{Plan, Event, event_count}
 use Rattle.wire_runs.specs.Races.{IsSettled}
 use Rattle.wire_runs.proofs.Fates.{one_fate}
 use Rattle.wire_runs.proofs.Lists.{slice_get_push_cases}
-use Rattle.wire_races.specs.declared.Fate.{Fate}
-use Rattle.wire_races.specs.declared.Fate.TheVariants.{Waits}
-use Rattle.wire_races.specs.Fates.{IsFateOf, fate_told}
-use Rattle.wire_races.proofs.Fates.{there_if}
+use Rattle.wire_fates.specs.declared.Fate.{Fate}
+use Rattle.wire_fates.specs.declared.Fate.TheVariants.{Waits}
+use Rattle.wire_fates.specs.Fates.{IsFateOf, fate_told}
+use Rattle.wire_fates.proofs.Fates.{there_if}
 use Rattle.wire_content.specs.Scripts.{Scripts}
 use Rattle.wire_content.specs.Planned.{plan_of}
 use Rattle.wire_board.specs.Seats.{BoardIs, SeatIs, place_of, next_of}

@@ -5,9 +5,9 @@ use Rattle.wire_runs.specs.Plan.{Plan, Event, event_count, process_count}
 use Rattle.wire_runs.specs.Order.{Edge}
 use Rattle.wire_content.specs.Scripts.{Scripts}
 use Rattle.wire_content.specs.Planned.{plan_of}
-use Rattle.wire_races.specs.declared.Fate.{Fate}
-use Rattle.wire_races.specs.declared.Fate.TheVariants.{Waits}
-use Rattle.wire_races.specs.Fates.{IsFateOf}
+use Rattle.wire_fates.specs.declared.Fate.{Fate}
+use Rattle.wire_fates.specs.declared.Fate.TheVariants.{Waits}
+use Rattle.wire_fates.specs.Fates.{IsFateOf}
 use Rattle.wire_board.specs.Cuts.{shows_event}
 use Rattle.wire_board.specs.Seats.{BoardIs, SeatIs, place_of, next_of}
 

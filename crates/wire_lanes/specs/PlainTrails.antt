@@ -4,8 +4,8 @@ use Rattle.wire_runs.specs.Plan.{Plan, Event}
 use Rattle.wire_runs.specs.State.{Answer}
 use Rattle.wire_runs.specs.Races.{IsSettled}
 use Rattle.wire_runs.specs.Laws.{plain_end}
-use Rattle.wire_races.specs.declared.Fate.{Fate}
-use Rattle.wire_races.specs.Fates.{answer_told}
+use Rattle.wire_fates.specs.declared.Fate.{Fate}
+use Rattle.wire_fates.specs.Fates.{answer_told}
 use Rattle.wire_board.specs.Cuts.{IsReachedCut}
 use Rattle.wire_lanes.specs.Lanes.{AreFates}
 

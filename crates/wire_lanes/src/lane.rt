@@ -6,7 +6,7 @@ ghost use Rattle.wire_runs.specs.Plan.{event_of, event_count};
 ghost use Rattle.wire_runs.specs.Fate.{HasFate, Waits};
 ghost use Rattle.wire_runs.specs.Order.{Edge};
 ghost use Rattle.wire_content.specs.Planned.{plan_of};
-ghost use Rattle.wire_races.specs.Fates.{IsFateOf};
+ghost use Rattle.wire_fates.specs.Fates.{IsFateOf};
 ghost use Rattle.wire_plan.specs.Index.{source_list};
 ghost use Rattle.wire_board.specs.Cuts.{shows_event, ShowsSources, ImpliesSources};
 ghost use Rattle.wire_board.specs.Seats.{place_of, next_of, ShowsNext, ImpliesNext};
@@ -16,8 +16,8 @@ use crate::fence_end::{end_before, next_member_first};
 use std::alloc::Global;
 use std::marker::Model;
 use wire_board::{Board, Seat, first_source};
+use wire_fates::{Fate, Settled};
 use wire_plan::Sources;
-use wire_races::{Fate, Settled};
 use wire_types::{Event, Fault, Proc};
 
 /// A rank with its seat, and the trail of what its events did: the fates of its first events, as many as

@@ -13,7 +13,7 @@ use std::alloc::{AllocError, Global};
 use std::marker::Model;
 use std::sync::{Mutex, Wait};
 use wire_board::{Board, Seat};
-use wire_races::{Fate, Settled};
+use wire_fates::{Fate, Settled};
 use wire_types::{Event, Fault, Proc};
 
 /// What became of a rank that was served: how many events that were, how many of its events are done, and the event that

@@ -9,7 +9,7 @@ ghost use Rattle.wire_lanes.specs.Lanes.{new_lane, Tell};
 use crate::lane::Lane;
 use std::alloc::Global;
 use wire_board::{Board, Seat};
-use wire_races::{Fate, Settled};
+use wire_fates::{Fate, Settled};
 use wire_types::{Fault, Proc};
 
 /// A lane for each of these seats, in their order. Each has an empty trail, and reserves the whole of it. The

@@ -17,8 +17,8 @@ use Rattle.wire_runs.specs.Races.{IsSettled}
 use Rattle.wire_runs.proofs.Known.{reachable_known}
 use Rattle.wire_runs.proofs.Fates.{fates_tell}
 use Rattle.wire_runs.proofs.Lists.{less_both}
-use Rattle.wire_races.specs.declared.Fate.{Fate}
-use Rattle.wire_races.specs.Fates.{answer_told, fate_told}
+use Rattle.wire_fates.specs.declared.Fate.{Fate}
+use Rattle.wire_fates.specs.Fates.{answer_told, fate_told}
 use Rattle.wire_board.specs.Cuts.{IsReachedCut}
 use Rattle.wire_lanes.specs.Lanes.{AreFates, AreTrails}
 use Rattle.wire_lanes.proofs.Trails.{fates_none}

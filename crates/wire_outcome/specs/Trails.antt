@@ -11,8 +11,8 @@ use Rattle.wire_content.specs.Scripts.{Scripts}
 use Rattle.wire_content.specs.Planned.{plan_of}
 use Rattle.wire_runs.specs.Plan.{Plan, event_count, process_count}
 use Rattle.wire_runs.specs.Ends.{calls_of, unanswered}
-use Rattle.wire_races.specs.declared.Fate.{Fate}
-use Rattle.wire_races.specs.declared.Fate.TheVariants.{Says, Silent, Waits}
+use Rattle.wire_fates.specs.declared.Fate.{Fate}
+use Rattle.wire_fates.specs.declared.Fate.TheVariants.{Says, Silent, Waits}
 use Rattle.wire_board.specs.Positions.{hold, ShowsNextIn}
 
 -- the fates in a trail; none where there is no trail

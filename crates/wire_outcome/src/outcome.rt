@@ -12,7 +12,7 @@ ghost use Rattle.wire_outcome.specs.Trails.{AreAtRest};
 use crate::rest::all_at_rest;
 use crate::rows::outcome_of_trails;
 use std::alloc::Global;
-use wire_races::{Fate, Settled};
+use wire_fates::{Fate, Settled};
 use wire_types::{Fault, Outcome};
 
 /// What became of every call of a settled plan, told by the trails of its lanes and the words of its board:

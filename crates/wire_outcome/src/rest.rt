@@ -5,7 +5,7 @@ ghost use Rattle.wire_outcome.specs.Trails.{AreAtRest, IsAtRest};
 
 use crate::rows::trail_of;
 use wire_board::find_next_fate;
-use wire_races::{Fate, Settled};
+use wire_fates::{Fate, Settled};
 use wire_types::Proc;
 
 // Whether a process's trail is as long as its word, and the process can't take an event.

@@ -11,8 +11,8 @@ ghost use Rattle.wire_outcome.specs.Trails.{said_in, trail_of, told_row, told_ou
 
 use std::alloc::{AllocError, Global};
 use wire_core::add_unanswered;
+use wire_fates::Fate;
 use wire_plan::Plan;
-use wire_races::Fate;
 use wire_types::{CallEnd, Fault, Outcome, Proc};
 
 /// The trail of a process; an empty one where it has none.

@@ -1,5 +1,5 @@
 -- Pieces that are added to a list of findings.
-use Rattle.std.proofs.Common.{◌≡◌, List, ◌++◌, ◌⊎◌, ⊎_elim}
+use Rattle.std.proofs.Common.{◌≡◌, List, ◌++◌, ⊎_elim}
 use Rattle.wire_runs.specs.Plan.{Plan}
 use Rattle.wire_findings.specs.declared.finding.Finding.{Finding as Told}
 use Rattle.wire_findings.specs.Collected.{Tells, AreFound}

@@ -17,7 +17,7 @@ use Rattle.wire_findings.specs.declared.finding.Finding.{Finding as Told}
 use Rattle.wire_findings.specs.Collected.{AreFound, IsAdded}
 use Rattle.wire_races.specs.Adding.{Adds}
 use Rattle.wire_races.specs.KeyRaces.{IsRaceOf, IsKeyRaceBy, IsOpen}
-use Rattle.wire_races.proofs.First.{first_of_call}
+use Rattle.wire_fates.proofs.First.{first_of_call}
 use Rattle.wire_races.proofs.Growing.{adds_none, adds_one, adds_same}
 
 -- an event that is a commit, an arrival, or a get that waits

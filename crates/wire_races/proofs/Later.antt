@@ -5,7 +5,7 @@ use Rattle.wire_runs.specs.Plan.{Plan, Event, Put, kind, kind_at, event_count, p
 use Rattle.wire_runs.specs.Puts.{put_count}
 use Rattle.wire_types.specs.declared.Scope.{Scope}
 use Rattle.wire_types.specs.declared.CallAt.{CallAt}
-use Rattle.wire_runs.specs.Findings.{Finding, Rewrite, KeyRace, NameRace, IsFound}
+use Rattle.wire_runs.specs.Findings.{Finding, Rewrite, IsFound}
 use Rattle.wire_findings.specs.declared.finding.Finding.{Finding as Told}
 use Rattle.wire_runs.specs.Findings as told
 use Rattle.wire_runs.specs.Ends.{call_of, first_event}

@@ -1,10 +1,7 @@
 pub mod Adding
 pub mod AllKinds
 pub mod Growing
-pub mod First
 pub mod Later
-pub mod Arrivals
-pub mod Sooner
 pub mod KeyRaces
 pub mod ByGets
 pub mod Deliveries
@@ -15,9 +12,5 @@ mod Swept
 mod SweepRaces
 pub mod Rivals
 pub mod Pairs
-pub mod Marked
 pub mod Gathered
 pub mod Together
-pub mod KeyFates
-pub mod Fates
-pub mod NameFates

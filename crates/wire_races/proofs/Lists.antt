@@ -9,10 +9,8 @@ use Rattle.wire_types.specs.declared.Proc.{Proc}
 use Rattle.wire_content.specs.Scripts.{numbers_of}
 use Rattle.wire_runs.specs.EventLists.{IsLower}
 use Rattle.wire_runs.proofs.Lists.{slice_get-append_kept, slice_get-append_right}
-use Rattle.wire_races.specs.NameRaces.{AreCallsOn, AreOf, IsCut}
-
-pub place_at : (run : List CodeEvent) (k : ℕ) (d : CodeEvent) → k < length run → slice_get (map event_of run) k ≡ Some (event_of (slice_index_or run k d))
-place_at run k d lt = slice_get-map event_of run k ∙ ap (option_map event_of) (slice_get-get_or run k d lt)
+use Rattle.wire_races.specs.NameRaces.{AreCallsOn, AreOf}
+use Rattle.wire_fates.specs.Cuts.{IsCut}
 
 pub get_right : (xs ys : List Event) (k : ℕ) (z : Event) → slice_get ys k ≡ Some z → slice_get (xs ++ ys) (length xs + k) ≡ Some z
 get_right xs ys k z e = slice_get-append_right xs ys k ∙ e

@@ -4,7 +4,7 @@ use Rattle.std.proofs.Common.{refl, sym, ap, ◌∙◌, subst, arith, length-app
 use Rattle.std.specs.Prelude.{false, leb, slice_get, slice_index_or, option_map, nat_lt}
 use Rattle.std.specs.List.Sorted.{IsNonDecreasingBy, IsPartitionPoint}
 use borrow.Author.Tests.{ltb-true, ltb-false, leb-true, leb-false}
-use Rattle.std.proofs.lemmas.Option.{same_Some, slice_get_within, slice_get_cases, slice_get-map}
+use Rattle.std.proofs.lemmas.Option.{slice_get_within, slice_get_cases, slice_get-map}
 use Rattle.std.proofs.lemmas.Bool.{cases_eq, cases_lt, cond_both, true≢false}
 use Rattle.wire_runs.specs.Plan.{Plan, Event, Kind, Publish, Lookup, LookupWait, Unpublish, UnpublishAll, kind, event_count, event_of}
 use Rattle.wire_types.specs.declared.place.Event.{Event as CodeEvent}
@@ -26,13 +26,16 @@ use Rattle.wire_findings.specs.Collected.{Tells, AreFound, IsAdded}
 use Rattle.wire_races.specs.FindingKinds.{IsOfName}
 use Rattle.wire_races.specs.Adding.{Adds}
 use Rattle.wire_races.specs.NameRaces.{IsRaceOn, IsPlainRaceOn, IsRaceFrom, IsRaceWith, AllRace, race_between, AreOf, AreRising}
-use Rattle.wire_races.specs.NameRaces.{AreRivals, AreHigher, HasRivals, IsBelow, IsCut, AreUnordered}
+use Rattle.wire_races.specs.NameRaces.{AreRivals, AreHigher, HasRivals, IsBelow, AreUnordered}
+use Rattle.wire_fates.specs.Cuts.{IsCut}
 use Rattle.wire_races.specs.SweepRaces.{IsSweepRace}
 use Rattle.wire_races.specs.declared.call_races.Border.{Border}
 use Rattle.wire_races.specs.declared.call_races.Border.TheVariants.{FirstNotBefore, FirstAfter}
-use Rattle.wire_races.proofs.Lists.{get_right, first_calls, other_calls, place_at}
+use Rattle.wire_races.proofs.Lists.{get_right, first_calls, other_calls}
+use Rattle.wire_fates.proofs.Places.{place_at}
 use Rattle.wire_findings.proofs.Calls.{starts_within, starts_named}
 use Rattle.wire_races.proofs.Growing.{adds_one, adds_both}
+use Rattle.wire_fates.proofs.Cuts.{HoldsInFront}
 
 -- of the calls of a process those below a border are the first
 below_earlier : (plan : Plan) (x : Event) (border : Border) (y z : Event) → y.proc ≡ z.proc → y.at < z.at → IsBelow plan x border z → IsBelow plan x border y
@@ -44,37 +47,6 @@ below_earlier plan x FirstAfter y z same lt h =
 at_lower : (y z : Event) → y.proc ≡ z.proc → IsLower y z → y.at < z.at
 at_lower y z same (inl lt) = absurd (omega (arith, same, lt))
 at_lower y z same (inr h) = h.1
-
--- the border is at `low`, at `high` or between
-pub record IsNarrowed (holds : Event → Type 0) (calls : List Event) (low high : ℕ) : Type 0 where
-  pub below : (k : ℕ) (z : Event) → k < low → slice_get calls k ≡ Some z → holds z
-  pub above : (k : ℕ) (z : Event) → high ≤ k → slice_get calls k ≡ Some z → holds z → ⊥
-
-pub narrowed_cut : (holds : Event → Type 0) (calls : List Event) (low high : ℕ) → high ≤ low → IsNarrowed holds calls low high → IsCut holds calls low
-narrowed_cut holds calls low high le n = record { below = n.below; above = λ k z ge e. n.above k z (omega (arith, le, ge)) e }
-
--- what holds of a call holds of those in front of it
-abbrev pub HoldsInFront : (Event → Type 0) → List Event → Type 0
-HoldsInFront holds calls = (k l : ℕ) (y z : Event) → k < l → slice_get calls k ≡ Some y → slice_get calls l ≡ Some z → holds z → holds y
-
-module _ (holds : Event → Type 0) (calls : List Event) (front : HoldsInFront holds calls) where
-  pub low_rises : (low high m : ℕ) (z : Event) → slice_get calls m ≡ Some z → holds z → IsNarrowed holds calls low high → IsNarrowed holds calls (m + 1) high
-  low_rises low high m z is h n = record {
-    below = λ k y lt e. elim (cases_eq k m) [
-      | inl same ↦ subst holds (same_Some z y (sym is ∙ ap (slice_get calls) (sym same) ∙ e)) h
-      | inr other ↦ front k m y z (omega (arith, lt, other)) e is h
-    ];
-    above = n.above;
-  }
-
-  pub high_falls : (low high m : ℕ) (z : Event) → slice_get calls m ≡ Some z → (holds z → ⊥) → IsNarrowed holds calls low high → IsNarrowed holds calls low m
-  high_falls low high m z is not n = record {
-    below = n.below;
-    above = λ k y le e h. elim (cases_eq k m) [
-      | inl same ↦ not (subst holds (same_Some y z (sym e ∙ ap (slice_get calls) same ∙ is)) h)
-      | inr other ↦ not (front m k z y (omega (arith, le, other)) is e h)
-    ];
-  }
 
 pub borders : (plan : Plan) (x : Event) (border : Border) (p : ℕ) (calls : List Event) → AreRising calls → AreOf p calls → HoldsInFront (IsBelow plan x border) calls
 borders plan x border p calls rising one k l y z lt e f h =

@@ -11,7 +11,8 @@ use Rattle.wire_plan.specs.Index.{is_plain_call, AreNameCalls}
 use Rattle.wire_runs.proofs.EventLists.{all_same, all_and_one}
 use Rattle.wire_runs.proofs.Members.{in_index, index_in, in_parts}
 use Rattle.wire_runs.proofs.Lists.{slice_get-append_kept}
-use Rattle.wire_races.specs.NameRaces.{AreCallsOn, AreRivals, AreHigher, HasRivals, AreWriters, IsAbove, IsCut}
+use Rattle.wire_races.specs.NameRaces.{AreCallsOn, AreRivals, AreHigher, HasRivals, AreWriters, IsAbove}
+use Rattle.wire_fates.specs.Cuts.{IsCut}
 use Rattle.wire_races.proofs.Lists.{get_right, other_calls}
 use Rattle.wire_races.proofs.NameRaces.{plain_calls, caller_in, race_lower, one_changes}
 

@@ -6,18 +6,6 @@ use Rattle.wire_runs.specs.Races.{GetDelivers}
 use Rattle.wire_runs.specs.Findings.{Finding}
 use Rattle.wire_races.specs.KeyRaces.{IsRaceOf}
 
--- the events at these two places are of one process
-pub record AreOfOne (places : List Event) (i j : ℕ) : Type 0 where
-  pub first : Event
-  pub second : Event
-  pub first_is : slice_get places i ≡ Some first
-  pub second_is : slice_get places j ≡ Some second
-  pub same : first.proc ≡ second.proc
-
--- some get that brings p's key to the node is before the get
-abbrev pub IsSureByGet : Plan → ℕ → ℕ → ℕ → Event → Type 0
-IsSureByGet plan p key node get = (z : Event) × GetDelivers plan p key node z × Before plan z get
-
 -- z is live, and the get isn't before it
 abbrev pub MayRace : Plan → Event → Event → Type 0
 MayRace plan z get = Live plan z × ¬ (Before plan get z)

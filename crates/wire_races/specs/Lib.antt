@@ -6,8 +6,6 @@ pub mod GetRaces
 pub mod NameRaces
 pub mod SweepRaces
 pub mod Pieces
-pub mod Fates
-pub mod Pasts
 pub mod Racing
 pub mod Reported
 pub mod Contested

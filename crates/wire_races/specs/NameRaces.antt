@@ -98,11 +98,6 @@ abbrev pub IsBelow : Plan → Event → Border → Event → Type 0
 IsBelow plan x FirstNotBefore y = Before plan y x
 IsBelow plan x FirstAfter y = Live plan y × (Before plan x y → ⊥)
 
--- of the calls it holds of the first n, and of no other
-pub record IsCut (holds : Event → Type 0) (calls : List Event) (n : ℕ) : Type 0 where
-  pub below : (k : ℕ) (z : Event) → k < n → slice_get calls k ≡ Some z → holds z
-  pub above : (k : ℕ) (z : Event) → n ≤ k → slice_get calls k ≡ Some z → holds z → ⊥
-
 -- those of the calls that no chain orders with x
 abbrev pub AreUnordered : Plan → Event → List Event → List Event → Type 0
 AreUnordered plan x calls those = (z : Event) → IsIn z those ↔ (IsIn z calls × IsUnordered plan x z)

@@ -8,7 +8,8 @@ ghost use Rattle.wire_runs.specs.Order.{Live};
 ghost use Rattle.wire_findings.specs.Findings.{shown};
 ghost use Rattle.wire_findings.specs.Collected.{AreFound};
 ghost use Rattle.wire_races.specs.Adding.{Adds};
-ghost use Rattle.wire_races.specs.NameRaces.{IsRaceWith, AllRace, race_between, AreOf, AreRising, IsStretch, IsBelow, IsCut, AreUnordered};
+ghost use Rattle.wire_races.specs.NameRaces.{IsRaceWith, AllRace, race_between, AreOf, AreRising, IsStretch, IsBelow, AreUnordered};
+ghost use Rattle.wire_fates.specs.Cuts.{IsCut};
 
 use std::alloc::AllocError;
 use wire_findings::{Finding, Found};

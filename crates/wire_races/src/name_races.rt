@@ -14,7 +14,8 @@ ghost use Rattle.wire_findings.specs.Collected.{AreFound};
 ghost use Rattle.wire_races.specs.Adding.{Adds};
 ghost use Rattle.wire_races.specs.Pieces.{IsPiece, ArePieces};
 ghost use Rattle.wire_races.specs.NameRaces.{IsRaceOn, IsPlainRaceOn, IsRaceFrom, IsRaceWith, AllRace, race_between, AreCallsOn, AreOf, AreRising};
-ghost use Rattle.wire_races.specs.NameRaces.{IsStretch, AreRivals, AreHigher, HasRivals, AreWriters, IsAbove, IsBelow, IsCut, AreUnordered};
+ghost use Rattle.wire_races.specs.NameRaces.{IsStretch, AreRivals, AreHigher, HasRivals, AreWriters, IsAbove, IsBelow, AreUnordered};
+ghost use Rattle.wire_fates.specs.Cuts.{IsCut};
 ghost use Rattle.wire_races.specs.NameRaces.{AreFacing, IsOneOf, AreSweepers, IsSweptRace, IsSweptRaceOn};
 ghost use Rattle.wire_content.specs.Scripts.{numbers_of};
 

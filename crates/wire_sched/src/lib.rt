@@ -1,20 +1,12 @@
-//! The work of one round, cut into pieces: one piece for each process. Each worker has a deque of pieces, and steals
-//! from the deques of others when its own is empty. Whatever the workers do, each piece stands once: in what one of
-//! them took, or in what is left at the end.
+//! What a worker does with the pieces of a round: it serves its own, and then those that it steals.
 #![tactic(auto)]
 
-mod deques;
 mod gate;
-mod law;
-mod round;
-mod rule;
 mod serve;
 mod shift;
 
 pub use gate::{Gate, OpenGate};
-pub use law::{deal_rises, takes_are_bounded};
-pub use round::{Pass, Round, Take};
-pub use rule::Piece;
 pub use serve::{Serves, serve_pieces, work, work_locked};
 pub use shift::{Crew, take_turns};
 pub use wire_lanes::{Lane, Lanes, Served};
+pub use wire_rounds::{Pass, Piece, Round, Take};

@@ -1,15 +1,14 @@
 //! What one worker does in a round.
 
 ghost use Rattle.std.specs.Prelude.{◌≡◌, IfSome, OnSome};
-ghost use Rattle.wire_sched.specs.Rounds.{IsPassOf, IsPieceOf, worker_of};
-ghost use Rattle.wire_sched.specs.Taken.{TookOneMore};
+ghost use Rattle.wire_rounds.specs.Rounds.{IsPassOf, IsPieceOf, worker_of};
+ghost use Rattle.wire_rounds.specs.Taken.{TookOneMore};
 
 use crate::gate::Gate;
-use crate::round::{Pass, Round, Take};
-use crate::rule::Piece;
 use std::sync::Wait;
 use wire_lanes::{Lanes, Served};
 use wire_locked::LockedCore;
+use wire_rounds::{Pass, Piece, Round, Take};
 use wire_types::Proc;
 
 /// How often one deque may answer `Again`.

@@ -1,14 +1,14 @@
 //! The shift of a worker: what it does in a round of a run. It goes on with the ranks that it served, while one of them moves.
 
 ghost use Rattle.std.specs.Prelude.{◌≡◌, IfOk, vec_len};
-ghost use Rattle.wire_sched.specs.Rounds.{IsPassOf, worker_of};
+ghost use Rattle.wire_rounds.specs.Rounds.{IsPassOf, worker_of};
 
 use crate::gate::Gate;
-use crate::round::{Pass, Round};
 use crate::serve::{Serves, Victim, next_piece, serve_pieces};
 use std::alloc::{AllocError, Global};
 use std::sync::Wait;
 use wire_lanes::Served;
+use wire_rounds::{Pass, Round};
 use wire_types::{Event, Proc};
 
 /// How many turns a worker takes in a round at most. What is left then is dealt in the next round.
@@ -74,11 +74,11 @@ fn new_seen(alloc: Global, ranks: u32) -> Result<Vec<Seen>, AllocError>
 impl<'a, S: Serves, G: Gate> Shift<'a, S, G> {
     // A worker that has served no rank of this round yet, with the memory for all its turns.
     fn new(crew: &Crew<'a, S, G>) -> Result<Shift<'a, S, G>, AllocError> {
-        let seen = new_seen(crew.alloc, crew.round.ranks)?;
+        let seen = new_seen(crew.alloc, crew.round.ranks())?;
         Ok(Shift {
             serves: crew.served,
             gate: crew.gate,
-            ranks: crew.round.ranks,
+            ranks: crew.round.ranks(),
             seen,
         })
     }

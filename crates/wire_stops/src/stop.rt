@@ -1,6 +1,6 @@
 //! From the bytes of a plan and of an order to why a step of the order can't be taken.
 
-ghost use Rattle.std.specs.Prelude.{◌≡◌, true, IfOk, IfErr};
+ghost use Rattle.std.specs.Prelude.{◌≡◌, [], true, IfOk, IfErr};
 ghost use Rattle.wire_types.specs.declared.Fault.TheVariants.{Memory};
 ghost use Rattle.wire_content.specs.Scripts.{numbers_of};
 ghost use Rattle.wire_explain.specs.Quote.{is_printable_text};
@@ -15,7 +15,31 @@ use wire_plan::Plan;
 use wire_script::{Size, read_sized};
 use wire_types::{Fault, Proc};
 
-/// What is told of the steps of an order, of which these are the bytes.
+/// What is told of the steps of an order, of which these are the bytes, by a core that has taken none.
+fn text_by(
+    alloc: Global,
+    core: &mut Core<'_>,
+    order: &[Proc],
+    order_bytes: &[u8],
+) -> Result<Vec<u8>, Fault>
+    requires { core.old.history ≡ [] }
+    ensures tells { IfOk result (λ text. TellsStop order_bytes.now core.old.scripts (numbers_of order.now) text.items) }
+    ensures printable { IfOk result (λ text. is_printable_text text.items ≡ true) }
+    ensures err { IfErr result (λ e. e ≡ Memory) }
+{
+    match core.follow(order) {
+        Err(Fault::NotReady(number)) => {
+            let step = number - 1;
+            let Some(proc) = order.get(step as usize) else {
+                unreachable!();
+            };
+            Ok(explanation_of(alloc, order_bytes, core, step, *proc)?)
+        }
+        _ => Ok(Vec::new(alloc)),
+    }
+}
+
+/// The same, of a plan.
 fn text_after(
     alloc: Global,
     plan: &Plan,
@@ -27,16 +51,9 @@ fn text_after(
     ensures err { IfErr result (λ e. e ≡ Memory) }
 {
     let mut core = Core::new(alloc, plan)?;
-    match core.follow(order) {
-        Err(Fault::NotReady(number)) => {
-            let step = number - 1;
-            let Some(proc) = order.get(step as usize) else {
-                unreachable!();
-            };
-            Ok(explanation_of(alloc, order_bytes, &core, step, *proc)?)
-        }
-        _ => Ok(Vec::new(alloc)),
-    }
+    let text = text_by(alloc, &mut core, order, order_bytes);
+    drop(core);
+    text
 }
 
 /// The same, of scripts.

@@ -1,4 +1,4 @@
-use Rattle.wire_sched.specs.Rounds.{ArePassesOf}
+use Rattle.wire_rounds.specs.Rounds.{ArePassesOf}
 use Rattle.library_tests.proofs.rounds.steal.Given as goal
 
 abbrev pub invariant-loop : goal.invariant-loop

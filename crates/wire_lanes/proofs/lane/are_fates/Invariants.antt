@@ -1,9 +1,9 @@
 use Rattle.std.proofs.Common.{◌≡◌, ℕ, ◌<◌, Some}
 use Rattle.std.specs.Prelude.{◌≢◌, slice_get}
 use Rattle.wire_content.specs.Planned.{plan_of}
-use Rattle.wire_races.specs.declared.Fate.{Fate}
-use Rattle.wire_races.specs.declared.Fate.TheVariants.{Waits}
-use Rattle.wire_races.specs.Fates.{IsFateOf}
+use Rattle.wire_fates.specs.declared.Fate.{Fate}
+use Rattle.wire_fates.specs.declared.Fate.TheVariants.{Waits}
+use Rattle.wire_fates.specs.Fates.{IsFateOf}
 use Rattle.wire_lanes.proofs.lane.are_fates.Given as goal
 
 abbrev pub invariant-loop-at : goal.invariant-loop-at

@@ -5,7 +5,7 @@ use Rattle.wire_content.specs.Planned.{plan_of}
 use Rattle.wire_findings.specs.Collected.{IsAdded}
 use Rattle.wire_races.specs.Adding.{Adds}
 use Rattle.wire_races.specs.NameRaces.{IsRaceWith}
-use Rattle.wire_races.proofs.Lists.{place_at}
+use Rattle.wire_fates.proofs.Places.{place_at}
 use Rattle.wire_races.proofs.Growing.{adds_none}
 use Rattle.wire_races.proofs.NameRaces.{between_calls, racing_calls, one_more_race}
 use Rattle.wire_races.proofs.call_races.add_races.Goals as goal

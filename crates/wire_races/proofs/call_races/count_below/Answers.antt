@@ -3,8 +3,9 @@ use Rattle.std.proofs.lemmas.Bool.{true≢false}
 use Rattle.wire_runs.specs.Plan.{event_of}
 use Rattle.wire_content.specs.Planned.{plan_of}
 use Rattle.wire_races.specs.NameRaces.{IsBelow}
-use Rattle.wire_races.proofs.Lists.{place_at}
-use Rattle.wire_races.proofs.NameRaces.{low_rises, high_falls, narrowed_cut, borders}
+use Rattle.wire_fates.proofs.Places.{place_at}
+use Rattle.wire_fates.proofs.Cuts.{low_rises, high_falls, narrowed_cut}
+use Rattle.wire_races.proofs.NameRaces.{borders}
 use Rattle.wire_races.proofs.call_races.count_below.Goals as goal
 
 pub bisection-preserved-then-is_below : goal.bisection-preserved-then-is_below

@@ -6,7 +6,7 @@ use Rattle.wire_content.specs.Planned.{plan_of}
 use Rattle.wire_plan.specs.Index.{AreGetDeliveries}
 use Rattle.wire_races.specs.Adding.{Adds}
 use Rattle.wire_races.specs.GetRaces.{AreRacesBelow}
-use Rattle.wire_races.proofs.Lists.{place_at}
+use Rattle.wire_fates.proofs.Places.{place_at}
 use Rattle.wire_races.proofs.Deliveries.{get_race}
 use Rattle.wire_races.proofs.ByGets.{race_more, race_skip, races_done}
 use Rattle.wire_races.proofs.get_races.add_get_races.Goals as goal

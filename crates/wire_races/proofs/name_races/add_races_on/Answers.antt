@@ -4,7 +4,7 @@ use Rattle.wire_runs.specs.Plan.{event_of}
 use Rattle.wire_content.specs.Planned.{plan_of}
 use Rattle.wire_races.specs.Adding.{Adds}
 use Rattle.wire_races.specs.NameRaces.{IsPlainRaceOn}
-use Rattle.wire_races.proofs.Lists.{place_at}
+use Rattle.wire_fates.proofs.Places.{place_at}
 use Rattle.wire_races.proofs.Growing.{adds_none, adds_same}
 use Rattle.wire_races.proofs.NameRaces.{plain_here, IsRaceAmong, with_more, among_on, on_among}
 use Rattle.wire_races.proofs.name_races.add_races_on.Goals as goal

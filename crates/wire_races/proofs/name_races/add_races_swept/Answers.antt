@@ -5,7 +5,7 @@ use Rattle.wire_content.specs.Planned.{plan_of}
 use Rattle.wire_content.specs.Scripts.{numbers_of}
 use Rattle.wire_races.specs.Adding.{Adds}
 use Rattle.wire_races.specs.NameRaces.{IsSweptAmong}
-use Rattle.wire_races.proofs.Lists.{place_at}
+use Rattle.wire_fates.proofs.Places.{place_at}
 use Rattle.wire_races.proofs.Growing.{adds_none, adds_same}
 use Rattle.wire_races.proofs.NameRaces.{plain_here}
 use Rattle.wire_races.proofs.Swept.{among_swept, among_on, on_among}

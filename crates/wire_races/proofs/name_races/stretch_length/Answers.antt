@@ -1,7 +1,8 @@
 use Rattle.std.proofs.Common.{◌≤◌, ap, sym, subst, map, take}
 use Rattle.wire_types.specs.declared.Proc.{Proc}
 use Rattle.wire_runs.specs.Plan.{event_of}
-use Rattle.wire_races.specs.NameRaces.{AreOf, IsCut}
+use Rattle.wire_races.specs.NameRaces.{AreOf}
+use Rattle.wire_fates.specs.Cuts.{IsCut}
 use Rattle.wire_races.proofs.Lists.{stretch, stretch_more}
 use Rattle.wire_races.proofs.name_races.stretch_length.Goals as goal
 

@@ -4,7 +4,7 @@ use Rattle.std.proofs.lemmas.List.{length-map, map-append}
 use Rattle.wire_runs.specs.Plan.{event_of}
 use Rattle.wire_content.specs.Planned.{plan_of}
 use Rattle.wire_runs.specs.EventLists.{AreAll}
-use Rattle.wire_races.proofs.Lists.{place_at}
+use Rattle.wire_fates.proofs.Places.{place_at}
 use Rattle.wire_races.proofs.NameRaces.{plain_there}
 use Rattle.wire_races.proofs.Rivals.{IsWriterBelow, one_writer, no_writer, every_writer}
 use Rattle.wire_races.proofs.name_races.writers_of.Goals as goal

@@ -4,7 +4,7 @@ use Rattle.wire_runs.specs.Plan.{event_of}
 use Rattle.wire_content.specs.Planned.{plan_of}
 use Rattle.wire_races.specs.Adding.{Adds}
 use Rattle.wire_races.specs.SweepRaces.{AreShared}
-use Rattle.wire_races.proofs.Lists.{place_at}
+use Rattle.wire_fates.proofs.Places.{place_at}
 use Rattle.wire_races.proofs.Growing.{adds_none}
 use Rattle.wire_races.proofs.SweepRaces.{IsRaceOfOne, one_sweep_more, all_sweeps}
 use Rattle.wire_races.proofs.sweep_races.add_stretch.Goals as goal

@@ -7,7 +7,7 @@ use Rattle.wire_runs.specs.Plan.{Event, event_of, event_count}
 use Rattle.wire_runs.specs.Names.{publishes}
 use Rattle.wire_content.specs.Planned.{plan_of}
 use Rattle.wire_plan.proofs.Published.{publisher}
-use Rattle.wire_races.proofs.Lists.{place_at}
+use Rattle.wire_fates.proofs.Places.{place_at}
 use Rattle.wire_races.proofs.Swept.{none_publishes}
 use Rattle.wire_races.proofs.sweep_races.is_publisher.Goals as goal
 

@@ -4,7 +4,7 @@ use Rattle.wire_runs.specs.Plan.{event_of}
 use Rattle.wire_types.specs.declared.Proc.{Proc}
 use Rattle.wire_content.specs.Planned.{plan_of}
 use Rattle.wire_content.specs.Scripts.{numbers_of}
-use Rattle.wire_races.proofs.Lists.{place_at}
+use Rattle.wire_fates.proofs.Places.{place_at}
 use Rattle.wire_races.proofs.Swept.{AreSweepersTo, IsKnown, sweepers_same, sweepers_more, sweepers_all}
 use Rattle.wire_races.proofs.sweep_races.sweepers_of.Goals as goal
 use Rattle.wire_races.proofs.sweep_races.sweepers_of.Goals.{then-is_new+in_ok-push, else-is_new}

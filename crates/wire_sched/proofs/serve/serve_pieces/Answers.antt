@@ -1,5 +1,5 @@
 use Rattle.std.proofs.Common.{arith}
-use Rattle.wire_sched.proofs.Bounds.{takes_are_bounded}
+use Rattle.wire_rounds.proofs.Bounds.{takes_are_bounded}
 use Rattle.wire_sched.proofs.serve.serve_pieces.Goals as goal
 
 pub pieces-smaller : goal.pieces-smaller

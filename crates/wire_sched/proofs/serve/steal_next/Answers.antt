@@ -1,5 +1,5 @@
 use Rattle.std.proofs.Common.{arith}
-use Rattle.wire_sched.proofs.Bounds.{took_at}
+use Rattle.wire_rounds.proofs.Bounds.{took_at}
 use Rattle.wire_sched.proofs.serve.steal_next.Goals as goal
 
 pub returns-in-Got-clause-more : goal.returns-in-Got-clause-more

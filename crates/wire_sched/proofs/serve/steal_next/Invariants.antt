@@ -1,6 +1,6 @@
 use Rattle.std.proofs.Common.{◌≡◌, ◌+◌, ◌*◌, ◌-◌}
-use Rattle.wire_sched.specs.Rounds.{IsPassOf, worker_of, workers_of}
-use Rattle.wire_sched.specs.Taken.{TookNoMore}
+use Rattle.wire_rounds.specs.Rounds.{IsPassOf, worker_of, workers_of}
+use Rattle.wire_rounds.specs.Taken.{TookNoMore}
 use Rattle.wire_sched.proofs.serve.steal_next.Given as goal
 
 abbrev pub invariant-deques : goal.invariant-deques

@@ -1,8 +1,8 @@
 use Rattle.std.proofs.Common.{◌∙◌, ap, sym, subst}
 use Rattle.std.specs.Prelude.{◌≢◌}
 use Rattle.wire_content.specs.Planned.{plan_of}
-use Rattle.wire_races.specs.declared.Fate.TheVariants.{Waits}
-use Rattle.wire_races.specs.Fates.{IsFateOf}
+use Rattle.wire_fates.specs.declared.Fate.TheVariants.{Waits}
+use Rattle.wire_fates.specs.Fates.{IsFateOf}
 use Rattle.wire_board.specs.Seats.{BoardIs, next_of}
 use Rattle.wire_lanes.specs.Lanes.{LaneIs, IsLane}
 use Rattle.wire_lanes.proofs.Trails.{kept_stepping}

@@ -1,6 +1,6 @@
 use Rattle.std.proofs.Common.{◌≡◌, ◌-◌, length}
-use Rattle.wire_sched.specs.Rounds.{IsPassOf, ranks_of, worker_of}
-use Rattle.wire_sched.specs.Taken.{taken_by}
+use Rattle.wire_rounds.specs.Rounds.{IsPassOf, ranks_of, worker_of}
+use Rattle.wire_rounds.specs.Taken.{taken_by}
 use Rattle.wire_sched.proofs.shift.Shift.serve_pieces.Given as goal
 
 abbrev pub invariant-pieces : goal.invariant-pieces

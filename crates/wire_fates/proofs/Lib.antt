@@ -1,0 +1,11 @@
+pub mod First
+pub mod Sooner
+pub mod Arrivals
+pub mod Surely
+pub mod Places
+pub mod Gets
+pub mod Cuts
+pub mod Marked
+pub mod KeyFates
+pub mod Fates
+pub mod NameFates

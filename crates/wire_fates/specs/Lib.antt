@@ -1,0 +1,4 @@
+pub mod Deliveries
+pub mod Cuts
+pub mod Fates
+pub mod Pasts

@@ -1,0 +1,15 @@
+//! Plans in which nothing is found, and the fate of each of their events: what it does once its sources are done, whatever
+//! ran before. And what brings a key to a node before a get.
+#![tactic(auto)]
+
+mod deliveries;
+mod fate;
+mod get_deliveries;
+mod key_fates;
+mod name_fates;
+mod settled;
+
+pub use deliveries::{KeyRead, comes_surely, late_source, may_be_late, next_arrival};
+pub use fate::Fate;
+pub use get_deliveries::process_end;
+pub use settled::{Settled, Unsettled};

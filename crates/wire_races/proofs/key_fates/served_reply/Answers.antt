@@ -1,9 +1,0 @@
-use Rattle.wire_content.specs.Planned.{plan_of}
-use Rattle.wire_runs.proofs.Basics.{event_within}
-use Rattle.wire_races.proofs.key_fates.served_reply.Goals as goal
-
-pub kind-requires : goal.kind-requires
-kind-requires c = event_within (plan_of c.args.plan.now) c.args.put.proc.number c.args.put.at _ c.requires.is
-
-pub value_reply-requires : goal.value_reply-requires
-value_reply-requires c = event_within (plan_of c.args.plan.now) c.args.put.proc.number c.args.put.at _ c.requires.is

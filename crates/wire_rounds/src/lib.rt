@@ -1,0 +1,13 @@
+//! The work of one round, cut into pieces: one piece for each process. Each worker has a deque of pieces, and steals
+//! from the deques of others when its own is empty. Whatever the workers do, each piece stands once: in what one of
+//! them took, or in what is left at the end.
+#![tactic(auto)]
+
+mod deques;
+mod law;
+mod round;
+mod rule;
+
+pub use law::{deal_rises, takes_are_bounded};
+pub use round::{Pass, Round, Take};
+pub use rule::Piece;

@@ -1,5 +1,0 @@
-use Rattle.wire_sched.specs.Deques.{Cutting}
-use Rattle.wire_sched.proofs.deques.give_permits.Given as goal
-
-abbrev pub invariant-cuts : goal.invariant-cuts
-invariant-cuts l = Cutting l.initial.passes.items l.passes.items l.to

@@ -1,5 +1,0 @@
-use Rattle.wire_sched.proofs.Joins.{Joining}
-use Rattle.wire_sched.proofs.deques.join_all.Given as goal
-
-abbrev pub invariant-rows : goal.invariant-rows
-invariant-rows l = Joining l.initial.passes.items l.passes.items l.from

@@ -1,5 +1,0 @@
-use Rattle.wire_sched.proofs.Deals.{merges}
-use Rattle.wire_sched.proofs.deques.join_one.Goals as goal
-
-pub absorb-requires-clause-rule : goal.absorb-requires-clause-rule
-absorb-requires-clause-rule c = merges _ _ _ _ c.requires.part
