@@ -48,7 +48,8 @@ pub record Made (round ranks workers : ℕ) (passes : List Pass) (thieves : List
 pub record Cutting (first now : List Pass) (n : ℕ) : Type 0 where
   pub same_length : length now ≡ length first
   pub same : (k : ℕ) (a b : Pass) → get_elem? first k ≡ some a → get_elem? now k ≡ some b → (b.worker ≡ a.worker) × SameDeque a.own b.own
-  pub views : (k : ℕ) (a b : Pass) → get_elem? first k ≡ some a → get_elem? now k ≡ some b → deque.worker_view b.own ≡ deque_view (all_parts - n) 0 (deque.worker_view a.own).dealt []
+  pub views : (k : ℕ) (a b : Pass) → get_elem? first k ≡ some a → get_elem? now k ≡ some b →
+      deque.worker_view b.own ≡ deque_view (all_parts - n) 0 (deque.worker_view a.own).dealt []
   pub permits : (k : ℕ) (b : Pass) → get_elem? now k ≡ some b → k < n → EachPair (λ p t. IsPermitOf p.own t) first b.permits.items
 
 -- the permit is one of the deque of the pass

@@ -41,8 +41,8 @@ impl Round {
     ghost use Rattle.std.specs.Prelude.{◌≡◌, ◌≢◌, ◌<◌, ◌++◌, [], IfOk, IfSome, IsOkUnless, MatchOption};
     ghost use Rattle.std.specs.List.{All};
     ghost use Rattle.std.specs.List.Sorted.{IsPermutation};
-    ghost use Rattle.wire_rounds.specs.Rounds.{ranks_of, workers_of, worker_of, pieces_of, IsPieceOf, IsDealOf, IsPassOf, ArePassesOf, MatchTake, IfGot, TookOwn, TookAt};
-    ghost use Rattle.wire_rounds.specs.Rounds.{TookNone};
+    ghost use Rattle.wire_rounds.specs.Rounds.{ranks_of, workers_of, worker_of, pieces_of, IsPieceOf, IsDealOf, IsPassOf, ArePassesOf};
+    ghost use Rattle.wire_rounds.specs.Rounds.{MatchTake, IfGot, TookOwn, TookAt, TookNone};
     ghost use Rattle.wire_rounds.specs.Taken.{taken_by_all, rest_of_all};
 
     /// Deals one piece for each of the first `ranks` processes: that of process r goes to the deque of worker r modulo
