@@ -13,7 +13,7 @@ SHARED = -std=gnu11 $(CFLAGS) -shared -fPIC -pthread
 run:
 	@python3 tests/build.py run
 
-# For developers: all libraries, proved and built in their own folders, so that `rt check` in a crate begins at once.
+# For developers: all libraries, with the proof of each function kept, so that `rt check` in a crate begins at once.
 libraries:
 	@python3 tests/build.py libraries
 

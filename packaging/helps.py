@@ -8,7 +8,7 @@ SECONDS = 60
 
 # A command: its name (nothing for the program alone), what it does, its usage, its words, its options, and what stands below them.
 Help = collections.namedtuple("Help", "name about usage words options below")
-# A word or an option: how it is written, such as `--workers` and `N`, and what it means. An option without a word of its own has no `value`.
+# A word or an option: how it is written, such as `--workers` and `COUNT`, and what it means. An option without a word of its own has no `value`.
 Word = collections.namedtuple("Word", "names value meaning")
 
 
@@ -31,7 +31,7 @@ def rows(text):
 
 
 def word_of(written, meaning):
-    """A word or an option by its row, such as `-h, --help` or `--workers <N>`."""
+    """A word or an option by its row, such as `-h, --help` or `--workers <COUNT>`."""
     names = re.findall(r"(?:^|, )(-[\w-]+)", written)
     values = re.findall(r"[<\[](\w+)[>\]]", written)
     return Word(names or values, values[0] if names and values else None, meaning)

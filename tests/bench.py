@@ -259,10 +259,17 @@ class Bench:
 
 def has_parts():
     """Whether there is the program that has functions by themselves. It is built where it isn't there: that takes minutes, or as long as
-    `make libraries` where that wasn't done."""
+    `make run` where that wasn't done."""
     if not os.path.exists(PARTS):
-        print("proving and building crates/one_function, and the libraries below it as far as `make libraries` hasn't", file=sys.stderr, flush=True)
-        subprocess.run(["rt", "run"], cwd=os.path.join(TOP, "crates", "one_function"), capture_output=True, check=False)
+        print("proving and building crates/one_function, and the libraries below it as far as they aren't built", file=sys.stderr, flush=True)
+        # (it needs the kit)
+        import kit
+        import progress
+
+        wanted = progress.crates_below("one_function")
+        crates = [it for it in kit.crates_at(TOP) if it.name in wanted]
+        with kit.locked(crates), open(progress.log_at("bench.log"), "a", encoding="utf-8") as log:
+            kit.build(crates, log)
     return os.path.exists(PARTS)
 
 

@@ -3,11 +3,11 @@
 Usage: python3 tests/build.py try FILE     checks and replays FILE, by a build without proofs
        python3 tests/build.py run          does that for an example, while it proves the program, builds it as ./wire_up, and does it again
                                            (only the latter where there is a ./wire_up already)
-       python3 tests/build.py libraries    proves and builds all libraries in their own folders, for checks in the crates above them
+       python3 tests/build.py libraries    proves and builds all libraries, and keeps the proof of each function
 
-`run` proves in a copy, by `rt ci`: there a library holds no more than what crates above can cite, and the kit has a store of what it proved.
-A user who can't write that store proves in place, as `libraries` does: that keeps each function's proof beside its crate, so that a check after a
-change proves only what the change touched.
+`run` and `libraries` prove in the crates' own folders, and nothing again whose text and libraries are as they were. `run` builds libraries that hold
+no more than what crates above can cite: these load them sooner, and they take a quarter of the disk. `libraries` is for developers: a check in a
+crate after a change proves only what the change touched, and so does `run` from then on.
 """
 import contextlib
 import fcntl
@@ -20,21 +20,18 @@ import subprocess
 import sys
 import tempfile
 import threading
-import time
 
 sys.dont_write_bytecode = True
-import ci
 import kit
 import progress
 
 EXAMPLE = "examples/business-card.plan"
 COMMANDS = ("check", "replay")
 PROGRAM = os.path.join("crates", "program")
+BUILT = os.path.join(progress.TOP, PROGRAM, "out", "program")
 PLACE = os.path.join(progress.TOP, "wire_up")
 # The program that was proved, until it takes its place.
 MADE = os.path.join(progress.LOGS, "wire_up")
-# The proofs that were begun here.
-UNDER_WAY = []
 
 
 def fail(what, log):
@@ -82,7 +79,7 @@ def try_it(file, top=progress.TOP):
     return 0
 
 
-def expected(crates, is_done=lambda crate: False):
+def expected(crates, is_done):
     """About how many minutes the proofs of crates take: as long as the longest chain of them, or as all of them by all processors."""
     minutes, chain = progress.minutes_of(), {}
     left = {it.name: minutes.get(it.name, 1) for it in crates if not is_done(it)}
@@ -98,55 +95,21 @@ class Proof(threading.Thread):
         super().__init__(daemon=True)
         wanted = progress.crates_below("program")
         self.crates = [it for it in kit.crates_at(progress.TOP) if it.name in wanted]
-        self.line, self.log = progress.Progress("proving", expected(self.crates)), log
-        self.room, self.child, self.failed = tempfile.mkdtemp(prefix="wire-up-proof-"), None, "the proof was broken off"
-        UNDER_WAY.append(self)
+        self.line, self.log, self.failed = progress.Progress("proving", expected(self.crates, kit.is_done)), log, "the proof was broken off"
         self.start()
 
     def run(self):
-        self.failed = self.in_copy() if ci.has_store() else self.in_place()
-
-    def in_copy(self):
-        """Proves and builds all in a copy, over the kit's store. Says how that failed, if it did."""
-        kit.copy_to(self.room, progress.TOP)
-        ci.keep_only(self.room, ["program"])
-        status = ci.run(self.room, self.log, ci.Course(self.line, len(self.crates)).take, self.begun)
-        return f"not proved: rt ci ended with status {status}" if status else self.take(self.room)
-
-    def begun(self, child):
-        """Notes the process of `rt ci`."""
-        self.child = child
-
-    def in_place(self):
-        """Proves and builds all in the crates' own folders. Says how that failed, if it did."""
-        failed = prove_libraries([it for it in self.crates if not it.is_program], self.line, self.log)
-        if failed:
-            return f"not proved: {' '.join(failed)}"
-        status = progress.keep(["rt", "run", "--jobs", "1", "--", "--version"], os.path.join(progress.TOP, PROGRAM), self.log)
-        return f"the program was not proved: rt ended with status {status}" if status else self.take(progress.TOP)
-
-    def take(self, top):
-        """Takes the program out of a repository in which it was built."""
-        shutil.copy(os.path.join(top, PROGRAM, "out", "program"), MADE)
+        with kit.locked(self.crates):
+            failed = prove_crates(self.crates, self.line, self.log)
+            if not failed:
+                shutil.copy(BUILT, MADE)
+        self.failed = f"not proved: {' '.join(failed)}" if failed else None
 
     def end(self):
         """Waits for the end. Says what failed, if anything did."""
         with self.line:
             self.join()
-        self.stop()
         return self.failed
-
-    def stop(self):
-        """Ends the proof where it is under way, and takes its copy away."""
-        if self.child and self.child.poll() is None:
-            self.child.kill()
-            self.child.wait()
-        for _ in range(10):
-            # (what was started by the process that was killed ends a little later)
-            shutil.rmtree(self.room, ignore_errors=True)
-            if not os.path.exists(self.room):
-                return
-            time.sleep(0.1)
 
 
 def show():
@@ -187,27 +150,26 @@ def run_alone():
             try_it(EXAMPLE, room)
     failed = proof.end()
     if failed:
-        print(ci.reasons(log), end="")
-        sys.exit(f"{failed}. ./wire_up is as it was. The whole output is in {progress.shown(log)}")
+        fail(f"{failed}. ./wire_up is as it was", log)
     os.replace(MADE, PLACE)
     print("Proved, and built as ./wire_up:", flush=True)
     show()
 
 
-def prove_libraries(crates, line, log):
-    """Proves and builds libraries in their own folders, as far as they changed. Answers the names of those that failed."""
+def prove_crates(crates, line, log, keeps=False):
+    """Proves and builds crates in their own folders, as far as they changed. Answers the names of those that failed."""
     count = itertools.count(1)
-    with open(log, "a", encoding="utf-8") as to, kit.locked(crates):
-        return kit.build(crates, to, lambda name: line.now(f"{next(count)} of {len(crates)} libraries proved, last {name}"))
+    with open(log, "a", encoding="utf-8") as to:
+        return kit.build(crates, to, lambda name: line.now(f"{next(count)} of {len(crates)} crates proved, last {name}"), keeps)
 
 
 def build_libraries():
-    """Proves and builds all libraries in their own folders, as far as they changed."""
+    """Proves and builds all libraries in their own folders, as far as they changed, and keeps the proof of each function."""
     # As `rt` does: Python would wait for the threads' checks.
     signal.signal(signal.SIGINT, signal.SIG_DFL)
     log, crates = progress.log_at("libraries.log"), [it for it in kit.crates_at(progress.TOP) if not it.is_program]
-    with progress.Progress("proving", expected(crates, lambda it: it.is_built())) as line:
-        failed = prove_libraries(crates, line, log)
+    with progress.Progress("proving", expected(crates, lambda it: kit.is_done(it, True))) as line, kit.locked(crates):
+        failed = prove_crates(crates, line, log, True)
     if failed:
         fail(f"not proved: {' '.join(failed)}", log)
 
@@ -216,8 +178,6 @@ def leave(status):
     """Ends at once, and with it a proof that is under way: the guard of `rt` ends all that was started here."""
     if isinstance(status, str):
         print(status, file=sys.stderr)
-    for it in UNDER_WAY:
-        it.stop()
     sys.stdout.flush()
     sys.stderr.flush()
     os._exit(1 if isinstance(status, str) else status or 0)

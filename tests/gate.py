@@ -2,7 +2,7 @@
 recorder, and the commands that the documents show.
 
 It works on a copy of the repository, so nothing that checks kept in it counts, and nothing of it is lost. (What an earlier `rt ci` proved of the same
-files on this machine counts: the kit keeps it.) The last line is
+files on this machine counts where the version of the kit keeps it.) The last line is
 'N passed, M failed' for all of it, and the status is 1 where anything failed. A line tells how far it is; what `rt ci` prints goes to
 out/gate.log, and where something failed, what the log says of it is printed too. What it cost, crate by crate, is printed and goes to
 out/gate-costs.md. `rt ci` wants each file as `rt fmt` lays it out, and says so only after the proofs of a crate: so that is looked at
@@ -20,6 +20,7 @@ import traceback
 
 sys.dont_write_bytecode = True
 import bench
+import build_test
 import ci
 import costs
 import edits
@@ -163,6 +164,7 @@ def judge(room, files, watch, failures):
     """The counts of each part of the gate, and the seconds of processor time of what follows the proofs, by name. What failed joins the
     failures."""
     counts, seconds = [heard("rt ci", failures, prove, room)], {}
+    counts.append(heard("build_test", failures, build_test.all_cases))
     if not keep_built(room):
         print("the program was not built, and so it was not run")
         return [*counts, (0, 1)], seconds

@@ -5,10 +5,17 @@ import importlib.machinery
 import importlib.util
 import os
 import shutil
+import signal
 import sys
 import tempfile
 
 sys.dont_write_bytecode = True
+import progress
+
+# How much of the memory that the kit reckons with for a check one process takes at most.
+SHARE = 0.6
+# Words of a verdict with which `rt ci` refuses a crate: what is proved says nothing then, or rests on code that nothing proves.
+DOUBTS = ("foreign", "hides", "partial", "may-abort", "may-serve", "bugs")
 
 
 def command():
@@ -80,19 +87,39 @@ def locked(crates):
             os.close(it)
 
 
-def build(crates, log=sys.stdout, tell=lambda name: None):
-    """Proves and builds libraries side by side, each once those below it are built, over what earlier checks kept. A library whose text
-    and libraries are as they were isn't checked again. What a check prints goes to the log, that of those that failed last, and `tell`
-    is called after each that is proved. Answers the names of those that failed."""
-    failed, tasks = {}, {}
+def build(crates, log=sys.stdout, tell=lambda name: None, keeps=False):
+    """Proves and builds crates side by side, each once those below it are built. A crate whose text and libraries are as they were isn't proved
+    again. With `keeps` a library is, where the proofs of its functions aren't kept. What a check prints goes to the log, that of those that failed
+    last, and `tell` is called after each crate that is proved. Answers the names of those that failed."""
+    failed, tasks, minutes = {}, {}, progress.minutes_of()
     for it in crates:
-        lines = it.count(rb"\n")
-        tasks[it.name, "proof"] = (waits_of(it), lines, rt.need(it), proof_of(it, log, tell, failed))
-    rt.in_lanes(tasks)
+        tasks[it.name, "proof"] = (waits_of(it), minutes.get(it.name, 1), rt.need(it), proof_of(it, log, tell, failed, keeps))
+    with one_process_each(crates, 1 if keeps else SHARE):
+        rt.in_lanes(tasks)
+    if failed:
+        log.write("$ what the proofs that failed said\n")
     for name, said in failed.items():
-        log.write(f"$ rt lib, in crates/{name}\n{said}")
+        log.write(f"== {name}\n{said}")
     log.flush()
     return list(failed)
+
+
+@contextlib.contextmanager
+def one_process_each(crates, share):
+    """Has the kit give a crate's proof one process, whatever processors are idle: two or more that share a proof each load all that is below it, and
+    took longer. Who says by RT_JOBS how many crates are proved side by side is obeyed."""
+    was = os.environ.get("RT_JOBS")
+    os.environ["RT_JOBS"] = was or str(lanes_for(crates, share))
+    try:
+        yield
+    finally:
+        os.environ.pop("RT_JOBS")
+        os.environ.update({"RT_JOBS": was} if was is not None else {})
+
+
+def lanes_for(crates, share=SHARE):
+    """How many crates are proved side by side by one process each: one to a processor, as many as memory has room for."""
+    return max(1, min(rt.processors(), int(0.85 * rt.free() / (share * max(map(rt.need, crates), default=1)))))
 
 
 def waits_of(crate):
@@ -100,23 +127,119 @@ def waits_of(crate):
     return [(it.name, "proof") for it in crate.below()]
 
 
-def proof_of(crate, log, tell, failed):
-    """What proves and builds one library. It gives whether that went well. One process does it, whatever processors are idle: two or more
-    that share a proof each load all that is below it, and took longer."""
+def proof_of(crate, log, tell, failed, keeps):
+    """What proves and builds one crate, where it isn't built. It gives whether that went well."""
 
     def prove(given, _):
         if not all(given[it] for it in waits_of(crate)):
             return False
-        os.makedirs(os.path.join(crate.folder, "out"), exist_ok=True)
-        with tempfile.TemporaryFile("w+", errors="replace") as crate.out:
-            status = crate.build_rlib(["--jobs", "1"], anew=False)
-            crate.out.seek(0)
-            said = crate.out.read()
-        if status:
-            failed[crate.name] = f"{said}(exit status {status})\n"
-            return False
-        log.write(f"== {crate.name}\n{said}")
+        if not is_done(crate, keeps):
+            take_away(crate)
+            with tempfile.TemporaryFile("w+", errors="replace") as crate.out:
+                status = prove_anew(crate, keeps)
+                crate.out.seek(0)
+                said = crate.out.read()
+            doubt = f"(exit status {status})" if status else doubt_of(said)
+            if doubt:
+                take_away(crate)
+                failed[crate.name] = f"{said}{doubt}\n"
+                return False
+            log.write(f"== {crate.name}\n{said}")
         tell(crate.name)
         return True
 
     return prove
+
+
+def doubt_of(said):
+    """Why a proof doesn't count, where the last line of a check says that it rests on more than the proofs of its functions."""
+    verdict = next((line.split() for line in reversed(said.splitlines()) if line.startswith("logic=proved ")), [])
+    found = [it for it in verdict if it.partition("=")[0] in DOUBTS]
+    return f"the gate would refuse this: {' '.join(found)}" if found else ""
+
+
+def made_of(crate):
+    """Where a crate is built."""
+    return os.path.join(crate.folder, "out", crate.name) if crate.is_program else crate.rlib
+
+
+def stamp_of(crate):
+    """The file that says from which texts a crate was built."""
+    return f"{made_of(crate)}.stamp" if crate.is_program else os.path.join(os.path.dirname(crate.rlib), "stamp")
+
+
+def stamp_now(crate):
+    """What stands in that file, in the words of the kit, if the crate is built from its text as it is."""
+    return crate.stamp() + (rt.rtlib.sum_of(made_of(crate)) if crate.is_program else "")
+
+
+def is_built(crate):
+    """Whether a crate is built from its text as it is."""
+    return os.path.exists(made_of(crate)) and rt.rtlib.text_of(stamp_of(crate)) == stamp_now(crate)
+
+
+def is_done(crate, keeps=False):
+    """Whether a crate is built from its text as it is, and after the libraries below it. With `keeps` the proofs of its functions are kept, too."""
+    times = [os.stat(stamp_of(it)).st_mtime_ns for it in [*crate.below(), crate] if is_built(it)]
+    return len(times) == len(crate.below()) + 1 and times[-1] == max(times) and not (keeps and is_cut(crate))
+
+
+def is_cut(crate):
+    """Whether a library holds no more than what crates above can cite."""
+    return os.path.exists(os.path.join(os.path.dirname(crate.rlib), "cut"))
+
+
+def take_away(crate):
+    """Takes away what was built of a crate, and first what says that it was."""
+    with contextlib.suppress(FileNotFoundError):
+        os.remove(stamp_of(crate))
+    if not crate.is_program:
+        shutil.rmtree(os.path.dirname(crate.rlib), ignore_errors=True)
+
+
+def prove_anew(crate, keeps):
+    """Proves and builds a crate. Where proofs of a library's functions are kept, or are to be, it is built over these, as `rt lib` does. Answers the
+    status of what failed, or 1 where what was proved is no longer the text."""
+    before = known(crate)
+    if not all(map(is_built, crate.below())):
+        print("a library below it changed meanwhile", file=crate.out)
+        return 1
+    if crate.is_program:
+        status = build_program(crate)
+    else:
+        status = crate.build_rlib(["--jobs", "1"], anew=False) if keeps or crate.has_kept() else build_cut(crate)
+    if status == -signal.SIGKILL:
+        print("it was killed, most likely for memory: with RT_JOBS=1 one crate is proved at a time", file=crate.out)
+    if status:
+        return status
+    if known(crate) != before or not all(map(is_built, crate.below())):
+        print("its text, or that of a library below it, changed meanwhile", file=crate.out)
+        return 1
+    with open(stamp_of(crate), "w", encoding="utf-8") as it:
+        it.write(stamp_now(crate))
+    return 0
+
+
+def known(crate):
+    """From what a crate is built: a sum of its text and of that of the libraries below it, and the time and size of each of these files."""
+    crate.stamp()
+    return crate.known_stamp
+
+
+def build_cut(crate):
+    """Proves and builds a library that holds no more than what crates above can cite, as `rt ci` does: these load it sooner, and it takes less of
+    the disk. The proofs of its functions aren't kept. The kit itself writes no stamp for such a library, since what is above fits only the very
+    library over which it was built; `is_done` sees to that."""
+    os.makedirs(os.path.dirname(crate.rlib))
+    open(os.path.join(os.path.dirname(crate.rlib), "cut"), "wb").close()
+    return crate.call(rt.rtlib.RATTLE, "build", *crate.words(["--jobs", "1"], keeps=False), "--statements", "-o", crate.rlib)
+
+
+def build_program(crate):
+    """Proves, builds and links a program."""
+    kit, made = rt.rtlib.KIT, made_of(crate)
+    os.makedirs(os.path.dirname(made), exist_ok=True)
+    words = [*crate.words(["--jobs", "1"], keeps=False), "--toolchain", f"{kit}/toolchain", "--backend", "llvm", "-o", f"{made}.o"]
+    link = ["--target", "x86_64-unknown-linux-gnu", "--toolchain", f"{kit}/toolchain", "-o", made, f"{made}.o"]
+    status = crate.call(rt.rtlib.RATTLE, "build", *words)
+    return status or crate.call(f"{kit}/bin/rattle-link", *link, f"{kit}/c/libos_c.a", f"{kit}/c/liblibc_c.a")

@@ -574,7 +574,7 @@ def rehearsals(room):
     yield Run("workers told twice", ["replay", "--workers", "1", "--workers", "1", cards], status=5, said=usage)
     yield Run("anyway told twice", ["replay", "--anyway", "--anyway", cards], status=5, said=usage)
     yield Run("a check by workers", ["check", "--workers", "1", cards], status=5, said=usage)
-    yield Run("help on replay", ["replay", "--help"], wrote=(b"--workers <N>", b"--json", b"--anyway", b"--complete", b"--explain"))
+    yield Run("help on replay", ["replay", "--help"], wrote=(b"--workers <COUNT>", b"--json", b"--anyway", b"--complete", b"--explain"))
 
 
 def completions(room):

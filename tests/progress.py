@@ -100,14 +100,13 @@ class Progress:
                 print(line, flush=True)
 
 
-def keep(words, folder, log, each=lambda line: None, begun=lambda child: None, behind=()):
-    """Runs a command behind some words, adds all that it prints to the log, hands each line on, and answers its status. `begun` is told of the
-    process. It is killed where this is broken off."""
+def keep(words, folder, log, each=lambda line: None, behind=()):
+    """Runs a command behind some words, adds all that it prints to the log, hands each line on, and answers its status. It is killed where this
+    is broken off."""
     with open(log, "a", encoding="utf-8") as to:
         to.write(f"$ {' '.join(words)}\n")
         how = {"stdin": subprocess.DEVNULL, "stdout": subprocess.PIPE, "stderr": subprocess.STDOUT}
         with subprocess.Popen([*behind, *words], cwd=folder, text=True, errors="replace", **how) as it:
-            begun(it)
             try:
                 for line in it.stdout:
                     to.write(line)

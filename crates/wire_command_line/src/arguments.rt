@@ -48,7 +48,7 @@ fn make_argument<'a>(alloc: Global, argument: Argument<'a>) -> Arg<'a>
         Kind::Word => made,
         Kind::NeededWord => made.required(true),
         Kind::Flag => made.long(argument.name).action(ArgAction::SetTrue),
-        Kind::Number => made.long(argument.name).value_name("N"),
+        Kind::Number => made.long(argument.name).value_name("COUNT"),
     }
 }
 

@@ -1,20 +1,17 @@
 -- The arrivals at a fence, and a get.
-use Rattle.std.proofs.Common.{◌≡◌, ◌∙◌, ap, refl, sym, subst, ℕ, suc, ◌<◌, ◌≤◌, List, [], length, Bool, true, false, Option, Some, None, arith, inl, inr}
+use Rattle.std.proofs.Common.{◌≡◌, ◌∙◌, ap, refl, sym, subst, ℕ, suc, ◌<◌, ◌≤◌, List, length, Bool, true, false, Option, Some, None, arith, inl, inr}
 use Rattle.std.specs.Prelude.{slice_get, is_some, not, IsTrue, ◌↔◌, MatchOption}
 use Rattle.std.proofs.lemmas.Bool.{cases_eq, cases_lt, true≢false}
 use Rattle.std.proofs.lemmas.Option.{same_Some, slice_get_within}
-use Rattle.wire_runs.specs.Plan.{Plan, Event, Kind, Arrive, Leave, kind, event_of}
+use Rattle.wire_runs.specs.Plan.{Plan, Event, Leave, kind, event_of}
 use Rattle.wire_runs.specs.Fences.{arrivals}
 use Rattle.wire_types.specs.declared.place.Event.{Event as CodeEvent}
 use Rattle.wire_runs.specs.Order.{IsArrival, Live, Before}
 use Rattle.wire_plan.specs.Index.{AreArrivals}
 use Rattle.wire_runs.proofs.Basics.{arrivals_rise, arrivals_step}
+use Rattle.wire_fates.proofs.First.{members_in}
 use Rattle.wire_fates.proofs.Sooner.{sooner_live, sooner_before}
 use Rattle.wire_fates.specs.Deliveries.{Arrives, IsBehindOwn, IsSure, MayBeLate, IsLate, AllLive, NoneAfter, AreBefore, IsLateAt, IsFirstLate}
-
-abbrev members_in : Kind → List ℕ
-members_in (Arrive members collect) = members
-members_in _ = []
 
 -- an arrival is at one fence
 pub same_fence : (plan : Plan) (z : Event) (m n : List ℕ) (j k : ℕ) → IsArrival plan m j z → IsArrival plan n k z → (m ≡ n) × (j ≡ k)
@@ -48,10 +45,10 @@ arrives_once plan x y members j same a b = elim (cases_lt x.at y.at) [
 -- one event of a fence is late first
 pub late_once : (plan : Plan) (get arrival x y : Event) → IsLate plan get arrival x → IsLate plan get arrival y → y ≡ x
 late_once plan get arrival x y a b =
-    let m = a.fence.members in
-    let j = a.fence.j in
-    let there = arrival_of plan arrival y b.fence.members m b.fence.j j b.fence.arrival a.fence.arrival b.of_it in
-    let back = arrival_of plan arrival x m b.fence.members j b.fence.j a.fence.arrival b.fence.arrival a.of_it in
+    let m = a.may.fence.members in
+    let j = a.may.fence.j in
+    let there = arrival_of plan arrival y b.may.fence.members m b.may.fence.j j b.may.fence.arrival a.may.fence.arrival b.of_it in
+    let back = arrival_of plan arrival x m b.may.fence.members j b.may.fence.j a.may.fence.arrival b.may.fence.arrival a.of_it in
     let low = a.first y there b.not_before in
     let high = b.first x back a.not_before in
     let same : y.proc ≡ x.proc = omega (arith, low, high) in
@@ -107,15 +104,13 @@ module _ (plan : Plan) (get arrival : Event) (fence : Arrives plan arrival) (pla
   sure_before s k z is = s.all_before z ((those s.fence.members s.fence.j s.fence.arrival).only k z is)
 
   -- the first late arrival
-  pub late_there : (x : Event) → AllLive plan places → NoneAfter plan get places → IsLateAt plan get places x → IsLate plan get arrival x
-  late_there x alive none_after l = record {
-    fence = fence;
-    all_live = λ z h. let i = are.all z h in alive i.0 z i.1;
-    before_none = λ z h. let i = are.all z h in none_after i.0 z i.1;
-    of_it = are.only l.k x l.is;
+  pub late_there : (x : Event) → MayBeLate plan get arrival → IsLateAt plan get places x → IsLate plan get arrival x
+  late_there x m l = record {
+    may = m;
+    of_it = (those m.fence.members m.fence.j m.fence.arrival).only l.k x l.is;
     not_before = l.not_before;
     first = λ z h late. (
-        let i = are.all z h in
+        let i = index_of m.fence.members m.fence.j m.fence.arrival z h in
         elim (cases_lt i.0 l.k) [
           | inl lt ↦ absurd (late (l.others i.0 z lt i.1))
           | inr ge ↦ elim (cases_eq i.0 l.k) [
@@ -143,7 +138,7 @@ module _ (plan : Plan) (get arrival : Event) (fence : Arrives plan arrival) (pla
 
   pub late_not_before : (x : Event) → IsLate plan get arrival x → AreBefore plan get places (length places) → ⊥
   late_not_before x l before =
-      let i = index_of l.fence.members l.fence.j l.fence.arrival x l.of_it in
+      let i = index_of l.may.fence.members l.may.fence.j l.may.fence.arrival x l.of_it in
       l.not_before (before i.0 x (slice_get_within places i.0 x i.1) i.1)
 
   -- a fence whose arrivals are live is sure where none of them is late
@@ -156,7 +151,7 @@ module _ (plan : Plan) (get arrival : Event) (fence : Arrives plan arrival) (pla
     (λ s. absurd (first.not_before (sure_before s first.k (event_of x) first.is))),
   )
 
-  pub late_tells : (found : Option CodeEvent) → IsFirstLate plan get places found → AllLive plan places → NoneAfter plan get places →
+  pub late_tells : (found : Option CodeEvent) → IsFirstLate plan get places found → MayBeLate plan get arrival →
       MatchOption found ((x : Event) → IsLate plan get arrival x → ⊥) (λ x. IsLate plan get arrival (event_of x))
-  late_tells None first alive none_after = λ x l. late_not_before x l first
-  late_tells (Some x) first alive none_after = late_there (event_of x) alive none_after first
+  late_tells None first may = λ x l. late_not_before x l first
+  late_tells (Some x) first may = late_there (event_of x) may first

@@ -1,11 +1,12 @@
 -- The events of a call: the first, and the end of a fence.
-use Rattle.std.proofs.Common.{◌≡◌, ◌∙◌, ap, refl, sym, ℕ, zero, suc, List, [], ◌∷◌, Bool, true, false, Some, arith}
+use Rattle.std.proofs.Common.{◌≡◌, ◌∙◌, ap, refl, sym, ℕ, zero, suc, List, [], ◌∷◌, Bool, false, Some, arith}
 use Rattle.std.specs.Prelude.{slice_get}
 use Rattle.std.proofs.lemmas.Bool.{true≢false}
 use Rattle.std.proofs.lemmas.Option.{slice_get_within, same_Some}
 use Rattle.wire_runs.specs.Plan.{Plan, Event, Call, CallPut, CallCommit, CallFence, CallGet, CallGetNow, CallPublish, CallLookup, CallLookupWait, CallUnpublish, CallUnpublishAll, CallFixed}
 use Rattle.wire_runs.specs.Plan.{Kind, Arrive, Leave, kinds_of, kinds, kind_at, kind}
 use Rattle.wire_runs.specs.Ends.{call_of, process_calls, first_event}
+use Rattle.wire_plan.proofs.Gathering.{is_arrive}
 use Rattle.wire_findings.proofs.Calls.{is_leave, same_events, starts_back}
 
 no_end : (e : Kind) → ((members : List ℕ) → e ≡ Leave members → ⊥) → is_leave e ≡ false
@@ -17,13 +18,9 @@ pub first_of_call : (plan : Plan) (x : Event) (e : Kind) → kind plan x ≡ Som
 first_of_call plan x e is never = starts_back plan x (record { what = e; is = is; first = no_end e never })
 
 -- the members of the fence at which an event arrives
-abbrev members_in : Kind → List ℕ
+abbrev pub members_in : Kind → List ℕ
 members_in (Arrive members collect) = members
 members_in _ = []
-
-abbrev is_arrive : Kind → Bool
-is_arrive (Arrive members collect) = true
-is_arrive _ = false
 
 -- the end of a fence stands behind each arrival at it
 ends : (calls : List Call) (at : ℕ) (members : List ℕ) (collect : Bool) → slice_get (kinds_of calls) at ≡ Some (Arrive members collect) → slice_get (kinds_of calls) (suc at) ≡ Some (Leave members)

@@ -8,18 +8,13 @@ use Rattle.wire_types.specs.declared.place.Event.{Event as CodeEvent}
 use Rattle.wire_runs.specs.Order.{Live, Before}
 use Rattle.wire_runs.specs.Races.{Delivery, ByFence, ByGet, IsOf, Delivers, ComesSurely}
 use Rattle.wire_plan.specs.Index.{IsDelivering, IsNextDelivery}
+use Rattle.wire_plan.proofs.Delivering.{here}
 use Rattle.wire_runs.proofs.Basics.{event_within}
 use Rattle.wire_fates.specs.Deliveries.{IsSureByGet}
-use Rattle.wire_fates.specs.Deliveries.{Arrives, IsSure, IsSureByFence, IsNextArrival}
+use Rattle.wire_fates.specs.Deliveries.{IsSure, IsSureByFence, IsNextArrival}
 use Rattle.wire_runs.proofs.Histories.{before_live, joined}
 use Rattle.wire_fates.proofs.Arrivals.{arrival_of}
 use Rattle.wire_fates.proofs.Sooner.{sooner_live, sooner_before}
-
-abbrev pub here : ℕ → ℕ → Event
-here p at = record { proc = p; at = at }
-
-pub arrives : (plan : Plan) (p key node at : ℕ) → IsDelivering plan p key node at → Arrives plan (here p at)
-arrives plan p key node at d = record { members = d.members; j = d.j; arrival = d.arrival }
 
 pub delivering_within : (plan : Plan) (p key node at : ℕ) → IsDelivering plan p key node at → at < event_count plan p
 delivering_within plan p key node at d = event_within plan p at _ d.arrival.is

@@ -36,14 +36,12 @@ pub record MayBeLate (plan : Plan) (get arrival : Event) : Type 0 where
   pub all_live : (z : Event) → IsArrival plan fence.members fence.j z → Live plan z
   pub before_none : (z : Event) → IsArrival plan fence.members fence.j z → ¬ (Before plan get z)
 
--- all arrivals at the fence of this arrival are live, the get is before none of them, and the source is the first that isn't before the get
+-- the fence of this arrival may be late, and the source is its first arrival that isn't before the get
 pub record IsLate (plan : Plan) (get arrival source : Event) : Type 0 where
-  pub fence : Arrives plan arrival
-  pub all_live : (z : Event) → IsArrival plan fence.members fence.j z → Live plan z
-  pub before_none : (z : Event) → IsArrival plan fence.members fence.j z → ¬ (Before plan get z)
-  pub of_it : IsArrival plan fence.members fence.j source
+  pub may : MayBeLate plan get arrival
+  pub of_it : IsArrival plan may.fence.members may.fence.j source
   pub not_before : ¬ (Before plan source get)
-  pub first : (z : Event) → IsArrival plan fence.members fence.j z → ¬ (Before plan z get) → source.proc ≤ z.proc
+  pub first : (z : Event) → IsArrival plan may.fence.members may.fence.j z → ¬ (Before plan z get) → source.proc ≤ z.proc
 
 -- all of these events are live
 abbrev pub AllLive : Plan → List Event → Type 0
@@ -76,6 +74,7 @@ pub record IsArrivalFrom (plan : Plan) (p key node from : ℕ) (e : CodeEvent) :
   pub delivers : IsDelivering plan p key node e.at
   pub others : (at : ℕ) → from ≤ at → at < e.at → ¬ (IsDelivering plan p key node at)
 
+-- this is p's first arrival, from its event number `from` on, that delivers the key, or there is none
 abbrev pub IsNextArrival : Plan → ℕ → ℕ → ℕ → ℕ → Option CodeEvent → Type 0
 IsNextArrival plan p key node from found = MatchOption found ((at : ℕ) → from ≤ at → ¬ (IsDelivering plan p key node at))
     (λ e. IsArrivalFrom plan p key node from e)

@@ -205,7 +205,7 @@ added_shown view old room number v new e there is more same n =
     ∙ added lists number e within n
     ∙ ap (λ ps. if n == number then ps ++ event_of e ∷ [] else ps) (same n)
 
-abbrev is_arrive : Kind → Bool
+abbrev pub is_arrive : Kind → Bool
 is_arrive (Arrive members collect) = true
 is_arrive _ = false
 

@@ -19,7 +19,8 @@ use Rattle.wire_runs.proofs.Histories.{joined}
 use Rattle.wire_fates.proofs.Arrivals.{arrival_of, late_once}
 use Rattle.wire_fates.proofs.Sooner.{sooner_live, sooner_before}
 use Rattle.wire_races.proofs.KeyRaces.{race_with, race_open, race_found, get_there}
-use Rattle.wire_fates.proofs.Surely.{here, delivering_within, get_sure}
+use Rattle.wire_plan.proofs.Delivering.{here}
+use Rattle.wire_fates.proofs.Surely.{delivering_within, get_sure}
 
 pub past_all : (plan : Plan) (p key node from count : ℕ) → count ≡ event_count plan p → count ≤ from → (k : ℕ) → from ≤ k → IsDelivering plan p key node k → ⊥
 past_all plan p key node from count is end k ge d = let lt = delivering_within plan p key node k d in omega (arith, lt, is, end, ge)
@@ -28,8 +29,8 @@ module _ (plan : Plan) (get : Event) (owner key : ℕ) (n : IsUnsure plan get ow
   -- a late arrival is a race
   pub late_race : (at : ℕ) (x : Event) → IsDelivering plan owner key (node_of plan get.proc) at → IsLate plan get (here owner at) x → IsKeyRace plan x get owner key
   late_race at x d l =
-      let there : (z : Event) → IsArrival plan d.members d.j z → IsArrival plan l.fence.members l.fence.j z =
-      λ z a. arrival_of plan (here owner at) z d.members l.fence.members d.j l.fence.j d.arrival l.fence.arrival a in
+      let there : (z : Event) → IsArrival plan d.members d.j z → IsArrival plan l.may.fence.members l.may.fence.j z =
+      λ z a. arrival_of plan (here owner at) z d.members l.may.fence.members d.j l.may.fence.j d.arrival l.may.fence.arrival a in
       inr (record {
         is = n.opened.is;
         other = n.other;
@@ -37,9 +38,9 @@ module _ (plan : Plan) (get : Event) (owner key : ℕ) (n : IsUnsure plan get ow
         get_live = n.opened.get_live;
         not_sure = n.not_sure;
         delivery = ByFence d.members d.j;
-        delivers = record { brings_it = d.brings; all_live = λ z a. l.all_live z (there z a) };
-        before_none = λ z a. l.before_none z (there z a);
-        of_it = arrival_of plan (here owner at) x l.fence.members d.members l.fence.j d.j l.fence.arrival d.arrival l.of_it;
+        delivers = record { brings_it = d.brings; all_live = λ z a. l.may.all_live z (there z a) };
+        before_none = λ z a. l.may.before_none z (there z a);
+        of_it = arrival_of plan (here owner at) x l.may.fence.members d.members l.may.fence.j d.j l.may.fence.arrival d.arrival l.of_it;
         not_before = l.not_before;
         first = λ z a late. l.first z (there z a) late;
       })
@@ -75,9 +76,7 @@ module _ (plan : Plan) (get : Event) (owner key : ℕ) (n : IsUnsure plan get ow
           source = x;
           delivers = record { members = members; j = j; arrival = d.brings_it.arrival; brings = d.brings_it };
           late = record {
-            fence = record { members = members; j = j; arrival = d.brings_it.arrival };
-            all_live = d.all_live;
-            before_none = before_none;
+            may = record { fence = record { members = members; j = j; arrival = d.brings_it.arrival }; all_live = d.all_live; before_none = before_none };
             of_it = of_it;
             not_before = not_before;
             first = first;
@@ -136,14 +135,14 @@ module _ (plan : Plan) (get : Event) (owner key node : ℕ) where
   no_later from at others d never k ge f t = elim (cases_lt k at) [
     | inl lt ↦ others k ge lt t.delivers
     | inr le ↦ elim (cases_eq k at) [
-      | inl same ↦ never (subst (λ n. MayBeLate plan get (here owner n)) same (record { fence = t.late.fence; all_live = t.late.all_live; before_none = t.late.before_none }))
+      | inl same ↦ never (subst (λ n. MayBeLate plan get (here owner n)) same t.late.may)
       | inr other ↦ (
           let lt : at < k = omega (arith, le, other) in
-          let later = t.late.all_live (here owner k) t.late.fence.arrival in
+          let later = t.late.may.all_live (here owner k) t.late.may.fence.arrival in
           never (record {
             fence = record { members = d.members; j = d.j; arrival = d.arrival };
             all_live = λ z h. sooner_live plan owner at k d.members d.j d.arrival lt later z h;
-            before_none = λ z h b. t.late.before_none (here owner k) t.late.fence.arrival (joined b (sooner_before plan owner at k d.members d.j d.arrival lt later z h));
+            before_none = λ z h b. t.late.may.before_none (here owner k) t.late.may.fence.arrival (joined b (sooner_before plan owner at k d.members d.j d.arrival lt later z h));
           }))
     ]
   ]

@@ -1,7 +1,7 @@
 use Rattle.std.proofs.Common.{map}
 use Rattle.wire_runs.specs.Plan.{event_of}
 use Rattle.wire_content.specs.Planned.{plan_of}
-use Rattle.wire_fates.proofs.Arrivals.{late_tells, may_live, may_none_after}
+use Rattle.wire_fates.proofs.Arrivals.{late_tells}
 use Rattle.wire_fates.proofs.deliveries.late_source.Goals as goal
 
 pub returns : goal.returns
@@ -12,5 +12,4 @@ returns c =
     let fence = c.requires.may.fence in
     let places = map event_of c.all_arrivals.result.now in
     let those = rw c.plan.ensures at c.all_arrivals.ensures in
-    late_tells plan get arrival fence places those c.first_not_before.result c.first_not_before.ensures (may_live plan get arrival fence places those c.requires.may)
-    (may_none_after plan get arrival fence places those c.requires.may)
+    late_tells plan get arrival fence places those c.first_not_before.result c.first_not_before.ensures c.requires.may
