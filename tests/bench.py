@@ -269,8 +269,8 @@ def has_parts():
         wanted = progress.crates_below("one_function")
         crates = [it for it in kit.crates_at(TOP) if it.name in wanted]
         with kit.locked(crates), open(progress.log_at("bench.log"), "a", encoding="utf-8") as log:
-            kit.build(crates, log)
-    return os.path.exists(PARTS)
+            return not kit.build(crates, log)
+    return True
 
 
 def works(program):
@@ -296,7 +296,7 @@ def main():
         if not os.path.exists(program):
             sys.exit(f"there is no {program}: make run builds ./wire_up")
     if not has_parts():
-        sys.exit("crates/one_function can't be built: `rt run` in that folder shows why")
+        sys.exit("crates/one_function can't be built: out/bench.log says why")
     if args.small:
         args.runs = 1
     with tempfile.TemporaryDirectory(prefix="wire-up-") as room:

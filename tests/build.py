@@ -6,7 +6,7 @@ Usage: python3 tests/build.py try FILE     checks and replays FILE, by a build w
        python3 tests/build.py libraries    proves and builds all libraries, and keeps the proof of each function
 
 `run` and `libraries` prove in the crates' own folders, and nothing again whose text and libraries are as they were. `run` builds libraries that hold
-no more than what crates above can cite: these load them sooner, and they take a quarter of the disk. `libraries` is for developers: a check in a
+no more than what crates above can cite: these load them sooner, and they take less of the disk. `libraries` is for developers: a check in a
 crate after a change proves only what the change touched, and so does `run` from then on.
 """
 import contextlib

@@ -9,6 +9,7 @@ import os
 import shutil
 import sys
 import tempfile
+import traceback
 from unittest import mock
 
 sys.dont_write_bytecode = True
@@ -19,23 +20,24 @@ CRATES = {"low": "", "middle": "low", "high": "middle", "apart": ""}
 
 
 class Prover:
-    """Stands in the prover's place: it notes the crates whose proof it is asked for, and refuses some. `meanwhile` is called with the name of each
-    while its proof is under way."""
+    """Stands in the prover's place: it notes the crates whose proof it is asked for, and refuses some. `meanwhile` is called with each crate while
+    its proof is under way."""
 
-    def __init__(self, refused=(), meanwhile=lambda name: None, verdict="logic=proved functions=1"):
-        self.asked, self.over_kept, self.refused, self.meanwhile, self.verdict = [], [], refused, meanwhile, verdict
+    def __init__(self, refused=(), meanwhile=lambda crate: None, verdict="logic=proved functions=1", status=1):
+        self.refused, self.meanwhile, self.verdict, self.status = refused, meanwhile, verdict, status
+        self.asked, self.over_kept, self.cut = [], [], []
 
     def call(self, crate, *words):
         made = words[words.index("-o") + 1]
-        if words[1] != "build":
-            open(made, "wb").close()
-            return 0
+        if words[1:2] != ("build",):
+            return self.link(crate, made)
         self.asked.append(crate.name)
+        self.cut += [crate.name] * ("--statements" in words)
         self.over_kept += [crate.name] * ("--incremental" in words)
-        self.meanwhile(crate.name)
+        self.meanwhile(crate)
         if crate.name in self.refused:
             print("fn it: not proved", file=crate.out)
-            return 1
+            return self.status
         if crate.is_program:
             open(made, "wb").close()
         else:
@@ -45,6 +47,13 @@ class Prover:
         print(self.verdict, file=crate.out)
         return 0
 
+    def link(self, crate, made):
+        if "link" in self.refused:
+            return 1
+        with open(made, "w", encoding="utf-8") as it:
+            it.write(f"the program {crate.name}\n")
+        return 0
+
 
 def write(top, name, text, file="lib.rt"):
     """Writes the text of a crate."""
@@ -52,6 +61,12 @@ def write(top, name, text, file="lib.rt"):
     os.makedirs(os.path.dirname(path), exist_ok=True)
     with open(path, "w", encoding="utf-8") as it:
         it.write(text)
+
+
+def read(path):
+    """The text of a file."""
+    with open(path, encoding="utf-8") as it:
+        return it.read()
 
 
 def make(top):
@@ -73,7 +88,12 @@ def build(top, prover, keeps=False):
 
 def built(top):
     """The names of the crates that count as built."""
-    return sorted(it.name for it in kit.crates_at(top) if kit.is_built(it))
+    return sorted(it.name for it in kit.crates_at(top) if kit.is_done(it))
+
+
+def built_for_rt(top):
+    """The names of the libraries that `rt` takes as built."""
+    return sorted(it.name for it in kit.crates_at(top) if not it.is_program and it.is_built())
 
 
 def add_program(top):
@@ -86,12 +106,12 @@ def add_program(top):
 def from_nothing(top):
     asked, failed, _ = build(top, prover := Prover())
     in_order = [it for it in prover.asked if it != "apart"] == ["low", "middle", "high"]
-    return asked == sorted(CRATES) and in_order and not failed and built(top) == sorted(CRATES)
+    return asked == sorted(CRATES) and in_order and sorted(prover.cut) == asked and not failed and built(top) == built_for_rt(top) == asked
 
 
 def nothing_changed(top):
-    build(top, Prover())
-    return build(top, Prover())[:2] == ([], [])
+    first = build(top, Prover())
+    return first[0] == sorted(CRATES) and build(top, Prover())[:2] == ([], [])
 
 
 def text_changed(top):
@@ -112,7 +132,7 @@ def text_as_before(top):
 def one_refused(top):
     asked, failed, said = build(top, Prover(refused=["middle"]))
     told = said.endswith("$ what the proofs that failed said\n== middle\nfn it: not proved\n(exit status 1)\n")
-    return asked == ["apart", "low", "middle"] and failed == ["middle"] and told and built(top) == ["apart", "low"]
+    return asked == ["apart", "low", "middle"] and failed == ["middle"] and told and built(top) == built_for_rt(top) == ["apart", "low"]
 
 
 def refused_and_mended(top):
@@ -121,40 +141,80 @@ def refused_and_mended(top):
 
 
 def built_before_it_is_refused(top):
-    # What was built from an earlier text doesn't stand in for the text that is refused.
+    # What was built from an earlier text is gone once another text was refused.
     build(top, Prover())
     write(top, "low", "//! another text\n")
     build(top, Prover(refused=["low"]))
-    return built(top) == ["apart"]
+    write(top, "low", "//! low\n")
+    return built(top) == built_for_rt(top) == ["apart"]
+
+
+def killed(top):
+    asked, failed, said = build(top, Prover(refused=["low"], status=-9))
+    return asked == ["apart", "low"] and failed == ["low"] and "RT_JOBS=1" in said
 
 
 def refused_by_the_gate(top):
-    asked, failed, said = build(top, Prover(verdict="logic=proved functions=1 hides=1"))
-    return asked == ["apart", "low"] and failed == ["apart", "low"] and "the gate would refuse this: hides=1" in said and built(top) == []
+    for word in "foreign=1", "hides=1", "partial=1", "may-abort=1", "may-serve=1", "bugs=1":
+        for keeps in False, True:
+            asked, failed, said = build(top, Prover(verdict=f"logic=proved functions=1 {word}"), keeps)
+            if asked != failed or f"the gate would refuse this: {word}" not in said or built_for_rt(top):
+                return False
+    return True
+
+
+def no_verdict(top):
+    asked, failed, said = build(top, Prover(verdict="logic=not-proved"))
+    return asked == failed == ["apart", "low"] and "the prover gave no verdict" in said and built_for_rt(top) == []
+
+
+def no_stamp_while_it_is_proved(top):
+    build(top, Prover())
+    write(top, "low", "//! another text\n")
+    seen = []
+    build(top, Prover(meanwhile=lambda crate: seen.append(os.path.exists(kit.stamp_of(crate)))))
+    return seen == [False] * 3
+
+
+def file_gone_meanwhile(top):
+    def take_away(crate):
+        if crate.name == "low":
+            os.remove(os.path.join(crate.folder, "src", "lib.rt"))
+            os.symlink("nowhere", os.path.join(crate.folder, "src", ".#lib.rt"))
+
+    asked, failed, _ = build(top, Prover(meanwhile=take_away))
+    return asked == ["apart", "low"] and failed == ["low"] and built(top) == ["apart"]
 
 
 def changed_meanwhile(top):
-    def change(name):
-        if name == "low":
-            write(top, "low", "//! another text\n")
+    for keeps in False, True:
 
-    asked, failed, said = build(top, Prover(meanwhile=change))
-    return asked == ["apart", "low"] and failed == ["low"] and "changed meanwhile" in said and built(top) == ["apart"]
+        def change(crate, keeps=keeps):
+            if crate.name == "low":
+                write(top, "low", f"//! another text {keeps}\n")
+
+        asked, failed, said = build(top, Prover(meanwhile=change), keeps)
+        if failed != ["low"] or "changed meanwhile" not in said or built(top) != ["apart"] or built_for_rt(top) != ["apart"]:
+            return False
+    return True
 
 
 def changed_and_changed_back(top):
-    def change(name):
-        if name == "low":
+    # (written a while ago, so that the times differ)
+    os.utime(os.path.join(top, "crates", "low", "src", "lib.rt"), (1, 1))
+
+    def change(crate):
+        if crate.name == "low":
             write(top, "low", "//! another text\n")
             write(top, "low", "//! low\n")
 
-    return build(top, Prover(meanwhile=change))[1] == ["low"] and built(top) == ["apart"]
+    return build(top, Prover(meanwhile=change))[1] == ["low"] and built_for_rt(top) == ["apart"]
 
 
 def below_changed_meanwhile(top):
     # The library above was proved over the text that the lower one had before.
-    def change(name):
-        if name == "middle":
+    def change(crate):
+        if crate.name == "middle":
             write(top, "low", "//! another text\n")
 
     asked, failed, _ = build(top, Prover(meanwhile=change))
@@ -168,11 +228,36 @@ def built_once_more(top):
     return build(top, Prover())[0] == ["high", "middle"] and build(top, Prover())[0] == []
 
 
+def built_once_more_before(top):
+    # The same where the clock was set back: the times aren't those of the libraries over which it was built.
+    build(top, Prover())
+    os.utime(os.path.join(top, "crates", "low", "out", "rlib", "stamp"), (1, 1))
+    return build(top, Prover())[0] == ["high", "low", "middle"]
+
+
+def built_by_rt(top):
+    # `rt` takes a library as built whatever its verdict says: so it is proved here.
+    build(top, Prover())
+    low = next(it for it in kit.crates_at(top) if it.name == "low")
+    shutil.rmtree(os.path.dirname(low.rlib))
+    with mock.patch.object(kit.rt.rtlib.Crate, "call", lambda crate, *words: Prover().call(crate, *words)), open(os.devnull, "w", encoding="utf-8") as low.out:
+        low.build_rlib(["--jobs", "1"], anew=False)
+    return "low" in built_for_rt(top) and built(top) == ["apart"] and build(top, Prover())[0] == ["high", "low", "middle"]
+
+
 def broken_off(top):
     # What is left of a proof that was broken off is no library.
+    def stop(crate):
+        if crate.name == "low":
+            raise KeyboardInterrupt
+
     build(top, Prover())
-    os.remove(os.path.join(top, "crates", "low", "out", "rlib", "stamp"))
-    return built(top) == ["apart", "high", "middle"] and build(top, Prover())[0] == ["high", "low", "middle"]
+    write(top, "low", "//! another text\n")
+    try:
+        build(top, Prover(meanwhile=stop))
+        return False
+    except KeyboardInterrupt:
+        return built(top) == built_for_rt(top) == ["apart"] and build(top, Prover())[0] == ["high", "low", "middle"]
 
 
 def proofs_kept(top):
@@ -183,7 +268,8 @@ def proofs_kept(top):
 def proofs_kept_later(top):
     # Libraries that were built without them are proved once more, so that the proof of each function is kept.
     build(top, Prover())
-    return build(top, Prover(), keeps=True)[:2] == (sorted(CRATES), []) and built(top) == sorted(CRATES)
+    build(top, prover := Prover(), keeps=True)
+    return sorted(prover.over_kept) == sorted(CRATES) == built(top) and not prover.cut
 
 
 def proofs_kept_are_used(top):
@@ -191,6 +277,24 @@ def proofs_kept_are_used(top):
     write(top, "middle", "//! another text\n")
     build(top, prover := Prover())
     return sorted(prover.over_kept) == ["high", "middle"] and build(top, Prover(), keeps=True)[0] == []
+
+
+def proofs_kept_and_lost(top):
+    build(top, Prover(), keeps=True)
+    shutil.rmtree(os.path.join(top, "crates", "high", "out", "incremental"))
+    return build(top, Prover())[0] == [] and build(top, Prover(), keeps=True)[0] == ["high"]
+
+
+def side_by_side(top):
+    # RT_JOBS is obeyed, and is as it was afterwards.
+    found = []
+    with mock.patch.object(kit.rt, "in_lanes", lambda tasks: found.append(os.environ["RT_JOBS"])), mock.patch.dict(os.environ):
+        os.environ.pop("RT_JOBS", None)
+        build(top, Prover())
+        is_gone = "RT_JOBS" not in os.environ
+        os.environ["RT_JOBS"] = "7"
+        build(top, Prover())
+        return is_gone and found[1:] == ["7"] and int(found[0]) >= 1 and os.environ["RT_JOBS"] == "7"
 
 
 def program_too(top):
@@ -205,13 +309,19 @@ def another_program_in_its_place(top):
     build(top, Prover())
     with open(os.path.join(top, "crates", "app", "out", "app"), "w", encoding="utf-8") as it:
         it.write("another program\n")
-    return build(top, Prover())[0] == ["app"]
+    return build(top, Prover())[0] == ["app"] and read(os.path.join(top, "crates", "app", "out", "app")) == "the program app\n"
 
 
 def program_refused(top):
+    # Nothing is left of an earlier program either.
     add_program(top)
-    asked, failed, _ = build(top, Prover(refused=["app"]))
-    return asked == sorted([*CRATES, "app"]) and failed == ["app"] and built(top) == sorted(CRATES)
+    for refused in "app", "link":
+        build(top, Prover())
+        write(top, "app", f"//! refused: {refused}\n", "main.rt")
+        asked, failed, _ = build(top, Prover(refused=[refused]))
+        if asked != ["app"] or failed != ["app"] or built(top) != sorted(CRATES) or os.path.exists(os.path.join(top, "crates", "app", "out", "app")):
+            return False
+    return True
 
 
 CASES = [
@@ -222,32 +332,47 @@ CASES = [
     one_refused,
     refused_and_mended,
     built_before_it_is_refused,
+    killed,
     refused_by_the_gate,
+    no_verdict,
+    no_stamp_while_it_is_proved,
+    file_gone_meanwhile,
     changed_meanwhile,
     changed_and_changed_back,
     below_changed_meanwhile,
     built_once_more,
+    built_once_more_before,
+    built_by_rt,
     broken_off,
     proofs_kept,
     proofs_kept_later,
     proofs_kept_are_used,
+    proofs_kept_and_lost,
+    side_by_side,
     program_too,
     another_program_in_its_place,
     program_refused,
 ]
 
 
+def goes_well(case):
+    """Whether a case goes as it must, in a repository of its own."""
+    with tempfile.TemporaryDirectory(prefix="wire-up-") as top:
+        make(top)
+        try:
+            return case(top)
+        except Exception:
+            traceback.print_exc()
+            return False
+
+
 def all_cases():
-    """Tries each case in a repository of its own, and answers how many went as they must, and how many didn't."""
-    failed = 0
-    for case in CASES:
-        with tempfile.TemporaryDirectory(prefix="wire-up-") as top:
-            make(top)
-            if not case(top):
-                print(f"tests/build_test.py: {case.__name__}")
-                failed += 1
-    print(f"tests/build_test.py: {len(CASES) - failed} passed, {failed} failed", flush=True)
-    return len(CASES) - failed, failed
+    """Tries each case, and answers how many went as they must, and how many didn't."""
+    wrong = [it.__name__ for it in CASES if not goes_well(it)]
+    for name in wrong:
+        print(f"tests/build_test.py: {name}")
+    print(f"tests/build_test.py: {len(CASES) - len(wrong)} passed, {len(wrong)} failed", flush=True)
+    return len(CASES) - len(wrong), len(wrong)
 
 
 if __name__ == "__main__":

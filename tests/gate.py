@@ -150,25 +150,26 @@ def run_program(failures):
 
 def keep_built(room):
     """Puts what `rt ci` built in the copy where users and tests look for it. Answers whether the program is there."""
-    for path in KEPT:
-        made = os.path.join(room, os.path.relpath(path, progress.TOP))
-        if os.path.exists(path):
-            os.remove(path)
-        if os.path.exists(made):
-            os.makedirs(os.path.dirname(path), exist_ok=True)
-            shutil.copy(made, path)
+    programs = [it for it in kit.crates_at(progress.TOP) if kit.made_of(it) in KEPT]
+    with kit.locked(programs):
+        for it in programs:
+            kit.take_away(it)
+            made = os.path.join(room, os.path.relpath(kit.made_of(it), progress.TOP))
+            if os.path.exists(made):
+                os.makedirs(os.path.dirname(kit.made_of(it)), exist_ok=True)
+                shutil.copy(made, kit.made_of(it))
     return os.path.exists(BUILT)
 
 
 def judge(room, files, watch, failures):
     """The counts of each part of the gate, and the seconds of processor time of what follows the proofs, by name. What failed joins the
     failures."""
-    counts, seconds = [heard("rt ci", failures, prove, room)], {}
-    counts.append(heard("build_test", failures, build_test.all_cases))
+    counts, seconds = [heard("build_test", failures, build_test.all_cases)], {}
+    counts.append(heard("rt ci", failures, prove, room))
     if not keep_built(room):
         print("the program was not built, and so it was not run")
         return [*counts, (0, 1)], seconds
-    if counts[0][1]:
+    if counts[-1][1]:
         print("the edits were not tried, as rt ci failed")
     else:
         watch.phase = "edits"

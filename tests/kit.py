@@ -15,7 +15,8 @@ import progress
 # How much of the memory that the kit reckons with for a check one process takes at most.
 SHARE = 0.6
 # Words of a verdict with which `rt ci` refuses a crate: what is proved says nothing then, or rests on code that nothing proves.
-DOUBTS = ("foreign", "hides", "partial", "may-abort", "may-serve", "bugs")
+DOUBTS = {"foreign", "hides", "partial", "may-abort", "may-serve", "bugs"}
+CHANGED = "its text, or that of a library below it, changed meanwhile"
 
 
 def command():
@@ -47,7 +48,7 @@ def remember(crate_type):
 
     def known_stamp(crate):
         files = [path for it in [crate, *crate.below()] for path in rt.rtlib.files_of(it.folder)]
-        looks = [(path, os.stat(path).st_mtime_ns, os.stat(path).st_size) for path in files]
+        looks = [(path, it.st_mtime_ns, it.st_ctime_ns, it.st_size) for path, it in zip(files, map(os.stat, files))]
         if crate.__dict__.get("known_stamp", (None, None))[0] != looks:
             crate.known_stamp = looks, stamp(crate)
         return crate.known_stamp[1]
@@ -57,7 +58,11 @@ def remember(crate_type):
 
 def crates_at(top):
     """The crates of a repository, each after those that it uses."""
-    return sorted(rt.rtlib.crates_below(top), key=lambda it: len(it.below()))
+    found = sorted(rt.rtlib.crates_below(top), key=lambda it: len(it.below()))
+    for it in found:
+        # As the command does, so that what it says of a program is the same.
+        getattr(rt, "read_files", lambda crate: None)(it)
+    return found
 
 
 remember(rt.rtlib.Crate)
@@ -93,8 +98,11 @@ def build(crates, log=sys.stdout, tell=lambda name: None, keeps=False):
     last, and `tell` is called after each crate that is proved. Answers the names of those that failed."""
     failed, tasks, minutes = {}, {}, progress.minutes_of()
     for it in crates:
+        # (`rt` would take a library as built that doesn't fit what is below it now)
+        if not is_done(it, keeps):
+            take_away(it)
         tasks[it.name, "proof"] = (waits_of(it), minutes.get(it.name, 1), rt.need(it), proof_of(it, log, tell, failed, keeps))
-    with one_process_each(crates, 1 if keeps else SHARE):
+    with one_process_each(crates, keeps):
         rt.in_lanes(tasks)
     if failed:
         log.write("$ what the proofs that failed said\n")
@@ -105,10 +113,12 @@ def build(crates, log=sys.stdout, tell=lambda name: None, keeps=False):
 
 
 @contextlib.contextmanager
-def one_process_each(crates, share):
+def one_process_each(crates, keeps):
     """Has the kit give a crate's proof one process, whatever processors are idle: two or more that share a proof each load all that is below it, and
     took longer. Who says by RT_JOBS how many crates are proved side by side is obeyed."""
     was = os.environ.get("RT_JOBS")
+    # (over libraries with proofs a check takes more memory)
+    share = 1 if keeps or any(it.has_kept() for it in crates) else SHARE
     os.environ["RT_JOBS"] = was or str(lanes_for(crates, share))
     try:
         yield
@@ -134,28 +144,69 @@ def proof_of(crate, log, tell, failed, keeps):
         if not all(given[it] for it in waits_of(crate)):
             return False
         if not is_done(crate, keeps):
-            take_away(crate)
-            with tempfile.TemporaryFile("w+", errors="replace") as crate.out:
-                status = prove_anew(crate, keeps)
-                crate.out.seek(0)
-                said = crate.out.read()
-            doubt = f"(exit status {status})" if status else doubt_of(said)
-            if doubt:
+            said, why = prove_anew(crate, keeps)
+            if why:
                 take_away(crate)
-                failed[crate.name] = f"{said}{doubt}\n"
+                failed[crate.name] = f"{said}{why}\n"
                 return False
             log.write(f"== {crate.name}\n{said}")
+            log.flush()
         tell(crate.name)
         return True
 
     return prove
 
 
-def doubt_of(said):
-    """Why a proof doesn't count, where the last line of a check says that it rests on more than the proofs of its functions."""
+def prove_anew(crate, keeps):
+    """Proves and builds a crate. Answers what the prover said, and why what was built doesn't count, if it doesn't."""
+    take_away(crate)
+    try:
+        before = known(crate)
+        if not are_built(crate.below()):
+            return "", CHANGED
+        status, said = check(crate, keeps)
+        why = why_refused(status, said)
+        if not why and (known(crate) != before or not are_built(crate.below())):
+            why = CHANGED
+        if not why:
+            note_built(crate)
+        return said, why
+    except OSError as why:
+        return "", f"{why.filename or crate.name}: {why.strerror}"
+
+
+def check(crate, keeps):
+    """Checks and builds a crate. Where proofs of a library's functions are kept, or are to be, it is built over these, as `rt lib` does. Answers the
+    status of what failed, or 0, and what was printed."""
+    with tempfile.TemporaryFile("w+", errors="replace") as crate.out:
+        try:
+            if crate.is_program:
+                status = build_program(crate)
+            else:
+                status = crate.build_rlib(["--jobs", "1"], anew=False) if keeps or crate.has_kept() else build_cut(crate)
+            crate.out.seek(0)
+            return status, crate.out.read()
+        finally:
+            crate.out = sys.stdout
+
+
+def why_refused(status, said):
+    """Why a check doesn't count: by its status, or since its verdict rests on more than the proofs of the crate's functions."""
+    if status == -signal.SIGKILL:
+        return "it was killed, most likely for memory: with RT_JOBS=1 one crate is proved at a time"
+    if status:
+        return f"(exit status {status})"
     verdict = next((line.split() for line in reversed(said.splitlines()) if line.startswith("logic=proved ")), [])
-    found = [it for it in verdict if it.partition("=")[0] in DOUBTS]
+    found = [it for it in verdict if it.partition("=")[0] in DOUBTS.union(getattr(rt, "NOT_HERE", ()))]
+    if not verdict:
+        return "the prover gave no verdict"
     return f"the gate would refuse this: {' '.join(found)}" if found else ""
+
+
+def known(crate):
+    """From what a crate is built: a sum of its text and of that of the libraries below it, and the times and the size of each of these files."""
+    crate.stamp()
+    return crate.known_stamp
 
 
 def made_of(crate):
@@ -164,7 +215,7 @@ def made_of(crate):
 
 
 def stamp_of(crate):
-    """The file that says from which texts a crate was built."""
+    """The file that says, for the kit too, from which texts a crate was built."""
     return f"{made_of(crate)}.stamp" if crate.is_program else os.path.join(os.path.dirname(crate.rlib), "stamp")
 
 
@@ -178,10 +229,37 @@ def is_built(crate):
     return os.path.exists(made_of(crate)) and rt.rtlib.text_of(stamp_of(crate)) == stamp_now(crate)
 
 
+def are_built(crates):
+    """Whether these crates are built from their texts as they are."""
+    return all(map(is_built, crates))
+
+
+def record_of(crate):
+    """The file that says that a build of a crate was judged here, and over which builds of the libraries below it. The kit knows nothing of it, and
+    takes it away with what it says."""
+    return f"{made_of(crate)}.judged" if crate.is_program else os.path.join(os.path.dirname(crate.rlib), "judged")
+
+
+def record_now(crate):
+    """What stands in that file, if the crate is built over the libraries that are there: when each was built."""
+    return "".join(f"{it.name} {os.stat(stamp_of(it)).st_mtime_ns}\n" for it in [*crate.below(), crate])
+
+
+def note_built(crate):
+    """Writes that a crate is built."""
+    for path, text in (stamp_of(crate), stamp_now), (record_of(crate), record_now):
+        with open(path, "w", encoding="utf-8") as it:
+            it.write(text(crate))
+
+
 def is_done(crate, keeps=False):
-    """Whether a crate is built from its text as it is, and after the libraries below it. With `keeps` the proofs of its functions are kept, too."""
-    times = [os.stat(stamp_of(it)).st_mtime_ns for it in [*crate.below(), crate] if is_built(it)]
-    return len(times) == len(crate.below()) + 1 and times[-1] == max(times) and not (keeps and is_cut(crate))
+    """Whether a crate is built from its text as it is, over the libraries that are there, and was judged here. With `keeps` the proofs of its functions
+    are kept, too."""
+    try:
+        is_there = are_built([*crate.below(), crate]) and rt.rtlib.text_of(record_of(crate)) == record_now(crate)
+    except OSError:
+        return False
+    return is_there and not (keeps and (is_cut(crate) or not crate.has_kept()))
 
 
 def is_cut(crate):
@@ -191,45 +269,17 @@ def is_cut(crate):
 
 def take_away(crate):
     """Takes away what was built of a crate, and first what says that it was."""
-    with contextlib.suppress(FileNotFoundError):
-        os.remove(stamp_of(crate))
+    for path in record_of(crate), stamp_of(crate), *[made_of(crate)] * crate.is_program:
+        with contextlib.suppress(FileNotFoundError):
+            os.remove(path)
     if not crate.is_program:
         shutil.rmtree(os.path.dirname(crate.rlib), ignore_errors=True)
 
 
-def prove_anew(crate, keeps):
-    """Proves and builds a crate. Where proofs of a library's functions are kept, or are to be, it is built over these, as `rt lib` does. Answers the
-    status of what failed, or 1 where what was proved is no longer the text."""
-    before = known(crate)
-    if not all(map(is_built, crate.below())):
-        print("a library below it changed meanwhile", file=crate.out)
-        return 1
-    if crate.is_program:
-        status = build_program(crate)
-    else:
-        status = crate.build_rlib(["--jobs", "1"], anew=False) if keeps or crate.has_kept() else build_cut(crate)
-    if status == -signal.SIGKILL:
-        print("it was killed, most likely for memory: with RT_JOBS=1 one crate is proved at a time", file=crate.out)
-    if status:
-        return status
-    if known(crate) != before or not all(map(is_built, crate.below())):
-        print("its text, or that of a library below it, changed meanwhile", file=crate.out)
-        return 1
-    with open(stamp_of(crate), "w", encoding="utf-8") as it:
-        it.write(stamp_now(crate))
-    return 0
-
-
-def known(crate):
-    """From what a crate is built: a sum of its text and of that of the libraries below it, and the time and size of each of these files."""
-    crate.stamp()
-    return crate.known_stamp
-
-
 def build_cut(crate):
     """Proves and builds a library that holds no more than what crates above can cite, as `rt ci` does: these load it sooner, and it takes less of
-    the disk. The proofs of its functions aren't kept. The kit itself writes no stamp for such a library, since what is above fits only the very
-    library over which it was built; `is_done` sees to that."""
+    the disk. The proofs of its functions aren't kept. The kit itself writes no stamp for such a library, since it fits only the very libraries over
+    which it was built; `is_done` sees to that."""
     os.makedirs(os.path.dirname(crate.rlib))
     open(os.path.join(os.path.dirname(crate.rlib), "cut"), "wb").close()
     return crate.call(rt.rtlib.RATTLE, "build", *crate.words(["--jobs", "1"], keeps=False), "--statements", "-o", crate.rlib)
