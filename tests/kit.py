@@ -8,6 +8,7 @@ import shutil
 import signal
 import sys
 import tempfile
+import threading
 
 sys.dont_write_bytecode = True
 import progress
@@ -47,13 +48,36 @@ def remember(crate_type):
         return list(crate.known_below)
 
     def known_stamp(crate):
-        files = [path for it in [crate, *crate.below()] for path in rt.rtlib.files_of(it.folder)]
-        looks = [(path, it.st_mtime_ns, it.st_ctime_ns, it.st_size) for path, it in zip(files, map(os.stat, files))]
-        if crate.__dict__.get("known_stamp", (None, None))[0] != looks:
-            crate.known_stamp = looks, stamp(crate)
+        with look_once() as seen:
+            looks = [looks_of(it, seen) for it in [crate, *crate.below()]]
+            if crate.__dict__.get("known_stamp", (None, None))[0] != looks:
+                crate.known_stamp = looks, stamp(crate)
         return crate.known_stamp[1]
 
     crate_type.below, crate_type.stamp = known_below, known_stamp
+
+
+# What was seen of the files of each crate, by its folder, while one question is answered.
+LOOKING = threading.local()
+
+
+@contextlib.contextmanager
+def look_once():
+    """Within this, the files of each crate are looked at once, as long as one question is answered."""
+    outer = getattr(LOOKING, "seen", None)
+    LOOKING.seen = {} if outer is None else outer
+    try:
+        yield LOOKING.seen
+    finally:
+        LOOKING.seen = outer
+
+
+def looks_of(crate, seen):
+    """The times and the size of each file of a crate."""
+    if crate.folder not in seen:
+        files = list(rt.rtlib.files_of(crate.folder))
+        seen[crate.folder] = [(path, it.st_mtime_ns, it.st_ctime_ns, it.st_size) for path, it in zip(files, map(os.stat, files))]
+    return seen[crate.folder]
 
 
 def crates_at(top):
@@ -231,7 +255,8 @@ def is_built(crate):
 
 def are_built(crates):
     """Whether these crates are built from their texts as they are."""
-    return all(map(is_built, crates))
+    with look_once():
+        return all(map(is_built, crates))
 
 
 def record_of(crate):
