@@ -17,6 +17,7 @@ import progress
 SHARE = 0.6
 # Words of a verdict with which `rt ci` refuses a crate: what is proved says nothing then, or rests on code that nothing proves.
 DOUBTS = {"foreign", "hides", "partial", "may-abort", "may-serve", "bugs"}
+# Why a build doesn't count that is of a text which isn't there any more.
 CHANGED = "its text, or that of a library below it, changed meanwhile"
 
 
