@@ -25,13 +25,14 @@ class Prover:
 
     def __init__(self, refused=(), meanwhile=lambda crate: None, verdict="logic=proved functions=1", status=1):
         self.refused, self.meanwhile, self.verdict, self.status = refused, meanwhile, verdict, status
-        self.asked, self.over_kept, self.cut = [], [], []
+        self.asked, self.over_kept, self.cut, self.jobs = [], [], [], {}
 
     def call(self, crate, *words):
         made = words[words.index("-o") + 1]
         if words[1:2] != ("build",):
             return self.link(crate, made)
         self.asked.append(crate.name)
+        self.jobs[crate.name] = words[words.index("--jobs") + 1]
         self.cut += [crate.name] * ("--statements" in words)
         self.over_kept += [crate.name] * ("--incremental" in words)
         self.meanwhile(crate)
@@ -304,6 +305,20 @@ def program_too(top):
     return first[:2] == (sorted([*CRATES, "app"]), []) and again[:2] == ([], []) and build(top, Prover())[0] == ["app", "high"] and "app" in built(top)
 
 
+def program_by_idle_processors(top):
+    # A library is proved by one process, and a program by as many as RT_JOBS allows, but by one over libraries with proofs.
+    add_program(top)
+    given = []
+    for number in "3", "1", "9", "0":
+        write(top, "high", f"//! proved by {number}\n")
+        with mock.patch.dict(os.environ, {"RT_JOBS": number}):
+            build(top, prover := Prover())
+        given.append((prover.jobs["high"], prover.jobs["app"]))
+    with mock.patch.dict(os.environ, {"RT_JOBS": "3"}):
+        build(top, prover := Prover(), keeps=True)
+    return given == [("1", "3"), ("1", "1"), ("1", "4"), ("1", "1")] and set(prover.jobs.values()) == {"1"} and "app" in prover.jobs
+
+
 def another_program_in_its_place(top):
     add_program(top)
     build(top, Prover())
@@ -350,6 +365,7 @@ CASES = [
     proofs_kept_and_lost,
     side_by_side,
     program_too,
+    program_by_idle_processors,
     another_program_in_its_place,
     program_refused,
 ]

@@ -15,6 +15,8 @@ import progress
 
 # How much of the memory that the kit reckons with for a check one process takes at most.
 SHARE = 0.6
+# How many processes share a proof at most: more would hardly shorten it.
+MOST = 4
 # Words of a verdict with which `rt ci` refuses a crate: what is proved says nothing then, or rests on code that nothing proves.
 DOUBTS = {"foreign", "hides", "partial", "may-abort", "may-serve", "bugs"}
 # Why a build doesn't count that is of a text which isn't there any more.
@@ -139,8 +141,8 @@ def build(crates, log=sys.stdout, tell=lambda name: None, keeps=False):
 
 @contextlib.contextmanager
 def one_process_each(crates, keeps):
-    """Has the kit give a crate's proof one process, whatever processors are idle: two or more that share a proof each load all that is below it, and
-    took longer. Who says by RT_JOBS how many crates are proved side by side is obeyed."""
+    """Has the kit give a library's proof one process, whatever processors are idle: two or more take more processor time together. Who says by RT_JOBS
+    how many crates are proved side by side is obeyed."""
     was = os.environ.get("RT_JOBS")
     # (over libraries with proofs a check takes more memory)
     share = 1 if keeps or any(it.has_kept() for it in crates) else SHARE
@@ -311,11 +313,18 @@ def build_cut(crate):
     return crate.call(rt.rtlib.RATTLE, "build", *crate.words(["--jobs", "1"], keeps=False), "--statements", "-o", crate.rlib)
 
 
+def jobs_of(program):
+    """By how many processes a program is proved. No other proof is left by then, so it is as many as may prove crates side by side, but one over libraries
+    with proofs: each process would load these."""
+    number = os.environ.get("RT_JOBS", "")
+    return max(1, min(MOST, int(number))) if number.isdigit() and all(map(is_cut, program.below())) else 1
+
+
 def build_program(crate):
     """Proves, builds and links a program."""
     kit, made = rt.rtlib.KIT, made_of(crate)
     os.makedirs(os.path.dirname(made), exist_ok=True)
-    words = [*crate.words(["--jobs", "1"], keeps=False), "--toolchain", f"{kit}/toolchain", "--backend", "llvm", "-o", f"{made}.o"]
+    words = [*crate.words(["--jobs", str(jobs_of(crate))], keeps=False), "--toolchain", f"{kit}/toolchain", "--backend", "llvm", "-o", f"{made}.o"]
     link = ["--target", "x86_64-unknown-linux-gnu", "--toolchain", f"{kit}/toolchain", "-o", made, f"{made}.o"]
     status = crate.call(rt.rtlib.RATTLE, "build", *words)
     return status or crate.call(f"{kit}/bin/rattle-link", *link, f"{kit}/c/libos_c.a", f"{kit}/c/liblibc_c.a")
