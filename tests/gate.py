@@ -43,8 +43,8 @@ BUILT = os.path.join(progress.TOP, "crates", "program", "out", "program")
 KEPT = (BUILT, bench.PARTS)
 # Minutes of processor time: for the 30 crates that there were when it was set, which are 32 since two of them were cut in two, and for each further one.
 BUDGET, FOR_EACH, WERE = 110, 4, 32
-# Machines differ, and one machine from hour to hour. So a gate is measured by crates in which little changed since the budget was set: the seconds
-# of processor time that their proofs took then.
+# Machines differ, and one machine from hour to hour. So a gate is compared with the one that first met the budget, by the proofs of some crates: the
+# seconds of processor time that these took there. The crates, and those below them, have changed since, so not all of the difference is the machine's.
 STEADY = {"wire_store": 23, "wire_locked": 28, "wire_outcome": 35, "wire_order": 32, "wire_words": 42}
 # How much of what a part said is told again at the end, where it failed: so many of its last lines, and so much of each.
 LINES, WIDTH = 8, 160
@@ -182,13 +182,13 @@ def judge(room, files, watch, failures):
 
 
 def in_minutes_then(watch):
-    """Says what the gate would have taken on the machine on which the budget was set."""
+    """Says what the gate would have taken on the machine on which the budget was first met, if the machine alone made these proofs slower."""
     proved, then, now = watch.beside(STEADY)
     if not proved:
         return ""
     names = ", ".join(f"`{it}`" for it in proved)
-    told = f"The proofs of {names}, in which little changed since the budget was set, took {then} seconds then and {now:.0f} now."
-    return f" {told} So this gate is {watch.whole() / 60 * then / now:.0f} minutes of the machine of that day."
+    told = f"The proofs of {names} took {then} seconds in the gate that first met the budget, and {now:.0f} now: they have changed, and machines differ."
+    return f" {told} If all of that were the machine's, this gate would be {watch.whole() / 60 * then / now:.0f} minutes of the machine of that day."
 
 
 def tell_costs(watch, seconds):
