@@ -52,7 +52,7 @@ def cases_of(room, file):
 def tried(file, top, log):
     """What each command wrote about the file and to standard error, by a build without proofs of the repository at `top`."""
     with tempfile.TemporaryDirectory(prefix="wire-up-") as room, open(log, "a", encoding="utf-8") as to:
-        words = ["rt", "try", "--cases", cases_of(room, file)]
+        words = [sys.executable, kit.__file__, "try", cases_of(room, file)]
         how = {"cwd": os.path.join(top, PROGRAM), "text": True, "errors": "replace", "capture_output": True}
         ran = subprocess.run(words, stdin=subprocess.DEVNULL, **how)
         to.write(f"$ rt try\n{ran.stdout}{ran.stderr}")

@@ -14,6 +14,7 @@ from unittest import mock
 
 sys.dont_write_bytecode = True
 import kit
+import lanes
 
 # Each crate, and what it uses: a chain of three, and one apart.
 CRATES = {"low": "", "middle": "low", "high": "middle", "apart": ""}
@@ -287,15 +288,14 @@ def proofs_kept_and_lost(top):
 
 
 def side_by_side(top):
-    # RT_JOBS is obeyed, and is as it was afterwards.
+    # RT_JOBS says how many proofs run side by side, each by one process, and whatever memory is free.
     found = []
-    with mock.patch.object(kit.rt, "in_lanes", lambda tasks: found.append(os.environ["RT_JOBS"])), mock.patch.dict(os.environ):
-        os.environ.pop("RT_JOBS", None)
-        build(top, Prover())
-        is_gone = "RT_JOBS" not in os.environ
-        os.environ["RT_JOBS"] = "7"
-        build(top, Prover())
-        return is_gone and found[1:] == ["7"] and int(found[0]) >= 1 and os.environ["RT_JOBS"] == "7"
+    with mock.patch.object(kit.lanes, "run_all", lambda proofs, machine: found.append((machine, {it.memory for it in proofs.values()}))):
+        for number in "7", "":
+            with mock.patch.dict(os.environ, {"RT_JOBS": number}), mock.patch.object(kit.rt, "processors", lambda: 3):
+                build(top, Prover())
+    told, free = found
+    return told[0] == (7, float("inf"), 1) and free[0].processors == 3 and free[0].most == kit.lanes.MOST and max(free[1]) < min(told[1])
 
 
 def program_too(top):
@@ -305,18 +305,73 @@ def program_too(top):
     return first[:2] == (sorted([*CRATES, "app"]), []) and again[:2] == ([], []) and build(top, Prover())[0] == ["app", "high"] and "app" in built(top)
 
 
-def program_by_idle_processors(top):
-    # A library is proved by one process, and a program by as many as RT_JOBS allows, but by one over libraries with proofs.
+def by_idle_processors(top):
+    # Where nothing else is to be proved, a proof gets all processors; one where RT_JOBS says so, and over libraries that hold proofs.
     add_program(top)
     given = []
-    for number in "3", "1", "9", "0":
-        write(top, "high", f"//! proved by {number}\n")
-        with mock.patch.dict(os.environ, {"RT_JOBS": number}):
-            build(top, prover := Prover())
-        given.append((prover.jobs["high"], prover.jobs["app"]))
-    with mock.patch.dict(os.environ, {"RT_JOBS": "3"}):
-        build(top, prover := Prover(), keeps=True)
-    return given == [("1", "3"), ("1", "1"), ("1", "4"), ("1", "1")] and set(prover.jobs.values()) == {"1"} and "app" in prover.jobs
+    with mock.patch.object(kit.rt, "processors", lambda: 4), mock.patch.object(kit.rt, "free", lambda: 1e12):
+        for number, keeps in ("", False), ("2", False), ("", True):
+            write(top, "low", f"//! proved with {number} {keeps}\n")
+            with mock.patch.dict(os.environ, {"RT_JOBS": number}):
+                build(top, prover := Prover(), keeps)
+            given.append([prover.jobs[it] for it in ("low", "middle", "high", "app")])
+    return given == [["4"] * 4, ["1"] * 4, ["1"] * 4]
+
+
+def over_libraries_of_rt(top):
+    # So it is over a library that `rt` built, whose proofs aren't kept any more.
+    build(top, Prover(), keeps=True)
+    for name in CRATES:
+        shutil.rmtree(os.path.join(top, "crates", name, "out", "incremental"))
+    write(top, "high", "//! another text\n")
+    with mock.patch.object(kit.rt, "processors", lambda: 4), mock.patch.object(kit.rt, "free", lambda: 1e12):
+        build(top, prover := Prover())
+    return prover.jobs == {"high": "1"} and prover.cut == ["high"]
+
+
+def started(proofs, ready, running, processors, memory=100, most=4):
+    """Which proofs start, by the words of each: what it takes, and for which it waits. Each takes ten bytes."""
+    of = {name: lanes.Proof(waits, minutes, 10, None) for name, (minutes, *waits) in proofs.items()}
+    return lanes.start_ready(of, ready, running, lanes.Machine(processors, memory, most))
+
+
+def first_gets_most(_):
+    # The longest chain is that of `low`. One processor is left to the others.
+    proofs = {"low": (1,), "apart": (3,), "other": (2,), "high": (9, "low")}
+    ready = ["low", "apart", "other"]
+    by_four, by_two = started(proofs, ready, {}, 4), started(proofs, ready, {}, 2)
+    beside = started(proofs, ["apart", "other"], {"low": 1}, 4)
+    return by_four == {"low": 4, "apart": 1} and by_two == {"low": 1, "apart": 1} and beside == {"apart": 1, "other": 3}
+
+
+def last_gets_all(_):
+    return [started({"last": (1,)}, ["last"], {}, it) for it in (1, 2, 3, 4, 9)] == [{"last": it} for it in (1, 2, 3, 4, 4)]
+
+
+def memory_is_kept(_):
+    # Ten bytes each, and six more for each further process. The first one starts in any case.
+    proofs = {"one": (2,), "two": (1,)}
+    by_room = [started({"one": (1,)}, ["one"], {}, 4, memory)["one"] for memory in (5, 10, 16, 22, 28, 100)]
+    beside = [started(proofs, ["two"], {"one": number}, 4, memory) for number, memory in ((1, 19), (1, 20), (2, 25), (2, 26))]
+    return by_room == [1, 1, 2, 3, 4, 4] and beside == [{}, {"two": 1}, {}, {"two": 1}]
+
+
+def none_waits_for_ever(_):
+    # Whatever there is, each proof starts once, after those for which it waits, and is given what they gave.
+    names = [f"c{number}" for number in range(12)]
+    for processors in 1, 2, 3, 5:
+        for memory in 1, 35, 1000:
+            begun = []
+
+            def call(given, number, begun=begun):
+                begun.append((len(given), number))
+                return number >= 1
+
+            proofs = {it: lanes.Proof([below for below in names[:at] if at % (names.index(below) + 2) == 0], at % 4, 10, call) for at, it in enumerate(names)}
+            given = lanes.run_all(proofs, lanes.Machine(processors, memory, 4))
+            if sorted(given) != sorted(names) or not all(given.values()) or len(begun) != len(names):
+                return False
+    return True
 
 
 def another_program_in_its_place(top):
@@ -365,7 +420,12 @@ CASES = [
     proofs_kept_and_lost,
     side_by_side,
     program_too,
-    program_by_idle_processors,
+    by_idle_processors,
+    over_libraries_of_rt,
+    first_gets_most,
+    last_gets_all,
+    memory_is_kept,
+    none_waits_for_ever,
     another_program_in_its_place,
     program_refused,
 ]

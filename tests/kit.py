@@ -1,5 +1,8 @@
 """The kit's command `rt` as a module. It is a Python program, and what it knows of crates, of edits and of how much fits side by side is
-used here as it stands."""
+used here as it stands.
+
+Usage: python3 tests/kit.py try FOLDER    in a program's folder: what `rt try --cases FOLDER` does, without its hint
+"""
 import contextlib
 import importlib.machinery
 import importlib.util
@@ -11,12 +14,11 @@ import tempfile
 import threading
 
 sys.dont_write_bytecode = True
+import lanes
 import progress
 
 # How much of the memory that the kit reckons with for a check one process takes at most.
 SHARE = 0.6
-# How many processes share a proof at most: more would hardly shorten it.
-MOST = 4
 # Words of a verdict with which `rt ci` refuses a crate: what is proved says nothing then, or rests on code that nothing proves.
 DOUBTS = {"foreign", "hides", "partial", "may-abort", "may-serve", "bugs"}
 # Why a build doesn't count that is of a text which isn't there any more.
@@ -123,14 +125,17 @@ def build(crates, log=sys.stdout, tell=lambda name: None, keeps=False):
     """Proves and builds crates side by side, each once those below it are built. A crate whose text and libraries are as they were isn't proved
     again. With `keeps` a library is, where the proofs of its functions aren't kept. What a check prints goes to the log, that of those that failed
     last, and `tell` is called after each crate that is proved. Answers the names of those that failed."""
-    failed, tasks, minutes = {}, {}, progress.minutes_of()
+    failed, proofs, minutes = {}, {}, progress.minutes_of()
+    is_new = {it.name: not is_done(it, keeps) for it in crates}
     for it in crates:
         # (`rt` would take a library as built that doesn't fit what is below it now)
-        if not is_done(it, keeps):
+        if is_new[it.name]:
             take_away(it)
-        tasks[it.name, "proof"] = (waits_of(it), minutes.get(it.name, 1), rt.need(it), proof_of(it, log, tell, failed, keeps))
-    with one_process_each(crates, keeps):
-        rt.in_lanes(tasks)
+    machine = machine_for(crates, keeps)
+    for it in crates:
+        takes = minutes.get(it.name, 1) if is_new[it.name] else 0
+        proofs[it.name] = lanes.Proof(names_below(it), takes, memory_for(it, machine.most), proof_of(it, log, tell, failed, keeps))
+    lanes.run_all(proofs, machine)
     if failed:
         log.write("$ what the proofs that failed said\n")
     for name, said in failed.items():
@@ -139,19 +144,18 @@ def build(crates, log=sys.stdout, tell=lambda name: None, keeps=False):
     return list(failed)
 
 
-@contextlib.contextmanager
-def one_process_each(crates, keeps):
-    """Has the kit give a library's proof one process, whatever processors are idle: two or more take more processor time together. Who says by RT_JOBS
-    how many crates are proved side by side is obeyed."""
-    was = os.environ.get("RT_JOBS")
-    # (over libraries with proofs a check takes more memory)
-    share = 1 if keeps or any(it.has_kept() for it in crates) else SHARE
-    os.environ["RT_JOBS"] = was or str(lanes_for(crates, share))
-    try:
-        yield
-    finally:
-        os.environ.pop("RT_JOBS")
-        os.environ.update({"RT_JOBS": was} if was is not None else {})
+def machine_for(crates, keeps):
+    """What there is for the proofs of crates. Who says by RT_JOBS how many processes work side by side is obeyed. Over a library that holds proofs each
+    proof has one process: each further one would load them too."""
+    number = os.environ.get("RT_JOBS", "")
+    told = int(number) if number.isdigit() else 0
+    holds_proofs = keeps or any(it.has_kept() or os.path.exists(it.rlib) and not is_cut(it) for it in crates if not it.is_program)
+    return lanes.Machine(told or rt.processors(), float("inf") if told else 0.85 * rt.free(), 1 if told or holds_proofs else lanes.MOST)
+
+
+def memory_for(crate, most):
+    """The bytes that a crate's proof takes by one process. (Over libraries that hold proofs it takes all that the kit reckons with.)"""
+    return rt.need(crate) * (SHARE if most > 1 else 1)
 
 
 def lanes_for(crates, share=SHARE):
@@ -159,19 +163,19 @@ def lanes_for(crates, share=SHARE):
     return max(1, min(rt.processors(), int(0.85 * rt.free() / (share * max(map(rt.need, crates), default=1)))))
 
 
-def waits_of(crate):
-    """The proofs for which that of a crate waits."""
-    return [(it.name, "proof") for it in crate.below()]
+def names_below(crate):
+    """The names of the crates for whose proofs that of a crate waits."""
+    return [it.name for it in crate.below()]
 
 
 def proof_of(crate, log, tell, failed, keeps):
     """What proves and builds one crate, where it isn't built. It gives whether that went well."""
 
-    def prove(given, _):
-        if not all(given[it] for it in waits_of(crate)):
+    def prove(given, processes):
+        if not all(given[it] for it in names_below(crate)):
             return False
         if not is_done(crate, keeps):
-            said, why = prove_anew(crate, keeps)
+            said, why = prove_anew(crate, keeps, processes)
             if why:
                 take_away(crate)
                 failed[crate.name] = f"{said}{why}\n"
@@ -184,14 +188,14 @@ def proof_of(crate, log, tell, failed, keeps):
     return prove
 
 
-def prove_anew(crate, keeps):
-    """Proves and builds a crate. Answers what the prover said, and why what was built doesn't count, if it doesn't."""
+def prove_anew(crate, keeps, processes):
+    """Proves and builds a crate by so many processes. Answers what the prover said, and why what was built doesn't count, if it doesn't."""
     take_away(crate)
     try:
         before = known(crate)
         if not are_built(crate.below()):
             return "", CHANGED
-        status, said = check(crate, keeps)
+        status, said = check(crate, keeps, processes)
         why = why_refused(status, said)
         if not why and (known(crate) != before or not are_built(crate.below())):
             why = CHANGED
@@ -202,15 +206,15 @@ def prove_anew(crate, keeps):
         return "", f"{why.filename or crate.name}: {why.strerror}"
 
 
-def check(crate, keeps):
-    """Checks and builds a crate. Where proofs of a library's functions are kept, or are to be, it is built over these, as `rt lib` does. Answers the
+def check(crate, keeps, processes):
+    """Checks and builds a crate by so many processes. Where proofs of a library's functions are kept, or are to be, it is built over these, as `rt lib` does. Answers the
     status of what failed, or 0, and what was printed."""
     with tempfile.TemporaryFile("w+", errors="replace") as crate.out:
         try:
             if crate.is_program:
-                status = build_program(crate)
+                status = build_program(crate, processes)
             else:
-                status = crate.build_rlib(["--jobs", "1"], anew=False) if keeps or crate.has_kept() else build_cut(crate)
+                status = crate.build_rlib(["--jobs", "1"], anew=False) if keeps or crate.has_kept() else build_cut(crate, processes)
             crate.out.seek(0)
             return status, crate.out.read()
         finally:
@@ -304,27 +308,32 @@ def take_away(crate):
         shutil.rmtree(os.path.dirname(crate.rlib), ignore_errors=True)
 
 
-def build_cut(crate):
+def build_cut(crate, processes):
     """Proves and builds a library that holds no more than what crates above can cite, as `rt ci` does: these load it sooner, and it takes less of
     the disk. The proofs of its functions aren't kept. The kit itself writes no stamp for such a library, since it fits only the very libraries over
     which it was built; `is_done` sees to that."""
     os.makedirs(os.path.dirname(crate.rlib))
     open(os.path.join(os.path.dirname(crate.rlib), "cut"), "wb").close()
-    return crate.call(rt.rtlib.RATTLE, "build", *crate.words(["--jobs", "1"], keeps=False), "--statements", "-o", crate.rlib)
+    return crate.call(rt.rtlib.RATTLE, "build", *crate.words(["--jobs", str(processes)], keeps=False), "--statements", "-o", crate.rlib)
 
 
-def jobs_of(program):
-    """By how many processes a program is proved. No other proof is left by then, so it is as many as may prove crates side by side, but one over libraries
-    with proofs: each process would load these."""
-    number = os.environ.get("RT_JOBS", "")
-    return max(1, min(MOST, int(number))) if number.isdigit() and all(map(is_cut, program.below())) else 1
-
-
-def build_program(crate):
+def build_program(crate, processes):
     """Proves, builds and links a program."""
     kit, made = rt.rtlib.KIT, made_of(crate)
     os.makedirs(os.path.dirname(made), exist_ok=True)
-    words = [*crate.words(["--jobs", str(jobs_of(crate))], keeps=False), "--toolchain", f"{kit}/toolchain", "--backend", "llvm", "-o", f"{made}.o"]
+    words = [*crate.words(["--jobs", str(processes)], keeps=False), "--toolchain", f"{kit}/toolchain", "--backend", "llvm", "-o", f"{made}.o"]
     link = ["--target", "x86_64-unknown-linux-gnu", "--toolchain", f"{kit}/toolchain", "-o", made, f"{made}.o"]
     status = crate.call(rt.rtlib.RATTLE, "build", *words)
     return status or crate.call(f"{kit}/bin/rattle-link", *link, f"{kit}/c/libos_c.a", f"{kit}/c/liblibc_c.a")
+
+
+def try_cases(folder):
+    """Builds the program in the current folder without proofs, and runs it for each file of a folder, as `rt try --cases` does. That also looks, all the
+    while, for names that a check would refuse: a hint for who changes code, which takes as much processor time again. So this goes without it."""
+    rt.rtlib.RATTLE = "true"
+    here = os.getcwd()
+    return rt.rtlib.Crate(here, rt.rtlib.root_above(here) or here, {}).try_unproved(["--cases", folder], [])
+
+
+if __name__ == "__main__":
+    sys.exit(try_cases(sys.argv[2]) if sys.argv[1:2] == ["try"] and len(sys.argv) == 3 else __doc__)
