@@ -79,13 +79,15 @@ def try_it(file, top=progress.TOP):
     return 0
 
 
-def expected(crates, is_done):
-    """About how many minutes the proofs of crates take: as long as the longest chain of them, or as all of them by all processors."""
-    minutes, chain = progress.minutes_of(), {}
-    left = {it.name: minutes.get(it.name, 1) for it in crates if not is_done(it)}
+def expected(crates, keeps=False):
+    """About how many minutes the proofs of crates take: as long as the longest chain of them, or as all of them by all processors. Where several processes
+    share a proof, a chain takes less, and all together more."""
+    minutes, chain, machine = progress.minutes_of(), {}, kit.machine_for(crates, keeps)
+    left = {it.name: minutes.get(it.name, 1) for it in crates if not kit.is_done(it, keeps)}
     for crate in crates:
         chain[crate.name] = left.get(crate.name, 0) + max((chain[it.name] for it in crate.deps), default=0)
-    return max(*chain.values(), sum(left.values()) / kit.rt.processors())
+    by_chain, by_all = max(chain.values()), sum(left.values()) / machine.processors
+    return max(by_chain, by_all) if machine.most == 1 else max(0.7 * by_chain, 1.2 * by_all)
 
 
 class Proof(threading.Thread):
@@ -95,7 +97,7 @@ class Proof(threading.Thread):
         super().__init__(daemon=True)
         wanted = progress.crates_below("program")
         self.crates = [it for it in kit.crates_at(progress.TOP) if it.name in wanted]
-        self.line, self.log, self.failed = progress.Progress("proving", expected(self.crates, kit.is_done)), log, "the proof was broken off"
+        self.line, self.log, self.failed = progress.Progress("proving", expected(self.crates)), log, "the proof was broken off"
         self.start()
 
     def run(self):
@@ -168,7 +170,7 @@ def build_libraries():
     # As `rt` does: Python would wait for the threads' checks.
     signal.signal(signal.SIGINT, signal.SIG_DFL)
     log, crates = progress.log_at("libraries.log"), [it for it in kit.crates_at(progress.TOP) if not it.is_program]
-    with progress.Progress("proving", expected(crates, lambda it: kit.is_done(it, True))) as line, kit.locked(crates):
+    with progress.Progress("proving", expected(crates, True)) as line, kit.locked(crates):
         failed = prove_crates(crates, line, log, True)
     if failed:
         fail(f"not proved: {' '.join(failed)}", log)

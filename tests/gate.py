@@ -188,7 +188,8 @@ def in_minutes_then(watch):
         return ""
     names = ", ".join(f"`{it}`" for it in proved)
     told = f"The proofs of {names} took {then} seconds in the gate that first met the budget, and {now:.0f} now: they have changed, and machines differ."
-    return f" {told} If all of that were the machine's, this gate would be {watch.whole() / 60 * then / now:.0f} minutes of the machine of that day."
+    converted = f"{watch.whole() / 60 * then / now:.0f} minutes of the machine of that day"
+    return f" {told} If all of that were the machine's, this gate would be {converted} (`tests/speed.py` compares the two by the same text)."
 
 
 def tell_costs(watch, seconds):

@@ -158,9 +158,9 @@ def memory_for(crate, most):
     return rt.need(crate) * (SHARE if most > 1 else 1)
 
 
-def lanes_for(crates, share=SHARE):
+def lanes_for(crates):
     """How many crates are proved side by side by one process each: one to a processor, as many as memory has room for."""
-    return max(1, min(rt.processors(), int(0.85 * rt.free() / (share * max(map(rt.need, crates), default=1)))))
+    return max(1, min(rt.processors(), int(0.85 * rt.free() / (SHARE * max(map(rt.need, crates), default=1)))))
 
 
 def names_below(crate):
@@ -207,8 +207,8 @@ def prove_anew(crate, keeps, processes):
 
 
 def check(crate, keeps, processes):
-    """Checks and builds a crate by so many processes. Where proofs of a library's functions are kept, or are to be, it is built over these, as `rt lib` does. Answers the
-    status of what failed, or 0, and what was printed."""
+    """Checks and builds a crate by so many processes. Where proofs of a library's functions are kept, or are to be, it is built over these, as `rt lib`
+    does. Answers the status of what failed, or 0, and what was printed."""
     with tempfile.TemporaryFile("w+", errors="replace") as crate.out:
         try:
             if crate.is_program:

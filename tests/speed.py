@@ -1,0 +1,52 @@
+"""How fast this machine proves, beside the one on which the gate first met its budget: by some crates as they were then, so by the same text.
+
+Usage: python3 tests/speed.py
+It takes five to ten minutes, in which nothing else should be at work, and needs the history of the repository. It prints how many seconds of
+processor time each crate took then and takes now, and last how many times as long it takes now. So figures of one machine can be compared with those of another.
+"""
+import os
+import subprocess
+import sys
+import tempfile
+
+sys.dont_write_bytecode = True
+import costs
+import kit
+import progress
+
+# The commit of that gate, and the seconds of processor time that the proofs of these crates took in it.
+COMMIT = "51f0f7b"
+THEN = {"wire_types": 56, "wire_runs": 10, "wire_lines": 78, "wire_rehearsal": 75, "wire_store": 23, "wire_names": 12, "wire_words": 42}
+
+
+def checked_out(room):
+    """A copy of the repository as it was at that commit."""
+    for words in ["clone", "--quiet", "--no-checkout", progress.TOP, room], ["-C", room, "checkout", "--quiet", COMMIT]:
+        if subprocess.run(["git", *words], check=False).returncode:
+            sys.exit(f"This needs the repository's history, with commit {COMMIT}.")
+    return room
+
+
+def prove(room):
+    """Proves the crates from nothing, and answers the seconds of each."""
+    # (a kit that keeps what was proved would take it from there)
+    words = ["rt", "ci", *["--anew"] * hasattr(kit.rt, "Kept"), *THEN]
+    how = {"cwd": room, "env": {**os.environ, "RT_JOBS": str(kit.rt.processors())}, "text": True, "errors": "replace"}
+    with costs.Costs() as watch:
+        ran = subprocess.run(words, check=False, stdout=subprocess.PIPE, stderr=subprocess.STDOUT, **how)
+    if ran.returncode:
+        sys.exit(f"{ran.stdout}rt ci failed")
+    return {name: row["proof"] for name, row in watch.rows(THEN).items()}
+
+
+def main():
+    with tempfile.TemporaryDirectory(prefix="wire-up-") as room:
+        now = prove(checked_out(room))
+    for name, seconds in now.items():
+        print(f"{name}: {THEN[name]} then, {seconds:.0f} now")
+    then, now = sum(THEN.values()), sum(now.values())
+    print(f"together {then} seconds then, {now:.0f} now: {now / then:.2f} times as long")
+
+
+if __name__ == "__main__":
+    main()
