@@ -93,12 +93,6 @@ class Costs:
                 table[crate][kind] += seconds
         return table
 
-    def beside(self, steady):
-        """Of the crates whose seconds of an earlier proof are given, those that were proved now, the seconds that they took then, and now."""
-        table = self.rows(steady)
-        proved = [it for it in steady if table[it]["proof"] >= 1]
-        return proved, sum(steady[it] for it in proved), sum(table[it]["proof"] for it in proved)
-
     def report(self, crates, others):
         """The table, in whole seconds, and the sum in minutes. `others` has the seconds of what else was done, by name."""
         table = self.rows(crates)

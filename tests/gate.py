@@ -43,9 +43,6 @@ BUILT = os.path.join(progress.TOP, "crates", "program", "out", "program")
 KEPT = (BUILT, bench.PARTS)
 # Minutes of processor time: for the 30 crates that there were when it was set, which are 32 since two of them were cut in two, and for each further one.
 BUDGET, FOR_EACH, WERE = 110, 4, 32
-# Machines differ, and one machine from hour to hour. So a gate is compared with the one that first met the budget, by the proofs of some crates: the
-# seconds of processor time that these took there. The crates, and those below them, have changed since, so not all of the difference is the machine's.
-STEADY = {"wire_store": 23, "wire_locked": 28, "wire_outcome": 35, "wire_order": 32, "wire_words": 42}
 # How much of what a part said is told again at the end, where it failed: so many of its last lines, and so much of each.
 LINES, WIDTH = 8, 160
 
@@ -181,24 +178,13 @@ def judge(room, files, watch, failures):
     return counts + ran, {**seconds, **of_each}
 
 
-def in_minutes_then(watch):
-    """Says what the gate would have taken on the machine on which the budget was first met, if the machine alone made these proofs slower."""
-    proved, then, now = watch.beside(STEADY)
-    if not proved:
-        return ""
-    names = ", ".join(f"`{it}`" for it in proved)
-    told = f"The proofs of {names} took {then} seconds in the gate that first met the budget, and {now:.0f} now: they have changed, and machines differ."
-    converted = f"{watch.whole() / 60 * then / now:.0f} minutes of the machine of that day"
-    return f" {told} If all of that were the machine's, this gate would be {converted} (`tests/speed.py` compares the two by the same text)."
-
-
 def tell_costs(watch, seconds):
     """Prints what the gate cost, and keeps it in a file."""
     crates = progress.crates_below(None)
-    told, budget = watch.report(crates, seconds) + in_minutes_then(watch), BUDGET + FOR_EACH * (len(crates) - WERE)
+    told, budget = watch.report(crates, seconds), BUDGET + FOR_EACH * (len(crates) - WERE)
     with open(os.path.join(progress.LOGS, "gate-costs.md"), "w", encoding="utf-8") as it:
         it.write(f"{told}\n")
-    print(f"{told} The budget is {budget}: more is a reason to look, and no failure, as machines differ.", flush=True)
+    print(f"{told} The budget is {budget}: more is a reason to look, and no failure, as machines differ (`tests/speed.py` says by how much).", flush=True)
 
 
 def main():

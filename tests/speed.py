@@ -1,8 +1,9 @@
-"""How fast this machine proves, beside the one on which the gate first met its budget: by some crates as they were then, so by the same text.
+"""How fast this machine proves: some crates as they were at an old commit, so the same text whenever and wherever it is measured.
 
 Usage: python3 tests/speed.py
-It takes five to ten minutes, in which nothing else should be at work, and needs the history of the repository. It prints how many seconds of
-processor time each crate took then and takes now, and last how many times as long it takes now. So figures of one machine can be compared with those of another.
+It takes five to ten minutes, in which nothing else should be at work, and needs the history of the repository. It prints how many seconds of processor
+time each crate took in the fastest gate so far and takes now, and last how many times as long it takes now. So figures of different machines, and of
+different hours of one machine, can be compared.
 """
 import os
 import subprocess
@@ -14,7 +15,7 @@ import costs
 import kit
 import progress
 
-# The commit of that gate, and the seconds of processor time that the proofs of these crates took in it.
+# The commit of the fastest gate so far, and the seconds of processor time that the proofs of these crates took in it.
 COMMIT = "51f0f7b"
 THEN = {"wire_types": 56, "wire_runs": 10, "wire_lines": 78, "wire_rehearsal": 75, "wire_store": 23, "wire_names": 12, "wire_words": 42}
 
