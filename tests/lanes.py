@@ -4,6 +4,8 @@ from concurrent.futures import FIRST_COMPLETED, ThreadPoolExecutor, wait
 
 # How many processes share a proof at most: more would hardly shorten it.
 MOST = 4
+# How many minutes a proof takes by one process for each further one that it gets: each loads once more what the proof needs, 10 to 14 seconds.
+WORTH = 0.5
 # How much memory each further process of a proof takes, as a part of what the first one takes.
 FURTHER = 0.6
 
@@ -34,8 +36,8 @@ def busy(processes):
 
 
 def processes_for(proof, share, room, machine):
-    """How many processes a proof gets for its share of the processors, one at least. There must be room for them in memory."""
-    numbers = range(2, min(machine.most, machine.processors) + 1)
+    """How many processes a proof gets for its share of the processors, one at least. They must be worth it, and there must be room for them in memory."""
+    numbers = range(2, min(machine.most, machine.processors, 1 + int(proof.minutes / WORTH)) + 1)
     return max((it for it in numbers if busy(it) <= share and memory_of(proof, it) <= room), default=1)
 
 
