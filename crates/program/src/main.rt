@@ -27,7 +27,7 @@ use std::{env, io, thread};
 use terminal_line::{NotedReader, NotedWriter, Progress, Streams, Work, start_line};
 use wire_explain::{explain_order, explain_plan, explain_word};
 use wire_stops::explain_stop;
-use wire_types::{Fault, FromRead, ToWrite, write_out};
+use wire_types::{Fault, FromRead, Sink, ToWrite, write_out};
 use wire_up::{CallWords, Refusal, Request, Size, read_request};
 
 /// The exit status of a command line that can't be read.
@@ -317,18 +317,34 @@ fn serve(
     let progress = watch.progress;
     let mut reader = open_plan(rt, plan_of(&request), progress, &mut watch.plan)?;
     let mut writer = ToWrite::new(NotedWriter::new(rt, progress));
-    let (reader, writer) = (&mut reader, &mut writer);
+    let kept = &mut watch.order;
+    run_command(
+        rt,
+        request,
+        OrderWatch { progress, kept },
+        &mut reader,
+        &mut writer,
+    )
+}
+
+/// Runs the command that was requested over its plan, which is open, and answers the exit status.
+fn run_command<R: Read, W: Sink>(
+    rt: &(impl Files + Print + Eprint + AllocGlobal + Threads + Wait + Sync),
+    request: Request<'_>,
+    watch: OrderWatch<'_>,
+    reader: &mut FromRead<R>,
+    writer: &mut W,
+) -> Result<u8, Fault> {
     match request {
         Request::Check(asked) => check_plan(rt, asked, reader, writer),
-        Request::Replay(asked) => replay_plan(rt, asked, progress, reader, writer),
+        Request::Replay(asked) => replay_plan(rt, asked, watch.progress, reader, writer),
         Request::Follow(asked) => {
             if asked.plan.is_none() {
                 // Where standard input is closed, the order would be opened in its place, and be read as the
                 // plan. A read of no bytes fails there, and takes nothing anywhere else.
                 judge_read(reader.inner.read(&mut [0; 0]))?;
             }
-            let kept = &mut watch.order;
-            follow_order(rt, asked, OrderWatch { progress, kept }, reader, writer)
+            follow_order(rt, asked, watch, reader, writer)
         }
         Request::Why(asked) => answer_question(rt.alloc(), asked, reader, writer),
         Request::Migrate(asked) => migrate_plan(rt.alloc(), asked, reader, writer),

@@ -7,3 +7,5 @@ pub mod Same
 pub mod Migrated
 pub mod PlannedCalls
 mod Apart
+mod Broken
+mod Lines

@@ -4,7 +4,7 @@ use Rattle.std.proofs.Common.{ap, subst, inl, inr, arith, add-one}
 use Rattle.std.proofs.lemmas.Bool.{cases_eq, cases_lt, eq-eqb, ne_eqb, lt-ltb, le-ltb}
 use Rattle.std.proofs.lemmas.Option.{none-some, slice_get-get_or}
 use Rattle.std.proofs.lemmas.List.{get_or-set_same, get_or-set_other, length-set, get_or_append_left, get_or_push, length_push, get_or_past, get_or-replicate, length-replicate}
-use Rattle.std.proofs.lemmas.List.Sums.{sum_by_push, count_by-le-length}
+use Rattle.std.proofs.lemmas.List.Sums.{sum_by_push, sum_by_more_le, count_by-le-length}
 use Rattle.std.proofs.Math.ListN.{set}
 use Rattle.wire_runs.specs.Plan.{update}
 use Rattle.wire_types.specs.declared.Call.{Call}
@@ -267,6 +267,15 @@ all_more rows new sets processes numbers more n process all is few are kept read
       | inl low ↦ lt-ltb m k low ∙ sym (lt-ltb m (suc k) (omega (arith, low)))
       | inr le ↦ le-ltb m k le ∙ sym (le-ltb m (suc k) (omega (arith, le, ne)))
     ]
+
+-- so few rows that the calls of one more process find room
+pub room_left : (rows : List FenceDraft) (processes : List Process) (n : ℕ) (process : Process) (calls : List Call) → length rows ≤ call_count (take n processes) → n < length processes →
+    process ≡ get_or processes n process → calls ≡ process.calls → call_count processes < 2147483648 → length rows + length calls < 4294967296
+room_left rows processes n process calls few low is same counted =
+    let more = sum_by_more_le (λ (q : Process). length q.calls) processes n process low in
+    let here = ap (λ (q : Process). length q.calls) is in
+    let its = ap length same in
+    omega (arith, few, counted, more, here, its)
 
 -- the same, where the calls that were read are told apart from the process
 pub all_more_of : (rows new : List FenceDraft) (sets : List (List ℕ)) (processes : List Process) (numbers : List (List (Option ℕ))) (more : List (Option ℕ)) (n : ℕ) (process : Process)

@@ -183,3 +183,20 @@ impl Register {
         Ok(numbers)
     }
 }
+
+// The rows of the fences that processes call, and the number of the fence of each call.
+pub(crate) fn read_rows(
+    alloc: Global,
+    sets: &[Vec<Proc>],
+    processes: &[Process],
+) -> Result<(Vec<FenceDraft>, Vec<Vec<Option<u32>>>), AllocError>
+    requires counted { IsCounted processes.now }
+    requires within { (p c set : ℕ) (collect : _) → call_at processes.now p c ≡ Some (TheFence set collect) → set < length sets.now }
+    ensures numbers { IfOk result (λ made. AreAllNumbers made.0.items processes.now (map (λ v. v.items) made.1.items) (length processes.now)) }
+    ensures read { IfOk result (λ made. (s : Scripts) → IsSound s → map (λ v. numbers_of v.items) sets.now ≡ s.sets → processes.now ≡ s.processes
+        → AreRead s (read_to s (length processes.now)) made.0.items) }
+{
+    let mut register = Register::new(alloc);
+    let numbers = register.read_all(alloc, sets, processes)?;
+    Ok((register.rows, numbers))
+}

@@ -10,7 +10,7 @@ ghost use Rattle.wire_procmap.specs.Map.{map_of, row_count};
 ghost use Rattle.wire_fence.specs.FenceTable.{FenceInfo, AreFencesOf, fence_at, members_in, full_in, collects_in};
 ghost use Rattle.wire_fence.specs.FenceTable.{reaches_in, is_noted, fence_number as the_fence_number};
 
-use crate::register::{FenceDraft, Register, members_of};
+use crate::register::{FenceDraft, members_of, read_rows};
 use indexmap::IndexSet;
 use std::alloc::{AllocError, Global};
 use std::marker::Model;
@@ -129,12 +129,11 @@ impl Fences {
         let processes = scripts.processes();
         let sets = copy_sets(alloc, scripts.sets())?;
         let reached = nodes_of_sets(alloc, map, scripts.sets())?;
-        let mut register = Register::new(alloc);
-        let numbers = register.read_all(alloc, &sets, processes)?;
+        let (rows, numbers) = read_rows(alloc, &sets, processes)?;
         Ok(Fences {
             sets,
             reached,
-            rows: register.rows,
+            rows,
             numbers,
         })
     }

@@ -1,12 +1,12 @@
 -- What is counted, once one label more is.
-use Rattle.std.proofs.Common.{◌≡◌, ◌∙◌, ℕ, zero, suc, ◌+◌, ◌<◌, Bool, true, false, not, cond, ◌||◌, List, [], ◌∷◌, ◌++◌, map, length, take, get_or, refl, sym, ap, subst, arith, true≢false}
+use Rattle.std.proofs.Common.{◌≡◌, ◌∙◌, ℕ, zero, suc, ◌+◌, ◌<◌, ◌≤◌, Bool, true, false, not, cond, ◌||◌, List, [], ◌∷◌, ◌++◌, map, length, take, get_or, refl, sym, ap, subst, arith, true≢false}
 use Rattle.std.specs.Cmp.{IsEquivalence}
 use Rattle.std.specs.Prelude.{sum_by}
 use Rattle.std.specs.List.{list_any, position_or_len}
 use Rattle.std.proofs.Math.ListN.{set}
 use Rattle.std.proofs.Math.Seq.{take-suc}
-use Rattle.std.proofs.lemmas.List.{length-map}
-use Rattle.std.proofs.lemmas.List.Sums.{sum_by-append, sum_by-set}
+use Rattle.std.proofs.lemmas.List.{length-map, length-take-le}
+use Rattle.std.proofs.lemmas.List.Sums.{sum_by-append, sum_by-set, get_or-le-sum_by}
 use Rattle.indexmap.specs.IndexSet.{insert_key}
 use Rattle.std.proofs.lemmas.Bool.{not-true, not-false}
 use Rattle.wire_groups.specs.declared.Group.{Group}
@@ -110,3 +110,23 @@ module _ {K : Type 0} (same : K → K → Bool) (laws : IsEquivalence same) (x :
   noted_again labels place number g is_new old new below is was keys added was_there at read groups =
       subst (λ ls. IsTally same ls new) (sym (one_more_taken labels place below is))
       (tally_again (take place labels) old new number g was keys (not-false (list_any (same x) old.labels.keys) (sym added ∙ was_there)) at read groups)
+
+  -- the group of a label that was seen is there
+  pub group_there : (labels : List K) (number : ℕ) (is_new : Bool) (old : Tally K) → IsTally same labels old → is_new ≡ not (list_any (same x) old.labels.keys) → is_new ≡ false →
+      number ≡ position_or_len (same x) old.labels.keys → number < length old.groups.items
+  group_there labels number is_new old was added was_there at =
+      subst (λ n. n < length old.groups.items) (sym at)
+      (subst (λ n. position_or_len (same x) old.labels.keys < n) as_many (within old.labels.keys (not-false (list_any (same x) old.labels.keys) (sym added ∙ was_there))))
+    where
+      as_many : length old.labels.keys ≡ length old.groups.items
+      as_many = ap length was.keys ∙ sym (length-map (distinct same labels) (group_of same labels)) ∙ sym (ap length was.groups)
+
+  -- a group counts no more than was counted
+  pub count_within : (labels : List K) (place number : ℕ) (g : Group) (old : Tally K) → place < length labels → IsTally same (take place labels) old → number < length old.groups.items →
+      g ≡ get_or old.groups.items number g → g.count ≤ place
+  count_within labels place number g old below was there read =
+      let most = get_or-le-sum_by (λ (h : Group). h.count) old.groups.items number g there in
+      let its = ap (λ (h : Group). h.count) read in
+      let whole = was.whole in
+      let taken = length-take-le place labels (omega (arith, below)) in
+      omega (arith, most, its, whole, taken)

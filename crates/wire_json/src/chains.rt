@@ -6,8 +6,9 @@ ghost use Rattle.wire_json.specs.Chains as spec;
 ghost use Rattle.wire_json.specs.ChainTrees as trees;
 
 use crate::forms::tree_line;
+use crate::objects::Object;
 use crate::places::{call_names, named_call, place_trees};
-use serde_json::{Value, json};
+use serde_json::Value;
 use std::alloc::{AllocError, Global};
 use wire_content::Scripts;
 use wire_types::CallAt;
@@ -41,7 +42,7 @@ pub fn chain_json(
     ensures { IfOk result (λ text. text.items ≡ spec.json_chain first scripts.now steps.now) }
 {
     let chain = step_trees(alloc, scripts, steps)?;
-    tree_line(alloc, chain_tree(alloc, which_word(first), chain)?)
+    tree_line(alloc, chain_tree(alloc, which_word(first), chain))
 }
 
 /// That no chain orders two calls, and which of them are dead, as JSON.
@@ -53,7 +54,7 @@ pub fn unordered_json(
     ensures { IfOk result (λ text. text.items ≡ spec.json_unordered scripts.now dead.now) }
 {
     let places = place_trees(alloc, scripts, dead)?;
-    tree_line(alloc, unordered_tree(alloc, places)?)
+    tree_line(alloc, unordered_tree(alloc, places))
 }
 
 /// Which of two calls comes before the other.
@@ -112,19 +113,30 @@ fn half_call(
 ) -> Result<Value, AllocError>
     ensures { IfOk result (λ tree. view tree ≡ trees.half_data half.now number proc.now verb.now) }
 {
-    json!(in alloc; {"call": number, "half": half, "proc": proc, "verb": verb})
+    Object::new(alloc)
+        .put_number("call", number)
+        .put_text("half", half)
+        .put_text("proc", proc)
+        .put_text("verb", verb)
+        .finish()
 }
 
 /// A chain under the word for the call that comes first.
 fn chain_tree(alloc: Global, before: &str, chain: Vec<Value>) -> Result<Value, AllocError>
     ensures { IfOk result (λ tree. view tree ≡ trees.chain_data before.now (map view chain.items)) }
 {
-    json!(in alloc; {"before": before, "chain": chain})
+    Object::new(alloc)
+        .put_text("before", before)
+        .put_list("chain", chain)
+        .finish()
 }
 
 /// Calls that no chain orders.
 fn unordered_tree(alloc: Global, dead: Vec<Value>) -> Result<Value, AllocError>
     ensures { IfOk result (λ tree. view tree ≡ trees.unordered_data (map view dead.items)) }
 {
-    json!(in alloc; {"before": null, "dead": dead})
+    Object::new(alloc)
+        .put_null("before")
+        .put_list("dead", dead)
+        .finish()
 }

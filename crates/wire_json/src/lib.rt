@@ -4,6 +4,7 @@
 
 mod chains;
 mod forms;
+mod objects;
 mod parts;
 mod places;
 mod strings;

@@ -4,8 +4,9 @@ ghost use Rattle.std.specs.Prelude.{◌≡◌, map, string_bytes, IfOk};
 ghost use Rattle.serde_json.specs.View.{view};
 ghost use Rattle.wire_json.specs.ChainTrees as trees;
 
+use crate::objects::Object;
 use crate::strings::printable_text;
-use serde_json::{Value, json};
+use serde_json::Value;
 use std::alloc::{AllocError, Global};
 use wire_content::Scripts;
 use wire_types::CallAt;
@@ -65,7 +66,10 @@ pub(crate) fn place_tree(
 fn bare_place(alloc: Global, number: u64, proc: &str) -> Result<Value, AllocError>
     ensures { IfOk result (λ tree. view tree ≡ trees.bare_place number proc.now) }
 {
-    json!(in alloc; {"call": number, "proc": proc})
+    Object::new(alloc)
+        .put_number("call", number)
+        .put_text("proc", proc)
+        .finish()
 }
 
 /// A call: its number, its process, and what it is called.
@@ -77,5 +81,9 @@ pub(crate) fn named_call(
 ) -> Result<Value, AllocError>
     ensures { IfOk result (λ tree. view tree ≡ trees.named_data number proc.now verb.now) }
 {
-    json!(in alloc; {"call": number, "proc": proc, "verb": verb})
+    Object::new(alloc)
+        .put_number("call", number)
+        .put_text("proc", proc)
+        .put_text("verb", verb)
+        .finish()
 }

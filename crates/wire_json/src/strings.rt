@@ -3,7 +3,7 @@
 ghost use Rattle.std.specs.Prelude.{◌≡◌, ◌<◌, map, string_bytes, IfOk};
 ghost use Rattle.serde_json.specs.View.{view};
 ghost use Rattle.wire_json.specs.Json as spec;
-ghost use Rattle.wire_json.specs.Trees.{strings_data};
+ghost use Rattle.wire_json.specs.Trees.{strings_data, text_data};
 
 use serde_json::Value;
 use std::alloc::{AllocError, Global};
@@ -39,8 +39,14 @@ pub fn string_trees(alloc: Global, texts: &[Vec<u8>]) -> Result<Vec<Value>, Allo
 {
     let mut values = Vec::new(alloc);
     for text in texts {
-        let string = printable_text(alloc, text.as_slice())?;
-        values.push(Value::String(string))?;
+        values.push(string_tree(alloc, text.as_slice())?)?;
     }
     Ok(values)
+}
+
+/// A string of this text.
+fn string_tree(alloc: Global, text: &[u8]) -> Result<Value, AllocError>
+    ensures { IfOk result (λ tree. view tree ≡ text_data text.now) }
+{
+    Ok(Value::String(printable_text(alloc, text)?))
 }

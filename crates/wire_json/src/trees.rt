@@ -1,11 +1,15 @@
 //! A report as a tree of JSON.
 
-ghost use Rattle.std.specs.Prelude.{◌≡◌, map, IfOk};
+ghost use Rattle.std.specs.Prelude.{◌≡◌, codes, map, string_bytes, IfOk};
+ghost use Rattle.serde_json.specs.Data.{member, no_members, object, string};
 ghost use Rattle.serde_json.specs.View.{view};
+ghost use Rattle.wire_content.specs.Canonical.{process_text};
+ghost use Rattle.wire_json.specs.Json.{printed};
 ghost use Rattle.wire_json.specs.Trees as spec;
 
+use crate::objects::Object;
 use crate::strings::printable_text;
-use serde_json::{Value, json};
+use serde_json::Value;
 use std::alloc::{AllocError, Global};
 use wire_content::{Process, Scripts};
 use wire_types::{Call, CallEnd, Value as ReplyValue};
@@ -36,11 +40,33 @@ fn rank_tree(
 ) -> Result<Value, AllocError>
     ensures { IfOk result (λ value. view value ≡ spec.rank_data scripts.now process.now ends.now) }
 {
+    let name = process_name(alloc, scripts, process)?;
+    match call_trees(alloc, scripts, process, ends) {
+        Ok(calls) => named_calls(alloc, calls, name),
+        Err(fault) => {
+            drop(name);
+            Err(fault)
+        }
+    }
+}
+
+/// The name of a process, as it is shown.
+fn process_name(alloc: Global, scripts: &Scripts, process: &Process) -> Result<String, AllocError>
+    ensures { IfOk result (λ name. string_bytes name ≡ map printed (process_text scripts.now process.now)) }
+{
     let mut text = Vec::new(alloc);
     push_process(&mut text, scripts, process)?;
-    let name = printable_text(alloc, text.as_slice())?;
-    let calls = call_trees(alloc, scripts, process, ends)?;
-    json!(in alloc; {"calls": calls, "proc": name})
+    printable_text(alloc, text.as_slice())
+}
+
+/// The calls of a process under its name.
+fn named_calls(alloc: Global, calls: Vec<Value>, name: String) -> Result<Value, AllocError>
+    ensures { IfOk result (λ tree. view tree ≡ object (member (codes "calls") (spec.list_data (map view calls.items)) (member (codes "proc") (string (string_bytes name)) no_members))) }
+{
+    Object::new(alloc)
+        .put_list("calls", calls)
+        .put_string("proc", name)
+        .finish()
 }
 
 /// The calls of a process, each with its end.
@@ -83,12 +109,19 @@ fn call_tree(
 fn bare_call(alloc: Global, reply: &str, verb: &str) -> Result<Value, AllocError>
     ensures { IfOk result (λ tree. view tree ≡ spec.bare_data reply.now verb.now) }
 {
-    json!(in alloc; {"reply": reply, "verb": verb})
+    Object::new(alloc)
+        .put_text("reply", reply)
+        .put_text("verb", verb)
+        .finish()
 }
 
 /// A call whose reply brings something.
 fn valued_call(alloc: Global, reply: &str, value: &str, verb: &str) -> Result<Value, AllocError>
     ensures { IfOk result (λ tree. view tree ≡ spec.valued_data reply.now value.now verb.now) }
 {
-    json!(in alloc; {"reply": reply, "value": value, "verb": verb})
+    Object::new(alloc)
+        .put_text("reply", reply)
+        .put_text("value", value)
+        .put_text("verb", verb)
+        .finish()
 }

@@ -9,10 +9,11 @@ ghost use Rattle.wire_json.specs.Witnesses as spec;
 ghost use Rattle.wire_json.specs.WitnessTrees as trees;
 
 use crate::chains::{ChainStep, Half, step_tree};
-use crate::forms::{names_of, tree_line, tree_text};
+use crate::forms::{name_trees, tree_line, tree_text};
+use crate::objects::Object;
 use crate::places::place_tree;
-use crate::strings::{printable_text, string_trees};
-use serde_json::{Value, json};
+use crate::strings::printable_text;
+use serde_json::Value;
 use std::alloc::{AllocError, Global};
 use wire_content::Scripts;
 use wire_types::{CallAt, CallEnd, Proc, Value as ReplyValue};
@@ -50,14 +51,14 @@ pub fn witness_json(
     let after = run_tree(alloc, scripts, second.end, second.order)?;
     let half = Half::Whole;
     let shown = step_tree(alloc, scripts, ChainStep { call, half })?;
-    tree_line(alloc, witness_tree(alloc, before, after, shown)?)
+    tree_line(alloc, witness_tree(alloc, before, after, shown))
 }
 
 /// That nothing shows two calls, of which a race is reported or not, as JSON.
 pub fn unshown_json(alloc: Global, race: bool) -> Result<Vec<u8>, AllocError>
     ensures { IfOk result (λ text. text.items ≡ spec.json_unshown race) }
 {
-    tree_line(alloc, unshown_tree(alloc, race)?)
+    tree_line(alloc, unshown_tree(alloc, race))
 }
 
 /// The races that were tried, of each the words of its finding and the call that shows it, and how many there are,
@@ -73,7 +74,7 @@ pub fn races_json(
 {
     let races = tried_trees(alloc, scripts, findings, shown)?;
     let numbers = counts_tree(alloc, counts)?;
-    tree_line(alloc, races_tree(alloc, numbers, races)?)
+    tree_line(alloc, races_tree(alloc, numbers, races))
 }
 
 /// A run, by the processes of its steps and how a call ends in it, as a part of a form.
@@ -101,8 +102,7 @@ fn run_tree(
 ) -> Result<Value, AllocError>
     ensures { IfOk result (λ tree. view tree ≡ trees.run_data scripts.now end.now (numbers_of order.now)) }
 {
-    let names = names_of(alloc, scripts, order)?;
-    let steps = string_trees(alloc, names.as_slice())?;
+    let steps = name_trees(alloc, scripts, order)?;
     end_tree(alloc, scripts, steps, end)
 }
 
@@ -130,7 +130,10 @@ fn end_tree(
 fn bare_run(alloc: Global, order: Vec<Value>, reply: &str) -> Result<Value, AllocError>
     ensures { IfOk result (λ tree. view tree ≡ trees.bare_run (map view order.items) reply.now) }
 {
-    json!(in alloc; {"order": order, "reply": reply})
+    Object::new(alloc)
+        .put_list("order", order)
+        .put_text("reply", reply)
+        .finish()
 }
 
 /// A run in which a call ends with something.
@@ -142,7 +145,11 @@ fn valued_run(
 ) -> Result<Value, AllocError>
     ensures { IfOk result (λ tree. view tree ≡ trees.valued_run (map view order.items) reply.now value.now) }
 {
-    json!(in alloc; {"order": order, "reply": reply, "value": value})
+    Object::new(alloc)
+        .put_list("order", order)
+        .put_text("reply", reply)
+        .put_text("value", value)
+        .finish()
 }
 
 /// Two runs, and the call that ends differently in them.
@@ -154,14 +161,22 @@ fn witness_tree(
 ) -> Result<Value, AllocError>
     ensures { IfOk result (λ tree. view tree ≡ trees.witness_data (view first) (view second) (view shown)) }
 {
-    json!(in alloc; {"first": first, "race": true, "second": second, "shown": shown})
+    Object::new(alloc)
+        .put("first", first)
+        .put_flag("race", true)
+        .put("second", second)
+        .put("shown", shown)
+        .finish()
 }
 
 /// Two calls that nothing shows.
 fn unshown_tree(alloc: Global, race: bool) -> Result<Value, AllocError>
     ensures { IfOk result (λ tree. view tree ≡ trees.unshown_data race) }
 {
-    json!(in alloc; {"race": race, "shown": null})
+    Object::new(alloc)
+        .put_flag("race", race)
+        .put_null("shown")
+        .finish()
 }
 
 /// The races that were tried.
@@ -209,21 +224,30 @@ fn shown_tree(alloc: Global, scripts: &Scripts, shown: Option<CallAt>) -> Result
 fn named_race(alloc: Global, finding: &str, shown: Value) -> Result<Value, AllocError>
     ensures { IfOk result (λ tree. view tree ≡ trees.tried_with finding.now (view shown)) }
 {
-    json!(in alloc; {"finding": finding, "shown": shown})
+    Object::new(alloc)
+        .put_text("finding", finding)
+        .put("shown", shown)
+        .finish()
 }
 
 /// How many races there are.
 fn counts_tree(alloc: Global, counts: RaceCounts) -> Result<Value, AllocError>
     ensures { IfOk result (λ tree. view tree ≡ trees.counts_data counts) }
 {
-    let (races, shown) = (counts.races, counts.shown);
-    let (not_shown, not_tried) = (counts.not_shown, counts.not_tried);
-    json!(in alloc; {"not_shown": not_shown, "not_tried": not_tried, "races": races, "shown": shown})
+    Object::new(alloc)
+        .put_number("not_shown", counts.not_shown)
+        .put_number("not_tried", counts.not_tried)
+        .put_number("races", counts.races)
+        .put_number("shown", counts.shown)
+        .finish()
 }
 
 /// The races that were tried, behind their counts.
 fn races_tree(alloc: Global, counts: Value, races: Vec<Value>) -> Result<Value, AllocError>
     ensures { IfOk result (λ tree. view tree ≡ trees.races_data (view counts) (map view races.items)) }
 {
-    json!(in alloc; {"counts": counts, "races": races})
+    Object::new(alloc)
+        .put("counts", counts)
+        .put_list("races", races)
+        .finish()
 }

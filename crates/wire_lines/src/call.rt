@@ -5,12 +5,12 @@ ghost use Rattle.wire_types.specs.declared.Scope.{Scope};
 ghost use Rattle.wire_spelling.specs.Said as spec;
 ghost use Rattle.wire_spelling.specs.Said.{spelled_proc, spelled_scope, spelled_set, collect_words, IsLawfulSet, IsLawfulCall};
 ghost use Rattle.wire_spelling.specs.Said.{first_of_call, others_of_call};
-ghost use Rattle.wire_lines.specs.Shown.{set_by, call_by};
+ghost use Rattle.wire_lines.specs.Shown.{call_by};
 ghost use Rattle.wire_spelling.specs.Verbs.{text_of_verb};
 ghost use Rattle.wire_spelling.specs.declared.verb.Verb.{Verb};
 
 use crate::sets::{Set, set_of};
-use crate::word::{ProcName, is_key, is_word, proc_of, scope_of};
+use crate::word::{ProcName, is_key, is_text, is_word, proc_of, scope_of};
 use std::alloc::{AllocError, Global};
 use wire_spelling::Verb;
 use wire_types::Scope;
@@ -58,23 +58,23 @@ pub fn verb_of(word: &[u8]) -> Option<Verb>
     ensures found { IfSome result (λ v. word.now ≡ text_of_verb v) }
     ensures none { IfNone result ((v : Verb) → word.now ≢ text_of_verb v) }
 {
-    if word == b"put".as_slice() {
+    if is_text(word, b"put") {
         Some(Verb::Put)
-    } else if word == b"commit".as_slice() {
+    } else if is_text(word, b"commit") {
         Some(Verb::Commit)
-    } else if word == b"fence".as_slice() {
+    } else if is_text(word, b"fence") {
         Some(Verb::Fence)
-    } else if word == b"get".as_slice() {
+    } else if is_text(word, b"get") {
         Some(Verb::Get)
-    } else if word == b"get-now".as_slice() {
+    } else if is_text(word, b"get-now") {
         Some(Verb::GetNow)
-    } else if word == b"publish".as_slice() {
+    } else if is_text(word, b"publish") {
         Some(Verb::Publish)
-    } else if word == b"lookup".as_slice() {
+    } else if is_text(word, b"lookup") {
         Some(Verb::Lookup)
-    } else if word == b"lookup-wait".as_slice() {
+    } else if is_text(word, b"lookup-wait") {
         Some(Verb::LookupWait)
-    } else if word == b"unpublish".as_slice() {
+    } else if is_text(word, b"unpublish") {
         Some(Verb::Unpublish)
     } else {
         None
@@ -114,11 +114,10 @@ fn pair_of<'a>(words: &[&'a [u8]]) -> Option<(&'a [u8], &'a [u8])>
     }
 }
 
-/// The scope, the key and the value of a put.
-fn put_of<'a>(words: &[&'a [u8]]) -> Option<(Scope, &'a [u8], &'a [u8])>
-    ensures found { IfSome result (λ p. (map (λ w. w.now) words.now
-        ≡ spelled_scope p.0 ∷ p.1.now ∷ p.2.now ∷ [])
-        × IsTrue (spec.is_key p.1.now) × IsTrue (spec.is_word p.2.now)) }
+/// The put, by the words after its verb.
+fn put_of<'a>(words: &[&'a [u8]]) -> Option<CallLine<'a>>
+    ensures found { IfSome result (λ c. (first_of_call (call_by c) ≡ codes "put")
+        × (map (λ w. w.now) words.now ≡ others_of_call (call_by c)) × IsLawfulCall (call_by c)) }
     ensures none { IfNone result ((scope : Scope) (key value : List ℕ) → IsTrue (spec.is_key key)
         → IsTrue (spec.is_word value)
         → map (λ w. w.now) words.now ≢ spelled_scope scope ∷ key ∷ value ∷ []) }
@@ -130,13 +129,13 @@ fn put_of<'a>(words: &[&'a [u8]]) -> Option<(Scope, &'a [u8], &'a [u8])>
         return None;
     };
     match scope_of(scope) {
-        Some(scope) => Some((scope, key, value)),
+        Some(scope) => Some(CallLine::Put { scope, key, value }),
         None => None,
     }
 }
 
 /// The owner and the key of a get, of either kind.
-fn get_of<'a>(words: &[&'a [u8]]) -> Option<(ProcName<'a>, &'a [u8])>
+fn target_of<'a>(words: &[&'a [u8]]) -> Option<(ProcName<'a>, &'a [u8])>
     ensures found { IfSome result (λ g. (map (λ w. w.now) words.now
         ≡ spelled_proc g.0.job.now g.0.rank ∷ g.1.now ∷ [])
         × IsTrue (spec.is_name g.0.job.now) × (g.0.rank < 10 ^ 9) × IsTrue (spec.is_key g.1.now)) }
@@ -156,10 +155,69 @@ fn get_of<'a>(words: &[&'a [u8]]) -> Option<(ProcName<'a>, &'a [u8])>
     }
 }
 
-fn is_collect(word: &[u8]) -> bool
-    ensures { IsTrue result ↔ (word.now ≡ codes "collect") }
+/// The get, by the words after its verb.
+fn get_of<'a>(words: &[&'a [u8]]) -> Option<CallLine<'a>>
+    ensures found { IfSome result (λ c. (first_of_call (call_by c) ≡ codes "get")
+        × (map (λ w. w.now) words.now ≡ others_of_call (call_by c)) × IsLawfulCall (call_by c)) }
+    ensures none { IfNone result ((call : spec.Call) → first_of_call call ≡ codes "get" → IsLawfulCall call
+        → map (λ w. w.now) words.now ≢ others_of_call call) }
 {
-    word == b"collect".as_slice()
+    match target_of(words) {
+        Some((owner, key)) => Some(CallLine::Get { owner, key }),
+        None => None,
+    }
+}
+
+/// The get that never waits, by the words after its verb.
+fn get_now_of<'a>(words: &[&'a [u8]]) -> Option<CallLine<'a>>
+    ensures found { IfSome result (λ c. (first_of_call (call_by c) ≡ codes "get-now")
+        × (map (λ w. w.now) words.now ≡ others_of_call (call_by c)) × IsLawfulCall (call_by c)) }
+    ensures none { IfNone result ((call : spec.Call) → first_of_call call ≡ codes "get-now" → IsLawfulCall call
+        → map (λ w. w.now) words.now ≢ others_of_call call) }
+{
+    match target_of(words) {
+        Some((owner, key)) => Some(CallLine::GetNow { owner, key }),
+        None => None,
+    }
+}
+
+/// The publish, by the words after its verb.
+fn publish_of<'a>(words: &[&'a [u8]]) -> Option<CallLine<'a>>
+    ensures found { IfSome result (λ c. (first_of_call (call_by c) ≡ codes "publish")
+        × (map (λ w. w.now) words.now ≡ others_of_call (call_by c)) × IsLawfulCall (call_by c)) }
+    ensures none { IfNone result ((call : spec.Call) → first_of_call call ≡ codes "publish" → IsLawfulCall call
+        → map (λ w. w.now) words.now ≢ others_of_call call) }
+{
+    match pair_of(words) {
+        Some((name, value)) => Some(CallLine::Publish { name, value }),
+        None => None,
+    }
+}
+
+/// The lookup, by the words after its verb.
+fn lookup_of<'a>(words: &[&'a [u8]]) -> Option<CallLine<'a>>
+    ensures found { IfSome result (λ c. (first_of_call (call_by c) ≡ codes "lookup")
+        × (map (λ w. w.now) words.now ≡ others_of_call (call_by c)) × IsLawfulCall (call_by c)) }
+    ensures none { IfNone result ((call : spec.Call) → first_of_call call ≡ codes "lookup" → IsLawfulCall call
+        → map (λ w. w.now) words.now ≢ others_of_call call) }
+{
+    match key_of(words) {
+        Some(name) => Some(CallLine::Lookup { name }),
+        None => None,
+    }
+}
+
+/// The lookup that waits, by the words after its verb.
+fn lookup_wait_of<'a>(words: &[&'a [u8]]) -> Option<CallLine<'a>>
+    ensures found { IfSome result (λ c. (first_of_call (call_by c) ≡ codes "lookup-wait")
+        × (map (λ w. w.now) words.now ≡ others_of_call (call_by c)) × IsLawfulCall (call_by c)) }
+    ensures none { IfNone result ((call : spec.Call) → first_of_call call ≡ codes "lookup-wait" → IsLawfulCall call
+        → map (λ w. w.now) words.now ≢ others_of_call call) }
+{
+    match key_of(words) {
+        Some(name) => Some(CallLine::LookupWait { name }),
+        None => None,
+    }
 }
 
 /// Whether a fence collects, by the words after its set.
@@ -169,15 +227,9 @@ fn collect_of(words: &[&[u8]]) -> Option<bool>
 {
     match words {
         [] => Some(false),
-        [word] if is_collect(word) => Some(true),
+        [word] if is_text(word, b"collect") => Some(true),
         _ => None,
     }
-}
-
-fn is_star(word: &[u8]) -> bool
-    ensures { IsTrue result ↔ (word.now ≡ codes "*") }
-{
-    word == b"*".as_slice()
 }
 
 /// Whether the only word is a star.
@@ -185,16 +237,15 @@ fn is_star_alone(words: &[&[u8]]) -> bool
     ensures { IsTrue result ↔ (map (λ w. w.now) words.now ≡ codes "*" ∷ []) }
 {
     match words {
-        [word] => is_star(word),
+        [word] => is_text(word, b"*"),
         _ => false,
     }
 }
 
-/// The set of a fence, and whether it collects.
-fn fence_of<'a>(alloc: Global, words: &[&'a [u8]]) -> Result<Option<(Set<'a>, bool)>, AllocError>
-    ensures found { IfOk result (λ o. IfSome o (λ f. (map (λ w. w.now) words.now
-        ≡ spelled_set (set_by f.0) ∷ collect_words f.1)
-        × IsLawfulSet (set_by f.0))) }
+/// The fence, by the words after its verb.
+fn fence_of<'a>(alloc: Global, words: &[&'a [u8]]) -> Result<Option<CallLine<'a>>, AllocError>
+    ensures found { IfOk result (λ o. IfSome o (λ c. (first_of_call (call_by c) ≡ codes "fence")
+        × (map (λ w. w.now) words.now ≡ others_of_call (call_by c)) × IsLawfulCall (call_by c))) }
     ensures none { IfOk result (λ o. IfNone o ((set : spec.Set) (collect : Bool) → IsLawfulSet set
         → map (λ w. w.now) words.now ≢ spelled_set set ∷ collect_words collect)) }
 {
@@ -205,8 +256,24 @@ fn fence_of<'a>(alloc: Global, words: &[&'a [u8]]) -> Result<Option<(Set<'a>, bo
         return Ok(None);
     };
     match set_of(alloc, set)? {
-        Some(set) => Ok(Some((set, collect))),
+        Some(set) => Ok(Some(CallLine::Fence { set, collect })),
         None => Ok(None),
+    }
+}
+
+/// The end of one publish, or of all, by the words after its verb.
+fn unpublish_of<'a>(words: &[&'a [u8]]) -> Option<CallLine<'a>>
+    ensures found { IfSome result (λ c. (first_of_call (call_by c) ≡ codes "unpublish")
+        × (map (λ w. w.now) words.now ≡ others_of_call (call_by c)) × IsLawfulCall (call_by c)) }
+    ensures none { IfNone result ((call : spec.Call) → first_of_call call ≡ codes "unpublish"
+        → IsLawfulCall call → map (λ w. w.now) words.now ≢ others_of_call call) }
+{
+    if is_star_alone(words) {
+        return Some(CallLine::UnpublishAll);
+    }
+    match key_of(words) {
+        Some(name) => Some(CallLine::Unpublish { name }),
+        None => None,
     }
 }
 
@@ -223,11 +290,7 @@ pub fn call_of<'a>(
         → map (λ w. w.now) words.now ≢ others_of_call call)) }
 {
     match verb {
-        Verb::Put => Ok(put_of(words).map(|(scope, key, value)| CallLine::Put {
-            scope,
-            key,
-            value,
-        })),
+        Verb::Put => Ok(put_of(words)),
         Verb::Commit => {
             if words.is_empty() {
                 Ok(Some(CallLine::Commit))
@@ -235,21 +298,12 @@ pub fn call_of<'a>(
                 Ok(None)
             }
         }
-        Verb::Fence => match fence_of(alloc, words)? {
-            Some((set, collect)) => Ok(Some(CallLine::Fence { set, collect })),
-            None => Ok(None),
-        },
-        Verb::Get => Ok(get_of(words).map(|(owner, key)| CallLine::Get { owner, key })),
-        Verb::GetNow => Ok(get_of(words).map(|(owner, key)| CallLine::GetNow { owner, key })),
-        Verb::Publish => Ok(pair_of(words).map(|(name, value)| CallLine::Publish { name, value })),
-        Verb::Lookup => Ok(key_of(words).map(|name| CallLine::Lookup { name })),
-        Verb::LookupWait => Ok(key_of(words).map(|name| CallLine::LookupWait { name })),
-        Verb::Unpublish => {
-            if is_star_alone(words) {
-                Ok(Some(CallLine::UnpublishAll))
-            } else {
-                Ok(key_of(words).map(|name| CallLine::Unpublish { name }))
-            }
-        }
+        Verb::Fence => fence_of(alloc, words),
+        Verb::Get => Ok(get_of(words)),
+        Verb::GetNow => Ok(get_now_of(words)),
+        Verb::Publish => Ok(publish_of(words)),
+        Verb::Lookup => Ok(lookup_of(words)),
+        Verb::LookupWait => Ok(lookup_wait_of(words)),
+        Verb::Unpublish => Ok(unpublish_of(words)),
     }
 }

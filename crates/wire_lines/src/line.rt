@@ -1,8 +1,9 @@
 //! What one line says.
 
-ghost use Rattle.std.specs.Prelude.{[], ◌≡◌, ◌≢◌, ℕ, ◌↔◌, List, ◌∷◌, IsTrue, map, codes, IfOk, IfSome, IfNone};
+ghost use Rattle.std.specs.Prelude.{[], ◌≡◌, ◌≢◌, ℕ, List, ◌∷◌, IsTrue, map, IfOk, IfSome, IfNone};
 ghost use Rattle.wire_spelling.specs.Said as spec;
-ghost use Rattle.wire_spelling.specs.Said.{Said, Header, Says};
+ghost use Rattle.wire_spelling.specs.Said.{Said, Header, Says, IsLawful, first_word, other_words};
+ghost use Rattle.wire_spelling.specs.Verbs.{text_of_verb};
 ghost use Rattle.wire_lines.specs.Shown.{said_by};
 ghost use Rattle.wire_lines.specs.Kind.{text_of};
 ghost use Rattle.wire_lines.specs.Once.{SaysOnce};
@@ -10,7 +11,7 @@ ghost use Rattle.wire_lines.specs.declared.line.Kind.{Kind};
 ghost use Rattle.wire_spelling.specs.declared.version.Version.{Version};
 
 use crate::call::{CallLine, call_of, verb_of};
-use crate::word::is_name;
+use crate::word::{is_name, is_text};
 use std::alloc::{AllocError, Global};
 use wire_spelling::{Verb, Version};
 
@@ -40,32 +41,14 @@ fn name_of<'a>(words: &[&'a [u8]]) -> Option<&'a [u8]>
     }
 }
 
-fn is_rehearsal(word: &[u8]) -> bool
-    ensures { IsTrue result ↔ (word.now ≡ codes "rehearsal") }
-{
-    word == b"rehearsal".as_slice()
-}
-
-fn is_one(word: &[u8]) -> bool
-    ensures { IsTrue result ↔ (word.now ≡ codes "1") }
-{
-    word == b"1".as_slice()
-}
-
-fn is_two(word: &[u8]) -> bool
-    ensures { IsTrue result ↔ (word.now ≡ codes "2") }
-{
-    word == b"2".as_slice()
-}
-
 /// The version that a word says.
 fn version_said(word: &[u8]) -> Option<Version>
     ensures found { IfSome result (λ v. word.now ≡ spec.spelled_version v) }
     ensures none { IfNone result ((v : Version) → word.now ≢ spec.spelled_version v) }
 {
-    if is_one(word) {
+    if is_text(word, b"1") {
         Some(Version::One)
-    } else if is_two(word) {
+    } else if is_text(word, b"2") {
         Some(Version::Two)
     } else {
         None
@@ -110,15 +93,15 @@ fn kind_of(word: &[u8]) -> Option<Kind>
     ensures found { IfSome result (λ k. word.now ≡ text_of k) }
     ensures none { IfNone result ((k : Kind) → word.now ≢ text_of k) }
 {
-    if is_rehearsal(word) {
+    if is_text(word, b"rehearsal") {
         Some(Kind::Header)
-    } else if word == b"keep".as_slice() {
+    } else if is_text(word, b"keep") {
         Some(Kind::Keep)
-    } else if word == b"node".as_slice() {
+    } else if is_text(word, b"node") {
         Some(Kind::Node)
-    } else if word == b"job".as_slice() {
+    } else if is_text(word, b"job") {
         Some(Kind::Job)
-    } else if word == b"rank".as_slice() {
+    } else if is_text(word, b"rank") {
         Some(Kind::Rank)
     } else {
         verb_of(word).map(Kind::Calls)
@@ -133,10 +116,51 @@ pub fn header_version(words: &[&[u8]]) -> Option<Version>
     let [first, others @ ..] = words else {
         return None;
     };
-    if is_rehearsal(first) {
+    if is_text(first, b"rehearsal") {
         version_in(others)
     } else {
         None
+    }
+}
+
+/// The line of a call, by its verb and the words after it.
+fn call_in<'a>(
+    alloc: Global,
+    verb: Verb,
+    words: &[&'a [u8]],
+) -> Result<Option<Line<'a>>, AllocError>
+    ensures found { IfOk result (λ o. IfSome o (λ l. (first_word (said_by l) ≡ text_of_verb verb)
+        × (map (λ w. w.now) words.now ≡ other_words (said_by l)) × IsLawful (said_by l))) }
+    ensures none { IfOk result (λ o. IfNone o ((said : Said) → first_word said ≡ text_of_verb verb
+        → IsLawful said → map (λ w. w.now) words.now ≢ other_words said)) }
+{
+    match call_of(alloc, verb, words)? {
+        Some(call) => Ok(Some(Line::Calls(call))),
+        None => Ok(None),
+    }
+}
+
+/// The line of a kind, by the words after its first.
+fn line_of<'a>(
+    alloc: Global,
+    kind: Kind,
+    words: &[&'a [u8]],
+) -> Result<Option<Line<'a>>, AllocError>
+    ensures found { IfOk result (λ o. IfSome o (λ l. (first_word (said_by l) ≡ text_of kind)
+        × (map (λ w. w.now) words.now ≡ other_words (said_by l)) × IsLawful (said_by l))) }
+    ensures none { IfOk result (λ o. IfNone o ((said : Said) → first_word said ≡ text_of kind
+        → IsLawful said → map (λ w. w.now) words.now ≢ other_words said)) }
+{
+    match kind {
+        Kind::Header => match version_in(words) {
+            Some(version) => Ok(Some(Line::Header(version))),
+            None => Ok(None),
+        },
+        Kind::Keep => Ok(keep_in(words)),
+        Kind::Node => Ok(name_of(words).map(Line::Node)),
+        Kind::Job => Ok(name_of(words).map(Line::Job)),
+        Kind::Rank => Ok(name_of(words).map(Line::Rank)),
+        Kind::Calls(verb) => call_in(alloc, verb, words),
     }
 }
 
@@ -149,19 +173,8 @@ pub fn read_line<'a>(alloc: Global, words: &[&'a [u8]]) -> Result<Option<Line<'a
         return Ok(None);
     };
     match kind_of(first) {
+        Some(kind) => line_of(alloc, kind, others),
         None => Ok(None),
-        Some(Kind::Header) => match version_in(others) {
-            Some(version) => Ok(Some(Line::Header(version))),
-            None => Ok(None),
-        },
-        Some(Kind::Keep) => Ok(keep_in(others)),
-        Some(Kind::Node) => Ok(name_of(others).map(Line::Node)),
-        Some(Kind::Job) => Ok(name_of(others).map(Line::Job)),
-        Some(Kind::Rank) => Ok(name_of(others).map(Line::Rank)),
-        Some(Kind::Calls(verb)) => match call_of(alloc, verb, others)? {
-            Some(call) => Ok(Some(Line::Calls(call))),
-            None => Ok(None),
-        },
     }
 }
 

@@ -1,12 +1,12 @@
 //! The processes that a fence names.
 
-ghost use Rattle.std.specs.Prelude.{◌≡◌, ◌≢◌, ◌==◌, ◌↔◌, List, map, codes, [], ◌∷◌, IsTrue, IfOk, IfSome, IfNone};
+ghost use Rattle.std.specs.Prelude.{◌≡◌, ◌≢◌, ◌==◌, List, map, [], ◌∷◌, IfOk, IfSome, IfNone};
 ghost use Rattle.std.specs.List.{slice_split};
 ghost use Rattle.wire_spelling.specs.Said as spec;
 ghost use Rattle.wire_spelling.specs.Said.{spelled_item, spelled_set, IsLawfulItem, AreLawful, IsLawfulSet};
 ghost use Rattle.wire_lines.specs.Shown.{item_by, set_by};
 
-use crate::word::{ProcName, cut_at_colon, is_name, number_of};
+use crate::word::{ProcName, cut_at_colon, is_name, is_text, number_of};
 use std::alloc::{AllocError, Global};
 
 /// An item of the set of a fence.
@@ -27,18 +27,6 @@ pub enum Set<'a> {
     Listed(Vec<Item<'a>>),
 }
 
-fn is_star(word: &[u8]) -> bool
-    ensures { IsTrue result ↔ (word.now ≡ codes "*") }
-{
-    word == b"*".as_slice()
-}
-
-fn is_all(word: &[u8]) -> bool
-    ensures { IsTrue result ↔ (word.now ≡ codes "all") }
-{
-    word == b"all".as_slice()
-}
-
 /// What an item names: a job and a rank, or a job and a star.
 fn item_of(word: &[u8]) -> Option<Item<'_>>
     ensures found { IfSome result (λ i. (word.now ≡ spelled_item (item_by i)) × IsLawfulItem (item_by i)) }
@@ -50,7 +38,7 @@ fn item_of(word: &[u8]) -> Option<Item<'_>>
     if !is_name(job) {
         return None;
     }
-    if is_star(rank) {
+    if is_text(rank, b"*") {
         return Some(Item::Every(job));
     }
     match number_of(rank) {
@@ -95,7 +83,7 @@ pub fn set_of(alloc: Global, word: &[u8]) -> Result<Option<Set<'_>>, AllocError>
         (λ s. (word.now ≡ spelled_set (set_by s)) × IsLawfulSet (set_by s))) }
     ensures none { IfOk result (λ o. IfNone o ((s : spec.Set) → IsLawfulSet s → word.now ≢ spelled_set s)) }
 {
-    if is_all(word) {
+    if is_text(word, b"all") {
         return Ok(Some(Set::Own));
     }
     let parts = parts(alloc, word)?;

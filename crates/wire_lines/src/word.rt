@@ -17,6 +17,13 @@ pub struct ProcName<'a> {
     pub rank: u32,
 }
 
+/// Whether a word is this text.
+pub fn is_text(word: &[u8], text: &[u8]) -> bool
+    ensures { IsTrue result ↔ (word.now ≡ text.now) }
+{
+    word == text
+}
+
 fn is_word_byte(byte: u8) -> bool
     ensures { result ≡ spec.is_word_byte byte }
 {
@@ -64,11 +71,11 @@ pub fn scope_of(word: &[u8]) -> Option<Scope>
     ensures found { IfSome result (λ s. word.now ≡ spelled_scope s) }
     ensures none { IfNone result ((s : Scope) → word.now ≢ spelled_scope s) }
 {
-    if word == b"local".as_slice() {
+    if is_text(word, b"local") {
         Some(Scope::Local)
-    } else if word == b"remote".as_slice() {
+    } else if is_text(word, b"remote") {
         Some(Scope::Remote)
-    } else if word == b"global".as_slice() {
+    } else if is_text(word, b"global") {
         Some(Scope::Global)
     } else {
         None

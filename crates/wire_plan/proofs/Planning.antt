@@ -3,7 +3,7 @@ use Rattle.std.proofs.Common.{◌≡◌, ◌∙◌, ap, sym, refl, subst, ℕ, z
 use Rattle.std.proofs.Common.{length-append, arith, append_assoc}
 use Rattle.std.specs.Prelude.{slice_get, option_map, sum_by, replicate}
 use Rattle.std.proofs.lemmas.Option.{slice_get-map, slice_get_cases}
-use Rattle.std.proofs.lemmas.List.{length-map, drop_more}
+use Rattle.std.proofs.lemmas.List.{length-map, drop_more, at_drop_all, append-nil, map-append}
 use Rattle.std.proofs.lemmas.List.Sums.{sum_by-cons}
 use Rattle.std.proofs.lemmas.Bool.{cases_lt, cond_below, cond_above}
 use Rattle.wire_runs.specs.Plan.{Plan, Call, CallPut, CallCommit, CallFence, CallGet, CallGetNow, CallPublish, CallLookup, CallLookupWait, CallUnpublish, CallUnpublishAll, CallFixed}
@@ -289,3 +289,17 @@ total_fits s few = let le = go s.processes in omega (arith, le, few)
 pub sum_same : {X : Type 0} (f g : X → ℕ) (xs : List X) → ((x : X) → f x ≡ g x) → sum_by f xs ≡ sum_by g xs
 sum_same f g [] same = refl
 sum_same f g (x ∷ xs) same = sum_by-cons f x xs ∙ ap (λ n. n + sum_by f xs) (same x) ∙ ap (λ n. g x + n) (sum_same f g xs same) ∙ sym (sum_by-cons g x xs)
+
+-- all is done where nothing is left of a list
+pub done_at_end : {X Y : Type 0} (F : List X → List Y) (all done : List Y) (xs : List X) (i : ℕ) → F [] ≡ [] → length xs ≤ i → all ≡ done ++ F (drop i xs) → done ≡ all
+done_at_end F all done xs i none le is = sym (is ∙ at_drop_all (λ ys. done ++ F ys) xs i le ∙ ap (λ ys. done ++ ys) none ∙ append-nil done)
+
+-- one row more, which is that of the next of a list
+pub row_step : {X Y Z : Type 0} (view : Y → Z) (f : X → Z) (whole : List Z) (rows more : List Y) (row : Y) (xs : List X) (i : ℕ) (x : X) → i < length xs
+    → x ≡ get_or xs i x → more ≡ rows ++ row ∷ [] → view row ≡ f x → whole ≡ map view rows ++ map f (drop i xs) → whole ≡ map view more ++ map f (drop (i + 1) xs)
+row_step view f whole rows more row xs i x lt next grown same before =
+    before
+    ∙ ap (λ ys. map view rows ++ map f ys) (drop_more xs i x lt)
+    ∙ ap (λ z. map view rows ++ (z ∷ map f (drop (i + 1) xs))) (sym (same ∙ ap f next))
+    ∙ sym (append_assoc (map view rows) (view row ∷ []) (map f (drop (i + 1) xs)))
+    ∙ ap (λ ys. ys ++ map f (drop (i + 1) xs)) (sym (ap (map view) grown ∙ map-append view rows (row ∷ [])))

@@ -30,12 +30,13 @@ impl Index {
         requires { AreFencesOf events.now fences.now }
         ensures { IfOk result (λ index. IsIndexed events.now fences.now index) }
     {
+        // Last come those with the most parts, which no later error has to drop.
         Ok(Index {
+            bringing: BringingArrivals::of(alloc, events, fences)?,
             meetings: Meetings::of(alloc, events, fences)?,
             keys: KeyTable::of(alloc, events)?,
-            names: NameTable::of(alloc, events)?,
-            bringing: BringingArrivals::of(alloc, events, fences)?,
             gets: GetTable::of(alloc, events)?,
+            names: NameTable::of(alloc, events)?,
         })
     }
 }

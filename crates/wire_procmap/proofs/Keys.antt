@@ -1,6 +1,6 @@
 -- The kind of a key tells whether it is reserved, and what a get of it replies.
-use Rattle.std.proofs.Common.{◌≡◌, ◌∙◌, ap, sym, refl, ℕ, Bool, true, false, List, [], cond, codes, ◌≤◌, map, length, arith}
-use Rattle.std.proofs.lemmas.List.{length-map}
+use Rattle.std.proofs.Common.{◌≡◌, ◌∙◌, ap, sym, refl, ℕ, ◌+◌, ◌<◌, Bool, true, false, List, [], ◌∷◌, ◌++◌, cond, codes, ◌≤◌, map, take, get_or, length, arith}
+use Rattle.std.proofs.lemmas.List.{length-map, map_push, take_more}
 use Rattle.std.specs.Prelude.{unwrap_or}
 use Rattle.std.proofs.lemmas.Option.{slice_get_past, unwrap_or-slice_get}
 use Rattle.std.specs.Str.{bytes_eq}
@@ -66,3 +66,13 @@ plain_past keys kinds n all past =
     let long : length keys ≤ n = omega (arith, ap length all, length-map keys key_kind) in
     let empty : [] ≡ text_at keys n = ap (λ o. unwrap_or o []) (sym (slice_get_past keys n long)) ∙ unwrap_or-slice_get keys n [] in
     ap key_kind empty
+
+-- the kind of one more key
+pub one_kind : (texts : List (List ℕ)) (n : ℕ) (old new : List KeyKind) (kind : KeyKind) (text : List ℕ) → n < length texts → text ≡ get_or texts n [] → kind ≡ key_kind text →
+    new ≡ old ++ kind ∷ [] → old ≡ map key_kind (take n texts) → new ≡ map key_kind (take (n + 1) texts)
+one_kind texts n old new kind text there at is more was =
+    more
+    ∙ ap (λ kinds. kinds ++ kind ∷ []) was
+    ∙ ap (λ k. map key_kind (take n texts) ++ k ∷ []) (is ∙ ap key_kind at)
+    ∙ sym (map_push key_kind (take n texts) (get_or texts n []))
+    ∙ ap (map key_kind) (sym (take_more texts n [] there))

@@ -121,7 +121,6 @@ fn job_sizes(alloc: Global, processes: &[Process]) -> Result<Tally, AllocError>
 }
 
 /// The row of each process, in process order.
-#[tactic(auto, using(crate::proofs::Rows::rows_more))]
 pub(crate) fn rows_of(
     alloc: Global,
     processes: &[Process],

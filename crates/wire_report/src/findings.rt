@@ -1,9 +1,10 @@
 //! The text of what the checker finds.
 
-ghost use Rattle.std.specs.Prelude.{◌≡◌, ◌⊎◌, ◌+◌, ◌<◌, ◌≤◌, ◌++◌, codes, length, map, vec_capacity, OnOk, OnErr, IfOk, IfErr};
+ghost use Rattle.std.specs.Prelude.{◌≡◌, ◌⊎◌, ◌+◌, ◌<◌, ◌≤◌, ◌++◌, codes, decimal, length, map, vec_capacity, OnOk, OnErr, IfOk, IfErr};
 ghost use Rattle.std.specs.List.{flat_map};
 ghost use Rattle.wire_types.specs.declared.Fault.TheVariants.{Memory};
-ghost use Rattle.wire_content.specs.Scripts.{call_at};
+ghost use Rattle.wire_content.specs.Scripts.{call_at, text_at};
+ghost use Rattle.wire_words.specs.Words.{call_text, name_of};
 ghost use Rattle.wire_report.specs.Findings as spec;
 ghost use Rattle.wire_report.specs.FindingLines.{AreNumbered, IsNumbered, AreWordsOf, race_start, key_race_rest, name_race_rest};
 
@@ -157,12 +158,45 @@ fn push_key_race(
     ensures capacity { vec_capacity out.old ≤ vec_capacity out.new }
     ensures full { OnErr result (vec_capacity out.old < length out.old.items + length (key_race_rest scripts.now higher owner.number key)) }
 {
+    push_higher(out, scripts, higher)?;
+    push_key_of(out, scripts, owner, key)
+}
+
+/// Appends the higher call of a race. Fails only where there is no room for it.
+fn push_higher(out: &mut Vec<u8>, scripts: &Scripts, higher: CallAt) -> Result<(), AllocError>
+    ensures ok { OnOk result (out.new.items ≡ out.old.items ++ codes " " ++ call_text scripts.now higher) }
+    ensures capacity { vec_capacity out.old ≤ vec_capacity out.new }
+    ensures full { OnErr result (vec_capacity out.old < length out.old.items + length (codes " " ++ call_text scripts.now higher)) }
+{
     out.extend_from_slice(b" ")?;
-    push_call(out, scripts, higher)?;
+    push_call(out, scripts, higher)
+}
+
+/// Appends the key of a race with its owner. Fails only where there is no room for them.
+fn push_key_of(
+    out: &mut Vec<u8>,
+    scripts: &Scripts,
+    owner: Proc,
+    key: u32,
+) -> Result<(), AllocError>
+    ensures ok { OnOk result (out.new.items ≡ out.old.items ++ codes " key " ++ name_of scripts.now owner.number ++ codes " " ++ text_at scripts.now.keys key) }
+    ensures capacity { vec_capacity out.old ≤ vec_capacity out.new }
+    ensures full { OnErr result (vec_capacity out.old
+        < length out.old.items + length (codes " key " ++ name_of scripts.now owner.number ++ codes " " ++ text_at scripts.now.keys key)) }
+{
     out.extend_from_slice(b" key ")?;
     push_proc(out, scripts, owner)?;
+    push_spaced(out, scripts.keys().text(key))
+}
+
+/// Appends a text behind a space. Fails only where there is no room for them.
+fn push_spaced(out: &mut Vec<u8>, text: &[u8]) -> Result<(), AllocError>
+    ensures ok { OnOk result (out.new.items ≡ out.old.items ++ codes " " ++ text.now) }
+    ensures capacity { vec_capacity out.old ≤ vec_capacity out.new }
+    ensures full { OnErr result (vec_capacity out.old < length out.old.items + length (codes " " ++ text.now)) }
+{
     out.extend_from_slice(b" ")?;
-    out.extend_from_slice(scripts.keys().text(key))
+    out.extend_from_slice(text)
 }
 
 /// Appends the words of a race on a name that follow its lower call. Fails only where there is no room for them.
@@ -176,8 +210,7 @@ fn push_name_race(
     ensures capacity { vec_capacity out.old ≤ vec_capacity out.new }
     ensures full { OnErr result (vec_capacity out.old < length out.old.items + length (name_race_rest scripts.now higher name)) }
 {
-    out.extend_from_slice(b" ")?;
-    push_call(out, scripts, higher)?;
+    push_higher(out, scripts, higher)?;
     out.extend_from_slice(b" name ")?;
     out.extend_from_slice(scripts.names().text(name))
 }
@@ -220,10 +253,18 @@ fn push_rewrite(
 {
     out.extend_from_slice(b"rewrite ")?;
     push_call(out, scripts, first)?;
+    push_later(out, scripts, later)
+}
+
+/// Appends a later put by its number, and its key. Fails only where there is no room for them.
+fn push_later(out: &mut Vec<u8>, scripts: &Scripts, later: CallAt) -> Result<(), AllocError>
+    ensures ok { OnOk result (out.new.items ≡ out.old.items ++ codes " " ++ decimal (later.call + 1) ++ codes " " ++ spec.put_key_text scripts.now (call_at scripts.now.processes later.proc.number later.call)) }
+    ensures capacity { vec_capacity out.old ≤ vec_capacity out.new }
+    ensures full { OnErr result (vec_capacity out.old < length out.old.items + length (codes " " ++ decimal (later.call + 1) ++ codes " " ++ spec.put_key_text scripts.now (call_at scripts.now.processes later.proc.number later.call))) }
+{
     out.extend_from_slice(b" ")?;
     push_number(out, u64::from(later.call) + 1)?;
-    out.extend_from_slice(b" ")?;
-    out.extend_from_slice(put_key(scripts, later))
+    push_spaced(out, put_key(scripts, later))
 }
 
 /// Appends the words of a race up to its lower call. Fails only where there is no room for them.

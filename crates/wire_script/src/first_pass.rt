@@ -257,6 +257,27 @@ fn take<'a>(
     Ok(())
 }
 
+/// Declares what the lines left say.
+fn declare_lines<'a>(
+    draft: &mut Draft<'a>,
+    alloc: Global,
+    cursor: &mut Cursor<'a>,
+) -> Result<(), Fault>
+    requires { cursor.old.line + length cursor.old.rest.now < 2 ^ 64 }
+    ensures ok { OnOk result
+        (JudgesAll (declared_of draft.old) (statements_left cursor.old) (Ok (declared_of draft.new))) }
+    ensures err { IfErr result
+        (λ e. (e ≡ Fault.Memory) ⊎ JudgesAll (declared_of draft.old) (statements_left cursor.old) (Err e)) }
+{
+    let mut words = Vec::new(alloc);
+    'statements: while let Some(line) = cursor.next_words(&mut words)? {
+        if let Err(fault) = take(draft, alloc, line, &words) {
+            return Err(fault);
+        }
+    }
+    Ok(())
+}
+
 /// The lines after the header of this version.
 fn declare_all<'a>(
     alloc: Global,
@@ -269,13 +290,13 @@ fn declare_all<'a>(
     ensures err { IfErr result (λ e. (e ≡ Fault.Memory) ⊎ JudgesAll (nothing size version) (statements_left cursor.old) (Err e)) }
 {
     let mut draft = new_draft(alloc, size, version);
-    let mut words = Vec::new(alloc);
-    'statements: while let Some(line) = cursor.next_words(&mut words)? {
-        if let Err(fault) = take(&mut draft, alloc, line, &words) {
-            return Err(fault);
+    match declare_lines(&mut draft, alloc, cursor) {
+        Ok(()) => Ok(draft),
+        Err(fault) => {
+            drop(draft);
+            Err(fault)
         }
     }
-    Ok(draft)
 }
 
 /// What a file declares.

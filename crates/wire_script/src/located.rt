@@ -66,7 +66,14 @@ fn read_short_located(
     ensures err { IfErr result (λ e. (e ≡ Fault.Memory) ⊎ ReadsShort size bytes.now (Err e)) }
 {
     let draft = first_pass(alloc, size, bytes)?;
-    let lines = all_lines(alloc, &draft)?;
-    let scripts = scripts_of(alloc, draft)?;
-    Ok((scripts, lines))
+    match all_lines(alloc, &draft) {
+        Ok(lines) => match scripts_of(alloc, draft) {
+            Ok(scripts) => Ok((scripts, lines)),
+            Err(fault) => Err(fault),
+        },
+        Err(_) => {
+            drop(draft);
+            Err(Fault::Memory)
+        }
+    }
 }

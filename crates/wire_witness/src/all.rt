@@ -2,6 +2,7 @@
 
 ghost use Rattle.std.specs.Prelude.{◌≡◌, IfOk, IfErr};
 ghost use Rattle.wire_types.specs.declared.Fault.TheVariants.{Memory};
+ghost use Rattle.wire_findings.specs.Findings.{AreFindings};
 ghost use Rattle.wire_witness.specs.Searches as spec;
 ghost use Rattle.wire_witness.specs.Searches.{IsRaceSearch};
 
@@ -9,8 +10,9 @@ use crate::races::{count_races, take_races};
 use crate::tried::{TriedRace, count_shown, try_races};
 use std::alloc::Global;
 use std::thread::Threads;
+use wire_findings::FindingList;
 use wire_json::RaceCounts;
-use wire_marks::Marks;
+use wire_marks::{MarkedPlan, Marks};
 use wire_plan::Plan;
 use wire_races::finding_list;
 use wire_types::Fault;
@@ -45,6 +47,39 @@ impl RaceSearch {
     }
 }
 
+/// Looks for witnesses of the races among the findings of a plan, of so many races at most.
+fn search_found(
+    alloc: Global,
+    marked: &MarkedPlan<'_>,
+    found: &FindingList,
+    most: usize,
+) -> Result<RaceSearch, Fault>
+    requires { AreFindings marked.now found.now }
+    ensures ok { IfOk result (IsRaceSearch marked.now most) }
+    ensures err { IfErr result (λ e. e ≡ Memory) }
+{
+    let races = take_races(alloc, found, most)?;
+    let count = count_races(found);
+    let tried = try_races(alloc, marked, races.as_slice())?;
+    Ok(RaceSearch { tried, count })
+}
+
+/// Looks for witnesses of the races of a marked plan, of so many races at most.
+fn search_marked(
+    rt: &(impl Threads + Sync),
+    alloc: Global,
+    marked: &MarkedPlan<'_>,
+    most: usize,
+) -> Result<RaceSearch, Fault>
+    ensures ok { IfOk result (IsRaceSearch marked.now most) }
+    ensures err { IfErr result (λ e. e ≡ Memory) }
+{
+    let found = finding_list(rt, alloc, marked)?;
+    let search = search_found(alloc, marked, &found, most);
+    drop(found);
+    search
+}
+
 /// Looks for witnesses of the races of a plan, of so many races at most, in the order of the findings, as
 /// [`crate::find_witness`] does. The one fault is `Fault::Memory`.
 pub fn search_races(
@@ -57,10 +92,7 @@ pub fn search_races(
     ensures err { IfErr result (λ e. e ≡ Memory) }
 {
     let marks = Marks::of(alloc, plan)?;
-    let marked = marks.with(plan);
-    let found = finding_list(rt, alloc, &marked)?;
-    let races = take_races(alloc, &found, most)?;
-    let count = count_races(&found);
-    let tried = try_races(alloc, &marked, races.as_slice())?;
-    Ok(RaceSearch { tried, count })
+    let search = search_marked(rt, alloc, &marks.with(plan), most);
+    drop(marks);
+    search
 }

@@ -55,6 +55,24 @@ fn search_race(
     }
 }
 
+/// Looks whether two calls of a marked plan race, and if so for a witness of them.
+fn search_calls(
+    alloc: Global,
+    marked: &MarkedPlan<'_>,
+    calls: (CallAt, CallAt),
+) -> Result<PairSearch, Fault>
+    requires x_there { calls.0.call < length (calls_of (plan_of marked.now) calls.0.proc.number) }
+    requires y_there { calls.1.call < length (calls_of (plan_of marked.now) calls.1.proc.number) }
+    ensures ok { IfOk result (IsPairSearch marked.now calls.0 calls.1) }
+    ensures err { IfErr result (λ e. e ≡ Memory) }
+{
+    let racing = are_racing(alloc, marked, calls.0, calls.1)?;
+    if !racing {
+        return Ok(PairSearch::NoRace);
+    }
+    search_race(alloc, marked, calls)
+}
+
 /// Looks whether two calls of a plan race, and if so for a witness of them, as [`crate::find_witness`]
 /// does. The one fault is `Fault::Memory`.
 pub fn search_pair(alloc: Global, plan: &Plan, calls: (CallAt, CallAt)) -> Result<PairSearch, Fault>
@@ -64,11 +82,7 @@ pub fn search_pair(alloc: Global, plan: &Plan, calls: (CallAt, CallAt)) -> Resul
     ensures err { IfErr result (λ e. e ≡ Memory) }
 {
     let marks = Marks::of(alloc, plan)?;
-    let marked = marks.with(plan);
-    let racing = are_racing(alloc, &marked, calls.0, calls.1)?;
-    if !racing {
-        return Ok(PairSearch::NoRace);
-    }
-    let search = search_race(alloc, &marked, calls)?;
-    Ok(search)
+    let search = search_calls(alloc, &marks.with(plan), calls);
+    drop(marks);
+    search
 }

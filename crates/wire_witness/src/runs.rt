@@ -91,6 +91,50 @@ fn finish<'a>(core: Core<'a>, first: CallAt, other: CallAt) -> Run<'a>
     }
 }
 
+/// A core that has run within these limits, where then x has happened and y hasn't.
+fn core_ahead<'a>(
+    alloc: Global,
+    plan: &'a Plan,
+    limits: &[u32],
+    x: Event,
+    y: Event,
+) -> Result<Option<Core<'a>>, Fault>
+    ensures scripts { IfOk result (λ o. IfSome o (λ core. core.scripts ≡ plan.now)) }
+    ensures ahead { IfOk result (λ o. IfSome o (λ core. ComesFirst (plan_in core) core.history (event_of x) (event_of y))) }
+    ensures err { IfErr result (λ e. e ≡ Memory) }
+{
+    let mut core = Core::new(alloc, plan)?;
+    if runs_ahead(&mut core, limits, x, y) {
+        Ok(Some(core))
+    } else {
+        drop(core);
+        Ok(None)
+    }
+}
+
+/// The run to its end, of a core in whose run the first call has come before the other, where y happens within
+/// these limits.
+fn finish_after<'a>(
+    core: Core<'a>,
+    limits: &[u32],
+    y: Event,
+    first: CallAt,
+    other: CallAt,
+) -> Option<Run<'a>>
+    requires comes { ComesFirst (plan_in core) core.history (first_event (plan_in core) first) (first_event (plan_in core) other) }
+    requires first_there { first.call < length (calls_of (plan_in core) first.proc.number) }
+    requires other_there { other.call < length (calls_of (plan_in core) other.proc.number) }
+    ensures { IfSome result (IsRunOf core.entry.scripts first other) }
+{
+    let mut core = core;
+    if runs_to(&mut core, limits, y) {
+        Some(finish(core, first, other))
+    } else {
+        drop(core);
+        None
+    }
+}
+
 /// The run in which the other call is held back as long as any other process can take a step.
 pub(crate) fn make_held_run<'a>(
     alloc: Global,
@@ -106,11 +150,10 @@ pub(crate) fn make_held_run<'a>(
     let x = plan.first_event(first);
     let held = plan.first_event(other);
     let limits = limits_before(alloc, plan, held)?;
-    let mut core = Core::new(alloc, plan)?;
-    if !runs_ahead(&mut core, limits.as_slice(), x, held) {
-        return Ok(None);
+    match core_ahead(alloc, plan, limits.as_slice(), x, held)? {
+        Some(core) => Ok(Some(finish(core, first, other))),
+        None => Ok(None),
     }
-    Ok(Some(finish(core, first, other)))
 }
 
 /// The run in which only what is before the first call comes before it, and after it only what is before the
@@ -131,12 +174,8 @@ pub(crate) fn make_needed_run<'a>(
     let y = plan.first_event(other);
     let limits = limits_upto(alloc, marked, x)?;
     let later = limits_upto(alloc, marked, y)?;
-    let mut core = Core::new(alloc, plan)?;
-    if !runs_ahead(&mut core, limits.as_slice(), x, y) {
-        return Ok(None);
+    match core_ahead(alloc, plan, limits.as_slice(), x, y)? {
+        Some(core) => Ok(finish_after(core, later.as_slice(), y, first, other)),
+        None => Ok(None),
     }
-    if !runs_to(&mut core, later.as_slice(), y) {
-        return Ok(None);
-    }
-    Ok(Some(finish(core, first, other)))
 }

@@ -1,4 +1,4 @@
-use Rattle.std.proofs.Common.{map}
+use Rattle.std.proofs.Common.{map, refl}
 use Rattle.std.proofs.lemmas.Result.{IfOk-weaker}
 use Rattle.serde_json.specs.View.{view}
 use Rattle.wire_json.proofs.Texts.{findings_told}
@@ -6,6 +6,6 @@ use Rattle.wire_json.proofs.forms.findings_json.Goals as goal
 
 pub returns : goal.returns
 returns c = IfOk-weaker c.tree_line.result _ _
-    (λ text told. findings_told (view c.in_ok-findings_tree.field-0) text.items told (map (λ line. line.items) c.args.lines.now) (map view c.in_ok-findings.findings.items)
-    c.in_ok-findings_tree.ensures c.in_ok-findings.ensures)
-    c.tree_line.ensures
+    (λ text told. findings_told _ text.items told (map (λ line. line.items) c.args.lines.now) (map view c.in_ok-findings.findings.items)
+    refl c.in_ok-findings.ensures)
+    (c.tree_line.ensures _ c.findings_tree.ensures)

@@ -1,3 +1,4 @@
+use Rattle.std.proofs.Common.{refl}
 use Rattle.std.proofs.lemmas.Result.{IfOk-weaker}
 use Rattle.serde_json.specs.View.{view}
 use Rattle.wire_content.specs.Scripts.{numbers_of}
@@ -6,7 +7,7 @@ use Rattle.wire_json.proofs.witnesses.witness_json.Goals as goal
 
 pub returns : goal.returns
 returns c = IfOk-weaker c.tree_line.result _ _
-    (λ text told. witness_told (view c.in_ok-witness_tree.field-0) text.items told c.args.scripts.now c.args.call c.args.first.end.now c.args.second.end.now
+    (λ text told. witness_told _ text.items told c.args.scripts.now c.args.call c.args.first.end.now c.args.second.end.now
     (numbers_of c.args.first.order.now) (numbers_of c.args.second.order.now) (view c.in_ok-before.before) (view c.in_ok-after.after) (view c.in_ok-shown.shown)
-    c.in_ok-witness_tree.ensures c.in_ok-before.ensures c.in_ok-after.ensures c.in_ok-shown.ensures)
-    c.tree_line.ensures
+    refl c.in_ok-before.ensures c.in_ok-after.ensures c.in_ok-shown.ensures)
+    (c.tree_line.ensures _ c.witness_tree.ensures)

@@ -10,4 +10,4 @@ returns-then-not-is_name-clause-none c =
 pub returns-in-None-clause-none : goal.returns-in-None-clause-none
 returns-in-None-clause-none c =
     no_item c.args.word.now c.in-Some.job.now c.in-Some.rank.now c.in-Some.ensures.found c.in-Some.ensures.first
-    (λ named e. true≢false (sym (c.if-is_star.ensures.1 e))) (λ named n small e. c.in-None.ensures.none n small e)
+    (λ named e. true≢false (sym (c.if-is_text.ensures.1 e))) (λ named n small e. c.in-None.ensures.none n small e)

@@ -16,4 +16,4 @@ pub returns-clause-none : goal.returns-clause-none
 returns-clause-none c =
     let none = rw c.in-None.is at c.in_ok-items.ensures.none in
     let p : map (λ w. w.now) c.deref.result.now ≡ slice_split comma c.args.word.now = rw c.deref.ensures.value c.in_ok-parts.ensures in
-    no_set c.args.word.now (λ e. true≢false (sym (c.if-is_all.ensures.1 e))) (λ is lawful e. none is lawful (p ∙ e))
+    no_set c.args.word.now (λ e. true≢false (sym (c.if-is_text.ensures.1 e))) (λ is lawful e. none is lawful (p ∙ e))

@@ -1,7 +1,8 @@
 use Rattle.std.proofs.Common.{◌≡◌, ◌∙◌, ℕ, ◌<◌, List, length, map, get_or, subst, sym, ap, arith}
+use Rattle.std.proofs.lemmas.List.{length-map}
 use Rattle.std.proofs.lemmas.List.FromFn.{length-map-range_with_len}
 use Rattle.wire_runs.specs.Fences.{has_node}
-use Rattle.wire_content.specs.Scripts.{Process, numbers_of, set_at}
+use Rattle.wire_content.specs.Scripts.{Process, IsCounted, numbers_of, set_at, call_at}
 use Rattle.wire_content.specs.Planned.{plan_of}
 use Rattle.wire_procmap.specs.Map.{Map, row_count}
 use Rattle.wire_procmap.specs.Rows.{row_of}
@@ -20,6 +21,17 @@ nodes_of_sets-requires c = λ k i low.
     let count : row_count c.args.map.now ≡ length s.processes = ap (λ (m : Map). length m.rows) c.requires ∙ length-map-range_with_len (row_of s.processes) 0 (length s.processes) in
     omega (arith, within, same, count)
 
+pub read_rows-requires-clause-counted : goal.read_rows-requires-clause-counted
+read_rows-requires-clause-counted c = subst IsCounted (sym c.processes-processes.ensures.processes) c.processes-processes.ensures.sound.counted
+
+pub read_rows-requires-clause-within : goal.read_rows-requires-clause-within
+read_rows-requires-clause-within c = λ p k which collect is.
+    let low = c.processes-processes.ensures.sound.members p k which collect (ap (λ ps. call_at ps p k) (sym c.processes-processes.ensures.processes) ∙ is) in
+    let copied = ap length (c.in_ok-sets.ensures ∙ c.sets.ensures) in
+    let as_many = length-map c.in_ok-sets.sets.items (λ v. numbers_of v.items) in
+    let read = ap length c.deref.ensures.value in
+    omega (arith, low, copied, as_many, read)
+
 pub returns-clause-ok : goal.returns-clause-ok
 returns-clause-ok c =
     let s = c.args.scripts.now in
@@ -28,12 +40,12 @@ returns-clause-ok c =
     let processes : c.processes-processes.result.now ≡ s.processes = c.processes-processes.ensures.processes in
     let sound = c.processes-processes.ensures.sound in
     subst (λ (xs : List (List ℕ)). AreFencesOf s (record {
-      fences = map (info_of xs) c.read_all.new.self.rows.items;
-      numbers = map (λ v. v.items) c.in_ok-numbers.numbers.items;
+      fences = map (info_of xs) c.in_ok-rows.rows.items;
+      numbers = map (λ v. v.items) c.in_ok-rows.numbers.items;
       reached = c.in_ok-reached.reached.keys;
     })) (sym copied) (
-    fences_are s sound c.read_all.new.self.rows.items (map (λ v. v.items) c.in_ok-numbers.numbers.items) c.in_ok-reached.reached.keys
-    (subst (λ (ps : List Process). AreRead s (read_to s (length ps)) c.read_all.new.self.rows.items) processes (c.in_ok-numbers.ensures.read s sound read processes))
-    (subst (λ (ps : List Process). AreAllNumbers c.read_all.new.self.rows.items ps (map (λ v. v.items) c.in_ok-numbers.numbers.items) (length ps)) processes c.in_ok-numbers.ensures.numbers)
+    fences_are s sound c.in_ok-rows.rows.items (map (λ v. v.items) c.in_ok-rows.numbers.items) c.in_ok-reached.reached.keys
+    (subst (λ (ps : List Process). AreRead s (read_to s (length ps)) c.in_ok-rows.rows.items) processes (c.in_ok-rows.ensures.read s sound read processes))
+    (subst (λ (ps : List Process). AreAllNumbers c.in_ok-rows.rows.items ps (map (λ v. v.items) c.in_ok-rows.numbers.items) (length ps)) processes c.in_ok-rows.ensures.numbers)
     (λ k node. c.in_ok-reached.ensures s k node c.requires ∙ ap (λ (xs : List (List ℕ)). has_node (plan_of s) (set_at xs k) node) c.sets-2.ensures)
     )

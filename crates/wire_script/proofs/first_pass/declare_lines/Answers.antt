@@ -1,7 +1,7 @@
 use Rattle.std.proofs.Common.{map}
 use Rattle.wire_script.specs.Left.{statements_left}
 use Rattle.wire_script.proofs.Judging.{refused}
-use Rattle.wire_script.proofs.first_pass.declare_all.Goals as goal
+use Rattle.wire_script.proofs.first_pass.declare_lines.Goals as goal
 
 pub returns-in-Err-clause-err : goal.returns-in-Err-clause-err
 returns-in-Err-clause-err c =

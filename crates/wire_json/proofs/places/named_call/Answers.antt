@@ -1,0 +1,4 @@
+use Rattle.wire_json.proofs.places.named_call.Goals as goal
+
+pub returns : goal.returns
+returns c = c.finish.ensures _ (c.put_text-2.ensures _ (c.put_text.ensures _ (c.put_number.ensures _ c.new.ensures)))

@@ -1,0 +1,4 @@
+use Rattle.wire_json.proofs.trees.bare_call.Goals as goal
+
+pub returns : goal.returns
+returns c = c.finish.ensures _ (c.put_text-2.ensures _ (c.put_text.ensures _ c.new.ensures))
