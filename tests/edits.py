@@ -6,19 +6,23 @@ Usage: python3 tests/edits.py              all edits
 
 An edit is a wrong body: `crates/NAME/edits/MISTAKE.edit` has lines 'file: src/FILE.rt', 'old: TEXT' and 'new: TEXT', where TEXT is one line.
 The proof of a function depends only on the contracts of the functions that it calls, so wrong bodies of several functions don't disturb each
-other. They make up a batch, and one check of these functions (`rattle check --only`) gives a verdict for each. Where a function has several
+other. They make up a batch, and one check of these functions (`rattle check --only`) gives a verdict for each. The functions of the crate that
+have no edit in the batch are emptied: their bodies are proved with the crate, so here they aren't proved once more, but taken by their contracts
+(each calls `unreachable!()`, and that it may is a hole in its proof). Where a function has several
 edits, the first stands in its place, and each other one in a copy of the function and of its proof files, under a name of its own. One more
-copy, without an edit, has to be proved: so what is refused in a copy isn't refused for its name. Where no copy can be made, the second edit goes
+copy, without an edit, has to be proved: so what is refused in a copy isn't refused for its name. A batch without such a copy gets one of its shortest
+function, so in each batch a right body is seen to be proved. Where no copy can be made, the second edit goes
 into a second batch. That begins with nothing but what the batches before it, of the same crate and in this run, have proved. An edit is
 refused if its own function has no proof for a reason of its own, and not only because it calls another that isn't proved.
 A batch shows nothing if it isn't checked to its end, or if a function without an edit has no proof for a reason of its own. Then its
 halves are tried, and so on.
 
-What a batch doesn't show refused is tried alone: first its function by itself, and where that doesn't show it either, the whole crate, as
-`rt must-fail` tries an edit. So is an edit of more than one body, or of none.
+What a batch doesn't show refused is tried alone: first its function by itself, with all bodies that it calls, and where that doesn't show it either,
+the whole crate, as `rt must-fail` tries an edit. So is an edit of more than one body, or of none.
 The crates themselves are proved first. Prints a line for each edit, those whose function took long, and last 'N passed, M failed'.
 """
 import collections
+import contextlib
 import functools
 import itertools
 import os
@@ -39,13 +43,24 @@ TYPE = re.compile(r"^(?:pub(?:\([a-z]+\))? )?(?:struct|enum) (\w+)", re.M)
 IMPL = re.compile(r"^impl\b(.*) \{$", re.M)
 VERDICT = re.compile(r"^fn (\S+): (.*)$", re.M)
 # The last line of a check of some functions that came to its end.
-LAST = re.compile(r"^only=\d+ proved=\d+\n*\Z", re.M)
+LAST = re.compile(r"^only=\d+ (?:proved|holes)=\d+\n*\Z", re.M)
+# A verdict on a function that has a proof; over functions that were emptied, one that has no other hole.
+PROVED = re.compile(r"proved$|no holes$|depends on a hole in ")
 # A line of the prover about a place in a file.
 PLACED = re.compile(r"(?:note: )?(?:\./)?((?:src|proofs)/\S+?):(\d+):\d+:")
 # A proof file that names what an edit took away, or that rests on such a proof: it says little of the contract.
 NAMES = re.compile(r"(\./)?proofs/.*(has no field|is not in scope|has no `|was not admitted)")
 # A line that tells that the proof of a function was tried to its end.
 TRIED = re.compile(r"checked (\S+), \d+ of \d+$")
+# The proof of a function that was emptied: that its body is never reached is a hole.
+EMPTIED = """\
+use Rattle.{crate}.proofs.{path}.Goals as goal
+
+pub unreachable-requires : goal.unreachable-requires
+unreachable-requires c = ?
+"""
+# The files with the proof of a function.
+OWN_PROOFS = "Answers.antt", "Invariants.antt", "Proof.antt"
 # A part of a verdict that blames other functions.
 OTHERS = re.compile(r"it (?:calls|passes the block) .*, which (?:is|are) not (?:proved|assumed)")
 # A verdict on a body that the prover has no rules for: no contract was tried, and a right body would fare the same.
@@ -70,7 +85,8 @@ Edit = collections.namedtuple("Edit", "crate path texts file was function")
 REFUSALS = True, getattr(rt, "REFUSED", True), getattr(rt, "AT_LIMIT", True)
 # An edit in its place in a batch: the path of the function that has its wrong body, and the lines from which and to which that stands.
 Placed = collections.namedtuple("Placed", "edit path first last")
-# A batch as it is checked: the texts of the source files that it changes, the proof files of copies, the edits in their places, and all functions.
+# A batch as it is checked: the texts of the source files that it changes, the proof files that it changes (no text for one that goes), the edits in
+# their places, and all functions.
 Texts = collections.namedtuple("Texts", "sources proofs placed only")
 # What became of an edit, the words that say so, whether it was tried alone, and how many seconds its function took in a batch.
 Outcome = collections.namedtuple("Outcome", "is_refused text is_alone seconds", defaults=[False, 0])
@@ -226,6 +242,60 @@ def copies_of(edits):
     return {new: attributes_of(was, function) + re.sub(rf"\bfn {name}\b", f"fn {new}", text, count=1) for new, text in bodies.items()}
 
 
+def control_of(by_function):
+    """An edit of whose function a batch has a copy as it is, though it has no other edit: that of the shortest, where no function has two."""
+    found = [it for edits in by_function.values() for it in edits if can_be_copied(it)]
+    if any(len(it) > 1 for it in by_function.values()):
+        return None
+    return min(found, key=lambda it: it.function.end - it.function.begin, default=None)
+
+
+def brace_of(text, function):
+    """Where the body of a function begins, with its brace, if it has lines of its own."""
+    opened = re.compile(r"\{$", re.M).search(text, function.body, function.end)
+    return opened.start() if opened else None
+
+
+def can_be_emptied(file, text, function):
+    """Whether the body of a function can be taken away: it is a type's method or stands by itself, the type that it gives doesn't depend on the body,
+    nothing is computed by it while the crate is read, it doesn't call itself, and its attributes can be read."""
+    brace, attributes = brace_of(text, function), attributes_of(text, function)
+    is_method = function.path.split("::")[:-1] != module_of(file)
+    if brace is None or attributes is None or "#[cycle" in attributes or function.is_of_trait:
+        return False
+    header = text[function.begin : brace]
+    return header.startswith(" ") == is_method and "-> impl " not in header and not re.match(r" *(?:pub(?:\([a-z]+\))? )?const ", header)
+
+
+def without_body(text, function):
+    """The text of a source file with a function emptied."""
+    indent = re.match(" *", text[function.begin :])[0]
+    return f"{text[: brace_of(text, function)]}{{\n{indent}    unreachable!()\n{indent}}}{text[function.end :]}"
+
+
+def proofs_when_emptied(crate, path):
+    """The proof files of a function that is emptied, and those of its closures, which go."""
+    *around, own = path.split("::")
+    folder, closures = os.path.join("proofs", *around, own), os.path.join(crate.folder, "proofs", *around, "fn", own)
+    found = {os.path.join(folder, it): None for it in OWN_PROOFS}
+    found.update((os.path.relpath(os.path.join(at, it), crate.folder), None) for at, _, files in os.walk(closures) for it in files)
+    return {**found, os.path.join(folder, "Answers.antt"): EMPTIED.format(crate=crate.name, path=path.replace("::", "."))}
+
+
+def empty_others(crate, only, sources, proofs):
+    """Empties the functions of a crate that aren't among these, as far as they can be, in the texts of its source and proof files."""
+    for path in rt.rtlib.files_of(crate.folder):
+        file = os.path.relpath(path, crate.folder)
+        if not (file.startswith("src/") and file.endswith(".rt")):
+            continue
+        text = sources.get(file) or rt.rtlib.text_of(path)
+        for it in reversed(functions_of(crate, file, text)):
+            if it.path not in only and can_be_emptied(file, text, it):
+                text = without_body(text, it)
+                proofs.update(proofs_when_emptied(crate, it.path))
+        sources[file] = text
+
+
 def proofs_of_copy(crate, path, name):
     """The proof files of a function, as those of its copy of another name."""
     *around, own = path.split("::")
@@ -245,14 +315,14 @@ def lines_of(text, function):
     return text.count("\n", 0, function.begin) + 1, text.count("\n", 0, function.end) + 1
 
 
-def texts_of(batch):
-    """A batch as it is checked."""
+def texts_of(batch, empties=True):
+    """A batch as it is checked, with all other functions emptied or not."""
     by_function = collections.defaultdict(list)
     for edit in batch:
         by_function[edit.file, edit.function].append(edit)
-    sources, proofs, names = {}, {}, {}
+    sources, proofs, names, control = {}, {}, {}, control_of(by_function)
     for (file, function), edits in sorted(by_function.items(), key=lambda it: -it[0][1].begin):
-        copies = copies_of(edits) if len(edits) > 1 else {}
+        copies = copies_of(edits) if len(edits) > 1 or edits[0] is control else {}
         text, around = sources.get(file, edits[0].was), function.path.rpartition("::")[0]
         own = "\n\n".join([wrong_of(edits[0]), *copies.values()])
         sources[file] = text[: function.begin] + own + text[function.end :]
@@ -260,6 +330,8 @@ def texts_of(batch):
         names.update(zip(paths, [*edits, *[None] * len(copies)]))
         for name in copies:
             proofs.update(proofs_of_copy(edits[0].crate, function.path, name))
+    if empties:
+        empty_others(batch[0].crate, names, sources, proofs)
     return Texts(sources, proofs, placed_in(batch[0].crate, sources, names), list(names))
 
 
@@ -333,17 +405,22 @@ def are_proved(texts, said):
     """Whether each copy without an edit has a proof, or has none only because of others."""
     edited, verdicts = {it.path for it in texts.placed}, {path.partition("::")[2]: words for path, words in VERDICT.findall(said)}
     controls = [verdicts.get(it, "") for it in texts.only if it not in edited]
-    return all(it == "proved" or (it.startswith("no proof") and not is_own(it)) for it in controls)
+    return all(PROVED.match(it) or (it.startswith("no proof") and not is_own(it)) for it in controls)
 
 
 def checked(crate, texts, flags, kept):
-    """Checks a copy of a crate with these texts in place of its own, as `rt.checked` does, and takes the time of each function."""
+    """Checks a copy of a crate with these texts in place of its own, as `rt.checked` does, and takes the time of each function. A file that has no text
+    goes."""
     with tempfile.TemporaryDirectory(prefix="wire-up-edits-") as room:
         for part in rt.rtlib.PARTS:
             if os.path.isdir(f"{crate.folder}/{part}"):
                 shutil.copytree(f"{crate.folder}/{part}", f"{room}/{part}")
         for path, text in texts.items():
             os.makedirs(os.path.dirname(f"{room}/{path}"), exist_ok=True)
+            if text is None:
+                with contextlib.suppress(FileNotFoundError):
+                    os.remove(f"{room}/{path}")
+                continue
             with open(f"{room}/{path}", "w", encoding="utf-8") as it:
                 it.write(text)
         words = [rt.rtlib.RATTLE, "check", *crate.words(flags, keeps=False), *(["--incremental", kept] if kept else [])]
@@ -364,12 +441,13 @@ def heard(lines):
     return "".join(said), seconds
 
 
-def check(batch, kept=None):
+def check(batch, kept=None, empties=True):
     """Checks the functions of a batch, and answers what became of each of its edits, by its path, as far as that shows it. What an earlier
     check of the same crate kept in a folder isn't checked again, and what this one checks is kept there for the next."""
-    texts = texts_of(batch)
+    texts = texts_of(batch, empties)
     only = [word for it in texts.only for word in ("--only", it)]
-    ran = checked(batch[0].crate, {**texts.sources, **texts.proofs}, ["--jobs", "1", "--progress", *only], kept)
+    flags = ["--jobs", "1", "--progress", *["--allow-holes"] * empties, *only]
+    ran = checked(batch[0].crate, {**texts.sources, **texts.proofs}, flags, kept)
     if not is_judged(ran, texts):
         return {}
     found = [(it, judged(it, ran.stdout)) for it in texts.placed]
@@ -408,8 +486,8 @@ def check_one_by_one(batches, ended):
 
 
 def try_alone(edit):
-    """Tries one edit: its function by itself, and the whole crate where that doesn't show that it is refused."""
-    found = check([edit]) if edit.function else {}
+    """Tries one edit: its function by itself, with all that it calls, and the whole crate where that doesn't show that it is refused."""
+    found = check([edit], empties=False) if edit.function else {}
     return (found.get(edit.path) or try_whole(edit))._replace(is_alone=True)
 
 

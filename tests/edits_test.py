@@ -49,6 +49,20 @@ pub fn loose(a: u8) -> u8
     a // not greater
 }
 
+/// Half of a number.
+fn halved(a: u8) -> u8
+    ensures { result ≤ a }
+{
+    a / 2
+}
+
+/// A number that isn't greater, by a function that has no edit.
+pub fn by_half(a: u8) -> u8
+    ensures { result ≤ a }
+{
+    halved(a) // by its contract
+}
+
 /// The number, or 9 if it is greater.
 pub fn picked(a: u8) -> u8
     ensures { result ≤ 9 }
@@ -99,6 +113,9 @@ EDITS = {
     "picked_ten": (["    if a < 9 { a } else { 9 }", "    if a < 9 { a } else { 10 }"], REFUSED, False),
     "number_and_one": (["    a // the number", "    a.saturating_add(1)"], REFUSED, False),
     "name_of_a_goal": (["    if a < 9 { a } else { 9 }", "    a.min(9)"], edits.ONLY_A_NAME, False),
+    # The function that it calls has no edit, so it is emptied.
+    "more_than_the_half": (["halved(a) // by its contract", "halved(a).saturating_add(1)"], REFUSED, False),
+    "half_in_another_way": (["halved(a) // by its contract", "halved(a).min(3)"], NOT_REFUSED, True),
     "outside_of_functions": (["MOST: u8 = 9", "MOST: u8 = 8"], REFUSED, True),
     "two_functions": (["exact(a) // the same", "exact(1)", "    a // the number", "    1"], REFUSED, True),
     "allowed_by_the_contract": (["    a // not greater", "    0"], NOT_REFUSED, True),
@@ -121,17 +138,35 @@ VERDICTS = {
     "no proof: expected `most_spec` in ./proofs/most/Proof.antt; the borrow checker does not cover this function yet: src/lib.rt:9:1": False,
     "no proof: expected a measure in ./proofs/most/Invariants.antt": True,
     "could not tell": None,
+    "no holes": None,
+    "depends on a hole in `Rattle.tiny.proofs.exact.Answers.unreachable-requires`": None,
 }
 
 # Verdicts on a copy without an edit, of a function that has two, and whether a check with it shows anything of these: not if the copy has no proof
 # for its own reasons, such as its name.
 CONTROLS = {
     "fn tiny::most_as_it_is: proved\n": True,
+    "fn tiny::most_as_it_is: no holes\n": True,
+    "fn tiny::most_as_it_is: depends on a hole in `Rattle.tiny.proofs.exact.Answers.unreachable-requires`\n": True,
     "fn tiny::most_as_it_is: no proof: it calls `tiny::exact`, which is not proved\n": True,
     "fn tiny::most_as_it_is: not proved\n": False,
     "fn tiny::most_as_it_is: no proof: expected answers in ./proofs/most_as_it_is/Answers.antt; `search` did not prove `returns`\n": False,
     "fn tiny::most_as_it_is: could not tell\n": False,
     "": False,
+}
+# Functions, and whether their bodies can be taken away where they have no edit.
+CAN_BE_EMPTIED = {
+    "fn most() -> u8\n    ensures { result ≡ 9 }\n{\n    9\n}\n": True,
+    "pub(crate) fn most() -> u8 {\n    9\n}\n": True,
+    "/// The most.\n#[inline]\nfn most() -> u8 {\n    9\n}\n": True,
+    "impl Pair {\n    fn most(&self) -> u8 {\n        9\n    }\n}\n": True,
+    # A law, which has no body.
+    "pub fn most()\n    ensures { 9 ≡ 9 }\n{}\n": False,
+    "pub const fn most() -> u8 {\n    9\n}\n": False,
+    "fn most(all: &[u8]) -> impl Iterator<Item = &u8> {\n    all.iter()\n}\n": False,
+    "#[cycle(most)]\nfn most() -> u8 {\n    most()\n}\n": False,
+    "impl Most for Pair {\n    fn most(&self) -> u8 {\n        9\n    }\n}\n": False,
+    "trait Most {\n    fn most(&self) -> u8 {\n        9\n    }\n}\n": False,
 }
 # What is told of a refusal: the lines of the prover, that which is a reason, the verdicts, and the words that say that it says little.
 POOR = [
@@ -207,6 +242,25 @@ def misread_controls():
     return count
 
 
+def emptied_wrong():
+    """Counts the functions whose bodies would be taken away and must not be, or the other way round, and prints them. One more case is a whole batch."""
+    with tempfile.TemporaryDirectory(prefix="wire-up-") as top:
+        make(top, EDITS)
+        crate = crates_at(top)[0]
+        told = {text: edits.can_be_emptied("src/lib.rt", text, *edits.functions_of(crate, "src/lib.rt", text)) for text in CAN_BE_EMPTIED}
+        edit, _ = edits.read(crate, os.path.join(crate.folder, "edits", "more_than_the_half.edit"))
+        batch, whole = edits.texts_of([edit]), edits.texts_of([edit], empties=False)
+    wrong = [f"{text!r}: wanted {wanted}" for text, wanted in CAN_BE_EMPTIED.items() if told[text] is not wanted]
+    # Eight functions without an edit are emptied, one of which has a proof file; that with the edit stands, and a copy of it as it is.
+    files = "src/lib.rt", "proofs/picked/Answers.antt", "proofs/picked/Invariants.antt"
+    found = batch.sources[files[0]].count("unreachable!()"), "= ?" in batch.proofs[files[1]], batch.proofs[files[2]], batch.only, whole.sources[files[0]].count("unreachable!()")
+    if found != (8, True, None, ["by_half", "by_half_as_it_is"], 0) or "halved(a).saturating_add(1)" not in batch.sources[files[0]]:
+        wrong.append(f"a batch: {found}")
+    for it in wrong:
+        print(f"tests/edits_test.py: {it}")
+    return len(wrong)
+
+
 def told_wrong():
     """Counts the refusals of which another thing is told than must be, and prints them."""
     wrong = [(given, wanted) for given, wanted in POOR if edits.only_why(*given) != wanted]
@@ -217,8 +271,8 @@ def told_wrong():
 
 def all_cases():
     """Tries all edits, and answers how many cases were judged as they must be, and how many weren't."""
-    failed = misread_verdicts() + misread_controls() + told_wrong() + judged_wrong(EDITS) + judged_wrong(UNREAD)
-    passed = len(VERDICTS) + len(CONTROLS) + len(POOR) + len(EDITS) + len(UNREAD) - failed
+    failed = misread_verdicts() + misread_controls() + emptied_wrong() + told_wrong() + judged_wrong(EDITS) + judged_wrong(UNREAD)
+    passed = len(VERDICTS) + len(CONTROLS) + len(CAN_BE_EMPTIED) + 1 + len(POOR) + len(EDITS) + len(UNREAD) - failed
     print(f"tests/edits_test.py: {passed} passed, {failed} failed", flush=True)
     return passed, failed
 
