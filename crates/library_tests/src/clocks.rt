@@ -36,6 +36,17 @@ put global b 2
 commit
 ";
 
+/// Events of these plans, by their process and their place in it, and their clocks.
+const CLOCKS: [(&[u8], u32, u32, (u32, u32)); 7] = [
+    (FENCED, 1, 2, (2, 3)),
+    (STUCK, 0, 0, (0, 0)),
+    (STUCK, 0, 1, (0, 0)),
+    (STUCK, 0, 2, (0, 0)),
+    (STUCK, 1, 0, (0, 0)),
+    (STUCK, 1, 1, (0, 0)),
+    (STUCK, 1, 2, (0, 0)),
+];
+
 /// The marks of a file's plan.
 fn marks_of_file(alloc: Global, file: &[u8]) -> Result<Marks, Fault> {
     let plan = plan_of_file(alloc, file)?;
@@ -44,26 +55,26 @@ fn marks_of_file(alloc: Global, file: &[u8]) -> Result<Marks, Fault> {
     marks
 }
 
-/// How many events of a process are an event or before it.
-fn clock_of(marks: &Marks, proc: u32, at: u32, other: u32) -> u32 {
+/// The clock of an event of a file: how many events of each of two processes are the event or before it.
+fn clock_in(alloc: Global, file: &[u8], proc: u32, at: u32) -> Result<(u32, u32), Fault> {
+    let marks = marks_of_file(alloc, file)?;
     let proc = Proc::new(proc);
-    marks.clock(Event { proc, at }, Proc::new(other))
+    let event = Event { proc, at };
+    let clock = (
+        marks.clock(event, Proc::new(0)),
+        marks.clock(event, Proc::new(1)),
+    );
+    drop(marks);
+    Ok(clock)
 }
 
 /// A clock tells how many events of each process are an event or before it; of a call that is never reached
 /// it is 0.
 #[test]
 fn clocks(rt: HostRuntime) -> Result<(), Fail> {
-    let marks = marks_of_file(rt.alloc(), FENCED)?;
-    assert_eq!(rt; clock_of(&marks, 1, 2, 0), 2);
-    assert_eq!(rt; clock_of(&marks, 1, 2, 1), 3);
-    drop(marks);
-    let marks = marks_of_file(rt.alloc(), STUCK)?;
-    for number in 0..6 {
-        for other in 0..2 {
-            assert_eq!(rt; clock_of(&marks, number / 3, number % 3, other), 0);
-        }
+    let alloc = rt.alloc();
+    for (file, proc, at, clock) in CLOCKS {
+        assert_eq!(rt; clock_in(alloc, file, proc, at)?, clock);
     }
-    drop(marks);
     Ok(())
 }

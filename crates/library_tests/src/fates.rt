@@ -5,7 +5,7 @@ use std::alloc::Global;
 use std::test::Fail;
 use std::thread::Threads;
 use wire_races::Fate;
-use wire_types::{Event, Fault, Proc, Reply, Status};
+use wire_types::{Event, Fault, Proc, Reply, Status, Value};
 
 /// A plan whose lookup waits for a name that was taken away.
 const TAKEN_AWAY: &[u8] = b"\
@@ -53,6 +53,30 @@ put global b 2
 commit
 ";
 
+/// Events of these plans, by their process and their place in it, and their fates.
+const FATES: [(&[u8], u32, u32, Fate); 11] = [
+    // app:1 has the events arrive, leave, lookup-wait
+    (TAKEN_AWAY, 1, 2, Fate::Waits),
+    (TAKEN_AWAY, 1, 3, Fate::Waits),
+    // app:0 has put, commit, arrive, leave; app:1 has arrive, leave, get-now
+    (NOT_COLLECTED, 1, 2, Fate::Says(NOT_FOUND)),
+    (NOT_COLLECTED, 0, 2, Fate::Silent),
+    (NOT_COLLECTED, 1, 0, Fate::Silent),
+    // Each has get, put, commit
+    (STUCK, 0, 0, Fate::Waits),
+    (STUCK, 0, 1, Fate::Waits),
+    (STUCK, 0, 2, Fate::Waits),
+    (STUCK, 1, 0, Fate::Waits),
+    (STUCK, 1, 1, Fate::Waits),
+    (STUCK, 1, 2, Fate::Waits),
+];
+
+/// The reply that nothing is found.
+const NOT_FOUND: Reply = Reply {
+    status: Status::NotFound,
+    value: Value::Nothing,
+};
+
 /// The fate of an event of a file, which is a settled plan.
 fn fate_in<R: Threads + Sync>(
     rt: &R,
@@ -75,21 +99,8 @@ fn fate_in<R: Threads + Sync>(
 #[test]
 fn fates(rt: HostRuntime) -> Result<(), Fail> {
     let alloc = rt.alloc();
-    // app:1 has the events arrive, leave, lookup-wait
-    assert_eq!(rt; fate_in(&rt, alloc, TAKEN_AWAY, 1, 2)?, Fate::Waits);
-    assert_eq!(rt; fate_in(&rt, alloc, TAKEN_AWAY, 1, 3)?, Fate::Waits);
-    // app:0 has put, commit, arrive, leave; app:1 has arrive, leave, get-now
-    assert_eq!(rt;
-        fate_in(&rt, alloc, NOT_COLLECTED, 1, 2)?,
-        Fate::Says(Reply::bare(Status::NotFound))
-    );
-    assert_eq!(rt; fate_in(&rt, alloc, NOT_COLLECTED, 0, 2)?, Fate::Silent);
-    assert_eq!(rt; fate_in(&rt, alloc, NOT_COLLECTED, 1, 0)?, Fate::Silent);
-    for number in 0..6 {
-        assert_eq!(rt;
-            fate_in(&rt, alloc, STUCK, number / 3, number % 3)?,
-            Fate::Waits
-        );
+    for (file, proc, at, fate) in FATES {
+        assert_eq!(rt; fate_in(&rt, alloc, file, proc, at)?, fate);
     }
     Ok(())
 }

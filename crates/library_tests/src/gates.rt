@@ -1,5 +1,6 @@
 //! Gates that hold a worker until another has come, and one that counts.
 
+use std::process::Abort;
 use std::sync::atomic::{AtomicBool, AtomicU64, Ordering};
 use std::thread;
 use wire_sched::Gate;
@@ -24,7 +25,7 @@ fn wait_for_flag(flag: &AtomicBool) -> bool {
 pub(crate) struct Meeting {
     first: AtomicBool,
     second: AtomicBool,
-    pub(crate) missed: AtomicBool,
+    missed: AtomicBool,
 }
 
 impl Meeting {
@@ -34,6 +35,11 @@ impl Meeting {
             second: AtomicBool::new(false),
             missed: AtomicBool::new(false),
         }
+    }
+
+    /// Asserts that none waited in vain.
+    pub(crate) fn assert_met(&self, rt: &impl Abort) {
+        assert!(rt; !self.missed.load(Ordering::SeqCst));
     }
 }
 
@@ -55,7 +61,7 @@ impl Gate for Meeting {
 #[derive(Drop)]
 pub(crate) struct Later {
     third: AtomicBool,
-    pub(crate) missed: AtomicBool,
+    missed: AtomicBool,
 }
 
 impl Later {
@@ -64,6 +70,11 @@ impl Later {
             third: AtomicBool::new(false),
             missed: AtomicBool::new(false),
         }
+    }
+
+    /// Asserts that none waited in vain.
+    pub(crate) fn assert_met(&self, rt: &impl Abort) {
+        assert!(rt; !self.missed.load(Ordering::SeqCst));
     }
 }
 
@@ -85,8 +96,8 @@ impl Gate for Later {
 #[derive(Drop)]
 pub(crate) struct Counter {
     proc: Proc,
-    pub(crate) passes: AtomicU64,
-    pub(crate) collector: AtomicU64,
+    passes: AtomicU64,
+    collector: AtomicU64,
 }
 
 impl Counter {
@@ -96,6 +107,15 @@ impl Counter {
             passes: AtomicU64::new(0),
             collector: AtomicU64::new(0),
         }
+    }
+
+    /// Asserts that the worker passed the process so often, and the collector never.
+    pub(crate) fn assert_passes(&self, rt: &impl Abort, passes: u64) {
+        let counted = (
+            self.passes.load(Ordering::SeqCst),
+            self.collector.load(Ordering::SeqCst),
+        );
+        assert_eq!(rt; counted, (passes, 0));
     }
 }
 

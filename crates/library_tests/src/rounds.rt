@@ -2,7 +2,7 @@
 ghost use Rattle.std.specs.Prelude.{◌≡◌, ◌≢◌, ◌<◌};
 ghost use Rattle.wire_rounds.specs.Rounds.{ArePassesOf, workers_of};
 
-use crate::workers::{WAITING, plan_of_file};
+use crate::workers::{WAITING, are, plan_of_file};
 use std::alloc::Global;
 use std::process::Abort;
 use std::sync::Wait;
@@ -23,7 +23,7 @@ fn piece(rank: u32) -> Piece {
 
 /// Asserts that these pieces are those of these processes, in this order.
 fn are_of(rt: &impl Abort, pieces: &[Piece], ranks: &[u32]) {
-    assert_eq!(rt; pieces.len(), ranks.len());
+    assert!(rt; pieces.len() == ranks.len());
     for (left, rank) in pieces.iter().zip(ranks) {
         assert_eq!(rt; *left, piece(*rank));
     }
@@ -90,29 +90,34 @@ fn some_are_taken(rt: HostRuntime) -> Result<(), Fail> {
     Ok(())
 }
 
-/// What `serve` does to the core that is under the lock: it steps it as far as a process can go.
-fn serve_in_turn(rt: &(impl Abort + Wait), alloc: Global, plan: &Plan) -> Result<(), Fault> {
+/// Whether the core that is under the lock steps as far as a process can go, and never for one that isn't there.
+fn serves_in_turn<R: Wait>(rt: &R, locked: &LockedCore<'_>) -> bool {
+    locked.serve(rt, Proc::new(0)) == 2
+        && locked.serve(rt, Proc::new(1)) == 1
+        && locked.serve(rt, Proc::new(9)) == 0
+}
+
+/// Whether a core of this plan has done all three events.
+fn has_ended(core: &Core<'_>, plan: &Plan) -> bool {
+    are(core.history(), &[0, 0, 1]) && core.ended() && *core.plan() == *plan
+}
+
+/// Whether `serve` does to the core that is under the lock what it should.
+fn is_served_in_turn<R: Wait>(rt: &R, alloc: Global, plan: &Plan) -> Result<bool, Fault> {
     let locked = LockedCore::new(Core::new(alloc, plan)?);
-    assert_eq!(rt; locked.serve(rt, Proc::new(0)), 2);
-    assert_eq!(rt; locked.serve(rt, Proc::new(1)), 1);
-    assert_eq!(rt; locked.serve(rt, Proc::new(9)), 0);
+    let is_served = serves_in_turn(rt, &locked);
     let core = locked.into_core();
-    assert_eq!(rt;
-        core.history(),
-        [Proc::new(0), Proc::new(0), Proc::new(1)].as_slice()
-    );
-    assert!(rt; core.ended());
-    assert!(rt; *core.plan() == *plan);
+    let has_ended = has_ended(&core, plan);
     drop(core);
-    Ok(())
+    Ok(is_served && has_ended)
 }
 
 #[test]
 fn steps_under_the_lock(rt: HostRuntime) -> Result<(), Fail> {
     let alloc = rt.alloc();
     let plan = plan_of_file(alloc, WAITING)?;
-    let served = serve_in_turn(&rt, alloc, &plan);
+    let served = is_served_in_turn(&rt, alloc, &plan);
     drop(plan);
-    served?;
+    assert!(rt; served?);
     Ok(())
 }

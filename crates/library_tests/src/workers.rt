@@ -7,8 +7,8 @@ ghost use Rattle.wire_findings.specs.Findings.{AreFindings};
 
 use crate::gates::{Counter, Later, Meeting};
 use std::alloc::Global;
+use std::process::Abort;
 use std::sync::Wait;
-use std::sync::atomic::Ordering;
 use std::test::Fail;
 use std::thread::Threads;
 use wire_collect::{run_any, run_workers};
@@ -223,7 +223,7 @@ fn run_settled<R: Threads + Wait + Sync, G: Gate + Sync>(
 }
 
 /// The numbers of these processes are these.
-fn are(history: &[Proc], numbers: &[u32]) -> bool {
+pub(crate) fn are(history: &[Proc], numbers: &[u32]) -> bool {
     history.len() == numbers.len()
         && history
             .iter()
@@ -231,26 +231,47 @@ fn are(history: &[Proc], numbers: &[u32]) -> bool {
             .all(|(proc, number)| proc.number == *number)
 }
 
-/// What the first call of a process replied.
-fn first_status(outcome: &Outcome, process: usize) -> Option<Status> {
-    let Some(row) = outcome.rows.get(process) else {
-        return None;
-    };
-    match row.first() {
+/// What the last call of a process replied, by the row of its calls.
+fn last_status(row: Option<&Vec<CallEnd>>) -> Option<Status> {
+    match row?.last() {
         Some(CallEnd::Replied(reply)) => Some(reply.status),
         _ => None,
     }
 }
 
-/// What the last call of a process replied.
-fn last_status(outcome: &Outcome, process: usize) -> Option<Status> {
-    let Some(row) = outcome.rows.get(process) else {
-        return None;
+/// Whether two runs left the same.
+pub(crate) fn are_alike(one: &Outcome, other: &Outcome) -> bool {
+    one.rows == other.rows && one.waiting == other.waiting
+}
+
+/// What a run left: how many steps it took, how many processes wait, and what the last call of the last process replied.
+#[derive(Clone, Copy)]
+struct Left {
+    steps: usize,
+    waiting: u32,
+    last: Option<Status>,
+}
+
+/// Runs a file by so many workers, under one lock and then over a board, each with its gate. Asserts that both leave the same.
+fn run_both<R: Abort + Threads + Wait + Sync, G: Gate + Sync>(
+    rt: &R,
+    alloc: Global,
+    file: &[u8],
+    workers: usize,
+    gates: (&G, &G),
+) -> Result<Left, Fault> {
+    let (outcome, history) = run_file(rt, alloc, file, workers, gates.0)?;
+    let left = Left {
+        steps: history.len(),
+        waiting: outcome.waiting,
+        last: last_status(outcome.rows.last()),
     };
-    match row.last() {
-        Some(CallEnd::Replied(reply)) => Some(reply.status),
-        _ => None,
-    }
+    drop(history);
+    let settled = run_settled(rt, alloc, file, workers, gates.1);
+    let alike = settled.map(|settled| are_alike(&settled, &outcome));
+    drop(outcome);
+    assert!(rt; alike?);
+    Ok(left)
 }
 
 /// One worker serves a round of one deque in this thread. Answers how many steps it took.
@@ -290,16 +311,11 @@ fn serve_file<R: Wait>(rt: &R, alloc: Global, file: &[u8]) -> Result<(usize, Vec
 /// Both workers come to the gate, while each holds what it took first.
 #[test]
 fn two_workers_meet(rt: HostRuntime) -> Result<(), Fail> {
-    let alloc = rt.alloc();
-    let gate = Meeting::new();
-    let (outcome, history) = run_file(&rt, alloc, APART, 2, &gate)?;
-    assert!(rt; !gate.missed.load(Ordering::SeqCst));
-    assert_eq!(rt; history.len(), 4);
-    assert_eq!(rt; outcome.waiting, 0);
-    let gate = Meeting::new();
-    let settled = run_settled(&rt, alloc, APART, 2, &gate)?;
-    assert!(rt; !gate.missed.load(Ordering::SeqCst));
-    assert!(rt; settled.rows == outcome.rows && settled.waiting == outcome.waiting);
+    let (locked, board) = (Meeting::new(), Meeting::new());
+    let left = run_both(&rt, rt.alloc(), APART, 2, (&locked, &board))?;
+    assert!(rt; left.steps == 4 && left.waiting == 0);
+    locked.assert_met(&rt);
+    board.assert_met(&rt);
     Ok(())
 }
 
@@ -315,7 +331,7 @@ fn workers_of_a_rehearsal_meet(rt: HostRuntime) -> Result<(), Fail> {
     let mut writer = MemorySink::new(Vec::new(rt.alloc()));
     let ended = rehearse(&rt, rt.alloc(), &mut reader, &mut writer, 2, mode, &gate);
     assert_eq!(rt; ended, Ok(Ended::Clean));
-    assert!(rt; !gate.missed.load(Ordering::SeqCst));
+    gate.assert_met(&rt);
     Ok(())
 }
 
@@ -324,9 +340,10 @@ fn workers_of_a_rehearsal_meet(rt: HostRuntime) -> Result<(), Fail> {
 fn the_history_is_what_ran(rt: HostRuntime) -> Result<(), Fail> {
     let gate = Later::new();
     let (outcome, history) = run_file(&rt, rt.alloc(), RACING, 2, &gate)?;
-    assert!(rt; !gate.missed.load(Ordering::SeqCst));
-    assert!(rt; are(history.as_slice(), [1u32, 0, 0].as_slice()));
-    assert_eq!(rt; first_status(&outcome, 1), Some(Status::NotFound));
+    gate.assert_met(&rt);
+    let last = last_status(outcome.rows.get(1));
+    drop(outcome);
+    assert!(rt; matches!(last, Some(Status::NotFound)) && are(history.as_slice(), &[1, 0, 0]));
     Ok(())
 }
 
@@ -335,12 +352,28 @@ fn the_history_is_what_ran(rt: HostRuntime) -> Result<(), Fail> {
 fn one_worker_serves_a_round(rt: HostRuntime) -> Result<(), Fail> {
     let alloc = rt.alloc();
     let (steps, history) = serve_file(&rt, alloc, WAITING)?;
-    assert_eq!(rt; steps, 3);
-    assert!(rt; are(history.as_slice(), [0u32, 0, 1].as_slice()));
+    assert!(rt; steps == 3 && are(history.as_slice(), &[0, 0, 1]));
+    drop(history);
     let file = commits(alloc)?;
     let (steps, history) = serve_file(&rt, alloc, file.as_bytes())?;
-    assert_eq!(rt; steps, 256);
-    assert_eq!(rt; history.len(), 256);
+    assert!(rt; steps == 256 && history.len() == 256);
+    Ok(())
+}
+
+/// Runs a file by one worker, and asserts that nothing waits, how often the worker passes a process under one lock and over a board, and
+/// that the collector passes none.
+fn assert_counts<R: Abort + Threads + Wait + Sync>(
+    rt: &R,
+    alloc: Global,
+    file: &[u8],
+    proc: Proc,
+    passes: (u64, u64),
+) -> Result<(), Fault> {
+    let (locked, board) = (Counter::of(proc), Counter::of(proc));
+    let left = run_both(rt, alloc, file, 1, (&locked, &board))?;
+    assert!(rt; left.waiting == 0);
+    locked.assert_passes(rt, passes.0);
+    board.assert_passes(rt, passes.1);
     Ok(())
 }
 
@@ -355,16 +388,7 @@ fn the_collector_serves_nothing(rt: HostRuntime) -> Result<(), Fail> {
         (IN_A_ROW, 3),
         (CARDS, 2),
     ] {
-        let gate = Counter::of(Proc::new(0));
-        let (outcome, _) = run_file(&rt, alloc, file, 1, &gate)?;
-        assert_eq!(rt; outcome.waiting, 0);
-        assert_eq!(rt; gate.passes.load(Ordering::SeqCst), rounds);
-        assert_eq!(rt; gate.collector.load(Ordering::SeqCst), 0);
-        let gate = Counter::of(Proc::new(0));
-        let settled = run_settled(&rt, alloc, file, 1, &gate)?;
-        assert_eq!(rt; settled.waiting, 0);
-        assert_eq!(rt; gate.passes.load(Ordering::SeqCst), rounds);
-        assert_eq!(rt; gate.collector.load(Ordering::SeqCst), 0);
+        assert_counts(&rt, alloc, file, Proc::new(0), (rounds, rounds))?;
     }
     Ok(())
 }
@@ -373,16 +397,7 @@ fn the_collector_serves_nothing(rt: HostRuntime) -> Result<(), Fail> {
 /// it is passed in each round.
 #[test]
 fn turns_save_rounds(rt: HostRuntime) -> Result<(), Fail> {
-    let alloc = rt.alloc();
-    let last = Proc::new(4);
-    let locked = Counter::of(last);
-    let (outcome, _) = run_file(&rt, alloc, IN_A_ROW, 1, &locked)?;
-    assert_eq!(rt; outcome.waiting, 0);
-    assert_eq!(rt; locked.passes.load(Ordering::SeqCst), 3);
-    let board = Counter::of(last);
-    let settled = run_settled(&rt, alloc, IN_A_ROW, 1, &board)?;
-    assert_eq!(rt; settled.waiting, 0);
-    assert_eq!(rt; board.passes.load(Ordering::SeqCst), 1);
+    assert_counts(&rt, rt.alloc(), IN_A_ROW, Proc::new(4), (3, 1))?;
     Ok(())
 }
 
@@ -391,15 +406,26 @@ fn turns_save_rounds(rt: HostRuntime) -> Result<(), Fail> {
 fn numbers_of_workers(rt: HostRuntime) -> Result<(), Fail> {
     let alloc = rt.alloc();
     for workers in [0usize, 65, usize::MAX] {
-        let answer = run_file(&rt, alloc, WAITING, workers, &OpenGate);
-        assert!(rt; matches!(answer, Err(Fault::Workers)));
-        let answer = run_settled(&rt, alloc, WAITING, workers, &OpenGate);
-        assert!(rt; matches!(answer, Err(Fault::Workers)));
+        let locked = run_file(&rt, alloc, WAITING, workers, &OpenGate).err();
+        assert!(rt; matches!(locked, Some(Fault::Workers)));
+        let board = run_settled(&rt, alloc, WAITING, workers, &OpenGate).err();
+        assert!(rt; matches!(board, Some(Fault::Workers)));
     }
     for workers in [1usize, 2, 7, 64] {
-        let (outcome, _) = run_file(&rt, alloc, IN_A_ROW, workers, &OpenGate)?;
-        let settled = run_settled(&rt, alloc, IN_A_ROW, workers, &OpenGate)?;
-        assert!(rt; settled.rows == outcome.rows && settled.waiting == outcome.waiting);
+        run_both(&rt, alloc, IN_A_ROW, workers, (&OpenGate, &OpenGate))?;
+    }
+    Ok(())
+}
+
+/// Asserts that a file's last call succeeds, however many workers there are.
+fn assert_success<R: Abort + Threads + Wait + Sync>(
+    rt: &R,
+    alloc: Global,
+    file: &[u8],
+) -> Result<(), Fault> {
+    for workers in [1usize, 2, 7, 64] {
+        let left = run_both(rt, alloc, file, workers, (&OpenGate, &OpenGate))?;
+        assert!(rt; matches!(left.last, Some(Status::Success)));
     }
     Ok(())
 }
@@ -407,25 +433,13 @@ fn numbers_of_workers(rt: HostRuntime) -> Result<(), Fail> {
 /// However many workers there are, a call takes away all names that its process has published.
 #[test]
 fn workers_take_names_away(rt: HostRuntime) -> Result<(), Fail> {
-    let alloc = rt.alloc();
-    for workers in [1usize, 2, 7, 64] {
-        let (outcome, _) = run_file(&rt, alloc, SWEPT, workers, &OpenGate)?;
-        let settled = run_settled(&rt, alloc, SWEPT, workers, &OpenGate)?;
-        assert!(rt; settled.rows == outcome.rows && settled.waiting == outcome.waiting);
-        assert_eq!(rt; last_status(&settled, 1), Some(Status::Success));
-    }
+    assert_success(&rt, rt.alloc(), SWEPT)?;
     Ok(())
 }
 
 /// However many workers there are, what a get brings to a node stays there where the plan says so.
 #[test]
 fn workers_keep_what_gets_bring(rt: HostRuntime) -> Result<(), Fail> {
-    let alloc = rt.alloc();
-    for workers in [1usize, 2, 7, 64] {
-        let (outcome, _) = run_file(&rt, alloc, KEPT, workers, &OpenGate)?;
-        let settled = run_settled(&rt, alloc, KEPT, workers, &OpenGate)?;
-        assert!(rt; settled.rows == outcome.rows && settled.waiting == outcome.waiting);
-        assert_eq!(rt; last_status(&settled, 2), Some(Status::Success));
-    }
+    assert_success(&rt, rt.alloc(), KEPT)?;
     Ok(())
 }

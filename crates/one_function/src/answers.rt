@@ -6,7 +6,7 @@ ghost use Rattle.wire_content.specs.Planned.{plan_of};
 ghost use Rattle.wire_marks.specs.Clocks.{AreMarks};
 ghost use Rattle.wire_findings.specs.Findings.{AreFindings};
 
-use crate::texts::{marks_text, plan_text, push_pieces, push_seats, push_words, push_workers};
+use crate::texts::{marks_text, plan_text, push_pieces, push_words, seats_text, workers_text};
 use std::alloc::Global;
 use std::sync::Wait;
 use std::thread::Threads;
@@ -169,8 +169,17 @@ fn of_core(alloc: Global, plan: &Plan, stage: &mut Stage) -> Result<Vec<u8>, Fau
     let mut core = Core::new(alloc, plan)?;
     *stage = Stage::After;
     core.run_lowest();
+    let text = core_text(alloc, &core, plan);
+    drop(core);
+    text
+}
+
+/// The report and the order of a core's run.
+fn core_text(alloc: Global, core: &Core<'_>, plan: &Plan) -> Result<Vec<u8>, Fault> {
     let outcome = core.outcome(alloc)?;
-    unsettled_text(alloc, plan.scripts(), &outcome, core.history(), false)
+    let text = unsettled_text(alloc, plan.scripts(), &outcome, core.history(), false);
+    drop(outcome);
+    text
 }
 
 /// What `Round::deal` gives, as its passes, and the pieces that are left where none of these takes any.
@@ -178,10 +187,9 @@ fn of_round(alloc: Global, plan: &Plan, stage: &mut Stage) -> Result<Vec<u8>, Fa
     *stage = Stage::Within;
     let (round, passes) = Round::deal(alloc, ROUND, plan.process_count(), WORKERS)?;
     *stage = Stage::After;
-    let mut text = String::new(alloc);
-    let told = push_workers(&mut text, passes.as_slice());
+    let text = workers_text(alloc, passes.as_slice());
     let left = round.finish(passes);
-    told?;
+    let mut text = text?;
     push_pieces(&mut text, left.as_slice())?;
     Ok(text.into_bytes())
 }
@@ -208,8 +216,13 @@ fn judge(
     ensures findings { IfOk result (λ r. AreFindings plan.now r.1.items) }
 {
     let marks = Marks::of(rt.alloc(), plan)?;
-    let found = findings(rt, rt.alloc(), plan, &marks)?;
-    Ok((marks, found))
+    match findings(rt, rt.alloc(), plan, &marks) {
+        Ok(found) => Ok((marks, found)),
+        Err(fault) => {
+            drop(marks);
+            Err(fault)
+        }
+    }
 }
 
 /// The plan of a file as a settled one; `None` where something is found.
@@ -257,10 +270,9 @@ fn seated_text(alloc: Global, settled: &Settled, stage: &mut Stage) -> Result<Ve
     *stage = Stage::Within;
     let (board, seats) = seat_all(alloc, settled)?;
     *stage = Stage::After;
-    let mut text = String::new(alloc);
-    let told = push_seats(&mut text, settled, &board, seats.as_slice());
+    let text = seats_text(alloc, settled, &board, seats.as_slice());
     let words = board.close(alloc, seats);
-    told?;
+    let mut text = text?;
     push_words(&mut text, words?.as_slice())?;
     Ok(text.into_bytes())
 }

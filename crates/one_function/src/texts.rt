@@ -114,12 +114,13 @@ fn push_clock(text: &mut String, marked: &MarkedPlan<'_>, event: Event) -> Resul
 }
 
 /// The workers of a round, by their passes.
-pub fn push_workers(text: &mut String, passes: &[Pass]) -> Result<(), AllocError> {
+pub fn workers_text(alloc: Global, passes: &[Pass]) -> Result<String, AllocError> {
+    let mut text = String::new(alloc);
     for pass in passes {
         let worker = pass.worker();
         writeln!(text, "worker {worker}")?;
     }
-    Ok(())
+    Ok(text)
 }
 
 /// The pieces of a round.
@@ -132,20 +133,21 @@ pub fn push_pieces(text: &mut String, pieces: &[Piece]) -> Result<(), AllocError
 }
 
 /// The ranks of seats, and whether each shows that its next event can happen.
-pub fn push_seats(
-    text: &mut String,
+pub fn seats_text(
+    alloc: Global,
     settled: &Settled,
     board: &Board,
     seats: &[Seat],
-) -> Result<(), AllocError>
+) -> Result<String, AllocError>
     requires plan { board.now.plan ≡ settled.now }
     requires seats { All (λ seat. seat.board ≡ board.now) seats.now }
 {
+    let mut text = String::new(alloc);
     for seat in seats {
         let (rank, shows) = (seat.rank().number, seat.shows(settled));
         writeln!(text, "rank {rank} {shows:?}")?;
     }
-    Ok(())
+    Ok(text)
 }
 
 /// The words of a board.

@@ -1,6 +1,7 @@
 //! What the words of a command line ask for.
 
-ghost use Rattle.std.specs.Prelude.{◌≡◌, ◌⊎◌, ◌++◌, List, [], map, is_some, option_to_list, unwrap_or, true, false, Some, OnOk, IfOk, IfErr, IfSome, IfNone};
+ghost use Rattle.std.specs.Prelude.{◌≡◌, ◌⊎◌, ◌++◌, List, [], map, codes, is_some, option_to_list, unwrap_or, true, false, Some, OnOk, IfOk, IfErr, IfSome, IfNone};
+ghost use Rattle.std.specs.Str.{bytes_eq};
 ghost use Rattle.clap.specs.Words.{Row, Text, HasKind, kind_of, fault_of, first_of, found_of, rows_of, subcommand_of, subcommand_rows_of};
 ghost use Rattle.wire_command_line.specs.CommandLine as spec;
 ghost use Rattle.wire_command_line.specs.CommandLine.{AsksFor, RefusedFor, SaidBy};
@@ -26,27 +27,41 @@ pub(crate) fn has_word(found: &ArgMatches<'_>, name: &str) -> bool
     found.get_str(name).is_some()
 }
 
+/// Whether two words are the same.
+pub(crate) fn is_same(word: &str, other: &str) -> bool
+    ensures { result ≡ bytes_eq word.now other.now }
+{
+    word == other
+}
+
 /// Whether a flag was given.
 pub(crate) fn is_set(found: &ArgMatches<'_>, name: &str) -> bool
     ensures { result ≡ spec.is_set name.now (rows_of (found_of found.now)) }
 {
     match found.get_str(name) {
-        Some(word) => word == "true",
+        Some(word) => is_same(word, "true"),
         None => false,
     }
+}
+
+/// Whether the words of two calls were given.
+fn has_calls(found: &ArgMatches<'_>) -> bool
+    ensures { result ≡ spec.has_needed (codes "why") (rows_of (found_of found.now)) }
+{
+    has_word(found, "P") && has_word(found, "N") && has_word(found, "Q") && has_word(found, "M")
 }
 
 /// Whether a command has all words that it needs.
 fn has_needed(command: &str, found: &ArgMatches<'_>) -> bool
     ensures { result ≡ spec.has_needed command.now (rows_of (found_of found.now)) }
 {
-    if command == "follow" {
-        has_word(found, "ORDER")
-    } else if command == "why" {
-        has_word(found, "P") && has_word(found, "N") && has_word(found, "Q") && has_word(found, "M")
-    } else {
-        true
+    if is_same(command, "follow") {
+        return has_word(found, "ORDER");
     }
+    if is_same(command, "why") {
+        return has_calls(found);
+    }
+    true
 }
 
 /// Adds the word of this name, if it was given.
@@ -109,7 +124,6 @@ fn parse_command<'a>(
 {
     Ok(Asked {
         command,
-        words: words_given(alloc, found)?,
         workers: workers_given(found),
         most: most_given(found),
         lines: is_set(found, "lines"),
@@ -120,6 +134,7 @@ fn parse_command<'a>(
         second: is_set(found, "second"),
         large: is_set(found, "large"),
         explain: is_set(found, "explain"),
+        words: words_given(alloc, found)?,
     })
 }
 

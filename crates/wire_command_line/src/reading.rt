@@ -7,7 +7,7 @@ ghost use Rattle.wire_command_line.specs.Requests as spec;
 ghost use Rattle.wire_command_line.specs.Requests.{NamesCall, IsRequest, IsRequestOf, IsRefusalOf, text_of};
 
 use crate::matching::{
-    find_word, has_word, is_set, match_words, most_given, tell_missing, workers_given,
+    find_word, has_word, is_same, is_set, match_words, most_given, tell_missing, workers_given,
 };
 use crate::number::{most_of, workers_of};
 use crate::request::{
@@ -250,22 +250,22 @@ fn read_witness<'a>(found: &ArgMatches<'a>) -> Result<Request<'a>, Lack>
 fn read_command<'a>(name: &str, found: &ArgMatches<'a>) -> Result<Request<'a>, Lack>
     ensures { IsReadAs name.now (rows_of (found_of found.now)) result }
 {
-    if name == "check" {
+    if is_same(name, "check") {
         return Ok(read_check(found));
     }
-    if name == "replay" {
+    if is_same(name, "replay") {
         return read_replay(found);
     }
-    if name == "follow" {
+    if is_same(name, "follow") {
         return read_follow(found);
     }
-    if name == "why" {
+    if is_same(name, "why") {
         return read_why(found);
     }
-    if name == "migrate" {
+    if is_same(name, "migrate") {
         return Ok(read_migrate(found));
     }
-    if name == "witness" {
+    if is_same(name, "witness") {
         return read_witness(found);
     }
     Err(Lack::Word)

@@ -13,9 +13,13 @@ use Rattle.wire_script.specs.Limits.{order_bytes}
 use Rattle.wire_script.specs.Statements.{Statement, statements}
 use Rattle.wire_order.specs.Order.{order_read, order_within, order_of, step_of, with_step}
 use Rattle.wire_order.proofs.Limited.{order_limited}
-use Rattle.wire_runs.specs.Step.{is_enabled}
+use Rattle.wire_runs.specs.State.{start}
+use Rattle.wire_runs.specs.Step.{IsInterleaving, is_enabled, run}
+use Rattle.wire_runs.specs.Ends.{outcome}
+use Rattle.wire_types.specs.Outcome.{Ends}
+use Rattle.wire_content.specs.Planned.{plan_of}
 use Rattle.wire_core.specs.Course.{Course, plan_in, state_of}
-use Rattle.wire_core.specs.Following.{StopsAt}
+use Rattle.wire_core.specs.Following.{Follows, StopsAt}
 use Rattle.wire_commands.specs.Plain.{ReadAs, Refuses}
 use Rattle.wire_commands.proofs.Texts.{LeadsTo}
 use Rattle.wire_commands.specs.Follow.{OrdersAs, RefusesSteps, StopsAfter, StopsBefore, OrderedAs, WritesFollowed, BreaksOffFollowed}
@@ -167,3 +171,13 @@ stopped_first s new steps e stops = record {
 
 pub stopped : (s : Scripts) (old new : Course) (steps : List ℕ) (e : Fault) → old ≡ record { scripts = s; history = [] } → StopsAt old steps new e → StopsAfter s steps e
 stopped s old new steps e is stops = stopped_first s new steps e (subst (λ o. StopsAt o steps new e) is stops)
+
+-- what became of every call after these steps, in a run from the start
+module _ (s : Scripts) (new : Course) (steps : List ℕ) (ends : Ends) where
+  reached_first : Follows (record { scripts = s; history = [] }) steps new → ends ≡ outcome (plan_in new) (state_of new) →
+      IsInterleaving (plan_of s) start steps × (ends ≡ outcome (plan_of s) (run (plan_of s) steps))
+  reached_first follows is = (follows.enabled, is ∙ ap (λ c. outcome (plan_in c) (state_of c)) follows.taken)
+
+  pub reached : (old : Course) → old ≡ record { scripts = s; history = [] } → Follows old steps new → ends ≡ outcome (plan_in new) (state_of new) →
+      IsInterleaving (plan_of s) start steps × (ends ≡ outcome (plan_of s) (run (plan_of s) steps))
+  reached old same follows is = reached_first (subst (λ o. Follows o steps new) same follows) is

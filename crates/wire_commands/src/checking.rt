@@ -4,6 +4,7 @@ ghost use Rattle.std.specs.Prelude.{List, length, ◌≡◌, ◌≢◌, ◌⊎�
 ghost use Rattle.wire_types.specs.declared.Fault.TheVariants.{Memory, Read};
 ghost use Rattle.wire_types.specs.Counting.{one_more};
 ghost use Rattle.wire_findings.specs.declared.finding.Finding.{Finding as Told};
+ghost use Rattle.wire_findings.specs.Findings.{AreFindings};
 ghost use Rattle.wire_commands.specs.declared.checking.Ended.TheVariants.{Clean};
 ghost use Rattle.wire_commands.specs.Check as spec;
 ghost use Rattle.wire_commands.specs.Check.{WritesVerdict, BreaksOffVerdict, WritesFindings, EndsInOneState, BreaksOffFindings, StopsBeforeFindings};
@@ -13,7 +14,7 @@ use crate::plain_run::read_scripts;
 use std::alloc::Global;
 use std::thread::Threads;
 use wire_content::Scripts;
-use wire_findings::Finding;
+use wire_findings::{Finding, FindingList};
 use wire_marks::Marks;
 use wire_plan::Plan;
 use wire_races::finding_list;
@@ -59,6 +60,15 @@ impl Ended {
     }
 }
 
+/// The findings of a plan.
+fn findings_of(rt: &(impl Threads + Sync), alloc: Global, plan: &Plan) -> Result<FindingList, Fault>
+    ensures ok { IfOk result (AreFindings plan.now) }
+    ensures err { IfErr result (λ e. e ≡ Memory) }
+{
+    let marks = Marks::of(alloc, plan)?;
+    finding_list(rt, alloc, &marks.with(plan))
+}
+
 /// Writes all findings of a plan, and says how its check ends.
 fn check_plan<W: Sink>(
     rt: &(impl Threads + Sync),
@@ -72,9 +82,7 @@ fn check_plan<W: Sink>(
     ensures err { IfErr result (λ e. ((e ≡ Memory) × (writer.new ≡ writer.old))
         ⊎ (BreaksOffVerdict json plan.now (W.written writer.old) (W.written writer.new) e × (W.failures writer.new ≡ one_more (W.failures writer.old)))) }
 {
-    let marks = Marks::of(alloc, plan)?;
-    let marked = marks.with(plan);
-    let found = finding_list(rt, alloc, &marked)?;
+    let found = findings_of(rt, alloc, plan)?;
     settled_exactly();
     let ended = Ended::of_count(found.len());
     write_findings(alloc, plan.scripts(), &found, json, writer)?;

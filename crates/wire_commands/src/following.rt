@@ -9,6 +9,8 @@ ghost use Rattle.wire_content.specs.Planned.{plan_of};
 ghost use Rattle.wire_runs.specs.State.{start};
 ghost use Rattle.wire_runs.specs.Step.{run, IsInterleaving};
 ghost use Rattle.wire_runs.specs.Ends.{outcome};
+ghost use Rattle.wire_core.specs.Following.{Follows, StopsAt};
+ghost use Rattle.wire_core.specs.Course.{plan_in, state_of};
 ghost use Rattle.wire_commands.specs.Plain.{ReadAs};
 ghost use Rattle.wire_commands.specs.Follow.{WritesFollowed, BreaksOffFollowed, StopsBefore, OrdersAs, RefusesSteps, StopsAfter, report_after};
 
@@ -42,6 +44,15 @@ fn read_steps<O: Source>(
     read_order_sized(alloc, size, scripts, bytes.as_slice())
 }
 
+/// Takes these steps, and says what became of every call after them.
+fn follow_order(alloc: Global, core: &mut Core<'_>, order: &[Proc]) -> Result<Outcome, Fault>
+    ensures ok { IfOk result (λ o. Follows core.old (numbers_of order.now) core.new × (ends_of o ≡ outcome (plan_in core.new) (state_of core.new))) }
+    ensures err { IfErr result (λ e. (e ≡ Memory) ⊎ StopsAt core.old (numbers_of order.now) core.new e) }
+{
+    core.follow(order)?;
+    core.outcome(alloc)
+}
+
 /// What became of every call after these steps.
 fn outcome_after(alloc: Global, plan: &Plan, order: &[Proc]) -> Result<Outcome, Fault>
     ensures ok { IfOk result (λ o. IsInterleaving (plan_of plan.now) start (numbers_of order.now)
@@ -49,8 +60,9 @@ fn outcome_after(alloc: Global, plan: &Plan, order: &[Proc]) -> Result<Outcome, 
     ensures err { IfErr result (λ e. (e ≡ Memory) ⊎ StopsAfter plan.now (numbers_of order.now) e) }
 {
     let mut core = Core::new(alloc, plan)?;
-    core.follow(order)?;
-    core.outcome(alloc)
+    let outcome = follow_order(alloc, &mut core, order);
+    drop(core);
+    outcome
 }
 
 /// The report of the state after these steps of a plan, in lines or as JSON.

@@ -3,6 +3,7 @@
 ghost use Rattle.std.specs.Prelude.{◌≡◌, ◌≢◌, ◌⊎◌, Ok, Err, true, map, OnOk, IfOk, IfErr};
 ghost use Rattle.wire_types.specs.declared.Fault.TheVariants.{Memory, Read};
 ghost use Rattle.wire_types.specs.Counting.{one_more};
+ghost use Rattle.wire_findings.specs.Findings.{AreFindings};
 ghost use Rattle.wire_commands.specs.declared.checking.Ended.TheVariants.{Clean};
 ghost use Rattle.wire_commands.specs.Check.{EndsInOneState, StopsBeforeFindings};
 ghost use Rattle.wire_lined_commands.specs.Placed.{WritesPlaced, BreaksOffPlaced};
@@ -56,6 +57,15 @@ fn grouped_text(
     grouped_lines(alloc, telling.places, scripts, found)
 }
 
+/// The findings of a plan.
+fn findings_of(rt: &(impl Threads + Sync), alloc: Global, plan: &Plan) -> Result<FindingList, Fault>
+    ensures ok { IfOk result (AreFindings plan.now) }
+    ensures err { IfErr result (λ e. e ≡ Memory) }
+{
+    let marks = Marks::of(alloc, plan)?;
+    finding_list(rt, alloc, &marks.with(plan))
+}
+
 /// The findings of a plan, in groups, and how its check ends.
 fn plan_answer(
     rt: &(impl Threads + Sync),
@@ -67,9 +77,7 @@ fn plan_answer(
         (map (λ row. row.items) telling.entry.places.rows.now) answer.text.items answer.ended) }
     ensures err { IfErr result (λ e. e ≡ Memory) }
 {
-    let marks = Marks::of(alloc, plan)?;
-    let marked = marks.with(plan);
-    let found = finding_list(rt, alloc, &marked)?;
+    let found = findings_of(rt, alloc, plan)?;
     settled_exactly();
     let text = grouped_text(alloc, plan.scripts(), telling, &found)?;
     Ok(Answer {

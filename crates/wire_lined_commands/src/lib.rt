@@ -5,6 +5,7 @@ mod asking;
 mod chains;
 mod checking;
 mod file;
+mod forms;
 mod lined;
 mod pair;
 mod races;

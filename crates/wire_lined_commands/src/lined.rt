@@ -1,25 +1,23 @@
 //! The JSON forms in which each call has the number of its line in the file.
 
-ghost use Rattle.std.specs.Prelude.{◌≡◌, ◌++◌, map, IfOk, OnOk};
-ghost use Rattle.wire_content.specs.Scripts.{numbers_of};
+ghost use Rattle.std.specs.Prelude.{◌≡◌, map, IfOk};
 ghost use Rattle.wire_json.specs.Json.{quoted};
-ghost use Rattle.wire_json.specs.Witnesses.{json_run};
 ghost use Rattle.wire_report.specs.Findings.{finding_words};
 ghost use Rattle.wire_lined_commands.specs.Lined as spec;
 
+use crate::forms::Form;
 use std::alloc::{AllocError, Global};
 use wire_content::Scripts;
 use wire_findings::{Finding, FindingList};
 use wire_groups::Group;
 use wire_json::{
-    ChainStep, Half, RunTold, counts_json, lined_place_json, lined_step_json, push_list,
-    push_quoted, run_json, which_word,
+    ChainStep, Half, RunTold, counts_json, lined_place_json, lined_step_json, push_quoted,
+    run_json, which_word,
 };
 use wire_located::{line_of, pair_of};
 use wire_report::push_finding;
 use wire_types::CallAt;
 use wire_witness::{RaceSearch, TriedRace, Witness};
-use wire_words::push_number;
 
 /// A call, or a half of a fence, with its line.
 #[tactic(auto, unfolding(crate::specs::Lined::json_step))]
@@ -45,20 +43,6 @@ fn call_json(
 {
     let half = Half::Whole;
     step_json(alloc, scripts, rows, ChainStep { call, half })
-}
-
-/// Appends a call with its line.
-fn push_call(
-    alloc: Global,
-    out: &mut Vec<u8>,
-    scripts: &Scripts,
-    rows: &[Vec<u64>],
-    call: CallAt,
-) -> Result<(), AllocError>
-    ensures { OnOk result (out.new.items ≡ out.old.items ++ spec.json_call (map (λ row. row.items) rows.now) scripts.now call) }
-{
-    let text = call_json(alloc, scripts, rows, call)?;
-    out.extend_from_slice(text.as_slice())
 }
 
 /// A call by its process, its number and its line alone.
@@ -100,14 +84,13 @@ pub(crate) fn chain_json(
 ) -> Result<Vec<u8>, AllocError>
     ensures { IfOk result (λ text. text.items ≡ spec.json_chain (map (λ row. row.items) rows.now) first scripts.now steps.now) }
 {
-    let texts = step_texts(alloc, scripts, rows, steps)?;
-    let mut text = Vec::new(alloc);
-    text.extend_from_slice(b"{\"before\":\"")?;
-    text.extend_from_slice(which_word(first).as_bytes())?;
-    text.extend_from_slice(b"\",\"chain\":")?;
-    push_list(&mut text, texts.as_slice())?;
-    text.extend_from_slice(b"}\n")?;
-    Ok(text)
+    Form::new(alloc)
+        .put(b"{\"before\":\"")
+        .put(which_word(first).as_bytes())
+        .put(b"\",\"chain\":")
+        .put_list(step_texts(alloc, scripts, rows, steps))
+        .put(b"}\n")
+        .finish()
 }
 
 /// Calls by their processes, numbers and lines alone.
@@ -135,45 +118,36 @@ pub(crate) fn unordered_json(
 ) -> Result<Vec<u8>, AllocError>
     ensures { IfOk result (λ text. text.items ≡ spec.json_unordered (map (λ row. row.items) rows.now) scripts.now dead.now) }
 {
-    let texts = place_texts(alloc, scripts, rows, dead)?;
-    let mut text = Vec::new(alloc);
-    text.extend_from_slice(b"{\"before\":null,\"dead\":")?;
-    push_list(&mut text, texts.as_slice())?;
-    text.extend_from_slice(b"}\n")?;
-    Ok(text)
+    Form::new(alloc)
+        .put(b"{\"before\":null,\"dead\":")
+        .put_list(place_texts(alloc, scripts, rows, dead))
+        .put(b"}\n")
+        .finish()
 }
 
-/// Appends the members of a finding: its two calls, and its words.
-fn push_members(
-    alloc: Global,
-    out: &mut Vec<u8>,
-    scripts: &Scripts,
-    rows: &[Vec<u64>],
-    finding: Finding,
-) -> Result<(), AllocError>
-    ensures { OnOk result (out.new.items ≡ out.old.items ++ spec.finding_members (map (λ row. row.items) rows.now) scripts.now finding) }
+/// The form of a finding as far as its members go: its two calls, and its words.
+fn begin_finding(alloc: Global, scripts: &Scripts, rows: &[Vec<u64>], finding: Finding) -> Form
+    ensures { IfOk result.built (λ text. text.items ≡ spec.finding_members (map (λ row. row.items) rows.now) scripts.now finding) }
 {
     let pair = pair_of(finding);
-    out.extend_from_slice(b"{\"calls\":[")?;
-    push_call(alloc, out, scripts, rows, pair.lower)?;
-    out.extend_from_slice(b",")?;
-    push_call(alloc, out, scripts, rows, pair.higher)?;
-    out.extend_from_slice(b"],\"finding\":")?;
-    push_words(alloc, out, scripts, finding)
+    Form::new(alloc)
+        .put(b"{\"calls\":[")
+        .put_form(call_json(alloc, scripts, rows, pair.lower))
+        .put(b",")
+        .put_form(call_json(alloc, scripts, rows, pair.higher))
+        .put(b"],\"finding\":")
+        .put_form(words_json(alloc, scripts, finding))
 }
 
-/// Appends the words of a finding as a string.
-fn push_words(
-    alloc: Global,
-    out: &mut Vec<u8>,
-    scripts: &Scripts,
-    finding: Finding,
-) -> Result<(), AllocError>
-    ensures { OnOk result (out.new.items ≡ out.old.items ++ quoted (finding_words scripts.now finding)) }
+/// The words of a finding as a string.
+fn words_json(alloc: Global, scripts: &Scripts, finding: Finding) -> Result<Vec<u8>, AllocError>
+    ensures { IfOk result (λ text. text.items ≡ quoted (finding_words scripts.now finding)) }
 {
     let mut words = Vec::new(alloc);
     push_finding(&mut words, scripts, finding)?;
-    push_quoted(out, words.as_slice())
+    let mut text = Vec::new(alloc);
+    push_quoted(&mut text, words.as_slice())?;
+    Ok(text)
 }
 
 /// A finding, with its calls.
@@ -185,10 +159,9 @@ fn finding_json(
 ) -> Result<Vec<u8>, AllocError>
     ensures { IfOk result (λ text. text.items ≡ spec.json_finding (map (λ row. row.items) rows.now) scripts.now finding) }
 {
-    let mut text = Vec::new(alloc);
-    push_members(alloc, &mut text, scripts, rows, finding)?;
-    text.extend_from_slice(b"}")?;
-    Ok(text)
+    begin_finding(alloc, scripts, rows, finding)
+        .put(b"}")
+        .finish()
 }
 
 /// All findings, each with its calls.
@@ -214,13 +187,13 @@ fn finding_texts(
 fn group_json(alloc: Global, group: Group) -> Result<Vec<u8>, AllocError>
     ensures { IfOk result (λ text. text.items ≡ spec.json_group group) }
 {
-    let mut text = Vec::new(alloc);
-    text.extend_from_slice(b"{\"count\":")?;
-    push_number(&mut text, group.count as u64)?;
-    text.extend_from_slice(b",\"first\":")?;
-    push_number(&mut text, group.first as u64)?;
-    text.extend_from_slice(b"}")?;
-    Ok(text)
+    Form::new(alloc)
+        .put(b"{\"count\":")
+        .put_number(group.count as u64)
+        .put(b",\"first\":")
+        .put_number(group.first as u64)
+        .put(b"}")
+        .finish()
 }
 
 /// All groups.
@@ -244,15 +217,13 @@ pub(crate) fn groups_json(
 ) -> Result<Vec<u8>, AllocError>
     ensures { IfOk result (λ text. text.items ≡ spec.json_groups (map (λ row. row.items) rows.now) scripts.now findings.now groups.now) }
 {
-    let found = finding_texts(alloc, scripts, rows, findings)?;
-    let grouped = group_texts(alloc, groups)?;
-    let mut text = Vec::new(alloc);
-    text.extend_from_slice(b"{\"findings\":")?;
-    push_list(&mut text, found.as_slice())?;
-    text.extend_from_slice(b",\"groups\":")?;
-    push_list(&mut text, grouped.as_slice())?;
-    text.extend_from_slice(b"}\n")?;
-    Ok(text)
+    Form::new(alloc)
+        .put(b"{\"findings\":")
+        .put_list(finding_texts(alloc, scripts, rows, findings))
+        .put(b",\"groups\":")
+        .put_list(group_texts(alloc, groups))
+        .put(b"}\n")
+        .finish()
 }
 
 /// Two runs that show a race, the call that ends differently in them, and the other call of the race.
@@ -264,51 +235,25 @@ pub(crate) fn witness_json(
 ) -> Result<Vec<u8>, AllocError>
     ensures { IfOk result (λ text. text.items ≡ spec.json_witness (map (λ row. row.items) rows.now) scripts.now witness.now) }
 {
-    let mut text = Vec::new(alloc);
-    text.extend_from_slice(b"{\"first\":")?;
-    push_first(alloc, &mut text, scripts, witness)?;
-    text.extend_from_slice(b",\"other\":")?;
-    push_call(alloc, &mut text, scripts, rows, witness.other)?;
-    text.extend_from_slice(b",\"race\":true,\"second\":")?;
-    push_second(alloc, &mut text, scripts, witness)?;
-    text.extend_from_slice(b",\"shown\":")?;
-    push_call(alloc, &mut text, scripts, rows, witness.call)?;
-    text.extend_from_slice(b"}\n")?;
-    Ok(text)
-}
-
-/// Appends the first run of a witness.
-fn push_first(
-    alloc: Global,
-    out: &mut Vec<u8>,
-    scripts: &Scripts,
-    witness: &Witness,
-) -> Result<(), AllocError>
-    ensures { OnOk result (out.new.items ≡ out.old.items ++ json_run scripts.now witness.now.first_end (numbers_of witness.now.first.items)) }
-{
-    let run = RunTold {
+    let first = RunTold {
         end: &witness.first_end,
         order: witness.first.as_slice(),
     };
-    let text = run_json(alloc, scripts, run)?;
-    out.extend_from_slice(text.as_slice())
-}
-
-/// Appends the second run of a witness.
-fn push_second(
-    alloc: Global,
-    out: &mut Vec<u8>,
-    scripts: &Scripts,
-    witness: &Witness,
-) -> Result<(), AllocError>
-    ensures { OnOk result (out.new.items ≡ out.old.items ++ json_run scripts.now witness.now.second_end (numbers_of witness.now.second.items)) }
-{
-    let run = RunTold {
+    let second = RunTold {
         end: &witness.second_end,
         order: witness.second.as_slice(),
     };
-    let text = run_json(alloc, scripts, run)?;
-    out.extend_from_slice(text.as_slice())
+    Form::new(alloc)
+        .put(b"{\"first\":")
+        .put_form(run_json(alloc, scripts, first))
+        .put(b",\"other\":")
+        .put_form(call_json(alloc, scripts, rows, witness.other))
+        .put(b",\"race\":true,\"second\":")
+        .put_form(run_json(alloc, scripts, second))
+        .put(b",\"shown\":")
+        .put_form(call_json(alloc, scripts, rows, witness.call))
+        .put(b"}\n")
+        .finish()
 }
 
 /// The call that shows a race, or null.
@@ -335,13 +280,11 @@ fn tried_json(
 ) -> Result<Vec<u8>, AllocError>
     ensures { IfOk result (λ text. text.items ≡ spec.json_tried (map (λ row. row.items) rows.now) scripts.now tried) }
 {
-    let shown = shown_json(alloc, scripts, rows, tried.shown)?;
-    let mut text = Vec::new(alloc);
-    push_members(alloc, &mut text, scripts, rows, tried.race)?;
-    text.extend_from_slice(b",\"shown\":")?;
-    text.extend_from_slice(shown.as_slice())?;
-    text.extend_from_slice(b"}")?;
-    Ok(text)
+    begin_finding(alloc, scripts, rows, tried.race)
+        .put(b",\"shown\":")
+        .put_form(shown_json(alloc, scripts, rows, tried.shown))
+        .put(b"}")
+        .finish()
 }
 
 /// All races that were tried.
@@ -369,13 +312,11 @@ pub(crate) fn races_json(
 ) -> Result<Vec<u8>, AllocError>
     ensures { IfOk result (λ text. text.items ≡ spec.json_races (map (λ row. row.items) rows.now) scripts.now search.now) }
 {
-    let races = tried_texts(alloc, scripts, rows, search.tried.as_slice())?;
-    let counts = counts_json(alloc, search.counts())?;
-    let mut text = Vec::new(alloc);
-    text.extend_from_slice(b"{\"counts\":")?;
-    text.extend_from_slice(counts.as_slice())?;
-    text.extend_from_slice(b",\"races\":")?;
-    push_list(&mut text, races.as_slice())?;
-    text.extend_from_slice(b"}\n")?;
-    Ok(text)
+    Form::new(alloc)
+        .put(b"{\"counts\":")
+        .put_form(counts_json(alloc, search.counts()))
+        .put(b",\"races\":")
+        .put_list(tried_texts(alloc, scripts, rows, search.tried.as_slice()))
+        .put(b"}\n")
+        .finish()
 }

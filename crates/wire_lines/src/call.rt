@@ -155,71 +155,6 @@ fn target_of<'a>(words: &[&'a [u8]]) -> Option<(ProcName<'a>, &'a [u8])>
     }
 }
 
-/// The get, by the words after its verb.
-fn get_of<'a>(words: &[&'a [u8]]) -> Option<CallLine<'a>>
-    ensures found { IfSome result (λ c. (first_of_call (call_by c) ≡ codes "get")
-        × (map (λ w. w.now) words.now ≡ others_of_call (call_by c)) × IsLawfulCall (call_by c)) }
-    ensures none { IfNone result ((call : spec.Call) → first_of_call call ≡ codes "get" → IsLawfulCall call
-        → map (λ w. w.now) words.now ≢ others_of_call call) }
-{
-    match target_of(words) {
-        Some((owner, key)) => Some(CallLine::Get { owner, key }),
-        None => None,
-    }
-}
-
-/// The get that never waits, by the words after its verb.
-fn get_now_of<'a>(words: &[&'a [u8]]) -> Option<CallLine<'a>>
-    ensures found { IfSome result (λ c. (first_of_call (call_by c) ≡ codes "get-now")
-        × (map (λ w. w.now) words.now ≡ others_of_call (call_by c)) × IsLawfulCall (call_by c)) }
-    ensures none { IfNone result ((call : spec.Call) → first_of_call call ≡ codes "get-now" → IsLawfulCall call
-        → map (λ w. w.now) words.now ≢ others_of_call call) }
-{
-    match target_of(words) {
-        Some((owner, key)) => Some(CallLine::GetNow { owner, key }),
-        None => None,
-    }
-}
-
-/// The publish, by the words after its verb.
-fn publish_of<'a>(words: &[&'a [u8]]) -> Option<CallLine<'a>>
-    ensures found { IfSome result (λ c. (first_of_call (call_by c) ≡ codes "publish")
-        × (map (λ w. w.now) words.now ≡ others_of_call (call_by c)) × IsLawfulCall (call_by c)) }
-    ensures none { IfNone result ((call : spec.Call) → first_of_call call ≡ codes "publish" → IsLawfulCall call
-        → map (λ w. w.now) words.now ≢ others_of_call call) }
-{
-    match pair_of(words) {
-        Some((name, value)) => Some(CallLine::Publish { name, value }),
-        None => None,
-    }
-}
-
-/// The lookup, by the words after its verb.
-fn lookup_of<'a>(words: &[&'a [u8]]) -> Option<CallLine<'a>>
-    ensures found { IfSome result (λ c. (first_of_call (call_by c) ≡ codes "lookup")
-        × (map (λ w. w.now) words.now ≡ others_of_call (call_by c)) × IsLawfulCall (call_by c)) }
-    ensures none { IfNone result ((call : spec.Call) → first_of_call call ≡ codes "lookup" → IsLawfulCall call
-        → map (λ w. w.now) words.now ≢ others_of_call call) }
-{
-    match key_of(words) {
-        Some(name) => Some(CallLine::Lookup { name }),
-        None => None,
-    }
-}
-
-/// The lookup that waits, by the words after its verb.
-fn lookup_wait_of<'a>(words: &[&'a [u8]]) -> Option<CallLine<'a>>
-    ensures found { IfSome result (λ c. (first_of_call (call_by c) ≡ codes "lookup-wait")
-        × (map (λ w. w.now) words.now ≡ others_of_call (call_by c)) × IsLawfulCall (call_by c)) }
-    ensures none { IfNone result ((call : spec.Call) → first_of_call call ≡ codes "lookup-wait" → IsLawfulCall call
-        → map (λ w. w.now) words.now ≢ others_of_call call) }
-{
-    match key_of(words) {
-        Some(name) => Some(CallLine::LookupWait { name }),
-        None => None,
-    }
-}
-
 /// Whether a fence collects, by the words after its set.
 fn collect_of(words: &[&[u8]]) -> Option<bool>
     ensures found { IfSome result (λ c. map (λ w. w.now) words.now ≡ collect_words c) }
@@ -299,11 +234,26 @@ pub fn call_of<'a>(
             }
         }
         Verb::Fence => fence_of(alloc, words),
-        Verb::Get => Ok(get_of(words)),
-        Verb::GetNow => Ok(get_now_of(words)),
-        Verb::Publish => Ok(publish_of(words)),
-        Verb::Lookup => Ok(lookup_of(words)),
-        Verb::LookupWait => Ok(lookup_wait_of(words)),
+        Verb::Get => match target_of(words) {
+            Some((owner, key)) => Ok(Some(CallLine::Get { owner, key })),
+            None => Ok(None),
+        },
+        Verb::GetNow => match target_of(words) {
+            Some((owner, key)) => Ok(Some(CallLine::GetNow { owner, key })),
+            None => Ok(None),
+        },
+        Verb::Publish => match pair_of(words) {
+            Some((name, value)) => Ok(Some(CallLine::Publish { name, value })),
+            None => Ok(None),
+        },
+        Verb::Lookup => match key_of(words) {
+            Some(name) => Ok(Some(CallLine::Lookup { name })),
+            None => Ok(None),
+        },
+        Verb::LookupWait => match key_of(words) {
+            Some(name) => Ok(Some(CallLine::LookupWait { name })),
+            None => Ok(None),
+        },
         Verb::Unpublish => Ok(unpublish_of(words)),
     }
 }

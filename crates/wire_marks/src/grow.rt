@@ -136,20 +136,6 @@ fn mark_once(alloc: Global, growth: &mut Growth<'_>) -> Result<bool, AllocError>
     Ok(moved)
 }
 
-// Marks what is ready in the processes of a way, the last one first.
-fn mark_way_back(alloc: Global, growth: &mut Growth<'_>, way: &[Proc]) -> Result<(), AllocError>
-    requires { IsGrowing growth.old }
-    ensures growing { OnOk result (IsGrowing growth.new) }
-    ensures plan { growth.new.plan.now ≡ growth.old.plan.now }
-    ensures not_more { OnOk result (left_in growth.new ≤ left_in growth.old) }
-{
-    for k in 0..way.len() {
-        let proc = way[way.len() - 1 - k];
-        mark_run(alloc, growth, proc)?;
-    }
-    Ok(())
-}
-
 // Marks what is ready in a process, then in the one that it waits for, and so on, as long as they are new to
 // the way.
 fn mark_way_down(
@@ -177,6 +163,23 @@ fn mark_way_down(
     Ok(())
 }
 
+// Marks what is ready along a way through all processes, and then in the processes of the way, the last one first.
+fn mark_way(alloc: Global, growth: &mut Growth<'_>, way: &mut Way) -> Result<(), AllocError>
+    requires { IsGrowing growth.old }
+    ensures growing { OnOk result (IsGrowing growth.new) }
+    ensures plan { growth.new.plan.now ≡ growth.old.plan.now }
+    ensures not_more { OnOk result (left_in growth.new ≤ left_in growth.old) }
+{
+    for number in 0..growth.plan.process_count() {
+        mark_way_down(alloc, growth, way, Proc::new(number))?;
+    }
+    for k in 0..way.procs.len() {
+        let proc = way.procs[way.procs.len() - 1 - k];
+        mark_run(alloc, growth, proc)?;
+    }
+    Ok(())
+}
+
 // Marks what is ready, each process after the one that it waits for, as far as that goes in one round: the
 // passes are then few.
 fn mark_along_waits(alloc: Global, growth: &mut Growth<'_>) -> Result<(), AllocError>
@@ -185,12 +188,22 @@ fn mark_along_waits(alloc: Global, growth: &mut Growth<'_>) -> Result<(), AllocE
     ensures plan { growth.new.plan.now ≡ growth.old.plan.now }
     ensures not_more { OnOk result (left_in growth.new ≤ left_in growth.old) }
 {
-    let count = growth.plan.process_count();
-    let mut way = Way::new(alloc, count as usize)?;
-    for number in 0..count {
-        mark_way_down(alloc, growth, &mut way, Proc::new(number))?;
+    let mut way = Way::new(alloc, growth.plan.process_count() as usize)?;
+    mark_way(alloc, growth, &mut way)
+}
+
+// Marks what is ready in all processes, as long as that is any event.
+fn mark_ready(alloc: Global, growth: &mut Growth<'_>) -> Result<(), AllocError>
+    requires { IsGrowing growth.old }
+    ensures growing { OnOk result (IsGrowing growth.new) }
+    ensures plan { growth.new.plan.now ≡ growth.old.plan.now }
+    ensures stuck { OnOk result ((p : ℕ) → p < process_count (plan_in growth.new) → IsStuckIn growth.new p) }
+{
+    let mut moved = true;
+    'passes: while moved {
+        mark_along_waits(alloc, growth)?;
+        moved = mark_once(alloc, growth)?;
     }
-    mark_way_back(alloc, growth, &way.procs)?;
     Ok(())
 }
 
@@ -205,10 +218,6 @@ pub(crate) fn mark_all(alloc: Global, plan: &Plan) -> Result<Clocks, AllocError>
         clocks: no_clocks(alloc, plan)?,
         meetings: Vec::new(alloc),
     };
-    let mut moved = true;
-    'passes: while moved {
-        mark_along_waits(alloc, &mut growth)?;
-        moved = mark_once(alloc, &mut growth)?;
-    }
+    mark_ready(alloc, &mut growth)?;
     Ok(growth.clocks)
 }

@@ -52,17 +52,6 @@ impl Held {
         Ok(())
     }
 
-    // Adds a name to a list that is there.
-    fn append(&mut self, proc: Proc, name: u32) -> Result<(), AllocError>
-        requires { proc.number < length self.old }
-        ensures here { OnOk result (names_at self.new proc.number ≡ names_at self.old proc.number ++ name ∷ []) }
-        ensures others { OnOk result ((p : ℕ) → p ≢ proc.number → names_at self.new p ≡ names_at self.old p) }
-        ensures err { OnErr result ((p : ℕ) → names_at self.new p ≡ names_at self.old p) }
-    {
-        self.by_proc[proc.number as usize].push(name)?;
-        Ok(())
-    }
-
     /// Adds a name to those of a process.
     pub(crate) fn add(&mut self, alloc: Global, proc: Proc, name: u32) -> Result<(), AllocError>
         ensures here { OnOk result (names_at self.new proc.number ≡ names_at self.old proc.number ++ name ∷ []) }
@@ -70,7 +59,8 @@ impl Held {
         ensures err { OnErr result ((p : ℕ) → names_at self.new p ≡ names_at self.old p) }
     {
         self.reach(alloc, proc)?;
-        self.append(proc, name)
+        self.by_proc[proc.number as usize].push(name)?;
+        Ok(())
     }
 
     /// Takes away those of a process.

@@ -111,17 +111,6 @@ impl UpdateLists {
         Ok(())
     }
 
-    // Adds one to a list that is there.
-    fn append(&mut self, name: u32, update: Update) -> Result<(), AllocError>
-        requires { name < length self.old }
-        ensures here { OnOk result (updates_at self.new name ≡ updates_at self.old name ++ update ∷ []) }
-        ensures others { OnOk result ((n : ℕ) → n ≢ name → updates_at self.new n ≡ updates_at self.old n) }
-        ensures err { OnErr result ((n : ℕ) → updates_at self.new n ≡ updates_at self.old n) }
-    {
-        self.by_name[name as usize].push(update)?;
-        Ok(())
-    }
-
     // Adds one to the list of a name.
     fn add(&mut self, alloc: Global, name: u32, update: Update) -> Result<(), AllocError>
         ensures here { OnOk result (updates_at self.new name ≡ updates_at self.old name ++ update ∷ []) }
@@ -129,7 +118,8 @@ impl UpdateLists {
         ensures err { OnErr result ((n : ℕ) → updates_at self.new n ≡ updates_at self.old n) }
     {
         self.reach(alloc, name)?;
-        self.append(name, update)
+        self.by_name[name as usize].push(update)?;
+        Ok(())
     }
 
     // Notes that a call took away all names of its process: where a publish of it stands under this name, it

@@ -1,9 +1,9 @@
 -- The races of a get with the deliveries of its key from another node.
-use Rattle.std.proofs.Common.{◌≡◌, ◌∙◌, ap, sym, refl, subst, ℕ, suc, ◌<◌, ◌≤◌, List, true, arith, ◌⊎◌, inl, inr}
+use Rattle.std.proofs.Common.{◌≡◌, ◌∙◌, ap, sym, refl, subst, ℕ, suc, ◌<◌, ◌≤◌, List, true, false, arith, ◌⊎◌, inl, inr}
 use Rattle.std.proofs.lemmas.Bool.{true≢false, cases_lt, cases_eq}
 use Rattle.wire_runs.specs.Plan.{Plan, Event, event_count, process_count, node_of, same_node}
 use Rattle.wire_runs.specs.Order.{IsArrival, Live, Before}
-use Rattle.wire_runs.specs.Races.{Delivery, ByFence, ByGet, IsOf, Delivers, GetDelivers}
+use Rattle.wire_runs.specs.Races.{Delivery, ByFence, ByGet, IsOf, Delivers, GetDelivers, ComesSurely}
 use Rattle.wire_runs.specs.Findings.{Finding, IsFound, IsKeyRace}
 use Rattle.wire_plan.specs.Index.{IsDelivering}
 use Rattle.wire_runs.proofs.Basics.{process_within}
@@ -12,7 +12,7 @@ use Rattle.wire_findings.specs.Collected.{AreFound}
 use Rattle.wire_races.specs.FindingKinds.{IsOfKey}
 use Rattle.wire_races.specs.Adding.{Adds, OfKind}
 use Rattle.wire_races.specs.GetRaces.{MayRace, AreRacesByGets}
-use Rattle.wire_races.specs.KeyRaces.{IsRaceOf, IsKeyRaceBy, IsLateBy, AreLateBelow, IsUnsure}
+use Rattle.wire_races.specs.KeyRaces.{IsRaceOf, IsKeyRaceBy, IsLateBy, AreLateBelow, IsOpen, IsUnsure}
 use Rattle.wire_fates.specs.Deliveries.{MayBeLate, IsLate}
 use Rattle.wire_races.proofs.Growing.{adds_none, adds_same, adds_both}
 use Rattle.wire_runs.proofs.Histories.{joined}
@@ -24,6 +24,15 @@ use Rattle.wire_fates.proofs.Surely.{delivering_within, get_sure}
 
 pub past_all : (plan : Plan) (p key node from count : ℕ) → count ≡ event_count plan p → count ≤ from → (k : ℕ) → from ≤ k → IsDelivering plan p key node k → ⊥
 past_all plan p key node from count is end k ge d = let lt = delivering_within plan p key node k d in omega (arith, lt, is, end, ge)
+
+-- where a delivery comes surely before the get, it races with nothing
+pub sure_none : (plan : Plan) (get : Event) (owner key : ℕ) (found : List Told) → IsOpen plan get owner key → same_node plan owner get.proc ≡ false →
+    ComesSurely plan owner key (node_of plan get.proc) get → AreFound plan found → Adds plan found found (IsKeyRaceBy plan get)
+sure_none plan get owner key found opened other sure are = adds_none plan found (IsKeyRaceBy plan get) are (λ f t. never (race_with plan get owner key f opened.is t).race)
+  where
+    never : {x : Event} → IsKeyRace plan x get owner key → ⊥
+    never (inl r) = true≢false (sym (subst (λ q. same_node plan q get.proc ≡ true) r.0 r.1.node) ∙ other)
+    never (inr r) = r.not_sure sure
 
 module _ (plan : Plan) (get : Event) (owner key : ℕ) (n : IsUnsure plan get owner key) where
   -- a late arrival is a race

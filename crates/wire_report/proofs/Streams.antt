@@ -1,6 +1,6 @@
 -- A text that is written in chunks, from one line to the next.
-use Rattle.std.proofs.Common.{◌≡◌, ◌∙◌, ap, sym, refl, subst, ℕ, ◌+◌, ◌*◌, ◌^◌, ◌<◌, ◌≤◌, List, [], ◌++◌, take, length, ◌⊎◌, inl, inr, Option, append_assoc, append-nil, length-append, arith, drop}
-use Rattle.std.proofs.Common.{Result, Ok, Err, OnOk, OnErr, suc, zero, ◌∷◌, Some, slice_get}
+use Rattle.std.proofs.Common.{◌≡◌, ◌∙◌, ap, sym, refl, subst, ℕ, ◌+◌, ◌*◌, ◌^◌, ◌<◌, ◌≤◌, List, [], ◌++◌, take, length, ◌⊎◌, inl, inr, Option, append_assoc, append-nil, length-append, arith, drop, take_all}
+use Rattle.std.proofs.Common.{Result, Ok, Err, OnOk, OnErr, suc, zero, ◌∷◌, Some, None, slice_get}
 use Rattle.std.proofs.lemmas.Option.{same_Some, slice_get_within}
 use Rattle.std.specs.Result.{IsOk}
 use Rattle.std.proofs.lemmas.List.{take-append-le, take-append-drop}
@@ -80,3 +80,34 @@ pub all_sent : {A E : Type 0} (r : Result A E) (start old new : Option (List ℕ
     OnOk r (StaysOnItsWay old new before after) → OnOk r (after.waiting.items ≡ []) → OnOk r (Appends start new text)
 all_sent (Ok x) start old new before after text way stays empty = all_out start new after text (stays start text way) empty
 all_sent (Err e) start old new before after text way stays empty = tt
+
+-- nothing is appended yet
+pub nothing_yet : (now : Option (List ℕ)) → Appends now now []
+nothing_yet None = tt
+nothing_yet (Some xs) = sym (append-nil xs)
+
+lines_fit : (room count lines n : ℕ) → room * (count + 1) < 2 ^ 64 → lines ≤ room * n → n < count → lines < 2 ^ 64
+lines_fit room count lines n fits short less = grind arith
+
+-- the lines before the last are counted
+pub counted_so_far : (start now : Option (List ℕ)) (chunk : Chunk) (text : List ℕ) (room count n : ℕ) → IsOnItsWay start now chunk text → room * (count + 1) < 2 ^ 64 → length text ≤ room * n →
+    n < count → chunk.gone + length chunk.waiting.items < 2 ^ 64
+counted_so_far start now chunk text room count n way fits short less = omega (arith, counts start now chunk text way, lines_fit room count (length text) n fits short less)
+
+-- behind the last element, all lines are there
+pub all_lines_of : {X : Type 0} (f : X → List ℕ) (xs : List X) (i : ℕ) → length xs ≤ i → flat_map f (take i xs) ≡ flat_map f xs
+all_lines_of f xs i past = ap (flat_map f) (take_all i xs past)
+
+-- and they are as short as there is room
+pub all_short : {X : Type 0} (f : X → List ℕ) (xs : List X) (room i : ℕ) → length xs ≤ i → i ≤ length xs → length (flat_map f (take i xs)) ≤ room * i → length (flat_map f xs) ≤ room * length xs
+all_short f xs room i past within short =
+    let same : i ≡ length xs = omega arith in
+    subst (λ k. length (flat_map f xs) ≤ room * k) same (subst (λ t. length t ≤ room * i) (all_lines_of f xs i past) short)
+
+lines_all_fit : (room count lines : ℕ) → room * (count + 1) < 2 ^ 64 → lines ≤ room * count → lines < 2 ^ 64
+lines_all_fit room count lines fits short = grind arith
+
+-- all lines are counted
+pub all_counted : (start now : Option (List ℕ)) (chunk : Chunk) (text : List ℕ) (room count : ℕ) → IsOnItsWay start now chunk text → room * (count + 1) < 2 ^ 64 → length text ≤ room * count →
+    chunk.gone + length chunk.waiting.items < 2 ^ 64
+all_counted start now chunk text room count way fits short = omega (arith, counts start now chunk text way, lines_all_fit room count (length text) fits short)

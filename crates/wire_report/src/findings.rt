@@ -3,12 +3,13 @@
 ghost use Rattle.std.specs.Prelude.{◌≡◌, ◌⊎◌, ◌+◌, ◌<◌, ◌≤◌, ◌++◌, codes, decimal, length, map, vec_capacity, OnOk, OnErr, IfOk, IfErr};
 ghost use Rattle.std.specs.List.{flat_map};
 ghost use Rattle.wire_types.specs.declared.Fault.TheVariants.{Memory};
-ghost use Rattle.wire_content.specs.Scripts.{call_at, text_at};
-ghost use Rattle.wire_words.specs.Words.{call_text, name_of};
+ghost use Rattle.wire_content.specs.Scripts.{call_at};
+ghost use Rattle.wire_words.specs.Words.{call_text};
 ghost use Rattle.wire_report.specs.Findings as spec;
 ghost use Rattle.wire_report.specs.FindingLines.{AreNumbered, IsNumbered, AreWordsOf, race_start, key_race_rest, name_race_rest};
 
 use crate::lower_call::LowerCall;
+use crate::pieces::push_spaced;
 use std::alloc::{AllocError, Global};
 use wire_content::Scripts;
 use wire_findings::Finding;
@@ -65,7 +66,8 @@ fn push_findings(
     ensures { OnOk result (out.new.items ≡ out.old.items ++ flat_map (spec.finding_line scripts.now) findings.now) }
 {
     for finding in findings {
-        push_line(out, scripts, *finding)?;
+        push_finding(out, scripts, *finding)?;
+        out.extend_from_slice(b"\n")?;
     }
     Ok(())
 }
@@ -81,23 +83,8 @@ pub(crate) fn push_count(out: &mut Vec<u8>, count: usize) -> Result<(), AllocErr
     out.extend_from_slice(b"\n")
 }
 
-/// Appends the line of a finding. Fails only where there is no room for it.
-pub(crate) fn push_line(
-    out: &mut Vec<u8>,
-    scripts: &Scripts,
-    finding: Finding,
-) -> Result<(), AllocError>
-    ensures ok { OnOk result (out.new.items ≡ out.old.items ++ spec.finding_line scripts.now finding) }
-    ensures capacity { vec_capacity out.old ≤ vec_capacity out.new }
-    ensures full { OnErr result (vec_capacity out.old < length out.old.items + length (spec.finding_line scripts.now finding)) }
-    ensures numbered { IsNumbered finding }
-{
-    push_finding(out, scripts, finding)?;
-    out.extend_from_slice(b"\n")
-}
-
-/// The same, with the words of a race up to its lower call from those that were told before, where it is the
-/// same call. Fails only where there is no room for the line, or for those words where they are kept.
+/// Appends the line of a finding, with the words of a race up to its lower call from those that were told before,
+/// where it is the same call. Fails only where there is no room for the line, or for those words where they are kept.
 pub(crate) fn push_line_after(
     out: &mut Vec<u8>,
     told: &mut LowerCall,
@@ -159,44 +146,19 @@ fn push_key_race(
     ensures full { OnErr result (vec_capacity out.old < length out.old.items + length (key_race_rest scripts.now higher owner.number key)) }
 {
     push_higher(out, scripts, higher)?;
-    push_key_of(out, scripts, owner, key)
-}
-
-/// Appends the higher call of a race. Fails only where there is no room for it.
-fn push_higher(out: &mut Vec<u8>, scripts: &Scripts, higher: CallAt) -> Result<(), AllocError>
-    ensures ok { OnOk result (out.new.items ≡ out.old.items ++ codes " " ++ call_text scripts.now higher) }
-    ensures capacity { vec_capacity out.old ≤ vec_capacity out.new }
-    ensures full { OnErr result (vec_capacity out.old < length out.old.items + length (codes " " ++ call_text scripts.now higher)) }
-{
-    out.extend_from_slice(b" ")?;
-    push_call(out, scripts, higher)
-}
-
-/// Appends the key of a race with its owner. Fails only where there is no room for them.
-fn push_key_of(
-    out: &mut Vec<u8>,
-    scripts: &Scripts,
-    owner: Proc,
-    key: u32,
-) -> Result<(), AllocError>
-    ensures ok { OnOk result (out.new.items ≡ out.old.items ++ codes " key " ++ name_of scripts.now owner.number ++ codes " " ++ text_at scripts.now.keys key) }
-    ensures capacity { vec_capacity out.old ≤ vec_capacity out.new }
-    ensures full { OnErr result (vec_capacity out.old
-        < length out.old.items + length (codes " key " ++ name_of scripts.now owner.number ++ codes " " ++ text_at scripts.now.keys key)) }
-{
     out.extend_from_slice(b" key ")?;
     push_proc(out, scripts, owner)?;
     push_spaced(out, scripts.keys().text(key))
 }
 
-/// Appends a text behind a space. Fails only where there is no room for them.
-fn push_spaced(out: &mut Vec<u8>, text: &[u8]) -> Result<(), AllocError>
-    ensures ok { OnOk result (out.new.items ≡ out.old.items ++ codes " " ++ text.now) }
+/// Appends the higher call of a race. Fails only where there is no room for it.
+fn push_higher(out: &mut Vec<u8>, scripts: &Scripts, higher: CallAt) -> Result<(), AllocError>
+    ensures ok { OnOk result (out.new.items ≡ out.old.items ++ (codes " " ++ call_text scripts.now higher)) }
     ensures capacity { vec_capacity out.old ≤ vec_capacity out.new }
-    ensures full { OnErr result (vec_capacity out.old < length out.old.items + length (codes " " ++ text.now)) }
+    ensures full { OnErr result (vec_capacity out.old < length out.old.items + length (codes " " ++ call_text scripts.now higher)) }
 {
     out.extend_from_slice(b" ")?;
-    out.extend_from_slice(text)
+    push_call(out, scripts, higher)
 }
 
 /// Appends the words of a race on a name that follow its lower call. Fails only where there is no room for them.
@@ -246,9 +208,9 @@ fn push_rewrite(
     first: CallAt,
     later: CallAt,
 ) -> Result<(), AllocError>
-    ensures ok { OnOk result (out.new.items ≡ out.old.items ++ codes "rewrite " ++ spec.rewrite_text scripts.now first later) }
+    ensures ok { OnOk result (out.new.items ≡ out.old.items ++ (codes "rewrite " ++ spec.rewrite_text scripts.now first later)) }
     ensures capacity { vec_capacity out.old ≤ vec_capacity out.new }
-    ensures full { OnErr result (vec_capacity out.old < length (out.old.items ++ codes "rewrite " ++ spec.rewrite_text scripts.now first later)) }
+    ensures full { OnErr result (vec_capacity out.old < length out.old.items + length (codes "rewrite " ++ spec.rewrite_text scripts.now first later)) }
     ensures numbered { AreNumbered first later }
 {
     out.extend_from_slice(b"rewrite ")?;
@@ -258,7 +220,7 @@ fn push_rewrite(
 
 /// Appends a later put by its number, and its key. Fails only where there is no room for them.
 fn push_later(out: &mut Vec<u8>, scripts: &Scripts, later: CallAt) -> Result<(), AllocError>
-    ensures ok { OnOk result (out.new.items ≡ out.old.items ++ codes " " ++ decimal (later.call + 1) ++ codes " " ++ spec.put_key_text scripts.now (call_at scripts.now.processes later.proc.number later.call)) }
+    ensures ok { OnOk result (out.new.items ≡ out.old.items ++ (codes " " ++ decimal (later.call + 1) ++ codes " " ++ spec.put_key_text scripts.now (call_at scripts.now.processes later.proc.number later.call))) }
     ensures capacity { vec_capacity out.old ≤ vec_capacity out.new }
     ensures full { OnErr result (vec_capacity out.old < length out.old.items + length (codes " " ++ decimal (later.call + 1) ++ codes " " ++ spec.put_key_text scripts.now (call_at scripts.now.processes later.proc.number later.call))) }
 {

@@ -5,6 +5,7 @@ mod chain;
 mod findings;
 mod lines;
 mod lower_call;
+mod pieces;
 mod report;
 mod shown;
 mod steps;

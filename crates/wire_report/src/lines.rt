@@ -3,10 +3,11 @@
 ghost use Rattle.std.specs.Prelude.{◌≡◌, ◌++◌, map, OnOk};
 ghost use Rattle.wire_report.specs.Report.{call_line, process_lines, all_lines};
 
+use crate::pieces::{push_counted, push_end_line, push_spaced};
 use std::alloc::AllocError;
 use wire_content::{Process, Scripts};
 use wire_types::{Call, CallEnd};
-use wire_words::{push_end, push_number, push_process, verb};
+use wire_words::{push_process, verb};
 
 /// Appends the lines of all processes, each with its row.
 pub fn push_all(
@@ -57,11 +58,7 @@ fn push_line(
         ++ call_line scripts.now process.now ended.entry.number ended.entry.call.now ended.entry.end.now) }
 {
     push_process(out, scripts, process)?;
-    out.extend_from_slice(b" ")?;
-    push_number(out, ended.number as u64)?;
-    out.extend_from_slice(b" ")?;
-    out.extend_from_slice(verb(ended.call).as_bytes())?;
-    out.extend_from_slice(b" ")?;
-    push_end(out, scripts, ended.end)?;
-    out.extend_from_slice(b"\n")
+    push_counted(out, b" ".as_slice(), ended.number as u64)?;
+    push_spaced(out, verb(ended.call).as_bytes())?;
+    push_end_line(out, b" ".as_slice(), scripts, ended.end)
 }

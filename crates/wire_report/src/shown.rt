@@ -5,36 +5,21 @@ ghost use Rattle.wire_content.specs.Scripts.{numbers_of};
 ghost use Rattle.wire_report.specs.Shown as spec;
 
 use crate::findings::push_finding;
+use crate::pieces::{push_counted, push_end_line};
 use crate::unsettled::push_order;
 use std::alloc::{AllocError, Global};
 use wire_content::Scripts;
 use wire_findings::Finding;
 use wire_json::{RaceCounts, unshown_json};
 use wire_types::{CallAt, CallEnd, Proc};
-use wire_words::{push_call, push_end, push_number, verb_at};
+use wire_words::{push_call, verb_at};
 
 /// Appends the line of the call that ends differently in two runs.
 pub fn push_shown(out: &mut Vec<u8>, scripts: &Scripts, call: CallAt) -> Result<(), AllocError>
     ensures { OnOk result (out.new.items ≡ out.old.items ++ spec.shown_line scripts.now call) }
 {
-    out.extend_from_slice(b"shown ")?;
-    push_call(out, scripts, call)?;
-    out.extend_from_slice(b" ")?;
+    push_shown_by(out, scripts, call)?;
     out.extend_from_slice(verb_at(scripts, call).as_bytes())?;
-    out.extend_from_slice(b"\n")
-}
-
-/// Appends the line of how a call ends in a run, behind the word for the run.
-fn push_end_line(
-    out: &mut Vec<u8>,
-    run: &[u8],
-    scripts: &Scripts,
-    end: &CallEnd,
-) -> Result<(), AllocError>
-    ensures { OnOk result (out.new.items ≡ out.old.items ++ spec.end_line run.now scripts.now end.now) }
-{
-    out.extend_from_slice(run)?;
-    push_end(out, scripts, end)?;
     out.extend_from_slice(b"\n")
 }
 
@@ -143,12 +128,4 @@ fn push_judged(out: &mut Vec<u8>, counts: RaceCounts) -> Result<(), AllocError>
 {
     push_counted(out, b" shown ".as_slice(), counts.shown)?;
     push_counted(out, b" not-shown ".as_slice(), counts.not_shown)
-}
-
-/// Appends a number behind its word.
-fn push_counted(out: &mut Vec<u8>, word: &[u8], count: u64) -> Result<(), AllocError>
-    ensures { OnOk result (out.new.items ≡ out.old.items ++ spec.count_text word.now count) }
-{
-    out.extend_from_slice(word)?;
-    push_number(out, count)
 }

@@ -1,6 +1,6 @@
 //! The parts of the text of a chain.
 
-ghost use Rattle.std.specs.Prelude.{◌≡◌, ◌<◌, ◌↔◌, ◌++◌, ◌∷◌, [], ℕ, List, true, Some, length, map, IsTrue, IfOk, OnOk, IfErr};
+ghost use Rattle.std.specs.Prelude.{◌≡◌, ◌<◌, ◌↔◌, ◌++◌, ℕ, List, true, Some, length, map, IsTrue, IfOk, OnOk, IfErr};
 ghost use Rattle.std.specs.List.{flat_map};
 ghost use Rattle.wire_types.specs.declared.CallAt.{CallAt as CallPlace};
 ghost use Rattle.wire_types.specs.declared.Fault.TheVariants.{Memory};
@@ -11,6 +11,7 @@ ghost use Rattle.wire_plan.specs.Kinds.{kind_of};
 ghost use Rattle.wire_report.specs.Chain as spec;
 ghost use Rattle.wire_report.specs.There.{AreThere};
 
+use crate::pieces::push_spaced;
 use std::alloc::{AllocError, Global};
 use wire_content::Scripts;
 use wire_json::{ChainStep, Half, chain_json, unordered_json};
@@ -116,8 +117,7 @@ pub fn unordered_text(
     ensures err { IfErr result (λ e. e ≡ Memory) }
 {
     let dead = find_dead_calls(alloc, marked, calls)?;
-    let text = dead_text(alloc, marked.plan().scripts(), dead.as_slice(), json)?;
-    Ok(text)
+    dead_text(alloc, marked.plan().scripts(), dead.as_slice(), json)
 }
 
 /// Those of two calls whose event isn't live, once where they are one.
@@ -141,11 +141,12 @@ fn dead_text(
     scripts: &Scripts,
     dead: &[CallAt],
     json: bool,
-) -> Result<Vec<u8>, AllocError>
-    ensures { IfOk result (λ text. text.items ≡ spec.unordered_form json scripts.now dead.now) }
+) -> Result<Vec<u8>, Fault>
+    ensures ok { IfOk result (λ text. text.items ≡ spec.unordered_form json scripts.now dead.now) }
+    ensures err { IfErr result (λ e. e ≡ Memory) }
 {
     if json {
-        return unordered_json(alloc, scripts, dead);
+        return Ok(unordered_json(alloc, scripts, dead)?);
     }
     let mut text = Vec::from_slice(alloc, b"unordered\n".as_slice())?;
     push_dead_lines(&mut text, scripts, dead)?;
@@ -196,13 +197,6 @@ fn push_dead(out: &mut Vec<CallAt>, marked: &MarkedPlan<'_>, call: CallAt) -> Re
     if marked.live(marked.plan().first_event(call)) {
         return Ok(());
     }
-    push_call_at(out, call)
-}
-
-/// Appends a call.
-fn push_call_at(out: &mut Vec<CallAt>, call: CallAt) -> Result<(), AllocError>
-    ensures { OnOk result (out.new.items ≡ out.old.items ++ call ∷ []) }
-{
     out.push(call)?;
     Ok(())
 }
@@ -232,23 +226,11 @@ pub fn push_event(out: &mut Vec<u8>, plan: &Plan, event: Event) -> Result<(), Al
     requires { event.at < event_count (plan_of plan.now) event.proc.number }
     ensures { OnOk result (out.new.items ≡ out.old.items ++ spec.event_line plan.now (event_of event)) }
 {
+    let scripts = plan.scripts();
     let call = plan.call_of(event);
-    push_line(out, plan.scripts(), call, half_word(plan.kind(event)))
-}
-
-/// Appends the line of a call, with what half of it is meant.
-fn push_line(
-    out: &mut Vec<u8>,
-    scripts: &Scripts,
-    call: CallAt,
-    half: &str,
-) -> Result<(), AllocError>
-    ensures { OnOk result (out.new.items ≡ out.old.items ++ spec.half_line scripts.now call half.now) }
-{
     push_call(out, scripts, call)?;
-    out.extend_from_slice(b" ")?;
-    out.extend_from_slice(verb_at(scripts, call).as_bytes())?;
-    out.extend_from_slice(half.as_bytes())?;
+    push_spaced(out, verb_at(scripts, call).as_bytes())?;
+    out.extend_from_slice(half_word(plan.kind(event)).as_bytes())?;
     out.extend_from_slice(b"\n")
 }
 

@@ -1,8 +1,9 @@
 -- One call, and one process, after another.
-use Rattle.std.proofs.Common.{◌≡◌, ◌∙◌, ap, sym, ℕ, zero, suc, ◌+◌, ◌*◌, ◌<◌, ◌≤◌, List, [], ◌∷◌, ◌++◌, Option, None, length, map, take, drop, get_or, arith}
+use Rattle.std.proofs.Common.{◌≡◌, ◌∙◌, ap, sym, ℕ, zero, suc, ◌+◌, ◌*◌, ◌<◌, ◌≤◌, List, [], ◌∷◌, ◌++◌, Option, None, Some, Result, Ok, Err, IfErr, IsErrAnd, ◌⊎◌, inl, inr, subst, length, map, take, drop, get_or, arith}
 use Rattle.std.proofs.lemmas.List.{length-map, map_more, take_all}
 use Rattle.std.proofs.lemmas.Grind.{common_steps}
 use Rattle.wire_types.specs.declared.Fault.{Fault}
+use Rattle.wire_types.specs.declared.Fault.TheVariants.{Memory}
 use Rattle.wire_lines.specs.Shown.{call_by}
 use Rattle.wire_script.specs.FirstPass.{Started, Declared}
 use Rattle.wire_script.specs.Reads.{Seen, call_fault, first_of, fault_in, first_fault}
@@ -20,7 +21,8 @@ drop_at (y ∷ ys) (suc i) x lt is =
     let one : suc i + 1 ≡ suc (i + 1) = omega arith in
     rw one (drop_at ys i x (omega arith) is)
 
-grown : {A B C : Type 0} (f : B → C) (g : A → B) (out : List C) (xs : List A) (i : ℕ) (y : C) (d : A) → i < length xs
+-- one element more is made of the one that stands there
+pub grown : {A B C : Type 0} (f : B → C) (g : A → B) (out : List C) (xs : List A) (i : ℕ) (y : C) (d : A) → i < length xs
     → out ≡ map f (map g (take i xs)) → y ≡ f (g (get_or xs i d)) → out ++ y ∷ [] ≡ map f (map g (take (i + 1) xs))
 grown f g out xs i y d lt e last = grind (arith, common_steps)
 
@@ -51,12 +53,33 @@ call_faults_on d all p cs i x lt is so_far none =
     ∙ ap (λ l. fault_in d p (map placed_of l)) (drop_at cs i x lt is)
     ∙ ap (λ f. first_of f (fault_in d p (map placed_of (drop (i + 1) cs)))) none
 
+-- a fault that is handed on
+pub handed_on : {A : Type 0} (r : Result A Fault) (e : Fault) (P : Fault → Type 0) → IsErrAnd r (λ f. f ≡ e) → P e → IfErr r P
+handed_on (Ok a) e P never p = absurd never
+handed_on (Err f) e P same p = subst P (sym same) p
+
+-- the fault of the next call is the first of all
+pub call_fault_on : (d : Declared) (all : Option Fault) (p : Started) (cs : List Placed) (i : ℕ) (x : Placed) (e : Fault) → i < length cs → x ≡ get_or cs i x
+    → all ≡ fault_in d p (map placed_of (drop i cs)) → (e ≡ Memory) ⊎ (call_fault d p x.line (call_by x.call) ≡ Some e) → (e ≡ Memory) ⊎ (all ≡ Some e)
+call_fault_on d all p cs i x e lt is so_far (inl memory) = inl memory
+call_fault_on d all p cs i x e lt is so_far (inr fault) =
+    inr (so_far
+    ∙ ap (λ l. fault_in d p (map placed_of l)) (drop_at cs i x lt is)
+    ∙ ap (λ f. first_of f (fault_in d p (map placed_of (drop (i + 1) cs)))) fault)
+
 pub processes_on : (d : Declared) (all s t : Seen) (ps : List Building) (i : ℕ) (x : Building) → i < length ps → x ≡ get_or ps i x
     → all ≡ all_seen d s (map started_of (drop i ps)) → t ≡ seen_after d s x.job (map placed_of x.calls.items) → all ≡ all_seen d t (map started_of (drop (i + 1) ps))
 processes_on d all s t ps i x lt is so_far tables =
     so_far
     ∙ ap (λ l. all_seen d s (map started_of l)) (drop_at ps i x lt is)
     ∙ ap (λ u. all_seen d u (map started_of (drop (i + 1) ps))) (sym tables)
+
+-- there is room for the calls of the next process
+pub room_for : (s : Seen) (bound : ℕ) (ps : List Building) (i : ℕ) (x : Building) → i < length ps → x ≡ get_or ps i x
+    → entry_count s + 2 * started_calls (map started_of (drop i ps)) ≤ bound → entry_count s + 2 * length x.calls.items ≤ bound
+room_for s bound ps i x lt is room =
+    let cut = ap (λ l. started_calls (map started_of l)) (drop_at ps i x lt is) in
+    omega (arith, length-map x.calls.items placed_of)
 
 pub room_on : (s t : Seen) (bound : ℕ) (ps : List Building) (i : ℕ) (x : Building) → i < length ps → x ≡ get_or ps i x
     → entry_count s + 2 * started_calls (map started_of (drop i ps)) ≤ bound → entry_count t ≤ entry_count s + 2 * length x.calls.items
@@ -71,3 +94,12 @@ process_faults_on d all ps i x lt is so_far none =
     so_far
     ∙ ap (λ l. first_fault d (map started_of l)) (drop_at ps i x lt is)
     ∙ ap (λ f. first_of f (first_fault d (map started_of (drop (i + 1) ps)))) none
+
+-- the fault of the next process is the first of all
+pub process_fault_on : (d : Declared) (all : Option Fault) (ps : List Building) (i : ℕ) (x : Building) (e : Fault) → i < length ps → x ≡ get_or ps i x
+    → all ≡ first_fault d (map started_of (drop i ps)) → (e ≡ Memory) ⊎ (fault_in d (started_of x) (map placed_of x.calls.items) ≡ Some e) → (e ≡ Memory) ⊎ (all ≡ Some e)
+process_fault_on d all ps i x e lt is so_far (inl memory) = inl memory
+process_fault_on d all ps i x e lt is so_far (inr fault) =
+    inr (so_far
+    ∙ ap (λ l. first_fault d (map started_of l)) (drop_at ps i x lt is)
+    ∙ ap (λ f. first_of f (first_fault d (map started_of (drop (i + 1) ps)))) fault)

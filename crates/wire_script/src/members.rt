@@ -5,7 +5,7 @@ ghost use Rattle.wire_lines.specs.Shown.{item_by};
 ghost use Rattle.wire_content.specs.Scripts.{numbers_of};
 ghost use Rattle.wire_script.specs.Reads as spec;
 ghost use Rattle.wire_script.specs.FirstPass as pass;
-ghost use Rattle.wire_script.specs.Targets.{has_number, is_target, is_any_target, is_declared_target, named_in, target_by};
+ghost use Rattle.wire_script.specs.Targets.{is_target, is_any_target, is_declared_target, named_in, target_by};
 ghost use Rattle.wire_script.specs.Within.{IsWithinLimits, IsDeclared};
 ghost use Rattle.wire_script.specs.Drafted.{declared_of, started_of};
 ghost use Rattle.std.specs.List.{position_or_len, list_all};
@@ -56,14 +56,6 @@ fn place_of(draft: &Draft, job: u32, rank: u32) -> usize
     } else {
         draft.processes.len()
     }
-}
-
-fn has_place(draft: &Draft, job: u32, rank: u32) -> bool
-    requires within { IsWithinLimits (declared_of draft.now) }
-    requires declared { IsDeclared (declared_of draft.now) }
-    ensures { result ≡ has_number (declared_of draft.now) job rank }
-{
-    place_of(draft, job, rank) < draft.processes.len()
 }
 
 /// The process that a name names.
@@ -118,7 +110,7 @@ fn is_declared(draft: &Draft, target: Target) -> bool
     ensures { result ≡ is_declared_target (declared_of draft.now) target }
 {
     match target {
-        Target::One { job, rank } => has_place(draft, job, rank),
+        Target::One { job, rank } => place_of(draft, job, rank) < draft.processes.len(),
         Target::Every { job } => job < draft.jobs.len(),
     }
 }

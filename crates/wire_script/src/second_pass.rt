@@ -27,21 +27,34 @@ struct Numbering {
     noted: Noted,
 }
 
-/// The process that a get of either kind names.
-fn owner_of(draft: &Draft, owner: ProcName, line: u64) -> Result<Proc, Fault>
+/// The process that a get of either kind names, and the number of its key, or the fault of the get.
+fn number_get(
+    alloc: Global,
+    draft: &Draft,
+    keys: &mut Texts,
+    owner: ProcName,
+    key: &[u8],
+    line: u64,
+) -> Result<(Proc, u32), Fault>
     requires within { IsWithinLimits (declared_of draft.now) }
     requires declared { IsDeclared (declared_of draft.now) }
+    requires room { length keys.old + 1 < 2 ^ 32 }
+    ensures keys { OnOk result (keys.new ≡ with_text keys.old key.now) }
     ensures declared { OnOk result
         (has_proc (declared_of draft.now) owner.entry.job.now owner.entry.rank ≡ true) }
     ensures owner { IfOk result
-        (λ p. p.number ≡ proc_number (declared_of draft.now) owner.entry.job.now owner.entry.rank) }
-    ensures err { IfErr result
-        (λ e. (has_proc (declared_of draft.now) owner.entry.job.now owner.entry.rank ≡ false) × (e ≡ Fault.UnknownName line)) }
+        (λ g. g.0.number ≡ proc_number (declared_of draft.now) owner.entry.job.now owner.entry.rank) }
+    ensures key { IfOk result
+        (λ g. (later : List (List ℕ)) → GoesOn keys.new later → g.1 ≡ number_or_count later key.now) }
+    ensures err { IfErr result (λ e. (e ≡ Fault.Memory)
+        ⊎ ((has_proc (declared_of draft.now) owner.entry.job.now owner.entry.rank ≡ false)
+        × (e ≡ Fault.UnknownName line))) }
 {
     let Some(owner) = proc_of(draft, owner) else {
         return Err(Fault::UnknownName(line));
     };
-    Ok(owner)
+    let key = number_text(alloc, keys, key)?;
+    Ok((owner, key))
 }
 
 /// The number of the set of what is named, which is added where it isn't there.
@@ -107,6 +120,39 @@ fn targets_of(
             Ok(targets)
         }
     }
+}
+
+/// The number of the set of a fence, which is added where it isn't there, or the fault of the fence.
+fn number_fence(
+    alloc: Global,
+    draft: &Draft,
+    numbering: &mut Numbering,
+    caller: &Started,
+    line: u64,
+    set: &Set,
+) -> Result<u32, Fault>
+    requires within { IsWithinLimits (declared_of draft.now) }
+    requires declared { IsDeclared (declared_of draft.now) }
+    requires room { length numbering.old.tables.sets + 1 < 2 ^ 32 }
+    requires noted { AreNoted (declared_of draft.now) numbering.old.tables.sets numbering.old.noted }
+    ensures number { IfOk result (λ n. (later : List (List ℕ)) → GoesOn numbering.new.tables.sets later
+        → n ≡ number_or_count later (set_members (declared_of draft.now) caller.now.job (set_by set.now))) }
+    ensures tables { OnOk result (seen_of numbering.new.tables ≡ record (seen_of numbering.old.tables) {
+      sets = with_text numbering.old.tables.sets (set_members (declared_of draft.now) caller.now.job (set_by set.now));
+    }) }
+    ensures noted { OnOk result (AreNoted (declared_of draft.now) numbering.new.tables.sets numbering.new.noted) }
+    ensures declared { OnOk result (is_declared_set (declared_of draft.now) (set_by set.now) ≡ true) }
+    ensures caller { OnOk result
+        (is_in (declared_of draft.now) caller.now.job (set_by set.now) (started_of caller.now) ≡ true) }
+    ensures err { IfErr result (λ e. (e ≡ Fault.Memory)
+        ⊎ ((is_declared_set (declared_of draft.now) (set_by set.now) ≡ false) × (e ≡ Fault.UnknownName line))
+        ⊎ ((is_declared_set (declared_of draft.now) (set_by set.now) ≡ true)
+        × (is_in (declared_of draft.now) caller.now.job (set_by set.now) (started_of caller.now) ≡ false)
+        × (e ≡ Fault.NotMember line))) }
+{
+    let targets = targets_of(alloc, draft, caller, line, set)?;
+    let number = number_targets(alloc, draft, numbering, &targets)?;
+    Ok(number)
 }
 
 /// A put with numbers for its key and its value.
@@ -180,22 +226,25 @@ fn number_call(
         }
         CallLine::Commit => Ok(Call::Commit),
         CallLine::Fence { set, collect } => {
-            let targets = targets_of(alloc, draft, caller, placed.line, set)?;
-            let set = number_targets(alloc, draft, numbering, &targets)?;
-            Ok(Call::Fence {
-                set,
-                collect: *collect,
-            })
+            let collect = *collect;
+            match number_fence(alloc, draft, numbering, caller, placed.line, set) {
+                Ok(set) => Ok(Call::Fence { set, collect }),
+                Err(fault) => Err(fault),
+            }
         }
         CallLine::Get { owner, key } => {
-            let owner = owner_of(draft, *owner, placed.line)?;
-            let key = number_text(alloc, &mut numbering.tables.keys, key)?;
-            Ok(Call::Get { owner, key })
+            let keys = &mut numbering.tables.keys;
+            match number_get(alloc, draft, keys, *owner, key, placed.line) {
+                Ok((owner, key)) => Ok(Call::Get { owner, key }),
+                Err(fault) => Err(fault),
+            }
         }
         CallLine::GetNow { owner, key } => {
-            let owner = owner_of(draft, *owner, placed.line)?;
-            let key = number_text(alloc, &mut numbering.tables.keys, key)?;
-            Ok(Call::GetNow { owner, key })
+            let keys = &mut numbering.tables.keys;
+            match number_get(alloc, draft, keys, *owner, key, placed.line) {
+                Ok((owner, key)) => Ok(Call::GetNow { owner, key }),
+                Err(fault) => Err(fault),
+            }
         }
         CallLine::Publish { name, value } => {
             number_publish(alloc, &mut numbering.tables, name, value)
@@ -213,38 +262,7 @@ fn number_call(
     }
 }
 
-/// The calls of a process with numbers for what they name, or the first fault.
-fn number_calls(
-    alloc: Global,
-    draft: &Draft,
-    numbering: &mut Numbering,
-    caller: &Started,
-) -> Result<Vec<Call>, Fault>
-    requires within { IsWithinLimits (declared_of draft.now) }
-    requires declared { IsDeclared (declared_of draft.now) }
-    requires room { entry_count (seen_of numbering.old.tables) + 2 * length caller.now.calls.items < 2 ^ 32 }
-    requires noted { AreNoted (declared_of draft.now) numbering.old.tables.sets numbering.old.noted }
-    ensures tables { OnOk result (seen_of numbering.new.tables
-        ≡ seen_after (declared_of draft.now) (seen_of numbering.old.tables) caller.now.job (map placed_of caller.now.calls.items)) }
-    ensures calls { IfOk result (λ v. (later : Seen) → GoOn (seen_of numbering.new.tables) later
-        → v.items ≡ map (λ c. numbered (declared_of draft.now) later caller.now.job c.1) (map placed_of caller.now.calls.items)) }
-    ensures noted { OnOk result (AreNoted (declared_of draft.now) numbering.new.tables.sets numbering.new.noted) }
-    ensures ok { OnOk result
-        (fault_in (declared_of draft.now) (started_of caller.now) (map placed_of caller.now.calls.items) ≡ None) }
-    ensures err { IfErr result (λ e. (e ≡ Fault.Memory)
-        ⊎ (fault_in (declared_of draft.now) (started_of caller.now) (map placed_of caller.now.calls.items)
-        ≡ Some e)) }
-{
-    let mut calls = Vec::with_capacity(alloc, caller.calls.len())?;
-    for placed in &caller.calls {
-        let call = number_call(alloc, draft, numbering, caller, placed)?;
-        if calls.push(call).is_err() {
-            return Err(Fault::Memory);
-        }
-    }
-    Ok(calls)
-}
-
+/// A process with numbers for what its calls name, or the first fault.
 fn number_process(
     alloc: Global,
     draft: &Draft,
@@ -265,7 +283,13 @@ fn number_process(
     ensures err { IfErr result (λ e. (e ≡ Fault.Memory)
         ⊎ (fault_in (declared_of draft.now) (started_of process.now) (map placed_of process.now.calls.items) ≡ Some e)) }
 {
-    let calls = number_calls(alloc, draft, numbering, process)?;
+    let mut calls = Vec::with_capacity(alloc, process.calls.len())?;
+    for placed in &process.calls {
+        let call = number_call(alloc, draft, numbering, process, placed)?;
+        if calls.push(call).is_err() {
+            return Err(Fault::Memory);
+        }
+    }
     Ok(Process::new(process.job, process.rank, process.node, calls))
 }
 

@@ -5,7 +5,7 @@ use Rattle.wire_commands.proofs.checking.check_plan.Goals as goal
 
 pub returns-in_err-write_findings-clause-err : goal.returns-in_err-write_findings-clause-err
 returns-in_err-write_findings-clause-err g c =
-    let ok = rw c.with-marked.ensures at c.in_ok-found.ensures.ok in
+    let ok = c.in_ok-found.ensures.ok in
     let e = c.in_err-write_findings.field-0.0 in
     let front = told_front c.args.json c.args.plan.now c.scripts.result.now c.in_ok-found.found c.in_ok-found.found c.in_ok-found.found c.of_count-ended.result (g.W.Sink.written c.args.writer.now)
     (g.W.Sink.written c.write_findings.new.sink) e
@@ -17,7 +17,7 @@ returns-in_err-write_findings-clause-err g c =
 
 pub returns-clause-ok : goal.returns-clause-ok
 returns-clause-ok g c =
-    let ok = rw c.with-marked.ensures at c.in_ok-found.ensures.ok in
+    let ok = c.in_ok-found.ensures.ok in
     told c.args.json c.args.plan.now c.scripts.result.now c.in_ok-found.found c.in_ok-found.found c.in_ok-found.found c.of_count-ended.result (g.W.Sink.written c.args.writer.now)
     (g.W.Sink.written c.write_findings.new.sink)
     (c.settled_exactly.ensures c.args.plan.now c.in_ok-found.found ok) ok c.scripts.ensures.scripts refl refl

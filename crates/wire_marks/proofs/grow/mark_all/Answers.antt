@@ -7,9 +7,9 @@ use Rattle.wire_marks.proofs.grow.mark_all.Goals as goal
 
 pub returns : goal.returns
 returns c =
-    let growth = c.passes.growth in
+    let growth = c.mark_ready.new.growth in
     record {
-      marks = subst (λ s. AreMarks (plan_of s) growth.clocks) c.passes.invariant.plan
-          (marks_whole (plan_in growth) growth.clocks c.passes.invariant.growing.marked (c.passes.invariant.stuck c.passes-test.false));
-      few = c.passes.invariant.growing.marked.based.few;
+      marks = subst (λ s. AreMarks (plan_of s) growth.clocks) c.mark_ready.ensures.plan
+          (marks_whole (plan_in growth) growth.clocks c.in_ok-mark_ready.ensures.growing.marked c.in_ok-mark_ready.ensures.stuck);
+      few = c.in_ok-mark_ready.ensures.growing.marked.based.few;
     }

@@ -1,6 +1,5 @@
 use Rattle.std.proofs.Common.{[], ◌∷◌, sym, refl, subst}
 use Rattle.std.proofs.lemmas.List.{append-nil}
-use Rattle.std.proofs.lemmas.Result.{on_ok_weaker}
 use Rattle.wire_runs.specs.Order.{Live}
 use Rattle.wire_content.specs.Planned.{plan_of}
 use Rattle.wire_report.specs.Chain.{Dead, Alive}
@@ -13,11 +12,8 @@ returns-then-live c =
 
 pub returns : goal.returns
 returns c =
-    let at = rw c.plan.ensures at c.first_event.ensures in
-    on_ok_weaker c.push_call_at.result
-    (λ e. (
+    let at = rw c.plan.ensures at c.first_event.ensures in (
       c.args.call ∷ [],
       Dead (λ l. cc (c.if-live.false, c.live.ensures.1 (subst (Live (plan_of c.args.marked.now)) (sym at) l))) refl,
-      e,
-    ))
-    c.push_call_at.ensures
+      c.in_ok-push.ensures.items,
+    )

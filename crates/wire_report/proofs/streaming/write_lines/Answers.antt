@@ -1,9 +1,11 @@
 use Rattle.std.proofs.Common.{◌≡◌, ◌∙◌, ◌++◌, Some, length, slice_get, take, ◌+◌, refl, sym, ap, subst, arith, length-append}
 use Rattle.std.specs.List.{flat_map}
+use Rattle.wire_types.specs.Counting.{one_more}
 use Rattle.wire_words.specs.Chunks.{IsOnItsWay}
 use Rattle.wire_words.specs.declared.Chunk.{Chunk}
 use Rattle.wire_report.specs.Findings.{finding_line}
-use Rattle.wire_report.proofs.Streams.{more_waits, breaks_early, one_more_line, one_more_short}
+use Rattle.wire_report.specs.FindingLines.{AreWordsOf}
+use Rattle.wire_report.proofs.Streams.{starts, nothing_yet, more_waits, breaks_early, one_more_line, one_more_short, counted_so_far, all_lines_of, all_short}
 use Rattle.wire_report.proofs.streaming.write_lines.Goals as goal
 
 pub returns-in-Err-clause-err : goal.returns-in-Err-clause-err
@@ -29,3 +31,47 @@ loop-number-preserved g c =
       told_room = c.write_line.ensures.told.1;
       quiet = c.in_default-make_room.ensures.quiet ∙ c.loop-number.invariant.quiet;
     }
+
+pub loop-number-init : goal.loop-number-init
+loop-number-init g c = record {
+  way = starts _ _ (nothing_yet _) c.requires.nothing.0 c.requires.nothing.1;
+  short = omega arith;
+  room = c.requires.room;
+  told = subst (λ call. AreWordsOf c.args.lines.scripts.now call c.args.told.now.words.items) (sym c.requires.told.0) tt;
+  told_room = c.requires.told.1;
+  quiet = refl;
+}
+
+pub make_room-requires-clause-fits : goal.make_room-requires-clause-fits
+make_room-requires-clause-fits g c = c.loop-number.invariant.room
+
+pub make_room-requires-clause-counted : goal.make_room-requires-clause-counted
+make_room-requires-clause-counted g c =
+    counted_so_far _ _ _ _ c.args.lines.room (length c.args.lines.findings.now) c.loop-number.number c.loop-number.invariant.way c.requires.counted c.loop-number.invariant.short
+    (omega (arith, c.loop-number-test.true, c.len-number-end.ensures))
+
+pub write_line-requires-clause-room : goal.write_line-requires-clause-room
+write_line-requires-clause-room g c = c.in_default-make_room.ensures.room
+
+pub write_line-requires-clause-told : goal.write_line-requires-clause-told
+write_line-requires-clause-told g c = (c.loop-number.invariant.told, c.loop-number.invariant.told_room)
+
+pub returns-clause-ok : goal.returns-clause-ok
+returns-clause-ok g c =
+    subst (λ text. IsOnItsWay (g.S.Sink.written c.args.sink.now) (g.S.Sink.written c.loop-number.sink) c.loop-number.chunk text)
+    (all_lines_of (finding_line c.args.lines.scripts.now) c.args.lines.findings.now c.loop-number.number (omega (arith, c.loop-number-test.false, c.len-number-end.ensures)))
+    c.loop-number.invariant.way
+
+pub returns-clause-short : goal.returns-clause-short
+returns-clause-short g c =
+    all_short (finding_line c.args.lines.scripts.now) c.args.lines.findings.now c.args.lines.room c.loop-number.number (omega (arith, c.loop-number-test.false, c.len-number-end.ensures))
+    (omega (arith, c.loop-number.auto.number-end, c.len-number-end.ensures)) c.loop-number.invariant.short
+
+pub returns-clause-room : goal.returns-clause-room
+returns-clause-room g c = c.loop-number.invariant.room
+
+pub returns-in-Err-clause-room : goal.returns-in-Err-clause-room
+returns-in-Err-clause-room g c = omega (arith, c.loop-number.invariant.room, c.in-Err.ensures.capacity)
+
+pub returns-in-Err-clause-failed : goal.returns-in-Err-clause-failed
+returns-in-Err-clause-failed g c = c.in-Err.ensures.failed ∙ ap one_more c.loop-number.invariant.quiet

@@ -1,12 +1,35 @@
-use Rattle.std.proofs.Common.{◌≡◌, ◌<◌, ◌≤◌, ◌++◌, ◌∷◌, [], ◌*◌, ◌+◌, length, map, rules, arith, get_or, subst, sym}
-use Rattle.std.proofs.lemmas.List.{length-map}
+use Rattle.std.proofs.Common.{◌≡◌, ◌<◌, ◌≤◌, ◌++◌, ◌∷◌, [], ◌*◌, ◌+◌, ◌∙◌, ap, refl, length, map, rules, arith, get_or, subst, sym}
+use Rattle.std.proofs.lemmas.List.{length-map, drop_all}
 use Rattle.wire_script.specs.Limits.{largest}
-use Rattle.wire_script.specs.Reads.{process_of}
+use Rattle.wire_script.specs.Reads.{process_of, first_fault}
 use Rattle.wire_script.specs.Drafted.{declared_of, started_of, placed_of}
-use Rattle.wire_script.specs.Tabled.{seen_of, entry_count, GoOn}
-use Rattle.wire_script.proofs.Steps.{made_on, made_all, processes_on, room_on, process_faults_on}
+use Rattle.wire_script.specs.Tabled.{seen_of, all_seen, entry_count, GoOn}
+use Rattle.wire_script.proofs.Steps.{handed_on, made_on, made_all, processes_on, room_for, room_on, process_faults_on, process_fault_on}
 use Rattle.wire_script.proofs.Tables.{with_calls_goes_on, go_on_more, go_on_self, calls_grow}
 use Rattle.wire_script.proofs.second_pass.number_processes.Goals as goal
+
+pub loop-process-init : goal.loop-process-init
+loop-process-init c =
+    let none = ap entry_count c.requires.empty in
+    let few = c.requires.within.few_calls in
+    let counted = c.requires.within.counted in
+    record {
+      so_far = ap (λ s. all_seen (declared_of c.args.draft.now) s (map started_of c.args.draft.now.processes.items)) (sym c.requires.empty);
+      room = omega (arith, none, few, counted);
+      noted = c.requires.noted;
+      numbers = λ later goes. c.in_ok-processes.ensures.items;
+      faults = refl;
+    }
+
+pub number_process-requires-clause-room : goal.number_process-requires-clause-room
+number_process-requires-clause-room c =
+    let ps = c.args.draft.now.processes.items in
+    let i = c.loop-process.process-index in
+    let x = c.process-item.result in
+    let lt : i < length ps = rw c.deref-process-items.ensures.value at c.loop-process-test.true in
+    let is : x ≡ get_or ps i x = rw c.deref-process-items.ensures.value at c.process-item.is in
+    let room = room_for (seen_of c.loop-process.numbering.tables) (2 * largest.calls) ps i x lt is c.loop-process.invariant.room in
+    omega (arith, room)
 
 pub loop-process-preserved : goal.loop-process-preserved
 loop-process-preserved c =
@@ -39,3 +62,27 @@ returns-clause-processes c =
     let past : length c.args.draft.now.processes.items ≤ c.loop-process.process-index = rw c.deref-process-items.ensures.value at c.loop-process-test.false in
     made_all (process_of (declared_of c.args.draft.now) last) started_of c.loop-process.processes.items c.args.draft.now.processes.items c.loop-process.process-index past
     (c.loop-process.invariant.numbers last (go_on_self last))
+
+pub returns-clause-tables : goal.returns-clause-tables
+returns-clause-tables c =
+    let ps = c.args.draft.now.processes.items in
+    let past : length ps ≤ c.loop-process.process-index = rw c.deref-process-items.ensures.value at c.loop-process-test.false in
+    let none = drop_all c.loop-process.process-index ps past in
+    sym (c.loop-process.invariant.so_far ∙ ap (λ l. all_seen (declared_of c.args.draft.now) (seen_of c.loop-process.numbering.tables) (map started_of l)) none)
+
+pub returns-clause-ok : goal.returns-clause-ok
+returns-clause-ok c =
+    let ps = c.args.draft.now.processes.items in
+    let past : length ps ≤ c.loop-process.process-index = rw c.deref-process-items.ensures.value at c.loop-process-test.false in
+    c.loop-process.invariant.faults ∙ ap (λ l. first_fault (declared_of c.args.draft.now) (map started_of l)) (drop_all c.loop-process.process-index ps past)
+
+pub returns-in_err-numbered-clause-err : goal.returns-in_err-numbered-clause-err
+returns-in_err-numbered-clause-err c =
+    let ps = c.args.draft.now.processes.items in
+    let i = c.loop-process.process-index in
+    let x = c.process-item.result in
+    let lt : i < length ps = rw c.deref-process-items.ensures.value at c.loop-process-test.true in
+    let is : x ≡ get_or ps i x = rw c.deref-process-items.ensures.value at c.process-item.is in
+    let e = c.in_err-numbered.field-0.0 in
+    handed_on c.from_residual-in_err-numbered.result e _ c.from_residual-in_err-numbered.ensures.1
+    (process_fault_on (declared_of c.args.draft.now) _ ps i x e lt is c.loop-process.invariant.faults c.in_err-numbered.ensures.err)

@@ -1,0 +1,132 @@
+//! Forms of JSON, which are built by one part after the other.
+
+ghost use Rattle.std.specs.Prelude.{◌≡◌, ◌++◌, List, [], ℕ, map, decimal, IfOk};
+ghost use Rattle.wire_json.specs.Json.{bracketed};
+
+use std::alloc::{AllocError, Global};
+use wire_json::push_list;
+use wire_words::push_number;
+
+/// A form that is being built, or the fault that ended this.
+pub(crate) struct Form {
+    built: Result<Vec<u8>, AllocError>,
+}
+
+impl Form {
+    /// A form without parts.
+    pub(crate) fn new(alloc: Global) -> Form
+        ensures { IfOk result.built (λ text. text.items ≡ []) }
+    {
+        Form {
+            built: Ok(Vec::new(alloc)),
+        }
+    }
+
+    /// Puts these bytes behind the form.
+    pub(crate) fn put(self, bytes: &[u8]) -> Form
+        ensures { (before : List ℕ) → IfOk self.built (λ text. text.items ≡ before)
+            → IfOk result.built (λ text. text.items ≡ before ++ bytes.now) }
+    {
+        let Form { built } = self;
+        match built {
+            Ok(text) => Form {
+                built: put_bytes(text, bytes),
+            },
+            Err(fault) => Form { built: Err(fault) },
+        }
+    }
+
+    /// Puts a number behind the form.
+    pub(crate) fn put_number(self, number: u64) -> Form
+        ensures { (before : List ℕ) → IfOk self.built (λ text. text.items ≡ before)
+            → IfOk result.built (λ text. text.items ≡ before ++ decimal number) }
+    {
+        let Form { built } = self;
+        match built {
+            Ok(text) => Form {
+                built: put_digits(text, number),
+            },
+            Err(fault) => Form { built: Err(fault) },
+        }
+    }
+
+    /// Puts another form behind the form, which is ended by the fault of the other.
+    pub(crate) fn put_form(self, made: Result<Vec<u8>, AllocError>) -> Form
+        ensures { (before part : List ℕ) → IfOk self.built (λ text. text.items ≡ before) → IfOk made (λ text. text.items ≡ part)
+            → IfOk result.built (λ text. text.items ≡ before ++ part) }
+    {
+        let Form { built } = self;
+        match built {
+            Ok(text) => Form {
+                built: put_part(text, made),
+            },
+            Err(fault) => {
+                drop(made);
+                Form { built: Err(fault) }
+            }
+        }
+    }
+
+    /// Puts a list of these forms behind the form, which is ended by the fault of the list.
+    pub(crate) fn put_list(self, made: Result<Vec<Vec<u8>>, AllocError>) -> Form
+        ensures { (before : List ℕ) (parts : List (List ℕ)) → IfOk self.built (λ text. text.items ≡ before)
+            → IfOk made (λ texts. map (λ text. text.items) texts.items ≡ parts)
+            → IfOk result.built (λ text. text.items ≡ before ++ bracketed parts) }
+    {
+        let Form { built } = self;
+        match built {
+            Ok(text) => Form {
+                built: put_parts(text, made),
+            },
+            Err(fault) => {
+                drop(made);
+                Form { built: Err(fault) }
+            }
+        }
+    }
+
+    /// The whole form.
+    pub(crate) fn finish(self) -> Result<Vec<u8>, AllocError>
+        ensures { (before : List ℕ) → IfOk self.built (λ text. text.items ≡ before) → IfOk result (λ text. text.items ≡ before) }
+    {
+        let Form { built } = self;
+        built
+    }
+}
+
+/// Puts bytes behind a text.
+fn put_bytes(mut text: Vec<u8>, bytes: &[u8]) -> Result<Vec<u8>, AllocError>
+    ensures { IfOk result (λ new. new.items ≡ text.items ++ bytes.now) }
+{
+    text.extend_from_slice(bytes)?;
+    Ok(text)
+}
+
+/// Puts a number behind a text.
+fn put_digits(mut text: Vec<u8>, number: u64) -> Result<Vec<u8>, AllocError>
+    ensures { IfOk result (λ new. new.items ≡ text.items ++ decimal number) }
+{
+    push_number(&mut text, number)?;
+    Ok(text)
+}
+
+/// Puts a form behind a text.
+fn put_part(text: Vec<u8>, made: Result<Vec<u8>, AllocError>) -> Result<Vec<u8>, AllocError>
+    ensures { (part : List ℕ) → IfOk made (λ form. form.items ≡ part) → IfOk result (λ new. new.items ≡ text.items ++ part) }
+{
+    let part = made?;
+    put_bytes(text, part.as_slice())
+}
+
+/// Puts a list of forms behind a text.
+fn put_parts(
+    mut text: Vec<u8>,
+    made: Result<Vec<Vec<u8>>, AllocError>,
+) -> Result<Vec<u8>, AllocError>
+    ensures { (parts : List (List ℕ)) → IfOk made (λ forms. map (λ form. form.items) forms.items ≡ parts)
+        → IfOk result (λ new. new.items ≡ text.items ++ bracketed parts) }
+{
+    let parts = made?;
+    push_list(&mut text, parts.as_slice())?;
+    Ok(text)
+}
