@@ -7,15 +7,15 @@ Usage: python3 tests/edits.py              all edits
 An edit is a wrong body: `crates/NAME/edits/MISTAKE.edit` has lines 'file: src/FILE.rt', 'old: TEXT' and 'new: TEXT', where TEXT is one line.
 The proof of a function depends only on the contracts of the functions that it calls, so wrong bodies of several functions don't disturb each
 other. They make up a batch, and one check of these functions (`rattle check --only`) gives a verdict for each. The functions of the crate that
-have no edit in the batch are emptied: their bodies are proved with the crate, so here they aren't proved once more, but taken by their contracts
-(each calls `unreachable!()`, and that it may is a hole in its proof). Where a function has several
-edits, the first stands in its place, and each other one in a copy of the function and of its proof files, under a name of its own. One more
-copy, without an edit, has to be proved: so what is refused in a copy isn't refused for its name. A batch without such a copy gets one of its shortest
-function, so in each batch a right body is seen to be proved. Where no copy can be made, the second edit goes
-into a second batch. That begins with nothing but what the batches before it, of the same crate and in this run, have proved. An edit is
-refused if its own function has no proof for a reason of its own, and not only because it calls another that isn't proved.
-A batch shows nothing if it isn't checked to its end, or if a function without an edit has no proof for a reason of its own. Then its
-halves are tried, and so on.
+have no edit in the batch have no bodies in that check: each only calls `unreachable!()`, with a hole in its proof where it must be shown that
+this is never reached. Their own proofs are not repeated, since the crate was proved before. One of them keeps its body and has to be proved, where
+there is any, and if possible one that calls a function without a body: so a batch in which right bodies were refused too shows nothing.
+Where a function has several edits, the first stands in its place, and each other one in a copy of the function and of its proof files, under a
+name of its own. One more copy, without an edit, has to be proved: so what is refused in a copy isn't refused for its name. Where no copy can be
+made, the second edit goes into a second batch. That begins with nothing but what the batches before it, of the same crate and in this run, have
+proved. An edit is refused if its own function has no proof for a reason of its own, and not only because it calls another that isn't proved.
+A batch shows nothing if it isn't checked to its end, or if a function without an edit, or a file of lemmas, has no proof for a reason of its own.
+Then its halves are tried, and so on.
 
 What a batch doesn't show refused is tried alone: first its function by itself, with all bodies that it calls, and where that doesn't show it either,
 the whole crate, as `rt must-fail` tries an edit. So is an edit of more than one body, or of none.
@@ -44,15 +44,15 @@ IMPL = re.compile(r"^impl\b(.*) \{$", re.M)
 VERDICT = re.compile(r"^fn (\S+): (.*)$", re.M)
 # The last line of a check of some functions that came to its end.
 LAST = re.compile(r"^only=\d+ (?:proved|holes)=\d+\n*\Z", re.M)
-# A verdict on a function that has a proof; over functions that were emptied, one that has no other hole.
-PROVED = re.compile(r"proved$|no holes$|depends on a hole in ")
+# A verdict on a function that has a proof, over functions without bodies one that has no hole of its own.
+PROVED = re.compile(r"proved$|no holes$|depends on a hole in `\S+\.Answers\.unreachable-requires`")
 # A line of the prover about a place in a file.
 PLACED = re.compile(r"(?:note: )?(?:\./)?((?:src|proofs)/\S+?):(\d+):\d+:")
 # A proof file that names what an edit took away, or that rests on such a proof: it says little of the contract.
 NAMES = re.compile(r"(\./)?proofs/.*(has no field|is not in scope|has no `|was not admitted)")
 # A line that tells that the proof of a function was tried to its end.
 TRIED = re.compile(r"checked (\S+), \d+ of \d+$")
-# The proof of a function that was emptied: that its body is never reached is a hole.
+# The proof of a function without a body: that this is never reached is a hole.
 EMPTIED = """\
 use Rattle.{crate}.proofs.{path}.Goals as goal
 
@@ -63,6 +63,8 @@ unreachable-requires c = ?
 OWN_PROOFS = "Answers.antt", "Invariants.antt", "Proof.antt"
 # A part of a verdict that blames other functions.
 OTHERS = re.compile(r"it (?:calls|passes the block) .*, which (?:is|are) not (?:proved|assumed)")
+# A part of a verdict that names the proofs on which a function stands and that are refused: its own, or those of functions that it calls.
+STANDS = re.compile(r"it stands on (.*?), which antt refuses")
 # A verdict on a body that the prover has no rules for: no contract was tried, and a right body would fare the same.
 UNCOVERED = "the borrow checker does not cover this function"
 ONLY_A_NAME = " (only because a proof file names what the edit took away, so this says little of the contract: change a value and keep the names)"
@@ -242,14 +244,6 @@ def copies_of(edits):
     return {new: attributes_of(was, function) + re.sub(rf"\bfn {name}\b", f"fn {new}", text, count=1) for new, text in bodies.items()}
 
 
-def control_of(by_function):
-    """An edit of whose function a batch has a copy as it is, though it has no other edit: that of the shortest, where no function has two."""
-    found = [it for edits in by_function.values() for it in edits if can_be_copied(it)]
-    if any(len(it) > 1 for it in by_function.values()):
-        return None
-    return min(found, key=lambda it: it.function.end - it.function.begin, default=None)
-
-
 def brace_of(text, function):
     """Where the body of a function begins, with its brace, if it has lines of its own."""
     opened = re.compile(r"\{$", re.M).search(text, function.body, function.end)
@@ -257,14 +251,14 @@ def brace_of(text, function):
 
 
 def can_be_emptied(file, text, function):
-    """Whether the body of a function can be taken away: it is a type's method or stands by itself, the type that it gives doesn't depend on the body,
-    nothing is computed by it while the crate is read, it doesn't call itself, and its attributes can be read."""
+    """Whether the body of a function can be taken away: it is a method of a type or a free function, the type that it gives doesn't depend on the body,
+    nothing is computed by it while the crate is read, it is in no cycle of calls, and its attributes can be read."""
     brace, attributes = brace_of(text, function), attributes_of(text, function)
     is_method = function.path.split("::")[:-1] != module_of(file)
     if brace is None or attributes is None or "#[cycle" in attributes or function.is_of_trait:
         return False
     header = text[function.begin : brace]
-    return header.startswith(" ") == is_method and "-> impl " not in header and not re.match(r" *(?:pub(?:\([a-z]+\))? )?const ", header)
+    return header.startswith(" ") == is_method and not re.search(r"->[^\n]*\bimpl\b", header) and not re.match(r" *(?:pub(?:\([a-z]+\))? )?const ", header)
 
 
 def without_body(text, function):
@@ -282,15 +276,42 @@ def proofs_when_emptied(crate, path):
     return {**found, os.path.join(folder, "Answers.antt"): EMPTIED.format(crate=crate.name, path=path.replace("::", "."))}
 
 
-def empty_others(crate, only, sources, proofs):
-    """Empties the functions of a crate that aren't among these, as far as they can be, in the texts of its source and proof files."""
+def functions_to_empty(crate, only, sources):
+    """The functions of a crate that aren't among these and can be emptied, by source file, with the text of each file."""
+    found = {}
     for path in rt.rtlib.files_of(crate.folder):
         file = os.path.relpath(path, crate.folder)
-        if not (file.startswith("src/") and file.endswith(".rt")):
-            continue
-        text = sources.get(file) or rt.rtlib.text_of(path)
-        for it in reversed(functions_of(crate, file, text)):
-            if it.path not in only and can_be_emptied(file, text, it):
+        if file.startswith("src/") and file.endswith(".rt"):
+            text = sources.get(file) or rt.rtlib.text_of(path)
+            found[file] = text, [it for it in functions_of(crate, file, text) if it.path not in only and can_be_emptied(file, text, it)]
+    return found
+
+
+def called_in(body, names):
+    """Which of these names of functions a body calls, as far as its words show it."""
+    return {it for it in re.findall(r"\b(\w+)(?:::<[^()]*>)?\(", body) if it in names}
+
+
+def control_of(to_empty, only):
+    """The path of a function that keeps its body though it has no edit: one that calls none with an edit or a copy of one, and if possible one that is
+    emptied, and the shortest of those."""
+    bodies = {it.path: text[it.body : it.end] for text, functions in to_empty.values() for it in functions}
+    edited, emptied = ({it.rpartition("::")[2] for it in paths} for paths in (only, bodies))
+    good = [path for path, body in bodies.items() if not called_in(body, edited)]
+    calls_none = {path: not called_in(bodies[path], emptied - {path.rpartition("::")[2]}) for path in good}
+    return min(good, key=lambda it: (calls_none[it], len(bodies[it])), default=None)
+
+
+def empty_others(crate, names, sources, proofs):
+    """Empties the functions of a crate that aren't among these, as far as they can be, in the texts of its source and proof files. One of them, which
+    joins the names without an edit, keeps its body."""
+    to_empty = functions_to_empty(crate, names, sources)
+    control = control_of(to_empty, names)
+    if control:
+        names[control] = None
+    for file, (text, functions) in to_empty.items():
+        for it in reversed(functions):
+            if it.path != control:
                 text = without_body(text, it)
                 proofs.update(proofs_when_emptied(crate, it.path))
         sources[file] = text
@@ -320,9 +341,9 @@ def texts_of(batch, empties=True):
     by_function = collections.defaultdict(list)
     for edit in batch:
         by_function[edit.file, edit.function].append(edit)
-    sources, proofs, names, control = {}, {}, {}, control_of(by_function)
+    sources, proofs, names = {}, {}, {}
     for (file, function), edits in sorted(by_function.items(), key=lambda it: -it[0][1].begin):
-        copies = copies_of(edits) if len(edits) > 1 or edits[0] is control else {}
+        copies = copies_of(edits) if len(edits) > 1 else {}
         text, around = sources.get(file, edits[0].was), function.path.rpartition("::")[0]
         own = "\n\n".join([wrong_of(edits[0]), *copies.values()])
         sources[file] = text[: function.begin] + own + text[function.end :]
@@ -341,10 +362,15 @@ def placed_in(crate, sources, names):
     return [Placed(names[path], path, first, last) for path, first, last in found if names.get(path)]
 
 
+def without_fn(path):
+    """The parts of a path of the prover's without the word that marks those of closures."""
+    return [it for it in path if it != "fn"]
+
+
 def belongs_to(placed, path):
     """Whether a path of the prover's names the function of an edit or a closure in it: of a closure in `a::f` it begins with `a::fn::f`."""
     own = placed.path.split("::")
-    return [it for it in path if it != "fn"][: len(own)] == own
+    return without_fn(path)[: len(own)] == own
 
 
 def is_about(placed, line):
@@ -357,17 +383,20 @@ def is_about(placed, line):
     return at[1] == placed.edit.file and placed.first <= int(at[2]) <= placed.last
 
 
-def is_own(verdict):
-    """Whether a verdict says that a function has no proof, and not only because of others."""
+def is_own(verdict, path):
+    """Whether a verdict on the function of a path says that it has no proof, and not only because of others."""
     if verdict.startswith("not proved"):
-        return True
+        stands, own = STANDS.search(verdict), without_fn(path)
+        names = [without_fn(it.split(".")) for it in re.findall(r"`Rattle\.\w+\.proofs\.([^`]+)`", stands[1])] if stands else []
+        return not names or any(it[: len(own)] == own for it in names)
     reasons = verdict.removeprefix("no proof: ").split("; ")
     return verdict.startswith("no proof") and not all(OTHERS.fullmatch(it) for it in reasons)
 
 
 def own_failures(said):
     """The functions that have no proof for a reason of their own: the parts of their paths below the crate, and the verdict on each."""
-    return [(path.split("::")[1:], words) for path, words in VERDICT.findall(said) if is_own(words)]
+    found = [(path.split("::")[1:], words) for path, words in VERDICT.findall(said)]
+    return [(path, words) for path, words in found if is_own(words, path)]
 
 
 def judged(placed, said):
@@ -392,20 +421,29 @@ def only_why(told, reason, verdicts):
     return ONLY_A_LIMIT if any(LIMITS.search(it) for it in told) else ""
 
 
+def blames_another(line, texts):
+    """Whether a line of the prover refuses something in a proof file of no function with an edit, such as a lemma, and not only since it rests on what
+    was refused."""
+    at = PLACED.match(line)
+    is_refused = bool(at) and at[1].startswith("proofs/") and ": error" in line and "was not admitted" not in line
+    # (the proofs of a cycle of calls have its name)
+    return is_refused and "/+" not in at[1] and not any(is_about(it, line) for it in texts.placed)
+
+
 def is_judged(ran, texts):
-    """Whether a check of a batch came to its end, and blames no function that has no edit."""
+    """Whether a check of a batch came to its end, and blames nothing but functions with an edit."""
     if ran.returncode != 1 or not LAST.search(ran.stdout) or rt.rtlib.STALE.search(ran.stdout):
         return False
-    if any(rt.unread(line, texts.sources) for line in ran.stdout.splitlines()):
+    if any(rt.unread(line, texts.sources) or blames_another(line, texts) for line in ran.stdout.splitlines()):
         return False
     return are_proved(texts, ran.stdout) and all(any(belongs_to(it, path) for it in texts.placed) for path, _ in own_failures(ran.stdout))
 
 
 def are_proved(texts, said):
-    """Whether each copy without an edit has a proof, or has none only because of others."""
+    """Whether each function without an edit that has its body has a proof, or has none only because of others."""
     edited, verdicts = {it.path for it in texts.placed}, {path.partition("::")[2]: words for path, words in VERDICT.findall(said)}
-    controls = [verdicts.get(it, "") for it in texts.only if it not in edited]
-    return all(PROVED.match(it) or (it.startswith("no proof") and not is_own(it)) for it in controls)
+    controls = [(it, verdicts.get(it, "")) for it in texts.only if it not in edited]
+    return all(PROVED.match(words) or (words.startswith("no") and not is_own(words, path.split("::"))) for path, words in controls)
 
 
 def checked(crate, texts, flags, kept):
@@ -475,8 +513,8 @@ def check_in_parts(batch, kept=None):
 
 
 def check_one_by_one(batches, ended):
-    """What became of each edit of a crate's batches. `ended` is called after each. The proofs that two batches share are checked once: those
-    of functions without an edit that the edited ones call, and whatever the crate's definitions and lemmas need."""
+    """What became of each edit of a crate's batches. `ended` is called after each. The proofs that two batches share are checked once:
+    whatever the crate's definitions and lemmas need."""
     found = {}
     with tempfile.TemporaryDirectory(prefix="wire-up-edits-") as kept:
         for batch in batches:

@@ -63,6 +63,13 @@ pub fn by_half(a: u8) -> u8
     halved(a) // by its contract
 }
 
+/// The same, with a proof file.
+pub fn told(a: u8) -> u8
+    ensures { result ≤ a }
+{
+    halved(a)
+}
+
 /// The number, or 9 if it is greater.
 pub fn picked(a: u8) -> u8
     ensures { result ≤ 9 }
@@ -91,6 +98,13 @@ impl Pair {
         Pair { first: a, second: a }
     }
 }
+"""
+# A proof that cites the contract of a function that has no edit.
+TOLD = """\
+use Rattle.tiny.proofs.told.Goals as goal
+
+pub returns : goal.returns
+returns c = c.halved.ensures
 """
 # A proof that names both goals of `picked`.
 ANSWERS = """\
@@ -138,18 +152,29 @@ VERDICTS = {
     "no proof: expected `most_spec` in ./proofs/most/Proof.antt; the borrow checker does not cover this function yet: src/lib.rt:9:1": False,
     "no proof: expected a measure in ./proofs/most/Invariants.antt": True,
     "could not tell": None,
+    "not proved; it stands on `Rattle.tiny.proofs.most.Answers.returns`, which antt refuses": True,
+    "not proved; it stands on `Rattle.tiny.proofs.exact.Answers.a` and `Rattle.tiny.proofs.fn.most.a.Answers.b`, which antt refuses": True,
+    # What is refused is the proof of a function that it calls.
+    "not proved; it stands on `Rattle.tiny.proofs.exact.Answers.returns`, which antt refuses; it calls `tiny::exact`, which is not proved": None,
     "no holes": None,
     "depends on a hole in `Rattle.tiny.proofs.exact.Answers.unreachable-requires`": None,
 }
 
-# Verdicts on a copy without an edit, of a function that has two, and whether a check with it shows anything of these: not if the copy has no proof
+# What is told of a copy without an edit, of a function that has two, and whether a check with it shows anything of these: not if the copy has no proof
 # for its own reasons, such as its name.
 CONTROLS = {
     "fn tiny::most_as_it_is: proved\n": True,
     "fn tiny::most_as_it_is: no holes\n": True,
     "fn tiny::most_as_it_is: depends on a hole in `Rattle.tiny.proofs.exact.Answers.unreachable-requires`\n": True,
+    "fn tiny::most_as_it_is: depends on a hole in `Rattle.tiny.proofs.most_as_it_is.Answers.returns`\n": False,
+    # What is refused is the proof of a function with an edit, a lemma, or a lemma that rests on what was refused.
+    "./proofs/most/Answers.antt:3:9: error: `returns`: the types differ\nfn tiny::most_as_it_is: no holes\n": True,
+    "./proofs/Lemmas.antt:3:9: error: `goal.returns` is not in scope\nfn tiny::most_as_it_is: no holes\n": False,
+    "./proofs/Lemmas.antt:3:9: error: `most_spec` was not admitted\nfn tiny::most_as_it_is: no holes\n": True,
     "fn tiny::most_as_it_is: no proof: it calls `tiny::exact`, which is not proved\n": True,
     "fn tiny::most_as_it_is: not proved\n": False,
+    "fn tiny::most_as_it_is: not proved; it stands on `Rattle.tiny.proofs.exact.Answers.returns`, which antt refuses\n": True,
+    "./proofs/+even/Answers.antt:3:9: error: `returns`: the types differ\nfn tiny::most_as_it_is: no holes\n": True,
     "fn tiny::most_as_it_is: no proof: expected answers in ./proofs/most_as_it_is/Answers.antt; `search` did not prove `returns`\n": False,
     "fn tiny::most_as_it_is: could not tell\n": False,
     "": False,
@@ -164,6 +189,7 @@ CAN_BE_EMPTIED = {
     "pub fn most()\n    ensures { 9 ≡ 9 }\n{}\n": False,
     "pub const fn most() -> u8 {\n    9\n}\n": False,
     "fn most(all: &[u8]) -> impl Iterator<Item = &u8> {\n    all.iter()\n}\n": False,
+    "fn most() -> Option<impl Fn() -> u8> {\n    None\n}\n": False,
     "#[cycle(most)]\nfn most() -> u8 {\n    most()\n}\n": False,
     "impl Most for Pair {\n    fn most(&self) -> u8 {\n        9\n    }\n}\n": False,
     "trait Most {\n    fn most(&self) -> u8 {\n        9\n    }\n}\n": False,
@@ -196,6 +222,7 @@ def make(top, wrong_bodies):
     write(top, "crates.txt", "tiny:\n")
     write(top, "crates/tiny/src/lib.rt", CODE)
     write(top, "crates/tiny/proofs/picked/Answers.antt", ANSWERS)
+    write(top, "crates/tiny/proofs/told/Answers.antt", TOLD)
     for name, (lines, _, _) in wrong_bodies.items():
         write(top, f"crates/tiny/edits/{name}.edit", text_of(lines))
 
@@ -249,13 +276,16 @@ def emptied_wrong():
         crate = crates_at(top)[0]
         told = {text: edits.can_be_emptied("src/lib.rt", text, *edits.functions_of(crate, "src/lib.rt", text)) for text in CAN_BE_EMPTIED}
         edit, _ = edits.read(crate, os.path.join(crate.folder, "edits", "more_than_the_half.edit"))
+        write(top, "crates/tiny/proofs/fn/halved/kept/Answers.antt", TOLD)
         batch, whole = edits.texts_of([edit]), edits.texts_of([edit], empties=False)
     wrong = [f"{text!r}: wanted {wanted}" for text, wanted in CAN_BE_EMPTIED.items() if told[text] is not wanted]
-    # Eight functions without an edit are emptied, one of which has a proof file; that with the edit stands, and a copy of it as it is.
-    files = "src/lib.rt", "proofs/picked/Answers.antt", "proofs/picked/Invariants.antt"
-    found = batch.sources[files[0]].count("unreachable!()"), "= ?" in batch.proofs[files[1]], batch.proofs[files[2]], batch.only, whole.sources[files[0]].count("unreachable!()")
-    if found != (8, True, None, ["by_half", "by_half_as_it_is"], 0) or "halved(a).saturating_add(1)" not in batch.sources[files[0]]:
+    # Eight functions are emptied, one of which has a proof file, and one that of a closure. That with the edit stands, and so does one that has to be proved.
+    source, picked, closure = "src/lib.rt", "proofs/picked/Answers.antt", "proofs/fn/halved/kept/Answers.antt"
+    found = batch.sources[source].count("unreachable!()"), "= ?" in batch.proofs[picked], batch.proofs[closure], batch.only
+    if found != (8, True, None, ["by_half", "told"]) or "halved(a).saturating_add(1)" not in batch.sources[source]:
         wrong.append(f"a batch: {found}")
+    if "unreachable!()" in whole.sources[source] or whole.only != ["by_half"]:
+        wrong.append(f"a batch in which nothing is emptied: {whole.only}")
     for it in wrong:
         print(f"tests/edits_test.py: {it}")
     return len(wrong)

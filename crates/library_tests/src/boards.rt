@@ -182,7 +182,7 @@ struct Left {
 }
 
 /// What becomes of the lanes of two ranks, the second of which waits for two events of the first: which one is looked at, whether it is
-/// ready, and how many events it then serves. There is no third lane.
+/// ready, and how many events it then serves. The last row asks for a lane that isn't there.
 const TURNS: [(u32, bool, usize); 5] = [
     (1, false, 0),
     (0, true, 2),
@@ -272,7 +272,7 @@ fn work_alone<R: Wait>(rt: &R, alloc: Global, settled: &Settled) -> Result<Left,
     })
 }
 
-/// The lengths of these trails are these.
+/// Whether there are trails, of these lengths.
 fn are_as_long(trails: &Option<Vec<Vec<Fate>>>, lengths: &[usize]) -> bool {
     let Some(trails) = trails else {
         return false;

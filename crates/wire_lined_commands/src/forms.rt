@@ -1,13 +1,13 @@
 //! Forms of JSON, which are built by one part after the other.
 
 ghost use Rattle.std.specs.Prelude.{◌≡◌, ◌++◌, List, [], ℕ, map, decimal, IfOk};
-ghost use Rattle.wire_json.specs.Json.{bracketed};
+ghost use Rattle.wire_json.specs.Json.{bracketed, quoted};
 
 use std::alloc::{AllocError, Global};
-use wire_json::push_list;
+use wire_json::{push_list, push_quoted};
 use wire_words::push_number;
 
-/// A form that is being built, or the fault that ended this.
+/// A form that is being built, or the fault that stopped it.
 pub(crate) struct Form {
     built: Result<Vec<u8>, AllocError>,
 }
@@ -22,7 +22,7 @@ impl Form {
         }
     }
 
-    /// Puts these bytes behind the form.
+    /// Puts these bytes behind it.
     pub(crate) fn put(self, bytes: &[u8]) -> Form
         ensures { (before : List ℕ) → IfOk self.built (λ text. text.items ≡ before)
             → IfOk result.built (λ text. text.items ≡ before ++ bytes.now) }
@@ -36,7 +36,7 @@ impl Form {
         }
     }
 
-    /// Puts a number behind the form.
+    /// Puts a number behind it.
     pub(crate) fn put_number(self, number: u64) -> Form
         ensures { (before : List ℕ) → IfOk self.built (λ text. text.items ≡ before)
             → IfOk result.built (λ text. text.items ≡ before ++ decimal number) }
@@ -50,7 +50,7 @@ impl Form {
         }
     }
 
-    /// Puts another form behind the form, which is ended by the fault of the other.
+    /// Puts another form behind this one. If the other couldn't be made, this one keeps that fault.
     pub(crate) fn put_form(self, made: Result<Vec<u8>, AllocError>) -> Form
         ensures { (before part : List ℕ) → IfOk self.built (λ text. text.items ≡ before) → IfOk made (λ text. text.items ≡ part)
             → IfOk result.built (λ text. text.items ≡ before ++ part) }
@@ -67,7 +67,24 @@ impl Form {
         }
     }
 
-    /// Puts a list of these forms behind the form, which is ended by the fault of the list.
+    /// Puts words behind it as a string. If they couldn't be made, it keeps that fault.
+    pub(crate) fn put_quoted(self, made: Result<Vec<u8>, AllocError>) -> Form
+        ensures { (before words : List ℕ) → IfOk self.built (λ text. text.items ≡ before) → IfOk made (λ text. text.items ≡ words)
+            → IfOk result.built (λ text. text.items ≡ before ++ quoted words) }
+    {
+        let Form { built } = self;
+        match built {
+            Ok(text) => Form {
+                built: put_string(text, made),
+            },
+            Err(fault) => {
+                drop(made);
+                Form { built: Err(fault) }
+            }
+        }
+    }
+
+    /// Puts a list of these forms behind this one. If they couldn't be made, this one keeps that fault.
     pub(crate) fn put_list(self, made: Result<Vec<Vec<u8>>, AllocError>) -> Form
         ensures { (before : List ℕ) (parts : List (List ℕ)) → IfOk self.built (λ text. text.items ≡ before)
             → IfOk made (λ texts. map (λ text. text.items) texts.items ≡ parts)
@@ -116,6 +133,15 @@ fn put_part(text: Vec<u8>, made: Result<Vec<u8>, AllocError>) -> Result<Vec<u8>,
 {
     let part = made?;
     put_bytes(text, part.as_slice())
+}
+
+/// Puts words behind a text, as a string.
+fn put_string(mut text: Vec<u8>, made: Result<Vec<u8>, AllocError>) -> Result<Vec<u8>, AllocError>
+    ensures { (words : List ℕ) → IfOk made (λ given. given.items ≡ words) → IfOk result (λ new. new.items ≡ text.items ++ quoted words) }
+{
+    let words = made?;
+    push_quoted(&mut text, words.as_slice())?;
+    Ok(text)
 }
 
 /// Puts a list of forms behind a text.

@@ -1,7 +1,6 @@
 //! The JSON forms in which each call has the number of its line in the file.
 
 ghost use Rattle.std.specs.Prelude.{◌≡◌, map, IfOk};
-ghost use Rattle.wire_json.specs.Json.{quoted};
 ghost use Rattle.wire_report.specs.Findings.{finding_words};
 ghost use Rattle.wire_lined_commands.specs.Lined as spec;
 
@@ -11,8 +10,7 @@ use wire_content::Scripts;
 use wire_findings::{Finding, FindingList};
 use wire_groups::Group;
 use wire_json::{
-    ChainStep, Half, RunTold, counts_json, lined_place_json, lined_step_json, push_quoted,
-    run_json, which_word,
+    ChainStep, Half, RunTold, counts_json, lined_place_json, lined_step_json, run_json, which_word,
 };
 use wire_located::{line_of, pair_of};
 use wire_report::push_finding;
@@ -136,18 +134,16 @@ fn begin_finding(alloc: Global, scripts: &Scripts, rows: &[Vec<u64>], finding: F
         .put(b",")
         .put_form(call_json(alloc, scripts, rows, pair.higher))
         .put(b"],\"finding\":")
-        .put_form(words_json(alloc, scripts, finding))
+        .put_quoted(words_of(alloc, scripts, finding))
 }
 
-/// The words of a finding as a string.
-fn words_json(alloc: Global, scripts: &Scripts, finding: Finding) -> Result<Vec<u8>, AllocError>
-    ensures { IfOk result (λ text. text.items ≡ quoted (finding_words scripts.now finding)) }
+/// The words of a finding.
+fn words_of(alloc: Global, scripts: &Scripts, finding: Finding) -> Result<Vec<u8>, AllocError>
+    ensures { IfOk result (λ words. words.items ≡ finding_words scripts.now finding) }
 {
     let mut words = Vec::new(alloc);
     push_finding(&mut words, scripts, finding)?;
-    let mut text = Vec::new(alloc);
-    push_quoted(&mut text, words.as_slice())?;
-    Ok(text)
+    Ok(words)
 }
 
 /// A finding, with its calls.

@@ -192,7 +192,7 @@ fn mark_along_waits(alloc: Global, growth: &mut Growth<'_>) -> Result<(), AllocE
     mark_way(alloc, growth, &mut way)
 }
 
-// Marks what is ready in all processes, as long as that is any event.
+// Marks what is ready in all processes, until nothing more is ready.
 fn mark_ready(alloc: Global, growth: &mut Growth<'_>) -> Result<(), AllocError>
     requires { IsGrowing growth.old }
     ensures growing { OnOk result (IsGrowing growth.new) }

@@ -1,4 +1,4 @@
-//! Pieces that several texts have.
+//! Pieces that the lines of several texts share.
 
 ghost use Rattle.std.specs.Prelude.{◌≡◌, ◌+◌, ◌<◌, ◌≤◌, ◌++◌, codes, length, vec_capacity, OnOk, OnErr};
 ghost use Rattle.wire_report.specs.Shown.{count_text, end_line};
@@ -18,7 +18,7 @@ pub(crate) fn push_spaced(out: &mut Vec<u8>, text: &[u8]) -> Result<(), AllocErr
     out.extend_from_slice(text)
 }
 
-/// Appends a number behind its word.
+/// Appends a number behind a word or a space.
 pub(crate) fn push_counted(out: &mut Vec<u8>, word: &[u8], count: u64) -> Result<(), AllocError>
     ensures { OnOk result (out.new.items ≡ out.old.items ++ count_text word.now count) }
 {

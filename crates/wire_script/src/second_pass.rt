@@ -227,24 +227,18 @@ fn number_call(
         CallLine::Commit => Ok(Call::Commit),
         CallLine::Fence { set, collect } => {
             let collect = *collect;
-            match number_fence(alloc, draft, numbering, caller, placed.line, set) {
-                Ok(set) => Ok(Call::Fence { set, collect }),
-                Err(fault) => Err(fault),
-            }
+            let set = number_fence(alloc, draft, numbering, caller, placed.line, set)?;
+            Ok(Call::Fence { set, collect })
         }
         CallLine::Get { owner, key } => {
             let keys = &mut numbering.tables.keys;
-            match number_get(alloc, draft, keys, *owner, key, placed.line) {
-                Ok((owner, key)) => Ok(Call::Get { owner, key }),
-                Err(fault) => Err(fault),
-            }
+            let (owner, key) = number_get(alloc, draft, keys, *owner, key, placed.line)?;
+            Ok(Call::Get { owner, key })
         }
         CallLine::GetNow { owner, key } => {
             let keys = &mut numbering.tables.keys;
-            match number_get(alloc, draft, keys, *owner, key, placed.line) {
-                Ok((owner, key)) => Ok(Call::GetNow { owner, key }),
-                Err(fault) => Err(fault),
-            }
+            let (owner, key) = number_get(alloc, draft, keys, *owner, key, placed.line)?;
+            Ok(Call::GetNow { owner, key })
         }
         CallLine::Publish { name, value } => {
             number_publish(alloc, &mut numbering.tables, name, value)

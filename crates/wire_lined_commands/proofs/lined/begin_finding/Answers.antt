@@ -6,4 +6,4 @@ unfolding finding_members
 returns c =
     let lower = c.put_form.ensures _ _ (c.put.ensures _ c.new.ensures) c.call_json.ensures in
     let higher = c.put_form-2.ensures _ _ (c.put-2.ensures _ lower) c.call_json-2.ensures in
-    rw c.pair_of-pair.ensures at (c.put_form-3.ensures _ _ (c.put-3.ensures _ higher) c.words_json.ensures)
+    rw c.pair_of-pair.ensures at (c.put_quoted.ensures _ _ (c.put-3.ensures _ higher) c.words_of.ensures)

@@ -6,12 +6,12 @@ use Rattle.wire_script.specs.Drafted.{declared_of}
 use Rattle.wire_script.specs.Tabled.{seen_of, seen_with}
 use Rattle.wire_script.proofs.second_pass.number_call.Goals as goal
 
-pub returns-in-Ok-clause-tables : goal.returns-in-Ok-clause-tables
-returns-in-Ok-clause-tables c =
-    c.in-Ok.ensures.tables
+pub returns-in_ok-set-in-Fence-clause-tables : goal.returns-in_ok-set-in-Fence-clause-tables
+returns-in_ok-set-in-Fence-clause-tables c =
+    c.in_ok-set-in-Fence.ensures.tables
     ∙ ap (λ k. seen_with (declared_of c.args.draft.now) (seen_of c.args.numbering.now.tables) c.args.caller.now.job (call_by k)) (sym c.in-Fence.is)
 
-pub returns-in-Ok-clause-call : goal.returns-in-Ok-clause-call
-returns-in-Ok-clause-call c = λ later goes.
-    ap (λ n. Fence n c.in-Fence.collect) (c.in-Ok.ensures.number later.sets goes.sets)
+pub returns-in_ok-set-in-Fence-clause-call : goal.returns-in_ok-set-in-Fence-clause-call
+returns-in_ok-set-in-Fence-clause-call c = λ later goes.
+    ap (λ n. Fence n c.in-Fence.collect) (c.in_ok-set-in-Fence.ensures.number later.sets goes.sets)
     ∙ ap (λ k. numbered (declared_of c.args.draft.now) later c.args.caller.now.job (call_by k)) (sym c.in-Fence.is)
