@@ -316,7 +316,7 @@ def by_idle_processors(top):
             with mock.patch.dict(os.environ, {"RT_JOBS": number}):
                 build(top, prover := Prover(), keeps)
             given.append([prover.jobs[it] for it in ("low", "middle", "high", "app")])
-    return given == [["3"] * 4, ["1"] * 4, ["1"] * 4]
+    return given == [["2"] * 4, ["1"] * 4, ["1"] * 4]
 
 
 def over_libraries_of_rt(top):
@@ -338,23 +338,23 @@ def started(proofs, ready, running, processors, memory=100, most=4):
 
 def first_gets_most(_):
     # The longest chain is that of `low`. One processor is left to the others.
-    proofs = {"low": (2,), "apart": (3,), "other": (2,), "high": (9, "low")}
+    proofs = {"low": (3,), "apart": (4,), "other": (3,), "high": (9, "low")}
     ready = ["low", "apart", "other"]
     by_four, by_two = started(proofs, ready, {}, 4), started(proofs, ready, {}, 2)
     beside = started(proofs, ["apart", "other"], {"low": 1}, 4)
-    return by_four == {"low": 4, "apart": 1} and by_two == {"low": 1, "apart": 1} and beside == {"apart": 1, "other": 3}
+    return by_four == {"low": 4, "apart": 1} and by_two == {"low": 1, "apart": 1} and beside == {"apart": 1, "other": 1}
 
 
 def last_gets_all(_):
     by_processors = [started({"last": (9,)}, ["last"], {}, it)["last"] for it in (1, 2, 3, 4, 9)]
-    by_minutes = [started({"last": (minutes,)}, ["last"], {}, 4)["last"] for minutes in (0, 0.4, 0.5, 1, 1.4, 1.5)]
+    by_minutes = [started({"last": (minutes,)}, ["last"], {}, 4)["last"] for minutes in (0, 0.7, 0.75, 1.5, 2.2, 2.25)]
     return by_processors == [1, 2, 3, 4, 4] and by_minutes == [1, 1, 2, 3, 3, 4]
 
 
 def memory_is_kept(_):
     # Ten bytes each, and six more for each further process. The first one starts in any case.
-    proofs = {"one": (2,), "two": (1,)}
-    by_room = [started({"one": (2,)}, ["one"], {}, 4, memory)["one"] for memory in (5, 10, 16, 22, 28, 100)]
+    proofs = {"one": (3,), "two": (1,)}
+    by_room = [started({"one": (3,)}, ["one"], {}, 4, memory)["one"] for memory in (5, 10, 16, 22, 28, 100)]
     beside = [started(proofs, ["two"], {"one": number}, 4, memory) for number, memory in ((1, 19), (1, 20), (2, 25), (2, 26))]
     return by_room == [1, 1, 2, 3, 4, 4] and beside == [{}, {"two": 1}, {}, {"two": 1}]
 

@@ -11,8 +11,9 @@ have no edit in the batch have no bodies in that check: each only calls `unreach
 this is never reached. Their own proofs are not repeated, since the crate was proved before. One of them keeps its body and has to be proved, where
 there is any, and if possible one that calls a function without a body: so a batch in which right bodies were refused too shows nothing.
 Where a function has several edits, the first stands in its place, and each other one in a copy of the function and of its proof files, under a
-name of its own. One more copy, without an edit, has to be proved: so what is refused in a copy isn't refused for its name. Where no copy can be
-made, the second edit goes into a second batch. That begins with nothing but what the batches before it, of the same crate and in this run, have
+name of its own. One more copy, without an edit, has to be proved: so what is refused in a copy isn't refused for its name. There is one such copy of the
+shortest of these functions, and of each whose proof is named in other proof files, which keep the old name. Where no copy can be made, the second edit
+goes into a second batch. That begins with nothing but what the batches before it, of the same crate and in this run, have
 proved. An edit is refused if its own function has no proof for a reason of its own, and not only because it calls another that isn't proved.
 A batch shows nothing if it isn't checked to its end, or if a function without an edit, or a file of lemmas, has no proof for a reason of its own.
 Then its halves are tried, and so on.
@@ -235,12 +236,13 @@ def wrong_of(edit):
     return new[edit.function.begin : len(new) - (len(edit.was) - edit.function.end)]
 
 
-def copies_of(edits):
-    """Copies of the function of several edits, by name: one for each edit but the first, and one without an edit."""
+def copies_of(edits, has_control):
+    """Copies of the function of several edits, by name: one for each edit but the first, and one without an edit if it is wanted."""
     function, was = edits[0].function, edits[0].was
     name = function.path.rpartition("::")[2]
     bodies = {f"{name}_wrong_{number}": wrong_of(it) for number, it in enumerate(edits[1:], 2)}
-    bodies[f"{name}_as_it_is"] = was[function.begin : function.end]
+    if has_control:
+        bodies[f"{name}_as_it_is"] = was[function.begin : function.end]
     return {new: attributes_of(was, function) + re.sub(rf"\bfn {name}\b", f"fn {new}", text, count=1) for new, text in bodies.items()}
 
 
@@ -317,6 +319,24 @@ def empty_others(crate, names, sources, proofs):
         sources[file] = text
 
 
+def is_cited(crate, path):
+    """Whether a proof file of a crate that isn't the function's own names the proof of the function of a path, or of a closure in it."""
+    *around, own = path.split("::")
+    folders = [os.path.join(crate.folder, "proofs", *inner, own, "") for inner in (around, [*around, "fn"])]
+    modules = [".".join(["proofs", *inner, own]) for inner in (around, [*around, "fn"])]
+    cites = re.compile(rf"\.(?:{'|'.join(map(re.escape, modules))})\.")
+    others = (it for it in rt.rtlib.files_of(crate.folder) if it.endswith(".antt") and not it.startswith(tuple(folders)))
+    return any(cites.search(rt.rtlib.text_of(it)) for it in others)
+
+
+def copied_as_they_are(by_function):
+    """The functions, of those in a batch by their edits, of which a copy without an edit is made: those of several edits whose proofs other files name,
+    or else the shortest with several edits."""
+    several = [it for it, edits in by_function.items() if len(edits) > 1]
+    cited = [it for it in several if is_cited(by_function[it][0].crate, it[1].path)]
+    return cited or sorted(several, key=lambda it: it[1].end - it[1].body)[:1]
+
+
 def proofs_of_copy(crate, path, name):
     """The proof files of a function, as those of its copy of another name."""
     *around, own = path.split("::")
@@ -341,9 +361,9 @@ def texts_of(batch, empties=True):
     by_function = collections.defaultdict(list)
     for edit in batch:
         by_function[edit.file, edit.function].append(edit)
-    sources, proofs, names = {}, {}, {}
+    sources, proofs, names, as_they_are = {}, {}, {}, copied_as_they_are(by_function)
     for (file, function), edits in sorted(by_function.items(), key=lambda it: -it[0][1].begin):
-        copies = copies_of(edits) if len(edits) > 1 else {}
+        copies = copies_of(edits, (file, function) in as_they_are) if len(edits) > 1 else {}
         text, around = sources.get(file, edits[0].was), function.path.rpartition("::")[0]
         own = "\n\n".join([wrong_of(edits[0]), *copies.values()])
         sources[file] = text[: function.begin] + own + text[function.end :]
@@ -362,15 +382,15 @@ def placed_in(crate, sources, names):
     return [Placed(names[path], path, first, last) for path, first, last in found if names.get(path)]
 
 
-def without_fn(path):
-    """The parts of a path of the prover's without the word that marks those of closures."""
-    return [it for it in path if it != "fn"]
+def without_marks(path):
+    """The parts of a path of the prover's without the word that marks those of closures, and without the mark of a function that calls itself."""
+    return [it.removeprefix("+") for it in path if it != "fn"]
 
 
 def belongs_to(placed, path):
     """Whether a path of the prover's names the function of an edit or a closure in it: of a closure in `a::f` it begins with `a::fn::f`."""
     own = placed.path.split("::")
-    return without_fn(path)[: len(own)] == own
+    return without_marks(path)[: len(own)] == own
 
 
 def is_about(placed, line):
@@ -386,8 +406,8 @@ def is_about(placed, line):
 def is_own(verdict, path):
     """Whether a verdict on the function of a path says that it has no proof, and not only because of others."""
     if verdict.startswith("not proved"):
-        stands, own = STANDS.search(verdict), without_fn(path)
-        names = [without_fn(it.split(".")) for it in re.findall(r"`Rattle\.\w+\.proofs\.([^`]+)`", stands[1])] if stands else []
+        stands, own = STANDS.search(verdict), without_marks(path)
+        names = [without_marks(it.split(".")) for it in re.findall(r"`Rattle\.\w+\.proofs\.([^`]+)`", stands[1])] if stands else []
         return not names or any(it[: len(own)] == own for it in names)
     reasons = verdict.removeprefix("no proof: ").split("; ")
     return verdict.startswith("no proof") and not all(OTHERS.fullmatch(it) for it in reasons)

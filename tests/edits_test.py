@@ -154,6 +154,8 @@ VERDICTS = {
     "could not tell": None,
     "not proved; it stands on `Rattle.tiny.proofs.most.Answers.returns`, which antt refuses": True,
     "not proved; it stands on `Rattle.tiny.proofs.exact.Answers.a` and `Rattle.tiny.proofs.fn.most.a.Answers.b`, which antt refuses": True,
+    # Of a function that calls itself the proofs have a mark.
+    "not proved; it stands on `Rattle.tiny.proofs.+most.Answers.returns`, which antt refuses": True,
     # What is refused is the proof of a function that it calls.
     "not proved; it stands on `Rattle.tiny.proofs.exact.Answers.returns`, which antt refuses; it calls `tiny::exact`, which is not proved": None,
     "no holes": None,
@@ -193,6 +195,24 @@ CAN_BE_EMPTIED = {
     "#[cycle(most)]\nfn most() -> u8 {\n    most()\n}\n": False,
     "impl Most for Pair {\n    fn most(&self) -> u8 {\n        9\n    }\n}\n": False,
     "trait Most {\n    fn most(&self) -> u8 {\n        9\n    }\n}\n": False,
+}
+# A file of lemmas of the small crate, and the functions that are copied without an edit.
+COPIED = {
+    "": ["exact_as_it_is"],
+    "use Rattle.tiny.proofs.picked.Goals as goal\n": ["picked_as_it_is"],
+    "use Rattle.tiny.proofs.fn.lower.each.Goals as goal\n": ["lower_as_it_is"],
+    "use Rattle.tiny.proofs.most.Goals as goal\n": ["exact_as_it_is"],
+}
+# Lines of the prover, and whether they are about a function `most`, which stands on the lines from 5 to 9.
+ABOUT = {
+    "./proofs/most/Answers.antt:3:9: error: `returns`: the types differ": True,
+    "./proofs/+most/Answers.antt:3:9: error: `returns`: the types differ": True,
+    "./proofs/fn/most/each/Answers.antt:3:9: error: `returns`: the types differ": True,
+    "./proofs/+even/Answers.antt:3:9: error: `returns`: the types differ": False,
+    "./proofs/most_as_it_is/Answers.antt:3:9: error: `returns`: the types differ": False,
+    "note: src/lib.rt:5:1: it is not proved": True,
+    "note: src/lib.rt:10:1: it is not proved": False,
+    "note: src/other.rt:5:1: it is not proved": False,
 }
 # What is told of a refusal: the lines of the prover, that which is a reason, the verdicts, and the words that say that it says little.
 POOR = [
@@ -291,6 +311,32 @@ def emptied_wrong():
     return len(wrong)
 
 
+def placed_wrong():
+    """Counts the lines of the prover that are taken to be about another function than they are, and prints them."""
+    edit = edits.Edit(None, "most.edit", {}, "src/lib.rt", "", None)
+    wrong = [line for line, wanted in ABOUT.items() if edits.is_about(edits.Placed(edit, "most", 5, 9), line) is not wanted]
+    for line in wrong:
+        print(f"tests/edits_test.py: {line}: wanted {ABOUT[line]}")
+    return len(wrong)
+
+
+def copied_wrong():
+    """Counts the batches in which other functions are copied without an edit than must be, and prints them: first the shortest of those with several
+    edits, then the one whose proof another file names."""
+    found = []
+    with tempfile.TemporaryDirectory(prefix="wire-up-") as top:
+        make(top, EDITS)
+        crate = crates_at(top)[0]
+        batch = [edit for path in edits.paths_of(crate) if (edit := edits.read(crate, path)[0]) and edit.function]
+        for proof in COPIED:
+            write(top, "crates/tiny/proofs/Lemmas.antt", proof)
+            found.append([it for it in edits.texts_of(batch).only if it.endswith("_as_it_is")])
+    wrong = [it for it in zip(found, COPIED.values()) if it[0] != it[1]]
+    for was, wanted in wrong:
+        print(f"tests/edits_test.py: copied without an edit: wanted {wanted}, and not {was}")
+    return len(wrong)
+
+
 def told_wrong():
     """Counts the refusals of which another thing is told than must be, and prints them."""
     wrong = [(given, wanted) for given, wanted in POOR if edits.only_why(*given) != wanted]
@@ -301,8 +347,9 @@ def told_wrong():
 
 def all_cases():
     """Tries all edits, and answers how many cases were judged as they must be, and how many weren't."""
-    failed = misread_verdicts() + misread_controls() + emptied_wrong() + told_wrong() + judged_wrong(EDITS) + judged_wrong(UNREAD)
-    passed = len(VERDICTS) + len(CONTROLS) + len(CAN_BE_EMPTIED) + 1 + len(POOR) + len(EDITS) + len(UNREAD) - failed
+    failed = misread_verdicts() + misread_controls() + emptied_wrong() + placed_wrong() + copied_wrong() + told_wrong()
+    failed += judged_wrong(EDITS) + judged_wrong(UNREAD)
+    passed = sum(map(len, (VERDICTS, CONTROLS, CAN_BE_EMPTIED, ABOUT, COPIED, POOR, EDITS, UNREAD))) + 1 - failed
     print(f"tests/edits_test.py: {passed} passed, {failed} failed", flush=True)
     return passed, failed
 

@@ -13,12 +13,23 @@ use wire_spelling::Version;
 
 /// What calls name, numbered as first seen: keys of puts and gets, published names, values of puts and
 /// publishes, and the sets of processes of fences.
-#[derive(Drop)]
 pub struct Tables {
     pub keys: Texts,
     pub names: Texts,
     pub values: Texts,
     pub sets: Sets,
+}
+
+// Written by hand: to drop one is then a call, and the proofs of those that do don't take it apart.
+impl Drop for Tables {
+    fn drop(self) {
+        let Tables {
+            keys: _,
+            names: _,
+            values: _,
+            sets: _,
+        } = self;
+    }
 }
 
 /// What the first lines of a file say of all its scripts: the version of its format, and whether what a get
@@ -31,13 +42,25 @@ pub struct Format {
 
 /// What a plan says: its format, its nodes and jobs as declared, what its calls
 /// name, and its processes in process order, which is the file's job order, then rank.
-#[derive(Drop)]
 pub struct Scripts {
     format: Format,
     nodes: Texts,
     jobs: Texts,
     tables: Tables,
     processes: Vec<Process>,
+}
+
+// Written by hand: to drop one is then a call, and the proofs of those that do don't take it apart.
+impl Drop for Scripts {
+    fn drop(self) {
+        let Scripts {
+            format: _,
+            nodes: _,
+            jobs: _,
+            tables: _,
+            processes: _,
+        } = self;
+    }
 }
 
 impl Model for Scripts {

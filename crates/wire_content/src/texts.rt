@@ -10,9 +10,15 @@ use std::alloc::{AllocError, Global};
 use std::marker::Model;
 
 /// Texts, each once, with its place as its number, from 0.
-#[derive(Drop)]
 pub struct Texts {
     set: IndexSet<Vec<u8>>,
+}
+
+// Written by hand: to drop one is then a call, and the proofs of those that do don't take it apart.
+impl Drop for Texts {
+    fn drop(self) {
+        let Texts { set: _ } = self;
+    }
 }
 
 impl Model for Texts {

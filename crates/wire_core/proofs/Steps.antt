@@ -1,6 +1,6 @@
 -- Steps of a core: its ranks stay those of the state that its history leads to.
 use Rattle.std.proofs.Common.{◌≡◌, ◌∙◌, ap, sym, refl, subst, ℕ, zero, suc, ◌+◌, ◌-◌, ◌<◌, ◌≤◌, List, [], ◌∷◌, ◌++◌, length, map, drop, Bool, true, cond, Option, Some, None, arith, ◌⊎◌, inl, inr}
-use Rattle.std.proofs.Common.{append_assoc, count_by}
+use Rattle.std.proofs.Common.{append_assoc, count_by, get_or}
 use Rattle.std.specs.Prelude.{slice_get, slice_set, vec_capacity, replicate}
 use Rattle.std.proofs.lemmas.Option.{slice_get_within, get_or_from_slice_get, same_Some}
 use Rattle.std.proofs.lemmas.List.{length-map, length-set, length-append}
@@ -10,6 +10,8 @@ use Rattle.std.proofs.Math.Seq.{drop-cons}
 use Rattle.wire_runs.specs.Plan.{Plan, process_count, Kind, kinds, kind_at, event_count}
 use Rattle.wire_types.specs.declared.CallAt.{CallAt}
 use Rattle.wire_types.specs.declared.Reply.{Reply}
+use Rattle.wire_types.specs.declared.CallEnd.{CallEnd}
+use Rattle.wire_types.specs.declared.CallEnd.TheVariants.{Replied}
 use Rattle.wire_content.specs.Scripts.{Scripts}
 use Rattle.wire_content.specs.Planned.{plan_of}
 use Rattle.wire_store.specs.Kept.{kept_with, kept_after}
@@ -233,4 +235,15 @@ one_more xs new all x n i lt is before =
     ap (λ ys. ys ++ replicate (n - (i + 1)) x) is
     ∙ append_assoc xs (x ∷ []) (replicate (n - (i + 1)) x)
     ∙ ap (λ k. xs ++ replicate k x) (sym more)
+    ∙ before
+
+-- and one reply more
+pub reply_more : (replies : List Reply) (i : ℕ) (x : Reply) (ends new : List CallEnd) → i < length replies → new ≡ ends ++ Replied (get_or replies i x) ∷ [] →
+    ends ++ map Replied (drop i replies) ≡ map Replied replies → new ++ map Replied (drop (i + 1) replies) ≡ map Replied replies
+reply_more replies i x ends new lt is before =
+    let next : i + 1 ≡ suc i = omega arith in
+    ap (λ n. new ++ map Replied (drop n replies)) next
+    ∙ ap (λ es. es ++ map Replied (drop (suc i) replies)) is
+    ∙ append_assoc ends (Replied (get_or replies i x) ∷ []) (map Replied (drop (suc i) replies))
+    ∙ ap (λ rs. ends ++ map Replied rs) (sym (drop-cons replies i x lt))
     ∙ before

@@ -18,5 +18,7 @@ pub fn plain_outcome(alloc: Global, plan: &Plan) -> Result<Outcome, Fault>
 {
     let mut core = Core::new(alloc, plan)?;
     core.run_lowest();
-    core.outcome(alloc)
+    let outcome = core.outcome(alloc);
+    drop(core);
+    outcome
 }

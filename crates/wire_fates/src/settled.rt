@@ -22,10 +22,16 @@ use wire_plan::Plan;
 use wire_types::Event;
 
 /// A plan in which nothing is found, with its marks.
-#[derive(Drop)]
 pub struct Settled {
     plan: Plan,
     marks: Marks,
+}
+
+// Written by hand: to drop one is then a call, and the proofs of those that do don't take it apart.
+impl Drop for Settled {
+    fn drop(self) {
+        let Settled { plan: _, marks: _ } = self;
+    }
 }
 
 impl Model for Settled {
@@ -42,11 +48,21 @@ impl Model for Settled {
 }
 
 /// A plan in which something is found, with its marks and what is found: all that was handed in.
-#[derive(Drop)]
 pub struct Unsettled {
     pub plan: Plan,
     pub marks: Marks,
     pub findings: Vec<Finding>,
+}
+
+// Written by hand: to drop one is then a call, and the proofs of those that do don't take it apart.
+impl Drop for Unsettled {
+    fn drop(self) {
+        let Unsettled {
+            plan: _,
+            marks: _,
+            findings: _,
+        } = self;
+    }
 }
 
 impl Settled {

@@ -83,10 +83,19 @@ fn are_in_order(names: &Texts, subjects: &[Subject], entries: &[Packed]) -> bool
 }
 
 /// Findings as they are met, in any order, in few bytes. One that is met twice stands there twice.
-#[derive(Drop)]
 pub struct Found {
     entries: Vec<Packed>,
     subjects: Vec<Subject>,
+}
+
+// Written by hand: to drop one is then a call, and the proofs of those that do don't take it apart.
+impl Drop for Found {
+    fn drop(self) {
+        let Found {
+            entries: _,
+            subjects: _,
+        } = self;
+    }
 }
 
 impl Model for Found {
@@ -156,7 +165,8 @@ impl Found {
     pub fn as_met(self) -> FindingList
         ensures { result ≡ self }
     {
-        FindingList::new(self.entries, self.subjects)
+        let Found { entries, subjects } = self;
+        FindingList::new(entries, subjects)
     }
 
     /// The findings of a plan with these names, each once, in their order. Where they were met so, nothing is
@@ -165,8 +175,10 @@ impl Found {
         ensures those { (plan : runs.Plan) → AreNamesOf plan names.now → AreFound plan self → (f : told.Finding) → Tells plan result f ↔ Tells plan self f }
         ensures sorted { (plan : runs.Plan) → AreNamesOf plan names.now → AreFound plan self → IsSorted (lower_name names.now) (all_shown plan result) }
     {
-        let mut entries = self.entries;
-        let subjects = self.subjects;
+        let Found {
+            mut entries,
+            subjects,
+        } = self;
         if are_in_order(names, subjects.as_slice(), entries.as_slice()) {
             return FindingList::new(entries, subjects);
         }

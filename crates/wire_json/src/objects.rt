@@ -1,4 +1,4 @@
-//! Objects of JSON, which are built by one member after the other.
+//! Objects of JSON, built member by member.
 
 ghost use Rattle.std.specs.Prelude.{◌≡◌, map, string_bytes, IfOk};
 ghost use Rattle.serde_json.specs.Data.{Members, array, boolean, no_members, null, number, object, put as with_member, string, unsigned};
@@ -7,7 +7,7 @@ ghost use Rattle.serde_json.specs.View.{items_of, members_view, view};
 use serde_json::{Map, Value, put};
 use std::alloc::{AllocError, Global};
 
-/// An object that is being built, or the fault that ended this.
+/// An object that is being built, or the fault that stopped it.
 pub(crate) struct Object {
     alloc: Global,
     built: Result<Map<String, Value>, AllocError>,

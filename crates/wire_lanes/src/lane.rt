@@ -23,7 +23,6 @@ use wire_types::{Event, Fault, Proc};
 /// A rank with its seat, and the trail of what its events did: the fates of its first events, as many as
 /// are done. Each is the reply that its event gets in the plain run, or silence for an arrival (the law
 /// `trails_are_plain`). It borrows the board of its seat, and the settled plan of which that board was made.
-#[derive(Drop)]
 pub struct Lane<'a> {
     board: &'a Board,
     settled: &'a Settled,
@@ -32,6 +31,19 @@ pub struct Lane<'a> {
     /// The sources of the next event from the first one on that wasn't done when its word was last read, if they
     /// were looked at.
     left: Option<Sources<'a>>,
+}
+
+// Written by hand: to drop one is then a call, and the proofs of those that do don't take it apart.
+impl Drop for Lane<'_> {
+    fn drop(self) {
+        let Lane {
+            board: _,
+            settled: _,
+            seat: _,
+            trail: _,
+            left: _,
+        } = self;
+    }
 }
 
 impl<'a> Model for Lane<'a> {

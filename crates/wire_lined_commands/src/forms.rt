@@ -1,4 +1,4 @@
-//! Forms of JSON, which are built by one part after the other.
+//! Forms of JSON, built part by part.
 
 ghost use Rattle.std.specs.Prelude.{◌≡◌, ◌++◌, List, [], ℕ, map, decimal, IfOk};
 ghost use Rattle.wire_json.specs.Json.{bracketed, quoted};
@@ -8,96 +8,96 @@ use wire_json::{push_list, push_quoted};
 use wire_words::push_number;
 
 /// A form that is being built, or the fault that stopped it.
-pub(crate) struct Form {
+pub(crate) struct FormBuilder {
     built: Result<Vec<u8>, AllocError>,
 }
 
-impl Form {
+impl FormBuilder {
     /// A form without parts.
-    pub(crate) fn new(alloc: Global) -> Form
+    pub(crate) fn new(alloc: Global) -> FormBuilder
         ensures { IfOk result.built (λ text. text.items ≡ []) }
     {
-        Form {
+        FormBuilder {
             built: Ok(Vec::new(alloc)),
         }
     }
 
     /// Puts these bytes behind it.
-    pub(crate) fn put(self, bytes: &[u8]) -> Form
+    pub(crate) fn put(self, bytes: &[u8]) -> FormBuilder
         ensures { (before : List ℕ) → IfOk self.built (λ text. text.items ≡ before)
             → IfOk result.built (λ text. text.items ≡ before ++ bytes.now) }
     {
-        let Form { built } = self;
+        let FormBuilder { built } = self;
         match built {
-            Ok(text) => Form {
+            Ok(text) => FormBuilder {
                 built: put_bytes(text, bytes),
             },
-            Err(fault) => Form { built: Err(fault) },
+            Err(fault) => FormBuilder { built: Err(fault) },
         }
     }
 
     /// Puts a number behind it.
-    pub(crate) fn put_number(self, number: u64) -> Form
+    pub(crate) fn put_number(self, number: u64) -> FormBuilder
         ensures { (before : List ℕ) → IfOk self.built (λ text. text.items ≡ before)
             → IfOk result.built (λ text. text.items ≡ before ++ decimal number) }
     {
-        let Form { built } = self;
+        let FormBuilder { built } = self;
         match built {
-            Ok(text) => Form {
+            Ok(text) => FormBuilder {
                 built: put_digits(text, number),
             },
-            Err(fault) => Form { built: Err(fault) },
+            Err(fault) => FormBuilder { built: Err(fault) },
         }
     }
 
     /// Puts another form behind this one. If the other couldn't be made, this one keeps that fault.
-    pub(crate) fn put_form(self, made: Result<Vec<u8>, AllocError>) -> Form
+    pub(crate) fn put_form(self, made: Result<Vec<u8>, AllocError>) -> FormBuilder
         ensures { (before part : List ℕ) → IfOk self.built (λ text. text.items ≡ before) → IfOk made (λ text. text.items ≡ part)
             → IfOk result.built (λ text. text.items ≡ before ++ part) }
     {
-        let Form { built } = self;
+        let FormBuilder { built } = self;
         match built {
-            Ok(text) => Form {
+            Ok(text) => FormBuilder {
                 built: put_part(text, made),
             },
             Err(fault) => {
                 drop(made);
-                Form { built: Err(fault) }
+                FormBuilder { built: Err(fault) }
             }
         }
     }
 
     /// Puts words behind it as a string. If they couldn't be made, it keeps that fault.
-    pub(crate) fn put_quoted(self, made: Result<Vec<u8>, AllocError>) -> Form
+    pub(crate) fn put_quoted(self, made: Result<Vec<u8>, AllocError>) -> FormBuilder
         ensures { (before words : List ℕ) → IfOk self.built (λ text. text.items ≡ before) → IfOk made (λ text. text.items ≡ words)
             → IfOk result.built (λ text. text.items ≡ before ++ quoted words) }
     {
-        let Form { built } = self;
+        let FormBuilder { built } = self;
         match built {
-            Ok(text) => Form {
+            Ok(text) => FormBuilder {
                 built: put_string(text, made),
             },
             Err(fault) => {
                 drop(made);
-                Form { built: Err(fault) }
+                FormBuilder { built: Err(fault) }
             }
         }
     }
 
     /// Puts a list of these forms behind this one. If they couldn't be made, this one keeps that fault.
-    pub(crate) fn put_list(self, made: Result<Vec<Vec<u8>>, AllocError>) -> Form
+    pub(crate) fn put_list(self, made: Result<Vec<Vec<u8>>, AllocError>) -> FormBuilder
         ensures { (before : List ℕ) (parts : List (List ℕ)) → IfOk self.built (λ text. text.items ≡ before)
             → IfOk made (λ texts. map (λ text. text.items) texts.items ≡ parts)
             → IfOk result.built (λ text. text.items ≡ before ++ bracketed parts) }
     {
-        let Form { built } = self;
+        let FormBuilder { built } = self;
         match built {
-            Ok(text) => Form {
+            Ok(text) => FormBuilder {
                 built: put_parts(text, made),
             },
             Err(fault) => {
                 drop(made);
-                Form { built: Err(fault) }
+                FormBuilder { built: Err(fault) }
             }
         }
     }
@@ -106,7 +106,7 @@ impl Form {
     pub(crate) fn finish(self) -> Result<Vec<u8>, AllocError>
         ensures { (before : List ℕ) → IfOk self.built (λ text. text.items ≡ before) → IfOk result (λ text. text.items ≡ before) }
     {
-        let Form { built } = self;
+        let FormBuilder { built } = self;
         built
     }
 }

@@ -4,7 +4,7 @@ ghost use Rattle.std.specs.Prelude.{◌≡◌, map, IfOk};
 ghost use Rattle.wire_report.specs.Findings.{finding_words};
 ghost use Rattle.wire_lined_commands.specs.Lined as spec;
 
-use crate::forms::Form;
+use crate::forms::FormBuilder;
 use std::alloc::{AllocError, Global};
 use wire_content::Scripts;
 use wire_findings::{Finding, FindingList};
@@ -82,7 +82,7 @@ pub(crate) fn chain_json(
 ) -> Result<Vec<u8>, AllocError>
     ensures { IfOk result (λ text. text.items ≡ spec.json_chain (map (λ row. row.items) rows.now) first scripts.now steps.now) }
 {
-    Form::new(alloc)
+    FormBuilder::new(alloc)
         .put(b"{\"before\":\"")
         .put(which_word(first).as_bytes())
         .put(b"\",\"chain\":")
@@ -116,7 +116,7 @@ pub(crate) fn unordered_json(
 ) -> Result<Vec<u8>, AllocError>
     ensures { IfOk result (λ text. text.items ≡ spec.json_unordered (map (λ row. row.items) rows.now) scripts.now dead.now) }
 {
-    Form::new(alloc)
+    FormBuilder::new(alloc)
         .put(b"{\"before\":null,\"dead\":")
         .put_list(place_texts(alloc, scripts, rows, dead))
         .put(b"}\n")
@@ -124,11 +124,16 @@ pub(crate) fn unordered_json(
 }
 
 /// The form of a finding as far as its members go: its two calls, and its words.
-fn begin_finding(alloc: Global, scripts: &Scripts, rows: &[Vec<u64>], finding: Finding) -> Form
+fn begin_finding(
+    alloc: Global,
+    scripts: &Scripts,
+    rows: &[Vec<u64>],
+    finding: Finding,
+) -> FormBuilder
     ensures { IfOk result.built (λ text. text.items ≡ spec.finding_members (map (λ row. row.items) rows.now) scripts.now finding) }
 {
     let pair = pair_of(finding);
-    Form::new(alloc)
+    FormBuilder::new(alloc)
         .put(b"{\"calls\":[")
         .put_form(call_json(alloc, scripts, rows, pair.lower))
         .put(b",")
@@ -183,7 +188,7 @@ fn finding_texts(
 fn group_json(alloc: Global, group: Group) -> Result<Vec<u8>, AllocError>
     ensures { IfOk result (λ text. text.items ≡ spec.json_group group) }
 {
-    Form::new(alloc)
+    FormBuilder::new(alloc)
         .put(b"{\"count\":")
         .put_number(group.count as u64)
         .put(b",\"first\":")
@@ -213,7 +218,7 @@ pub(crate) fn groups_json(
 ) -> Result<Vec<u8>, AllocError>
     ensures { IfOk result (λ text. text.items ≡ spec.json_groups (map (λ row. row.items) rows.now) scripts.now findings.now groups.now) }
 {
-    Form::new(alloc)
+    FormBuilder::new(alloc)
         .put(b"{\"findings\":")
         .put_list(finding_texts(alloc, scripts, rows, findings))
         .put(b",\"groups\":")
@@ -239,7 +244,7 @@ pub(crate) fn witness_json(
         end: &witness.second_end,
         order: witness.second.as_slice(),
     };
-    Form::new(alloc)
+    FormBuilder::new(alloc)
         .put(b"{\"first\":")
         .put_form(run_json(alloc, scripts, first))
         .put(b",\"other\":")
@@ -308,7 +313,7 @@ pub(crate) fn races_json(
 ) -> Result<Vec<u8>, AllocError>
     ensures { IfOk result (λ text. text.items ≡ spec.json_races (map (λ row. row.items) rows.now) scripts.now search.now) }
 {
-    Form::new(alloc)
+    FormBuilder::new(alloc)
         .put(b"{\"counts\":")
         .put_form(counts_json(alloc, search.counts()))
         .put(b",\"races\":")

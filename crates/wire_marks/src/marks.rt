@@ -20,9 +20,15 @@ use wire_types::{Event, Fault, Proc};
 
 /// Which events of a plan are live, and which are before which, by clocks; and the live calls that change
 /// what stands under each name.
-#[derive(Drop)]
 pub struct Marks {
     clocks: Clocks,
+}
+
+// Written by hand: to drop one is then a call, and the proofs of those that do don't take it apart.
+impl Drop for Marks {
+    fn drop(self) {
+        let Marks { clocks: _ } = self;
+    }
 }
 
 impl Model for Marks {

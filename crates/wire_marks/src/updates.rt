@@ -156,10 +156,16 @@ impl UpdateLists {
 /// For each name live calls that can change it, in the order in which they were marked: its publishes, its
 /// unpublishes, and of the calls that take away all names of their process those that took it away. So a
 /// call that takes away nothing is nowhere, and each publish pays for at most one that took it away.
-#[derive(Drop)]
 pub(crate) struct Updates {
     lists: UpdateLists,
     held: Held,
+}
+
+// Written by hand: to drop one is then a call, and the proofs of those that do don't take it apart.
+impl Drop for Updates {
+    fn drop(self) {
+        let Updates { lists: _, held: _ } = self;
+    }
 }
 
 impl Model for Updates {

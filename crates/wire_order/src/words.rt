@@ -12,9 +12,15 @@ use wire_lines::proc_word;
 use wire_types::Proc;
 
 /// The processes of scripts by their words. Where a word is that of several, it has the first of them.
-#[derive(Drop)]
 pub struct ProcWords {
     procs: HashMap<Vec<u8>, Proc>,
+}
+
+// Written by hand: to drop one is then a call, and the proofs of those that do don't take it apart.
+impl Drop for ProcWords {
+    fn drop(self) {
+        let ProcWords { procs: _ } = self;
+    }
 }
 
 impl ProcWords {

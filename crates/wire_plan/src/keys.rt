@@ -93,9 +93,15 @@ fn rows_of(alloc: Global, events: &Events, proc: Proc) -> Result<BTreeMap<u32, K
 }
 
 /// What each process's script says of the keys that it puts.
-#[derive(Drop)]
 pub(crate) struct KeyTable {
     rows: Vec<BTreeMap<u32, KeyRow>>,
+}
+
+// Written by hand: to drop one is then a call, and the proofs of those that do don't take it apart.
+impl Drop for KeyTable {
+    fn drop(self) {
+        let KeyTable { rows: _ } = self;
+    }
 }
 
 /// Whether a put of this scope is for processes of other nodes (PMIx Standard 5.0, the scope of put

@@ -18,10 +18,16 @@ use wire_content::Scripts;
 use wire_types::{Fault, Proc, Reply};
 
 /// The process map of scripts.
-#[derive(Drop)]
 pub struct ProcMap {
     rows: Vec<ProcessNumbers>,
     kinds: Vec<KeyKind>,
+}
+
+// Written by hand: to drop one is then a call, and the proofs of those that do don't take it apart.
+impl Drop for ProcMap {
+    fn drop(self) {
+        let ProcMap { rows: _, kinds: _ } = self;
+    }
 }
 
 impl Model for ProcMap {

@@ -58,11 +58,21 @@ fn not_found() -> Reply
 }
 
 /// The processes so far: how many there are of each job, on each node, and of each job on each node.
-#[derive(Drop)]
 pub(crate) struct Counts {
     jobs: Tally,
     nodes: Tally,
     both: Tally,
+}
+
+// Written by hand: to drop one is then a call, and the proofs of those that do don't take it apart.
+impl Drop for Counts {
+    fn drop(self) {
+        let Counts {
+            jobs: _,
+            nodes: _,
+            both: _,
+        } = self;
+    }
 }
 
 impl Counts {

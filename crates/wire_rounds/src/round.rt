@@ -20,11 +20,21 @@ pub struct Round {
 }
 
 /// What one worker holds of a round: its own deque, and a permit for each deque.
-#[derive(Drop)]
 pub struct Pass {
     pub(crate) worker: usize,
     pub(crate) own: Owner,
     pub(crate) permits: Vec<Permit>,
+}
+
+// Written by hand: to drop one is then a call, and the proofs of those that do don't take it apart.
+impl Drop for Pass {
+    fn drop(self) {
+        let Pass {
+            worker: _,
+            own: _,
+            permits: _,
+        } = self;
+    }
 }
 
 /// What an attempt to steal gives: a piece, that there was none, or that another worker was faster. After `Again` it

@@ -1,10 +1,12 @@
 -- Texts that are appended to, part by part, and what is told of a step that can't be taken.
-use Rattle.std.proofs.Common.{◌≡◌, ◌∙◌, ap, sym, subst, ℕ, suc, ◌-◌, List, [], ◌++◌, map, take, append_assoc, codes, Some, Result, Ok, Err, OnOk, false, if◌then◌else◌, arith}
+use Rattle.std.proofs.Common.{◌≡◌, ◌∙◌, ◌<◌, ap, sym, subst, ℕ, suc, ◌-◌, List, length, [], ◌++◌, map, take, append_assoc, codes, Some, Result, Ok, Err, OnOk, IfErr, ◌⊎◌, inl, inr, false, if◌then◌else◌, arith}
 use Rattle.std.specs.Prelude.{slice_get, option_map, is_ok}
-use Rattle.std.proofs.lemmas.Option.{slice_get-map, same_Some}
+use Rattle.std.proofs.lemmas.Option.{slice_get-map, slice_get_within, same_Some}
+use Rattle.std.proofs.lemmas.List.{length-map}
 use Rattle.wire_types.specs.declared.Proc.{Proc}
 use Rattle.wire_types.specs.declared.CallAt.{CallAt}
-use Rattle.wire_types.specs.declared.Fault.TheVariants.{NotReady}
+use Rattle.wire_types.specs.declared.Fault.{Fault}
+use Rattle.wire_types.specs.declared.Fault.TheVariants.{Memory, NotReady}
 use Rattle.wire_runs.specs.Plan.{Event, kind}
 use Rattle.wire_runs.specs.State.{State, next_event, next_kind}
 use Rattle.wire_runs.specs.Ends.{call_of}
@@ -15,9 +17,12 @@ use Rattle.wire_plan.specs.Kinds.{kind_of}
 use Rattle.wire_runs.specs.Step.{is_enabled, run, IsInterleaving}
 use Rattle.wire_core.specs.Course.{Course, plan_in, state_of}
 use Rattle.wire_core.specs.Following.{StopsAt}
+use Rattle.wire_script.specs.declared.Size.{Size}
+use Rattle.wire_script.specs.Reads.{Reads}
+use Rattle.wire_order.specs.Order.{order_read}
 use Rattle.wire_explain.specs.Quote.{shown_byte, labelled}
 use Rattle.wire_stops.specs.Stops.{said_call, wait_text, standing_text, explanation}
-use Rattle.wire_stops.specs.Told.{TellsStop, Stops}
+use Rattle.wire_stops.specs.Told.{TellsStop, Stops, TellsNothing}
 
 -- three parts
 joined : (zero one two three a b c : List ℕ) → one ≡ zero ++ a → two ≡ one ++ b → three ≡ two ++ c → three ≡ zero ++ (a ++ (b ++ c))
@@ -52,6 +57,13 @@ told_standing r s shown read state p x place k zero one two same seen next calle
     ∙ ap (λ at. zero ++ labelled (codes "  stands at: ") (said_call s at)) place_is in
     subst (λ o. OnOk r (two ≡ zero ++ standing_text s state p o)) (sym kind_is) (two_joined r zero one two _ _ first_is second)
 
+-- the step at which following an order stops is one of its steps
+pub stops_within : (old new : Course) (order : List Proc) (number : ℕ) → StopsAt old (numbers_of order) new (NotReady number) → number - 1 < length order
+stops_within old new order number stops =
+    let same : number ≡ suc stops.n = cc (stops.is) in
+    let within : stops.n < length (numbers_of order) = slice_get_within (numbers_of order) stops.n stops.p stops.next in
+    omega (arith, same, within, length-map order (λ (p : Proc). p.number))
+
 -- what is told of a step at which following an order stops
 pub told_stop : (s : Scripts) (old new : Course) (order : List Proc) (order_bytes text : List ℕ) (number : ℕ) (proc : Proc) → old ≡ record { scripts = s; history = [] } →
     StopsAt old (numbers_of order) new (NotReady number) → slice_get order (number - 1) ≡ Some proc →
@@ -73,3 +85,16 @@ told_stop s old new order order_bytes text number proc began stops there told =
     (told ∙ ap (λ (course : Course). map shown_byte (explanation order_bytes course.scripts (state_of course) (number - 1) proc.number)) new_is
     ∙ ap (λ k. map shown_byte (explanation order_bytes s (run (plan_of s) steps) k proc.number)) step_is
     ∙ ap (λ p. map shown_byte (explanation order_bytes s (run (plan_of s) steps) n p)) proc_is)
+
+-- why nothing can be told: the plan is refused, or the order, or memory ran out later
+pub of_plan : (size : Size) (bytes order_bytes : List ℕ) (e : Fault) → (e ≡ Memory) ⊎ Reads size bytes (Err e) → TellsNothing size bytes order_bytes e
+of_plan size bytes order_bytes e (inl memory) = inl memory
+of_plan size bytes order_bytes e (inr refused) = inr (inl refused)
+
+pub of_order : (size : Size) (bytes order_bytes : List ℕ) (s : Scripts) (e : Fault) → Reads size bytes (Ok s) → (e ≡ Memory) ⊎ (order_read size s order_bytes ≡ Err e) → TellsNothing size bytes order_bytes e
+of_order size bytes order_bytes s e reads (inl memory) = inl memory
+of_order size bytes order_bytes s e reads (inr refused) = inr (inr (record { scripts = s; reads = reads; refused = refused }))
+
+pub of_memory : {A : Type 0} (size : Size) (bytes order_bytes : List ℕ) (r : Result A Fault) → IfErr r (λ e. e ≡ Memory) → IfErr r (TellsNothing size bytes order_bytes)
+of_memory size bytes order_bytes (Ok x) memory = tt
+of_memory size bytes order_bytes (Err e) memory = inl memory

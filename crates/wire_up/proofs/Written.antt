@@ -1,5 +1,6 @@
 -- From what went out of the parts of a rehearsal to what went out of it.
-use Rattle.std.proofs.Common.{◌≡◌, ◌≢◌, ◌↔◌, ◌⊎◌, inl, inr, subst, refl, ℕ, List, [], Option, Result, Ok, Err, IfOk, IfErr}
+use Rattle.std.proofs.Common.{◌≡◌, ◌≢◌, ◌↔◌, ◌⊎◌, inl, inr, ap, subst, sym, refl, ℕ, true, false, List, [], Option, Result, Ok, Err, IfOk, IfErr, OnOk}
+use Rattle.std.specs.Io.KnownBytes.{Appends}
 use Rattle.wire_types.specs.declared.Fault.{Fault}
 use Rattle.wire_types.specs.declared.Fault.TheVariants.{Memory, Read, Write}
 use Rattle.wire_types.specs.Front.{WritesFront}
@@ -14,11 +15,50 @@ use Rattle.wire_commands.specs.declared.checking.Ended.{Ended}
 use Rattle.wire_commands.specs.declared.checking.Ended.TheVariants.{Clean}
 use Rattle.wire_commands.specs.Plain.{ReadAs}
 use Rattle.wire_commands.specs.Check.{ended_with}
+use Rattle.wire_commands.proofs.Checked.{front_or_none}
+use Rattle.wire_report.specs.Findings.{findings_form}
 use Rattle.wire_up.specs.declared.replaying.Mode.{Mode}
 use Rattle.wire_up.specs.declared.replaying.Rehearsed.{Rehearsed}
 use Rattle.wire_up.specs.Complete.{TellsCalls, JudgesCalls, line_in}
-use Rattle.wire_up.specs.Replay.{IsReplay, WritesFound, BreaksOffFound, WritesRehearsal, BreaksOffRehearsal, WritesOneEnd, WritesReplay, BreaksOffReplay, StopsBeforeReplay}
+use Rattle.wire_up.specs.Replay.{TellsRun, TellsFound, IsReplay, WritesFound, BreaksOffFound, WritesRehearsal, BreaksOffRehearsal, WritesOneEnd, WritesReplay, BreaksOffReplay, StopsBeforeReplay}
 use Rattle.wire_up.proofs.Worked.{found_told, clean_writes}
+
+-- a run of a plan in which something is found went out
+pub run_out : (mode : Mode) (s : Scripts) (found : List Finding) (old new : Option (List ℕ)) (text shown : List ℕ) (r : Result (Unit {0}) Fault) →
+    mode.anyway ≡ true → TellsRun mode.json s text → shown ≡ text → OnOk r (Appends old new shown) → OnOk r (WritesFound mode s found old new)
+run_out mode s found old new text shown (Ok u) anyway tells is wrote =
+    record { text = text; tells = subst (λ b. TellsFound mode.json b s found text) (sym anyway) tells; wrote = subst (λ t. Appends old new t) is wrote }
+run_out mode s found old new text shown (Err e) anyway tells is wrote = tt
+
+pub run_broken : (mode : Mode) (s : Scripts) (found : List Finding) (old new : Option (List ℕ)) (text shown : List ℕ) (A B : Type 0) (r : Result (Unit {0}) Fault) →
+    mode.anyway ≡ true → TellsRun mode.json s text → shown ≡ text → IfErr r (WritesFront old new shown) → IfErr r (λ _. B) →
+    IfErr r (λ e. ((e ≡ Memory) × A) ⊎ (BreaksOffFound mode s found old new e × B))
+run_broken mode s found old new text shown A B (Ok u) anyway tells is front failed = tt
+run_broken mode s found old new text shown A B (Err e) anyway tells is front failed =
+    let tells_so = subst (λ b. TellsFound mode.json b s found text) (sym anyway) tells in
+    inr (record { text = text; tells = tells_so; wrote = subst (λ t. WritesFront old new t e) is front }, failed)
+
+-- and so the findings of one
+findings_told : (mode : Mode) (s : Scripts) (found : List Finding) → mode.anyway ≡ false → TellsFound mode.json mode.anyway s found (findings_form mode.json s found)
+findings_told mode s found held = subst (λ b. TellsFound mode.json b s found (findings_form mode.json s found)) (sym held) refl
+
+pub findings_out : (mode : Mode) (s shown : Scripts) (found : List Finding) (old new : Option (List ℕ)) (r : Result (Unit {0}) Fault) →
+    mode.anyway ≡ false → shown ≡ s → OnOk r (Appends old new (findings_form mode.json shown found)) → OnOk r (WritesFound mode s found old new)
+findings_out mode s shown found old new (Ok u) held is wrote =
+    record { text = findings_form mode.json s found; tells = findings_told mode s found held; wrote = subst (λ (t : Scripts). Appends old new (findings_form mode.json t found)) is wrote }
+findings_out mode s shown found old new (Err e) held is wrote = tt
+
+pub findings_broken : (mode : Mode) (s shown : Scripts) (found : List Finding) (old new : Option (List ℕ)) (A B : Type 0) (r : Result (Unit {0}) Fault) →
+    mode.anyway ≡ false → shown ≡ s → IfErr r (λ e. (e ≡ Memory) ⊎ WritesFront old new (findings_form mode.json shown found) e) →
+    (r ≡ Err Memory → A) → IfErr r (λ e. e ≢ Memory → B) → IfErr r (λ e. ((e ≡ Memory) × A) ⊎ (BreaksOffFound mode s found old new e × B))
+findings_broken mode s shown found old new A B (Ok u) held is told none failed = tt
+findings_broken mode s shown found old new A B (Err e) held is told none failed =
+    front_or_none e old new (findings_form mode.json shown found) A B (BreaksOffFound mode s found old new e) told (λ memory. none (ap Err memory)) failed
+    (λ front. record {
+      text = findings_form mode.json s found;
+      tells = findings_told mode s found held;
+      wrote = subst (λ (t : Scripts). WritesFront old new (findings_form mode.json t found) e) is front;
+    })
 
 -- the front of the text of a rehearsal went out
 pub rehearsal_broken : (mode : Mode) (s : Scripts) (ended : Ended) (old new : Option (List ℕ)) (text shown : List ℕ) (e : Fault) → IsReplay mode s ended text → shown ≡ text →
@@ -73,3 +113,11 @@ pub no_failed_read : (mode : Mode) (s : Scripts) (old new : Option (List ℕ)) (
 no_failed_read mode s old new A B (Ok v) stops is = let bad : Ok v ≡ Err Read = is in cc
 no_failed_read mode s old new A B (Err e) (inl (memory, none)) is = let bad : Memory ≡ Read = cc in cc
 no_failed_read mode s old new A B (Err e) (inr (front, failed)) is = let bad : Write front.wrote.0 ≡ Read = cc (front.wrote.1) in cc
+
+-- how a rehearsal ended, without the line of a call; and the same failed read
+abbrev pub as_ended : Result Rehearsed Fault → Result Ended Fault
+as_ended (Ok v) = Ok v.ended
+as_ended (Err e) = Err e
+
+pub same_read : (e : Fault) → ◌≡◌ {A = Result Ended Fault} (Err e) (Err Read) → ◌≡◌ {A = Result Rehearsed Fault} (Err e) (Err Read)
+same_read e is = let same : e ≡ Read = cc in ap Err same

@@ -13,3 +13,6 @@ returns-in_ok-push-in-Calls c =
     (c.args.line, call_by c.in-Calls.call) =
     call_added ps.items (vec_len ps) c.in-Some.process.now c.push-in-Some.new.self _ ps.ok.0 (c.in-Some.ensures.variant.0 refl) c.in-Some.ensures.value c.in_ok-push-in-Calls.ensures.items in
     rw (c.in-Calls.is, e) refl
+
+pub returns-in_ok-add-in-Job : goal.returns-in_ok-add-in-Job
+returns-in_ok-add-in-Job c = rw (c.in-Job.is, c.in_ok-add-in-Job.ensures.ok) refl

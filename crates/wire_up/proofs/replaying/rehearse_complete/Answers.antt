@@ -1,8 +1,19 @@
-use Rattle.std.proofs.Common.{arith}
+use Rattle.std.proofs.Common.{inl, inr, refl, arith}
 use Rattle.std.proofs.lemmas.Result.{on_ok_weaker}
 use Rattle.wire_commands.proofs.Followed.{err_always}
+use Rattle.wire_commands.proofs.Replayed.{handed_on}
 use Rattle.wire_up.proofs.Written.{writes_replay, judges_calls, clean_one_end, breaks_off, no_failed_read}
 use Rattle.wire_up.proofs.replaying.rehearse_complete.Goals as goal
+
+pub rehearse_scripts-requires-clause-workers : goal.rehearse_scripts-requires-clause-workers
+rehearse_scripts-requires-clause-workers g c _ _ = (omega arith, omega arith)
+
+pub returns-in_err-scripts-clause-err : goal.returns-in_err-scripts-clause-err
+returns-in_err-scripts-clause-err g c =
+    handed_on c.from_residual.result c.in_err-scripts.field-0.0 _ c.from_residual.ensures.1 (inl (inr ((omega arith, omega arith), c.in_err-scripts.ensures.err), refl))
+
+pub returns-in_err-scripts-clause-workers : goal.returns-in_err-scripts-clause-workers
+returns-in_err-scripts-clause-workers g c none = absurd (none (omega arith, omega arith))
 
 pub returns-clause-ok : goal.returns-clause-ok
 returns-clause-ok g c = writes_replay c.args.manner.mode _ _ _ c.in_ok-scripts.scripts c.rehearse_scripts.result c.in_ok-scripts.ensures.ok c.rehearse_scripts.ensures.ok
@@ -29,3 +40,6 @@ returns-clause-read_failed g c is =
 
 pub returns-clause-unfailed : goal.returns-clause-unfailed
 returns-clause-unfailed g c = err_always c.rehearse_scripts.result _ (λ e memory read. c.in_ok-scripts.ensures.quiet)
+
+pub returns-clause-workers : goal.returns-clause-workers
+returns-clause-workers g c none = absurd (none (omega arith, omega arith))

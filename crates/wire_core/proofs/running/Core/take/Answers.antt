@@ -1,4 +1,4 @@
-use Rattle.std.proofs.Common.{◌≡◌, ◌∙◌, ◌<◌, ap, sym, refl, subst, arith, suc, ◌∷◌, [], ◌++◌, map, length, Some}
+use Rattle.std.proofs.Common.{◌≡◌, ℕ, List, ◌∙◌, ◌<◌, ap, sym, refl, subst, arith, suc, ◌∷◌, [], ◌++◌, map, length, Some}
 use Rattle.std.specs.Prelude.{option_map, slice_set}
 use Rattle.std.proofs.lemmas.List.{length-map, map-append}
 use Rattle.std.proofs.lemmas.Option.{slice_get_read}
@@ -9,7 +9,7 @@ use Rattle.wire_runs.specs.State.{next_event}
 use Rattle.wire_runs.specs.Step.{run, reply}
 use Rattle.wire_runs.specs.Ends.{call_of, given}
 use Rattle.wire_runs.proofs.Basics.{event_within, process_within}
-use Rattle.wire_core.specs.Course.{state_of}
+use Rattle.wire_core.specs.Course.{Course, state_of}
 use Rattle.wire_names.specs.Changes.{names_after}
 use Rattle.wire_runs.specs.State.{start}
 use Rattle.wire_runs.proofs.Runs.{run_push}
@@ -203,3 +203,10 @@ note-requires-2 c =
     let on = rw (← c.self.view_is) at c.requires in
     let lt = step_history plan w c.args.proc.number c.self.invariant.course.legal on in
     gains_room plan s c.args.proc.number (length w) c.self.inside.keeping c.gain_of-gain.result c.self.invariant.keeping_is (rw (← c.self.view_is) at c.gain_of-gain.ensures) lt
+
+pub returns : goal.returns
+returns c =
+    let pushed : map (λ p. p.number) c.push_reserved.new.self.items ≡ map (λ p. p.number) c.self.inside.history.items ++ c.args.proc.number ∷ [] =
+    ap (map (λ p. p.number)) c.push_reserved.ensures.items ∙ map-append (λ p. p.number) c.self.inside.history.items (c.args.proc ∷ []) in
+    ap (λ (history : List ℕ). record { scripts = c.self.inside.plan.now; history = history }) pushed
+    ∙ ap (λ (course : Course). record { scripts = course.scripts; history = course.history ++ c.args.proc.number ∷ [] }) c.self.view_is

@@ -30,3 +30,22 @@ returns-clause-settled c = (
       (none_told c.args.plan c.args.findings.items c.requires.findings).0 empty),
   (λ s. refl),
 )
+
+pub returns-then-not-is_empty-clause-variant : goal.returns-then-not-is_empty-clause-variant
+returns-then-not-is_empty-clause-variant c = (
+  (λ t. absurd (true≢false (sym t))),
+  (λ e.
+      let empty = ap length e in
+      let ok = c.args.findings.ok.0 in
+      let none = eq-eqb _ _ (omega (arith, empty, ok)) in
+      absurd (true≢false (sym (c.is_empty.ensures ∙ none) ∙ c.if-not-is_empty.true))),
+)
+
+pub returns-clause-variant : goal.returns-clause-variant
+returns-clause-variant c = (
+  (λ t.
+      let none = eqb-true _ _ (sym c.is_empty.ensures ∙ c.if-not-is_empty.false) in
+      let ok = c.args.findings.ok.0 in
+      nil_from_length c.args.findings.items (omega (arith, none, ok))),
+  (λ e. refl),
+)
