@@ -11,9 +11,9 @@ have no edit in the batch have no bodies in that check: each only calls `unreach
 this is never reached. Their own proofs are not repeated, since the crate was proved before. One of them keeps its body and has to be proved, where
 there is any, and if possible one that calls a function without a body: so a batch in which right bodies were refused too shows nothing.
 Where a function has several edits, the first stands in its place, and each other one in a copy of the function and of its proof files, under a
-name of its own. One more copy, without an edit, has to be proved: so what is refused in a copy isn't refused for its name. There is one such copy of the
-shortest of these functions, and of each whose proof is named in other proof files, which keep the old name. Where no copy can be made, the second edit
-goes into a second batch. That begins with nothing but what the batches before it, of the same crate and in this run, have
+name of its own. One more copy, without an edit, has to be proved: so what is refused in a copy isn't refused for its name. One such copy is made of
+each function whose proof other proof files name, since these keep the old name, or, where there is none, of the shortest with several edits. Where no
+copy can be made, the second edit goes into a second batch. That begins with nothing but what the batches before it, of the same crate and in this run, have
 proved. An edit is refused if its own function has no proof for a reason of its own, and not only because it calls another that isn't proved.
 A batch shows nothing if it isn't checked to its end, or if a function without an edit, or a file of lemmas, has no proof for a reason of its own.
 Then its halves are tried, and so on.
@@ -320,7 +320,8 @@ def empty_others(crate, names, sources, proofs):
 
 
 def is_cited(crate, path):
-    """Whether a proof file of a crate that isn't the function's own names the proof of the function of a path, or of a closure in it."""
+    """Whether a proof file of a crate that isn't the function's own names the proof of the function of a path, or of a closure in it, by the whole name of
+    its module."""
     *around, own = path.split("::")
     folders = [os.path.join(crate.folder, "proofs", *inner, own, "") for inner in (around, [*around, "fn"])]
     modules = [".".join(["proofs", *inner, own]) for inner in (around, [*around, "fn"])]

@@ -10,16 +10,10 @@ use wire_report::write_text;
 use wire_types::{Fault, Sink};
 
 /// What there is to write, and how the command ends.
+#[derive(Drop)]
 pub struct Answer {
     pub text: Vec<u8>,
     pub ended: Ended,
-}
-
-// Written by hand: to drop one is then a call, and the proofs of those that do don't take it apart.
-impl Drop for Answer {
-    fn drop(self) {
-        let Answer { text: _, ended: _ } = self;
-    }
 }
 
 /// Writes the text of an answer, and says how the command ends. The one fault is `Fault::Write`, with the number of

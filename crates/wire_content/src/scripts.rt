@@ -13,23 +13,12 @@ use wire_spelling::Version;
 
 /// What calls name, numbered as first seen: keys of puts and gets, published names, values of puts and
 /// publishes, and the sets of processes of fences.
+#[derive(Drop)]
 pub struct Tables {
     pub keys: Texts,
     pub names: Texts,
     pub values: Texts,
     pub sets: Sets,
-}
-
-// Written by hand: to drop one is then a call, and the proofs of those that do don't take it apart.
-impl Drop for Tables {
-    fn drop(self) {
-        let Tables {
-            keys: _,
-            names: _,
-            values: _,
-            sets: _,
-        } = self;
-    }
 }
 
 /// What the first lines of a file say of all its scripts: the version of its format, and whether what a get
@@ -50,7 +39,7 @@ pub struct Scripts {
     processes: Vec<Process>,
 }
 
-// Written by hand: to drop one is then a call, and the proofs of those that do don't take it apart.
+// By hand and not derived: so dropping one is a call, and the proof of a function that drops one doesn't take it apart.
 impl Drop for Scripts {
     fn drop(self) {
         let Scripts {

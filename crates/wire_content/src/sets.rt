@@ -15,7 +15,7 @@ pub struct Sets {
     table: IndexSet<Vec<Proc>>,
 }
 
-// Written by hand: to drop one is then a call, and the proofs of those that do don't take it apart.
+// By hand and not derived: so dropping one is a call, and the proof of a function that drops one doesn't take it apart.
 impl Drop for Sets {
     fn drop(self) {
         let Sets { table: _ } = self;

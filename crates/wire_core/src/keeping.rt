@@ -32,7 +32,7 @@ pub(crate) struct Keeping {
     counts: HashMap<(u32, u32, u32), u32>,
 }
 
-// Written by hand: to drop one is then a call, and the proofs of those that do don't take it apart.
+// By hand and not derived: so dropping one is a call, and the proof of a function that drops one doesn't take it apart.
 impl Drop for Keeping {
     fn drop(self) {
         let Keeping { counts: _ } = self;

@@ -27,7 +27,7 @@ pub struct Settled {
     marks: Marks,
 }
 
-// Written by hand: to drop one is then a call, and the proofs of those that do don't take it apart.
+// By hand and not derived: so dropping one is a call, and the proof of a function that drops one doesn't take it apart.
 impl Drop for Settled {
     fn drop(self) {
         let Settled { plan: _, marks: _ } = self;
@@ -48,21 +48,11 @@ impl Model for Settled {
 }
 
 /// A plan in which something is found, with its marks and what is found: all that was handed in.
+#[derive(Drop)]
 pub struct Unsettled {
     pub plan: Plan,
     pub marks: Marks,
     pub findings: Vec<Finding>,
-}
-
-// Written by hand: to drop one is then a call, and the proofs of those that do don't take it apart.
-impl Drop for Unsettled {
-    fn drop(self) {
-        let Unsettled {
-            plan: _,
-            marks: _,
-            findings: _,
-        } = self;
-    }
 }
 
 impl Settled {

@@ -33,7 +33,7 @@ pub struct Fences {
     numbers: Vec<Vec<Option<u32>>>,
 }
 
-// Written by hand: to drop one is then a call, and the proofs of those that do don't take it apart.
+// By hand and not derived: so dropping one is a call, and the proof of a function that drops one doesn't take it apart.
 impl Drop for Fences {
     fn drop(self) {
         let Fences {

@@ -161,7 +161,7 @@ pub(crate) struct Updates {
     held: Held,
 }
 
-// Written by hand: to drop one is then a call, and the proofs of those that do don't take it apart.
+// By hand and not derived: so dropping one is a call, and the proof of a function that drops one doesn't take it apart.
 impl Drop for Updates {
     fn drop(self) {
         let Updates { lists: _, held: _ } = self;

@@ -19,7 +19,7 @@ pub(crate) struct GetTable {
     lists: HashMap<(u32, u32, u32), Vec<Event>>,
 }
 
-// Written by hand: to drop one is then a call, and the proofs of those that do don't take it apart.
+// By hand and not derived: so dropping one is a call, and the proof of a function that drops one doesn't take it apart.
 impl Drop for GetTable {
     fn drop(self) {
         let GetTable { lists: _ } = self;

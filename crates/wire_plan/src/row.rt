@@ -20,7 +20,7 @@ pub(crate) struct ProcessEvents {
     pub starts: Vec<u32>,
 }
 
-// Written by hand: to drop one is then a call, and the proofs of those that do don't take it apart.
+// By hand and not derived: so dropping one is a call, and the proof of a function that drops one doesn't take it apart.
 impl Drop for ProcessEvents {
     fn drop(self) {
         let ProcessEvents {

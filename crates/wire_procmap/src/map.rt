@@ -23,7 +23,7 @@ pub struct ProcMap {
     kinds: Vec<KeyKind>,
 }
 
-// Written by hand: to drop one is then a call, and the proofs of those that do don't take it apart.
+// By hand and not derived: so dropping one is a call, and the proof of a function that drops one doesn't take it apart.
 impl Drop for ProcMap {
     fn drop(self) {
         let ProcMap { rows: _, kinds: _ } = self;

@@ -8,19 +8,10 @@ use std::alloc::{AllocError, Global};
 use wire_lines::{cut_piece, cut_words, trim_return};
 
 /// A line that isn't skipped: its number and its words.
+#[derive(Drop)]
 pub struct Statement<'a> {
     pub number: u64,
     pub words: Vec<&'a [u8]>,
-}
-
-// Written by hand: to drop one is then a call, and the proofs of those that do don't take it apart.
-impl Drop for Statement<'_> {
-    fn drop(self) {
-        let Statement {
-            number: _,
-            words: _,
-        } = self;
-    }
 }
 
 /// What is left of a file, and the number of its next line.

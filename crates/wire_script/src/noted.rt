@@ -14,7 +14,7 @@ pub struct Noted {
     table: IndexMap<Vec<Target>, u32>,
 }
 
-// Written by hand: to drop one is then a call, and the proofs of those that do don't take it apart.
+// By hand and not derived: so dropping one is a call, and the proof of a function that drops one doesn't take it apart.
 impl Drop for Noted {
     fn drop(self) {
         let Noted { table: _ } = self;

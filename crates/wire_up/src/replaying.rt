@@ -50,20 +50,10 @@ pub struct Manner<'a, G> {
 
 /// How a rehearsal ended, and the line of the first call that doesn't succeed, where nothing was found and there is
 /// such a call.
-#[derive(Debug)]
+#[derive(Debug, Drop)]
 pub struct Rehearsed {
     pub ended: Ended,
     pub failure: Option<Vec<u8>>,
-}
-
-// Written by hand: to drop one is then a call, and the proofs of those that do don't take it apart.
-impl Drop for Rehearsed {
-    fn drop(self) {
-        let Rehearsed {
-            ended: _,
-            failure: _,
-        } = self;
-    }
 }
 
 impl Rehearsed {
@@ -84,7 +74,7 @@ struct PlanWithFindings {
     findings: FindingList,
 }
 
-// Written by hand: to drop one is then a call, and the proofs of those that do don't take it apart.
+// By hand and not derived: so dropping one is a call, and the proof of a function that drops one doesn't take it apart.
 impl Drop for PlanWithFindings {
     fn drop(self) {
         let PlanWithFindings {

@@ -18,16 +18,10 @@ use wire_races::finding_list;
 use wire_types::Fault;
 
 /// The races of a plan of which witnesses were looked for, and how many races it has in all.
+#[derive(Drop)]
 pub struct RaceSearch {
     pub tried: Vec<TriedRace>,
     pub count: usize,
-}
-
-// Written by hand: to drop one is then a call, and the proofs of those that do don't take it apart.
-impl Drop for RaceSearch {
-    fn drop(self) {
-        let RaceSearch { tried: _, count: _ } = self;
-    }
 }
 
 impl RaceSearch {

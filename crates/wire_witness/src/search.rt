@@ -40,7 +40,7 @@ struct Runs<'a> {
     second: Option<Run<'a>>,
 }
 
-// Written by hand: to drop one is then a call, and the proofs of those that do don't take it apart.
+// By hand and not derived: so dropping one is a call, and the proof of a function that drops one doesn't take it apart.
 impl Drop for Runs<'_> {
     fn drop(self) {
         let Runs {

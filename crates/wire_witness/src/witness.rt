@@ -4,7 +4,7 @@ use wire_types::{CallAt, CallEnd, Proc};
 
 /// Two runs that can't go on, by their steps, in which two calls come in different orders; and a call of the
 /// two that ends differently in them.
-#[derive(Debug)]
+#[derive(Debug, Drop)]
 pub struct Witness {
     /// The steps of the run in which the first call comes first.
     pub first: Vec<Proc>,
@@ -18,18 +18,4 @@ pub struct Witness {
     pub first_end: CallEnd,
     /// How it ends in the second run.
     pub second_end: CallEnd,
-}
-
-// Written by hand: to drop one is then a call, and the proofs of those that do don't take it apart.
-impl Drop for Witness {
-    fn drop(self) {
-        let Witness {
-            first: _,
-            second: _,
-            call: _,
-            other: _,
-            first_end: _,
-            second_end: _,
-        } = self;
-    }
 }
