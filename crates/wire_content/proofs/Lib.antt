@@ -1,4 +1,3 @@
-pub mod TextTable
 pub mod SetTable
 pub mod Written
 pub mod Listed
@@ -6,6 +5,5 @@ pub mod SameCalls
 pub mod Same
 pub mod Migrated
 pub mod PlannedCalls
-mod Apart
 mod Broken
 mod Lines

@@ -1,90 +1,61 @@
-//! Texts by number, in the order in which they were added.
+//! Texts by number.
 
-ghost use Rattle.std.specs.Prelude.{◌≡◌, ◌==◌, ◌+◌, ◌<◌, ◌^◌, ◌∷◌, ◌++◌, [], false, length, position, slice_index_or, OnOk, OnErr};
-ghost use Rattle.std.specs.List.{list_any, position_or_len};
-ghost use Rattle.std.specs.Str.{bytes_eq};
+ghost use Rattle.std.specs.Prelude.{◌≡◌, ◌==◌, ◌<◌, ◌^◌, [], length, map, slice_index_or};
 ghost use Rattle.wire_content.specs.Apart.{AreApart};
 
-use indexmap::IndexSet;
-use std::alloc::{AllocError, Global};
 use std::marker::Model;
 
 /// Texts, each once, with its place as its number, from 0.
 pub struct Texts {
-    set: IndexSet<Vec<u8>>,
+    list: Vec<Vec<u8>>,
 }
 
 // By hand and not derived: so dropping one is a call, and the proof of a function that drops one doesn't take it apart.
 impl Drop for Texts {
     fn drop(self) {
-        let Texts { set: _ } = self;
+        let Texts { list: _ } = self;
     }
 }
 
 impl Model for Texts {
     ghost use Rattle.std.specs.Prelude.{List, ℕ, map, length, ◌<◌, ◌^◌};
+    ghost use Rattle.wire_content.specs.Apart.{AreApart};
 
     ghost Value = { List (List ℕ) };
 
-    ghost view = { λ t. map (λ v. v.items) t.set.keys };
+    ghost view = { λ t. map (λ v. v.items) t.list.items };
 
-    ghost invariant = { λ t. length t.set.keys < 2 ^ 32 };
+    ghost invariant = { λ t. (length t.list.items < 2 ^ 32) × AreApart (map (λ v. v.items) t.list.items) };
 }
 
 impl Texts {
-    /// No texts. Takes no memory.
-    pub fn new(alloc: Global) -> Texts
-        ensures { result ≡ [] }
+    /// These texts, numbered in their order.
+    pub fn new(list: Vec<Vec<u8>>) -> Texts
+        requires few { length list.items < 2 ^ 32 }
+        requires apart { AreApart (map (λ v. v.items) list.items) }
+        ensures { result ≡ map (λ v. v.items) list.items }
     {
-        Texts {
-            set: IndexSet::new(alloc),
-        }
+        Texts { list }
     }
 
     /// How many texts there are.
     pub fn len(&self) -> u32
         ensures { result ≡ length self.now }
     {
-        self.set.len() as u32
+        self.list.len() as u32
     }
 
     pub fn is_empty(&self) -> bool
         ensures { result ≡ (length self.now == 0) }
     {
-        self.set.is_empty()
-    }
-
-    /// The number of a text, or nothing where it isn't there.
-    pub fn number_of(&self, text: &[u8]) -> Option<u32>
-        ensures { result ≡ position (bytes_eq text.now) self.now }
-    {
-        match self.set.get_index_of(text) {
-            Some(number) => Some(number as u32),
-            None => None,
-        }
-    }
-
-    pub fn contains(&self, text: &[u8]) -> bool
-        ensures { result ≡ list_any (bytes_eq text.now) self.now }
-    {
-        self.set.contains(text)
-    }
-
-    /// The number of a text, or that of all texts where it isn't there.
-    pub fn number_or_count(&self, text: &[u8]) -> u32
-        ensures { result ≡ position_or_len (bytes_eq text.now) self.now }
-    {
-        match self.number_of(text) {
-            Some(number) => number,
-            None => self.len(),
-        }
+        self.list.is_empty()
     }
 
     /// The text of a number, empty where the number has none.
     pub fn text(&self, number: u32) -> &[u8]
         ensures { result.now ≡ slice_index_or self.now number [] }
     {
-        match self.set.as_slice().get(number as usize) {
+        match self.list.get(number as usize) {
             Some(text) => text.as_slice(),
             None => b"".as_slice(),
         }
@@ -94,19 +65,7 @@ impl Texts {
     pub fn are_apart(&self)
         ensures { AreApart self.now }
     {
-        let _ = self.set.as_slice();
-    }
-
-    /// Adds a text that isn't there.
-    pub fn add(&mut self, alloc: Global, text: &[u8]) -> Result<(), AllocError>
-        requires new { list_any (bytes_eq text.now) self.old ≡ false }
-        requires room { length self.old + 1 < 2 ^ 32 }
-        ensures ok { OnOk result (self.new ≡ self.old ++ text.now ∷ []) }
-        ensures err { OnErr result (self.new ≡ self.old) }
-    {
-        let owned = Vec::from_slice(alloc, text)?;
-        self.set.insert_full(owned)?;
-        Ok(())
+        let _ = self.list.as_slice();
     }
 }
 
@@ -118,6 +77,6 @@ impl PartialEq for Texts {
     ghost laws = { texts_alike };
 
     fn eq(&self, other: &Texts) -> bool {
-        self.set.as_slice() == other.set.as_slice()
+        self.list.as_slice() == other.list.as_slice()
     }
 }

@@ -1,11 +1,11 @@
 -- Which nodes have a member.
-use Rattle.std.proofs.Common.{◌≡◌, ◌∙◌, ℕ, ◌+◌, ◌<◌, ◌≤◌, List, [], ◌∷◌, ◌++◌, take, length, nat_lt, Bool, true, false, ◌||◌, ◌&&◌, ◌==◌}
-use Rattle.std.proofs.Common.{if◌then◌else◌, Option, Some, None, option_map, slice_get, get_or, refl, sym, ap, inl, inr, arith}
+use Rattle.std.proofs.Common.{◌≡◌, ◌∙◌, ℕ, ◌+◌, ◌<◌, ◌≤◌, List, [], ◌∷◌, take, length, nat_lt, Bool, true, false, ◌||◌, ◌&&◌, ◌==◌}
+use Rattle.std.proofs.Common.{cond, Option, Some, None, option_map, slice_get, get_or, refl, sym, ap, inl, inr, arith}
 use Rattle.std.specs.List.{list_any}
-use Rattle.std.proofs.lemmas.Bool.{cases_eq, cases_lt, eq-eqb, eqb-true, ne_eqb, lt-ltb, le-ltb, and_parts}
+use Rattle.std.proofs.lemmas.Bool.{cases_eq, cases_lt, eq-eqb, ne_eqb, lt-ltb, le-ltb}
 use Rattle.std.proofs.lemmas.Option.{slice_get-map}
 use Rattle.std.proofs.lemmas.List.{get_or_past}
-use Rattle.std.proofs.lemmas.List.Folds.{list_any_more, list_any-append}
+use Rattle.std.proofs.lemmas.List.Folds.{list_any_more}
 use Rattle.std.proofs.Math.Bool.{or-false}
 use Rattle.wire_runs.specs.Plan.{node_of, process_node}
 use Rattle.wire_runs.specs.Fences.{has_node}
@@ -32,30 +32,21 @@ same_either_way a b = elim (cases_eq a b) [
 abbrev pub is_pair : ℕ → ℕ → ℕ × ℕ → Bool
 is_pair set node r = (set == r.0) && (node == r.1)
 
--- what is among the pairs isn't new
-not_new : (kept : List (ℕ × ℕ)) (set found other node : ℕ) → is_noted kept set found ≡ true → is_noted kept other node ≡ (is_noted kept other node || is_pair other node (set, found))
-not_new kept set found other node there = go (is_pair other node (set, found)) refl
-  where
-    go : (b : Bool) → is_pair other node (set, found) ≡ b → is_noted kept other node ≡ (is_noted kept other node || b)
-    go false f = sym (or-false (is_noted kept other node))
-    go true t =
-        let parts = and_parts (other == set) (node == found) t in
-        let its_set = eqb-true other set parts.0 in
-        let its_node = eqb-true node found parts.1 in
-        let is : is_noted kept other node ≡ true = ap (λ n. is_noted kept other n) its_node ∙ ap (λ k. is_noted kept k found) its_set ∙ there in
-        is ∙ sym (ap (λ b. b || true) is)
+either : (kept new : Bool) → cond new true kept ≡ (kept || new)
+either true true = refl
+either true false = refl
+either false true = refl
+either false false = refl
 
 -- one pair more
-noted_one : (kept new : List (ℕ × ℕ)) (set found other node : ℕ) → new ≡ (if list_any (is_pair set found) kept then kept else kept ++ (set, found) ∷ []) →
-    is_noted new other node ≡ (is_noted kept other node || is_pair other node (set, found))
+noted_one : (kept new : List (ℕ × ℕ)) (set found other node : ℕ)
+    → list_any (is_pair other node) new ≡ cond (is_pair set found (other, node)) true (list_any (is_pair other node) kept)
+    → is_noted new other node ≡ (is_noted kept other node || is_pair other node (set, found))
 unfolding is_noted
 noted_one kept new set found other node is =
-    ap (λ xs. is_noted xs other node) is
-    ∙ elim (list_any (is_pair set found) kept) as (λ b. list_any (is_pair set found) kept ≡ b →
-    is_noted (if b then kept else kept ++ (set, found) ∷ []) other node ≡ (is_noted kept other node || is_pair other node (set, found))) [
-      | true ↦ λ e. not_new kept set found other node e
-      | false ↦ λ e. list_any-append (is_pair other node) kept ((set, found) ∷ []) ∙ ap (λ b. is_noted kept other node || b) (or-false (is_pair other node (set, found)))
-    ] refl
+    is
+    ∙ (λ i. cond (same_either_way set other i && same_either_way found node i) true (list_any (is_pair other node) kept))
+    ∙ either (list_any (is_pair other node) kept) (is_pair other node (set, found))
 
 among : (a s m f : Bool) → ((a || (s && m)) || (s && f)) ≡ (a || (s && (m || f)))
 among true s m f = refl
@@ -65,7 +56,8 @@ among false false m f = refl
 -- one member more
 pub noted_more : (s : Scripts) (members : List ℕ) (i other node set found : ℕ) (first kept new : List (ℕ × ℕ)) → i < length members →
     is_noted kept other node ≡ (is_noted first other node || ((other == set) && has_node (plan_of s) (take i members) node)) →
-    found ≡ node_at s.processes (get_or members i 0) → new ≡ (if list_any (is_pair set found) kept then kept else kept ++ (set, found) ∷ []) →
+    found ≡ node_at s.processes (get_or members i 0) →
+    list_any (is_pair other node) new ≡ cond (is_pair set found (other, node)) true (list_any (is_pair other node) kept) →
     is_noted new other node ≡ (is_noted first other node || ((other == set) && has_node (plan_of s) (take (i + 1) members) node))
 noted_more s members i other node set found first kept new low was is noted =
     noted_one kept new set found other node noted

@@ -11,8 +11,8 @@ ghost use Rattle.wire_fence.specs.FenceTable.{FenceInfo, AreFencesOf, fence_at, 
 ghost use Rattle.wire_fence.specs.FenceTable.{reaches_in, is_noted, fence_number as the_fence_number};
 
 use crate::register::{FenceDraft, members_of, read_rows};
-use indexmap::IndexSet;
 use std::alloc::{AllocError, Global};
+use std::collections::HashSet;
 use std::marker::Model;
 use wire_content::{Scripts, Sets};
 use wire_procmap::ProcMap;
@@ -28,7 +28,7 @@ pub struct FenceId {
 /// fence over the set.
 pub struct Fences {
     sets: Vec<Vec<Proc>>,
-    reached: IndexSet<(u32, u32)>,
+    reached: HashSet<(u32, u32)>,
     rows: Vec<FenceDraft>,
     numbers: Vec<Vec<Option<u32>>>,
 }
@@ -73,7 +73,7 @@ fn copy_sets(alloc: Global, sets: &Sets) -> Result<Vec<Vec<Proc>>, AllocError>
 
 // Notes the node of each member of a set, with the set.
 fn note_nodes(
-    reached: &mut IndexSet<(u32, u32)>,
+    reached: &mut HashSet<(u32, u32)>,
     map: &ProcMap,
     set: u32,
     members: &[Proc],
@@ -84,7 +84,7 @@ fn note_nodes(
         ((other == set) && has_node (plan_of s) (numbers_of members.now) node))) }
 {
     for member in members {
-        reached.insert_full((set, map.node_of(*member)))?;
+        reached.insert((set, map.node_of(*member)))?;
     }
     Ok(())
 }
@@ -95,12 +95,12 @@ fn nodes_of_sets(
     alloc: Global,
     map: &ProcMap,
     sets: &Sets,
-) -> Result<IndexSet<(u32, u32)>, AllocError>
+) -> Result<HashSet<(u32, u32)>, AllocError>
     requires { (set k : ℕ) → k < length (set_at sets.now set) → slice_index_or (set_at sets.now set) k 0 < row_count map.now }
     ensures { IfOk result (λ reached. (s : TheScripts) (set node : ℕ) → map.now ≡ map_of s
         → is_noted reached.keys set node ≡ has_node (plan_of s) (set_at sets.now set) node) }
 {
-    let mut reached = IndexSet::new(alloc);
+    let mut reached = HashSet::new(alloc);
     for set in 0..sets.len() {
         note_nodes(&mut reached, map, set, sets.members(set))?;
     }
@@ -109,7 +109,7 @@ fn nodes_of_sets(
 
 // Whether a set and a node are noted.
 #[tactic(auto, unfolding(crate::specs::FenceTable::is_noted))]
-fn is_reached(reached: &IndexSet<(u32, u32)>, set: u32, node: u32) -> bool
+fn is_reached(reached: &HashSet<(u32, u32)>, set: u32, node: u32) -> bool
     ensures { result ≡ is_noted reached.now.keys set node }
 {
     reached.contains(&(set, node))

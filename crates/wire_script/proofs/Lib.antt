@@ -1,3 +1,5 @@
+pub mod TextTable
+mod Apart
 pub mod Adding
 pub mod Judging
 pub mod Once

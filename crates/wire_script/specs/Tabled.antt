@@ -1,12 +1,33 @@
 -- What the tables hold while the calls are numbered: for the contracts of private functions. What is read is said in Reads.
-use Rattle.std.specs.Prelude.{◌≡◌, ℕ, ◌+◌, List, [], ◌∷◌, ◌++◌, length, if◌then◌else◌}
+use Rattle.std.specs.Prelude.{◌≡◌, ℕ, ◌+◌, Bool, List, [], ◌∷◌, ◌++◌, length, if◌then◌else◌}
 use Rattle.wire_lines.specs.Said as said
+use Rattle.wire_lines.specs.declared.Version.{Version}
+use Rattle.wire_content.specs.Scripts.{Process, Scripts}
 use Rattle.wire_content.specs.declared.Tables.{Tables}
+use Rattle.wire_script.specs.declared.numbered_tables.NumberedTables.{NumberedTables}
 use Rattle.wire_script.specs.FirstPass.{is_among, Started, Declared}
 use Rattle.wire_script.specs.Reads.{Seen, set_members}
 
-abbrev pub seen_of : Tables → Seen
+abbrev pub seen_of : NumberedTables → Seen
 seen_of t = record { keys = t.keys; names = t.names; values = t.values; sets = t.sets }
+
+-- the same of the tables of scripts
+abbrev pub seen_in : Tables → Seen
+seen_in t = record { keys = t.keys; names = t.names; values = t.values; sets = t.sets }
+
+-- the scripts of a version, with or without the line `keep`, of these nodes and jobs, whose calls name what the tables hold
+abbrev pub scripts_said : Version → Bool → List (List ℕ) → List (List ℕ) → Seen → List Process → Scripts
+scripts_said version keeps nodes jobs s processes = record {
+  version = version;
+  nodes = nodes;
+  jobs = jobs;
+  keys = s.keys;
+  names = s.names;
+  values = s.values;
+  sets = s.sets;
+  processes = processes;
+  keeps = keeps;
+}
 
 abbrev pub nothing_seen : Seen
 nothing_seen = record { keys = []; names = []; values = []; sets = [] }

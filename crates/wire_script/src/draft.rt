@@ -1,16 +1,27 @@
 //! What the lines so far declare.
 
-ghost use Rattle.std.specs.Prelude.{◌≤◌, ◌<◌, ◌^◌, vec_len};
+ghost use Rattle.std.specs.Prelude.{◌≡◌, ◌≤◌, ◌<◌, ◌^◌, vec_len, IfOk};
+ghost use Rattle.wire_content.specs.Scripts.{IsSound};
+ghost use Rattle.wire_script.specs.Tabled.{scripts_said, seen_of};
 
 use crate::limits::Limits;
-use wire_content::{Texts, Version};
+use crate::numbered_tables::NumberedTables;
+use crate::numbered_texts::NumberedTexts;
+use std::alloc::{AllocError, Global};
+use wire_content::{Format, Process, Scripts, Version};
 use wire_lines::CallLine;
 
 /// A call line, with its number.
-#[derive(Drop)]
 pub struct Placed<'a> {
     pub line: u64,
     pub call: CallLine<'a>,
+}
+
+// By hand and not derived: so dropping one is a call, and the proof of a function that drops one doesn't take it apart.
+impl Drop for Placed<'_> {
+    fn drop(self) {
+        let Placed { line: _, call: _ } = self;
+    }
 }
 
 /// A process with its calls so far.
@@ -35,13 +46,12 @@ impl Drop for Started<'_> {
 
 /// What was declared so far, under which version and within which limits, whether what a get brings to a
 /// node stays there, and the number of processes of the last job and that of all calls.
-#[derive(Drop)]
 pub struct Draft<'a> {
     pub version: Version,
     pub keeps: bool,
     pub limits: Limits,
-    pub nodes: Texts,
-    pub jobs: Texts,
+    pub nodes: NumberedTexts,
+    pub jobs: NumberedTexts,
     pub processes: Vec<Started<'a>>,
     pub ranks: u32,
     pub calls: usize,
@@ -50,4 +60,50 @@ pub struct Draft<'a> {
     ghost few_jobs: { limits.jobs < 2 ^ 32 },
     ghost few_processes: { limits.processes < 2 ^ 32 },
     ghost few_calls: { limits.calls < 2 ^ 32 },
+}
+
+// By hand and not derived: so dropping one is a call, and the proof of a function that drops one doesn't take it apart.
+impl Drop for Draft<'_> {
+    fn drop(self) {
+        let Draft {
+            version: _,
+            keeps: _,
+            limits: _,
+            nodes: _,
+            jobs: _,
+            processes: _,
+            ranks: _,
+            calls: _,
+        } = self;
+    }
+}
+
+impl Draft<'_> {
+    /// The scripts of what was declared, whose calls name what these tables hold.
+    pub fn into_scripts(
+        self,
+        alloc: Global,
+        tables: NumberedTables,
+        processes: Vec<Process>,
+    ) -> Result<Scripts, AllocError>
+        requires { IsSound (scripts_said self.version self.keeps self.nodes self.jobs (seen_of tables) processes.items) }
+        ensures { IfOk result (λ s. s ≡ scripts_said self.entry.version self.entry.keeps self.entry.nodes self.entry.jobs (seen_of tables) processes.items) }
+    {
+        let Draft {
+            version,
+            keeps,
+            limits: _,
+            nodes,
+            jobs,
+            processes: declared,
+            ranks: _,
+            calls: _,
+        } = self;
+        drop(declared);
+        let nodes = nodes.into_texts(alloc)?;
+        let jobs = jobs.into_texts(alloc)?;
+        let tables = tables.into_tables(alloc)?;
+        let format = Format { version, keeps };
+        Ok(Scripts::new(format, nodes, jobs, tables, processes))
+    }
 }

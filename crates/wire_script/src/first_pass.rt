@@ -15,8 +15,9 @@ ghost use Rattle.wire_script.specs.Drafted.{declared_of};
 use crate::draft::{Draft, Placed, Started};
 use crate::limits::{Limits, NAME_BYTES, Size, VALUE_BYTES};
 use crate::lines::Cursor;
+use crate::numbered_texts::NumberedTexts;
 use std::alloc::{AllocError, Global};
-use wire_content::{Texts, Version};
+use wire_content::Version;
 use wire_lines::{CallLine, Item, Line, Set, header_version, read_line};
 use wire_types::Fault;
 
@@ -90,8 +91,8 @@ fn new_draft<'a>(alloc: Global, size: Size, version: Version) -> Draft<'a>
         version,
         keeps: false,
         limits: Limits::of(size, version),
-        nodes: Texts::new(alloc),
-        jobs: Texts::new(alloc),
+        nodes: NumberedTexts::new(alloc),
+        jobs: NumberedTexts::new(alloc),
         processes: Vec::new(alloc),
         ranks: 0,
         calls: 0,

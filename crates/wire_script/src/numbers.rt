@@ -5,12 +5,13 @@ ghost use Rattle.wire_content.specs.Scripts.{numbers_of};
 ghost use Rattle.wire_script.specs.FirstPass.{number_or_count};
 ghost use Rattle.wire_script.specs.Tabled.{with_text, GoesOn};
 
+use crate::numbered_sets::NumberedSets;
+use crate::numbered_texts::NumberedTexts;
 use std::alloc::{AllocError, Global};
-use wire_content::{Sets, Texts};
 use wire_types::Proc;
 
 /// The number of a text, which is added where it isn't there.
-pub fn number_text(alloc: Global, texts: &mut Texts, text: &[u8]) -> Result<u32, AllocError>
+pub fn number_text(alloc: Global, texts: &mut NumberedTexts, text: &[u8]) -> Result<u32, AllocError>
     requires { length texts.old + 1 < 2 ^ 32 }
     ensures texts { OnOk result (texts.new ≡ with_text texts.old text.now) }
     ensures number { IfOk result
@@ -25,7 +26,7 @@ pub fn number_text(alloc: Global, texts: &mut Texts, text: &[u8]) -> Result<u32,
 }
 
 /// The number of a set, which is added where it isn't there.
-pub fn number_set(sets: &mut Sets, set: Vec<Proc>) -> Result<u32, AllocError>
+pub fn number_set(sets: &mut NumberedSets, set: Vec<Proc>) -> Result<u32, AllocError>
     requires { length sets.old + 1 < 2 ^ 32 }
     ensures sets { OnOk result (sets.new ≡ with_text sets.old (numbers_of set.items)) }
     ensures number { IfOk result

@@ -14,24 +14,46 @@ ghost use Rattle.wire_script.specs.Targets.{named_in, AreNoted};
 use crate::draft::{Draft, Placed, Started};
 use crate::members::{Target, are_declared, find_targets, is_named, named_members, proc_of};
 use crate::noted::Noted;
+use crate::numbered_tables::NumberedTables;
+use crate::numbered_texts::NumberedTexts;
 use crate::numbers::{number_set, number_text};
 use std::alloc::{AllocError, Global};
-use wire_content::{Format, Process, Scripts, Sets, Tables, Texts};
+use wire_content::{Process, Scripts};
 use wire_lines::{CallLine, ProcName, Set};
 use wire_types::{Call, Fault, Proc, Scope};
 
 /// The tables so far, and the sets that were named, with their numbers.
-#[derive(Drop)]
 struct Numbering {
-    tables: Tables,
+    tables: NumberedTables,
     noted: Noted,
+}
+
+// By hand and not derived: so dropping one is a call, and the proof of a function that drops one doesn't take it apart.
+impl Drop for Numbering {
+    fn drop(self) {
+        let Numbering {
+            tables: _,
+            noted: _,
+        } = self;
+    }
+}
+
+impl Numbering {
+    /// The tables alone.
+    fn into_tables(self) -> NumberedTables
+        ensures { result ≡ self.tables }
+    {
+        let Numbering { tables, noted } = self;
+        drop(noted);
+        tables
+    }
 }
 
 /// The process that a get of either kind names, and the number of its key, or the fault of the get.
 fn number_get(
     alloc: Global,
     draft: &Draft,
-    keys: &mut Texts,
+    keys: &mut NumberedTexts,
     owner: ProcName,
     key: &[u8],
     line: u64,
@@ -158,7 +180,7 @@ fn number_fence(
 /// A put with numbers for its key and its value.
 fn number_put(
     alloc: Global,
-    tables: &mut Tables,
+    tables: &mut NumberedTables,
     scope: Scope,
     key: &[u8],
     value: &[u8],
@@ -180,7 +202,7 @@ fn number_put(
 /// A publish with numbers for its name and its value.
 fn number_publish(
     alloc: Global,
-    tables: &mut Tables,
+    tables: &mut NumberedTables,
     name: &[u8],
     value: &[u8],
 ) -> Result<Call, Fault>
@@ -324,30 +346,11 @@ pub fn scripts_of(alloc: Global, draft: Draft) -> Result<Scripts, Fault>
     ensures err { IfErr result (λ e. (e ≡ Fault.Memory) ⊎ (second_pass (declared_of draft.entry) ≡ Err e)) }
 {
     let mut numbering = Numbering {
-        tables: Tables {
-            keys: Texts::new(alloc),
-            names: Texts::new(alloc),
-            values: Texts::new(alloc),
-            sets: Sets::new(alloc),
-        },
+        tables: NumberedTables::new(alloc),
         noted: Noted::new(alloc),
     };
     match number_processes(alloc, &draft, &mut numbering) {
-        Ok(processes) => {
-            let Numbering { tables, noted } = numbering;
-            drop(noted);
-            let Draft {
-                version,
-                keeps,
-                nodes,
-                jobs,
-                processes: said,
-                ..
-            } = draft;
-            drop(said);
-            let format = Format { version, keeps };
-            Ok(Scripts::new(format, nodes, jobs, tables, processes))
-        }
+        Ok(processes) => Ok(draft.into_scripts(alloc, numbering.into_tables(), processes)?),
         Err(fault) => {
             drop(numbering);
             drop(draft);

@@ -24,8 +24,8 @@ pub loop-member-preserved : goal.loop-member-preserved
 loop-member-preserved c = λ s other node same.
     let low : c.loop-member.member-index < length c.args.members.now = omega arith in
     let len = length-map c.args.members.now (λ (p : Proc). p.number) in
-    noted_more s (numbers_of c.args.members.now) c.loop-member.member-index other node c.args.set c.node_of.result c.args.reached.now.keys c.loop-member.reached.keys c.insert_full.new.self.keys
+    noted_more s (numbers_of c.args.members.now) c.loop-member.member-index other node c.args.set c.node_of.result c.args.reached.now.keys c.loop-member.reached.keys c.insert.new.self.keys
     (omega (arith, low, len))
     (c.loop-member.invariant s other node same)
     (c.node_of.ensures s same ∙ ap (node_at s.processes) (sym (get_or-map (λ (p : Proc). p.number) c.args.members.now c.loop-member.member-index no_proc 0 low)))
-    c.in_ok-insert_full.ensures.keys
+    (c.in_ok-insert.ensures.updates.0 (other, node))

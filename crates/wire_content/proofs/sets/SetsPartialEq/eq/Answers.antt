@@ -6,5 +6,5 @@ use Rattle.wire_content.proofs.sets.SetsPartialEq.eq.Goals as goal
 
 pub returns : goal.returns
 returns c =
-    compared (λ v. numbers_of v.items) _ bytes_eq (λ v w. same_numbers v.items w.items) c.eq.ensures c.as_slice.ensures.keys c.as_slice-2.ensures.keys
+    compared (λ v. numbers_of v.items) _ bytes_eq (λ v w. same_numbers v.items w.items) c.eq.ensures c.as_slice.ensures.value c.as_slice-2.ensures.value
     c.self.view_is c.other.view_is

@@ -1,8 +1,8 @@
 use Rattle.std.proofs.Common.{◌≡◌, ◌∙◌, false}
 use Rattle.std.specs.List.{list_any}
 use Rattle.std.specs.Str.{bytes_eq}
-use Rattle.wire_content.proofs.TextTable.{any_of, added}
-use Rattle.wire_content.proofs.texts.Texts.add.Goals as goal
+use Rattle.wire_script.proofs.TextTable.{any_of, added}
+use Rattle.wire_script.proofs.numbered_texts.NumberedTexts.add.Goals as goal
 
 pub returns-clause-ok : goal.returns-clause-ok
 returns-clause-ok c =

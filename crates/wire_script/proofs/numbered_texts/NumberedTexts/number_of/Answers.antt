@@ -1,7 +1,7 @@
 use Rattle.std.proofs.Common.{◌∙◌, ap, position}
 use Rattle.std.specs.Str.{bytes_eq}
-use Rattle.wire_content.proofs.TextTable.{position_of}
-use Rattle.wire_content.proofs.texts.Texts.number_of.Goals as goal
+use Rattle.wire_script.proofs.TextTable.{position_of}
+use Rattle.wire_script.proofs.numbered_texts.NumberedTexts.number_of.Goals as goal
 
 pub returns-in-Some : goal.returns-in-Some
 returns-in-Some c = c.in-Some.ensures.index ∙ position_of (λ v. v.items) (bytes_eq c.args.text.now) c.self.inside.set.keys ∙ ap (position (bytes_eq c.args.text.now)) c.self.view_is

@@ -1,9 +1,9 @@
 use Rattle.std.proofs.Common.{◌∙◌, ap, position}
 use Rattle.std.specs.Str.{bytes_eq}
 use Rattle.wire_content.specs.Scripts.{numbers_of}
-use Rattle.wire_content.proofs.TextTable.{position_of, place_none, place_some}
+use Rattle.wire_script.proofs.TextTable.{position_of, place_none, place_some}
 use Rattle.wire_content.proofs.SetTable.{same_numbers}
-use Rattle.wire_content.proofs.sets.Sets.number_or_count.Goals as goal
+use Rattle.wire_script.proofs.numbered_sets.NumberedSets.number_or_count.Goals as goal
 
 pub returns-in-Some : goal.returns-in-Some
 returns-in-Some c = place_some (bytes_eq (numbers_of c.args.set.now)) c.args.self.now (

@@ -2,9 +2,9 @@ use Rattle.std.proofs.Common.{◌≡◌, ◌∙◌, false}
 use Rattle.std.specs.List.{list_any}
 use Rattle.std.specs.Str.{bytes_eq}
 use Rattle.wire_content.specs.Scripts.{numbers_of}
-use Rattle.wire_content.proofs.TextTable.{any_of, added}
+use Rattle.wire_script.proofs.TextTable.{any_of, added}
 use Rattle.wire_content.proofs.SetTable.{same_procs, same_numbers}
-use Rattle.wire_content.proofs.sets.Sets.add.Goals as goal
+use Rattle.wire_script.proofs.numbered_sets.NumberedSets.add.Goals as goal
 
 pub returns-clause-ok : goal.returns-clause-ok
 returns-clause-ok c =
