@@ -306,11 +306,12 @@ def program_too(top):
 
 
 def by_idle_processors(top):
-    # Where nothing else is to be proved, a proof gets as many processes as it is worth (these take a minute, as long as nothing is known); one where
-    # RT_JOBS says so, and over libraries that hold proofs.
+    # Where nothing else is to be proved, a proof gets as many processes as it is worth (these take a minute, as long as nothing is known, and here half of
+    # that is worth one more); one where RT_JOBS says so, and over libraries that hold proofs.
     add_program(top)
     given = []
-    with mock.patch.object(kit.rt, "processors", lambda: 4), mock.patch.object(kit.rt, "free", lambda: 1e12):
+    worth = mock.patch.object(lanes, "WORTH", 0.5)
+    with worth, mock.patch.object(kit.rt, "processors", lambda: 4), mock.patch.object(kit.rt, "free", lambda: 1e12):
         for number, keeps in ("", False), ("2", False), ("", True):
             write(top, "low", f"//! proved with {number} {keeps}\n")
             with mock.patch.dict(os.environ, {"RT_JOBS": number}):
@@ -338,7 +339,7 @@ def started(proofs, ready, running, processors, memory=100, most=4):
 
 def first_gets_most(_):
     # The longest chain is that of `low`. One processor is left to the others.
-    proofs = {"low": (3,), "apart": (4,), "other": (3,), "high": (9, "low")}
+    proofs = {"low": (6,), "apart": (8,), "other": (6,), "high": (18, "low")}
     ready = ["low", "apart", "other"]
     by_four, by_two = started(proofs, ready, {}, 4), started(proofs, ready, {}, 2)
     beside = started(proofs, ["apart", "other"], {"low": 1}, 4)
@@ -347,14 +348,14 @@ def first_gets_most(_):
 
 def last_gets_all(_):
     by_processors = [started({"last": (9,)}, ["last"], {}, it)["last"] for it in (1, 2, 3, 4, 9)]
-    by_minutes = [started({"last": (minutes,)}, ["last"], {}, 4)["last"] for minutes in (0, 0.7, 0.75, 1.5, 2.2, 2.25)]
+    by_minutes = [started({"last": (minutes,)}, ["last"], {}, 4)["last"] for minutes in (0, 1.4, 1.5, 3, 4.4, 4.5)]
     return by_processors == [1, 2, 3, 4, 4] and by_minutes == [1, 1, 2, 3, 3, 4]
 
 
 def memory_is_kept(_):
     # Ten bytes each, and six more for each further process. The first one starts in any case.
-    proofs = {"one": (3,), "two": (1,)}
-    by_room = [started({"one": (3,)}, ["one"], {}, 4, memory)["one"] for memory in (5, 10, 16, 22, 28, 100)]
+    proofs = {"one": (6,), "two": (1,)}
+    by_room = [started({"one": (6,)}, ["one"], {}, 4, memory)["one"] for memory in (5, 10, 16, 22, 28, 100)]
     beside = [started(proofs, ["two"], {"one": number}, 4, memory) for number, memory in ((1, 19), (1, 20), (2, 25), (2, 26))]
     return by_room == [1, 1, 2, 3, 4, 4] and beside == [{}, {"two": 1}, {}, {"two": 1}]
 

@@ -2,10 +2,10 @@
 from collections import namedtuple
 from concurrent.futures import FIRST_COMPLETED, ThreadPoolExecutor, wait
 
-# How many processes share a proof at most: more would hardly shorten it.
-MOST = 4
-# How many minutes a proof takes by one process for each further one that it gets: each loads once more what the proof needs.
-WORTH = 0.75
+# How many processes share a proof at most. Each further one loads once more what the proof needs (a sixth of a minute), and shortens it less.
+MOST = 2
+# How many minutes a proof takes by one process for each further one that it gets.
+WORTH = 1.5
 # How much memory each further process of a proof takes, as a part of what the first one takes.
 FURTHER = 0.6
 

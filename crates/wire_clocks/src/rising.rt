@@ -10,7 +10,7 @@ use std::marker::Model;
 
 /// A clock that is being made: the root of what is in its tree already, and the least numbers of one block of 16
 /// processes that isn't. So to raise it at processes that stand side by side changes their block once.
-#[derive(Clone, Copy, Debug)]
+#[derive(Clone, Copy)]
 pub struct Rising {
     root: u32,
     block: u32,

@@ -4,7 +4,7 @@ use clap::Error;
 use std::alloc::AllocError;
 
 /// The two words that name a call.
-#[derive(Clone, Copy, Debug)]
+#[derive(Clone, Copy)]
 pub struct CallWords<'a> {
     pub proc: &'a str,
     /// Its number among the calls of its process.
@@ -12,7 +12,7 @@ pub struct CallWords<'a> {
 }
 
 /// What is written of the two runs that show a race.
-#[derive(Clone, Copy, Debug, PartialEq, Eq)]
+#[derive(Clone, Copy, PartialEq, Eq)]
 pub enum Orders {
     /// How they differ, and the orders of both.
     Both,
@@ -23,7 +23,7 @@ pub enum Orders {
 }
 
 /// What `check` is to do: to find the races of a plan.
-#[derive(Clone, Copy, Debug)]
+#[derive(Clone, Copy)]
 pub struct CheckRequest<'a> {
     /// Without a plan's name, the plan comes from standard input: so in each request.
     pub plan: Option<&'a str>,
@@ -38,7 +38,7 @@ pub struct CheckRequest<'a> {
 }
 
 /// What `replay` is to do: to run a plan.
-#[derive(Clone, Copy, Debug)]
+#[derive(Clone, Copy)]
 pub struct ReplayRequest<'a> {
     pub plan: Option<&'a str>,
     /// 65 for every greater number.
@@ -53,7 +53,7 @@ pub struct ReplayRequest<'a> {
 }
 
 /// What `follow` is to do: to run a plan in the order of a file.
-#[derive(Clone, Copy, Debug)]
+#[derive(Clone, Copy)]
 pub struct FollowRequest<'a> {
     pub order: &'a str,
     pub plan: Option<&'a str>,
@@ -63,7 +63,7 @@ pub struct FollowRequest<'a> {
 }
 
 /// What `why` is to do: to tell which of two calls is before the other.
-#[derive(Clone, Copy, Debug)]
+#[derive(Clone, Copy)]
 pub struct WhyRequest<'a> {
     pub first: CallWords<'a>,
     pub second: CallWords<'a>,
@@ -75,7 +75,7 @@ pub struct WhyRequest<'a> {
 }
 
 /// What `migrate` is to do: to write a plan under version 2 of the format.
-#[derive(Clone, Copy, Debug)]
+#[derive(Clone, Copy)]
 pub struct MigrateRequest<'a> {
     pub plan: Option<&'a str>,
     pub large: bool,
@@ -83,7 +83,7 @@ pub struct MigrateRequest<'a> {
 }
 
 /// What `witness` is to do with two calls: to show their race by two runs.
-#[derive(Clone, Copy, Debug)]
+#[derive(Clone, Copy)]
 pub struct PairRequest<'a> {
     pub first: CallWords<'a>,
     pub second: CallWords<'a>,
@@ -96,7 +96,7 @@ pub struct PairRequest<'a> {
 }
 
 /// What `witness` is to do without calls: to tell which races two runs show.
-#[derive(Clone, Copy, Debug)]
+#[derive(Clone, Copy)]
 pub struct RacesRequest<'a> {
     /// How many races are tried, 1,000,000,000 for every greater number.
     pub most: usize,
@@ -107,7 +107,7 @@ pub struct RacesRequest<'a> {
 }
 
 /// What the program is to do.
-#[derive(Clone, Copy, Debug)]
+#[derive(Clone, Copy)]
 pub enum Request<'a> {
     Check(CheckRequest<'a>),
     Replay(ReplayRequest<'a>),
@@ -121,7 +121,7 @@ pub enum Request<'a> {
 }
 
 /// Why a command line requests nothing.
-#[derive(Debug, Drop)]
+#[derive(Drop)]
 pub enum Refusal {
     /// What `clap` says to the words. Help, the version and want of memory are among it.
     Usage(Error),

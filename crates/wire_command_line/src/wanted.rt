@@ -1,7 +1,7 @@
 //! What a command line asks for.
 
 /// What was asked for: a command, its words in order, and the options of all commands.
-#[derive(Debug, Drop)]
+#[derive(Drop)]
 pub struct Asked<'a> {
     pub command: &'a str,
     pub words: Vec<&'a str>,

@@ -15,7 +15,7 @@ use wire_plan::Plan;
 use wire_types::{Event, Proc};
 
 /// A get that is answered at once, and the key for which it asks.
-#[derive(Clone, Copy, Debug)]
+#[derive(Clone, Copy)]
 pub struct KeyRead {
     pub get_now: Event,
     pub owner: Proc,

@@ -19,7 +19,7 @@ use wire_procmap::ProcMap;
 use wire_types::{CallAt, Fault, Proc};
 
 /// A fence, by its number.
-#[derive(Clone, Copy, Debug, PartialEq, Eq)]
+#[derive(Clone, Copy, PartialEq, Eq)]
 pub struct FenceId {
     pub number: u32,
 }

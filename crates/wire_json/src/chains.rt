@@ -14,7 +14,7 @@ use wire_content::Scripts;
 use wire_types::CallAt;
 
 /// What is meant of a call in a chain.
-#[derive(Clone, Copy, Debug)]
+#[derive(Clone, Copy)]
 pub enum Half {
     /// All of it.
     Whole,
@@ -25,7 +25,7 @@ pub enum Half {
 }
 
 /// A step of a chain: a call, or a half of a fence.
-#[derive(Clone, Copy, Debug)]
+#[derive(Clone, Copy)]
 pub struct ChainStep {
     pub call: CallAt,
     pub half: Half,

@@ -27,7 +27,7 @@ pub struct RunTold<'a> {
 }
 
 /// How many races there are in all, and how many of them are shown, not shown and not tried.
-#[derive(Clone, Copy, Debug)]
+#[derive(Clone, Copy)]
 pub struct RaceCounts {
     pub races: u64,
     pub shown: u64,

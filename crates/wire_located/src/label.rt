@@ -10,7 +10,7 @@ use wire_types::{Call, CallAt};
 use wire_words::find_call;
 
 /// What a call does.
-#[derive(Clone, Copy, Debug, PartialEq, Eq, Hash)]
+#[derive(Clone, Copy, PartialEq, Eq, Hash)]
 pub enum Deed {
     Put,
     Commit,
@@ -27,7 +27,7 @@ pub enum Deed {
 }
 
 /// What a finding is, and the number of the key or the name that it is on. Who owns the key isn't part of it.
-#[derive(Clone, Copy, Debug, PartialEq, Eq, Hash)]
+#[derive(Clone, Copy, PartialEq, Eq, Hash)]
 pub enum Subject {
     Rewrite(u32),
     KeyRace(u32),
@@ -36,7 +36,7 @@ pub enum Subject {
 
 /// What findings share that are one mistake: what they are on, and what their two calls do, whichever of them
 /// stands first in rank order.
-#[derive(Clone, Copy, Debug, PartialEq, Eq, Hash)]
+#[derive(Clone, Copy, PartialEq, Eq, Hash)]
 pub struct Label {
     pub subject: Subject,
     /// That of the two which `Deed` names first.
@@ -45,7 +45,7 @@ pub struct Label {
 }
 
 /// The two calls of a finding, as it names them.
-#[derive(Clone, Copy, Debug, PartialEq, Eq)]
+#[derive(Clone, Copy, PartialEq, Eq)]
 pub struct Pair {
     pub lower: CallAt,
     pub higher: CallAt,

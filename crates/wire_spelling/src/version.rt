@@ -1,7 +1,7 @@
 //! The versions of the format.
 
 /// The version of the format, as the header says it.
-#[derive(Clone, Copy, Debug, PartialEq, Eq)]
+#[derive(Clone, Copy, PartialEq, Eq)]
 pub enum Version {
     One,
     Two,

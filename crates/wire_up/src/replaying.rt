@@ -30,7 +30,7 @@ use wire_script::Size;
 use wire_types::{Fault, Sink, Source};
 
 /// What a rehearsal writes.
-#[derive(Clone, Copy, Debug, PartialEq, Eq)]
+#[derive(Clone, Copy, PartialEq, Eq)]
 pub struct Mode {
     /// JSON in place of lines.
     pub json: bool,
@@ -50,7 +50,7 @@ pub struct Manner<'a, G> {
 
 /// How a rehearsal ended, and the line of the first call that doesn't succeed, where nothing was found and there is
 /// such a call.
-#[derive(Debug, Drop)]
+#[derive(Drop)]
 pub struct Rehearsed {
     pub ended: Ended,
     pub failure: Option<Vec<u8>>,

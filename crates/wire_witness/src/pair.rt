@@ -17,7 +17,7 @@ use wire_races::are_racing;
 use wire_types::{CallAt, Fault};
 
 /// What a search for a witness of two calls found.
-#[derive(Debug, Drop)]
+#[derive(Drop)]
 pub enum PairSearch {
     /// The calls don't race.
     NoRace,

@@ -4,7 +4,7 @@ use wire_types::{CallAt, CallEnd, Proc};
 
 /// Two runs that can't go on, by their steps, in which two calls come in different orders; and a call of the
 /// two that ends differently in them.
-#[derive(Debug, Drop)]
+#[derive(Drop)]
 pub struct Witness {
     /// The steps of the run in which the first call comes first.
     pub first: Vec<Proc>,
