@@ -339,7 +339,7 @@ def started(proofs, ready, running, processors, memory=100, most=4):
 
 def first_gets_most(_):
     # The longest chain is that of `low`. One processor is left to the others.
-    proofs = {"low": (6,), "apart": (8,), "other": (6,), "high": (18, "low")}
+    proofs = {"low": (12,), "apart": (16,), "other": (12,), "high": (36, "low")}
     ready = ["low", "apart", "other"]
     by_four, by_two = started(proofs, ready, {}, 4), started(proofs, ready, {}, 2)
     beside = started(proofs, ["apart", "other"], {"low": 1}, 4)
@@ -348,14 +348,14 @@ def first_gets_most(_):
 
 def last_gets_all(_):
     by_processors = [started({"last": (9,)}, ["last"], {}, it)["last"] for it in (1, 2, 3, 4, 9)]
-    by_minutes = [started({"last": (minutes,)}, ["last"], {}, 4)["last"] for minutes in (0, 1.4, 1.5, 3, 4.4, 4.5)]
+    by_minutes = [started({"last": (minutes,)}, ["last"], {}, 4)["last"] for minutes in (0, 2.9, 3, 6, 8.9, 9)]
     return by_processors == [1, 2, 3, 4, 4] and by_minutes == [1, 1, 2, 3, 3, 4]
 
 
 def memory_is_kept(_):
     # Ten bytes each, and six more for each further process. The first one starts in any case.
-    proofs = {"one": (6,), "two": (1,)}
-    by_room = [started({"one": (6,)}, ["one"], {}, 4, memory)["one"] for memory in (5, 10, 16, 22, 28, 100)]
+    proofs = {"one": (12,), "two": (1,)}
+    by_room = [started({"one": (12,)}, ["one"], {}, 4, memory)["one"] for memory in (5, 10, 16, 22, 28, 100)]
     beside = [started(proofs, ["two"], {"one": number}, 4, memory) for number, memory in ((1, 19), (1, 20), (2, 25), (2, 26))]
     return by_room == [1, 1, 2, 3, 4, 4] and beside == [{}, {"two": 1}, {}, {"two": 1}]
 

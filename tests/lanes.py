@@ -5,7 +5,7 @@ from concurrent.futures import FIRST_COMPLETED, ThreadPoolExecutor, wait
 # How many processes share a proof at most. Each further one loads once more what the proof needs (a sixth of a minute), and shortens it less.
 MOST = 2
 # How many minutes a proof takes by one process for each further one that it gets.
-WORTH = 1.5
+WORTH = 3
 # How much memory each further process of a proof takes, as a part of what the first one takes.
 FURTHER = 0.6
 

@@ -12,7 +12,7 @@ pub struct CallWords<'a> {
 }
 
 /// What is written of the two runs that show a race.
-#[derive(Clone, Copy, PartialEq, Eq)]
+#[derive(Clone, Copy)]
 pub enum Orders {
     /// How they differ, and the orders of both.
     Both,

@@ -3,7 +3,7 @@
 use wire_script::Size;
 
 /// Within which limits a command reads, and in which form it writes.
-#[derive(Clone, Copy, PartialEq, Eq)]
+#[derive(Clone, Copy)]
 pub struct Form {
     pub size: Size,
     /// JSON in place of lines.

@@ -10,7 +10,7 @@ use wire_lines::cut_words;
 use wire_script::Cursor;
 
 /// What stands above a line.
-#[derive(Clone, Copy, PartialEq, Eq)]
+#[derive(Clone, Copy)]
 pub enum Place {
     /// No job.
     Opening,

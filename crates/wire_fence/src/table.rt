@@ -19,7 +19,7 @@ use wire_procmap::ProcMap;
 use wire_types::{CallAt, Fault, Proc};
 
 /// A fence, by its number.
-#[derive(Clone, Copy, PartialEq, Eq)]
+#[derive(Clone, Copy)]
 pub struct FenceId {
     pub number: u32,
 }

@@ -14,7 +14,7 @@ use std::cmp::Ordering;
 use std::hash::Hash;
 
 /// A group of a list: the place of the first that has its label, from 0, and how many have it.
-#[derive(Clone, Copy, PartialEq, Eq)]
+#[derive(Clone, Copy)]
 pub struct Group {
     pub first: usize,
     pub count: usize,

@@ -18,7 +18,7 @@ use wire_types::{Event, Fault, Proc};
 
 /// What became of a rank that was served: how many events that were, how many of its events are done, and the event that
 /// was missing, for which its next one waits.
-#[derive(Clone, Copy, PartialEq, Eq)]
+#[derive(Clone, Copy)]
 pub struct Served {
     pub events: usize,
     pub done: usize,

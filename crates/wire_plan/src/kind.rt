@@ -16,7 +16,7 @@ use wire_types::{Call, Proc, Reply, Scope, Status};
 
 /// What an event of a process is: one of the events that its calls are made of. Sets of processes, keys
 /// and names are numbers in the tables of the scripts.
-#[derive(Clone, Copy)]
+#[derive(Clone, Copy, Debug)]
 pub enum Kind {
     /// A put of a key, for the processes that its scope admits.
     Put { scope: Scope, key: u32 },

@@ -40,7 +40,7 @@ impl Drop for Pass {
 /// What an attempt to steal gives: a piece, that there was none, or that another worker was faster. After `Again` it
 /// may be tried again.
 #[must_use]
-#[derive(Clone, Copy, PartialEq, Eq)]
+#[derive(Clone, Copy)]
 pub enum Take {
     Got(Piece),
     Empty,

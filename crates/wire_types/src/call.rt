@@ -12,7 +12,7 @@ pub enum Scope {
 }
 
 /// A call of a script. Keys, names, values and sets of processes are numbers in the tables of the scripts.
-#[derive(Clone, Copy, Debug, PartialEq, Eq)]
+#[derive(Clone, Copy, PartialEq, Eq)]
 pub enum Call {
     /// `PMIx_Put`.
     Put { scope: Scope, key: u32, value: u32 },

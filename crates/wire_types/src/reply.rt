@@ -55,7 +55,7 @@ impl Reply {
 
 /// What became of a call: it was answered, its process stands at it and waits, or stands at it and
 /// can run, or hasn't come to it.
-#[derive(Clone, Copy, Debug, PartialEq, Eq)]
+#[derive(Clone, Copy, PartialEq, Eq)]
 pub enum CallEnd {
     Replied(Reply),
     Waiting,
@@ -65,7 +65,7 @@ pub enum CallEnd {
 
 /// What became of every call: a row for each process, in process order, with its calls in their order;
 /// and how many processes stand at a call and aren't ready.
-#[derive(Debug, Drop)]
+#[derive(Drop)]
 pub struct Outcome {
     pub rows: Vec<Vec<CallEnd>>,
     pub waiting: u32,

@@ -30,7 +30,7 @@ use wire_script::Size;
 use wire_types::{Fault, Sink, Source};
 
 /// What a rehearsal writes.
-#[derive(Clone, Copy, PartialEq, Eq)]
+#[derive(Clone, Copy)]
 pub struct Mode {
     /// JSON in place of lines.
     pub json: bool,

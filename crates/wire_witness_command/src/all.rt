@@ -17,7 +17,7 @@ use wire_types::{Fault, Sink, Source};
 use wire_witness::search_races;
 
 /// How many races are tried at most, and in which form they are told.
-#[derive(Clone, Copy, PartialEq, Eq)]
+#[derive(Clone, Copy)]
 pub struct Tries {
     pub most: usize,
     /// JSON in place of lines.

@@ -1,7 +1,7 @@
 //! What is written of a witness.
 
 /// What is written of a witness.
-#[derive(Clone, Copy, PartialEq, Eq)]
+#[derive(Clone, Copy)]
 pub enum Part {
     /// The call that ends differently, how it ends in each run, and the orders of both.
     Whole,
