@@ -80,14 +80,14 @@ def try_it(file, top=progress.TOP):
 
 
 def expected(crates, keeps=False):
-    """About how many minutes the proofs of crates take: as long as the longest chain of them, or as all of them by all processors. Where several processes
-    share a proof, a chain takes less, and all together more."""
+    """About how many minutes the proofs of crates take: as long as the longest chain of them, or as all of them by all processors. Where two processes share
+    the last proof, the chain takes a little less."""
     minutes, chain, machine = progress.minutes_of(), {}, kit.machine_for(crates, keeps)
     left = {it.name: minutes.get(it.name, 1) for it in crates if not kit.is_done(it, keeps)}
     for crate in crates:
         chain[crate.name] = left.get(crate.name, 0) + max((chain[it.name] for it in crate.deps), default=0)
     by_chain, by_all = max(chain.values()), sum(left.values()) / machine.processors
-    return max(by_chain, by_all) if machine.most == 1 else max(0.7 * by_chain, 1.2 * by_all)
+    return max(by_chain, by_all) if machine.most == 1 else max(0.93 * by_chain, by_all)
 
 
 class Proof(threading.Thread):

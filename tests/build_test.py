@@ -306,8 +306,8 @@ def program_too(top):
 
 
 def by_idle_processors(top):
-    # Where nothing else is to be proved, a proof gets as many processes as it is worth (these take a minute, as long as nothing is known, and here half of
-    # that is worth one more); one where RT_JOBS says so, and over libraries that hold proofs.
+    # Where nothing else is to be proved, a proof gets as many processes as it is worth; one where RT_JOBS says so, and over libraries that hold proofs.
+    # As long as nothing is known, each proof counts as one minute, and here half a minute is worth one process more.
     add_program(top)
     given = []
     worth = mock.patch.object(lanes, "WORTH", 0.5)

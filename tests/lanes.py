@@ -42,9 +42,9 @@ def processes_for(proof, share, room, machine):
 
 
 def share_of(idle, others, is_first, machine):
-    """How many of the idle processors a proof gets, where so many others are ready and don't run yet. That on which the end of all depends gets all, since
-    more of them shorten only that; but one is left to the others, since a further process is less use than a further proof. Each of the others gets one:
-    more would take more processor time, and the end of all doesn't depend on it."""
+    """How many of the idle processors a proof may use, where so many others are ready and don't run yet. That on which the end of all depends may use all,
+    since more of them shorten only that; but one is left to the others, since a further process is less use than a further proof. Each of the others may
+    use one: more would take more processor time, and the end of all doesn't depend on it."""
     if not is_first:
         return 1
     return min(idle, max(1, machine.processors - 1)) if others or idle < machine.processors else idle

@@ -121,7 +121,7 @@ pub enum Request<'a> {
 }
 
 /// Why a command line requests nothing.
-#[derive(Drop)]
+#[derive(Debug, Drop)]
 pub enum Refusal {
     /// What `clap` says to the words. Help, the version and want of memory are among it.
     Usage(Error),

@@ -23,7 +23,7 @@ pub struct Tables {
 
 /// What the first lines of a file say of all its scripts: the version of its format, and whether what a get
 /// brings to a node stays there.
-#[derive(Clone, Copy, PartialEq, Eq)]
+#[derive(Clone, Copy)]
 pub struct Format {
     pub version: Version,
     pub keeps: bool,

@@ -29,7 +29,7 @@ impl Model for Texts {
 }
 
 impl Texts {
-    /// These texts, numbered in their order.
+    /// These texts, each of which is there once, numbered in their order.
     pub fn new(list: Vec<Vec<u8>>) -> Texts
         requires few { length list.items < 2 ^ 32 }
         requires apart { AreApart (map (λ v. v.items) list.items) }
@@ -65,7 +65,7 @@ impl Texts {
     pub fn are_apart(&self)
         ensures { AreApart self.now }
     {
-        let _ = self.list.as_slice();
+        let _ = &self.list;
     }
 }
 

@@ -1,5 +1,5 @@
 -- Which nodes have a member.
-use Rattle.std.proofs.Common.{◌≡◌, ◌∙◌, ℕ, ◌+◌, ◌<◌, ◌≤◌, List, [], ◌∷◌, take, length, nat_lt, Bool, true, false, ◌||◌, ◌&&◌, ◌==◌}
+use Rattle.std.proofs.Common.{◌≡◌, ◌∙◌, ℕ, ◌+◌, ◌<◌, ◌≤◌, List, [], take, length, nat_lt, Bool, true, false, ◌||◌, ◌&&◌, ◌==◌}
 use Rattle.std.proofs.Common.{cond, Option, Some, None, option_map, slice_get, get_or, refl, sym, ap, inl, inr, arith}
 use Rattle.std.specs.List.{list_any}
 use Rattle.std.proofs.lemmas.Bool.{cases_eq, cases_lt, eq-eqb, ne_eqb, lt-ltb, le-ltb}

@@ -4,7 +4,7 @@ use wire_types::{CallAt, Proc};
 
 /// A rewrite of a key, or a race on a key or on a name. A fence call stands for the arrival at its
 /// fence.
-#[derive(Clone, Copy, PartialEq, Eq)]
+#[derive(Clone, Copy)]
 pub enum Finding {
     /// The first put of a key, and a later put of it by the same process.
     Rewrite(CallAt, CallAt),

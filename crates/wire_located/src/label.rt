@@ -45,7 +45,7 @@ pub struct Label {
 }
 
 /// The two calls of a finding, as it names them.
-#[derive(Clone, Copy, PartialEq, Eq)]
+#[derive(Clone, Copy)]
 pub struct Pair {
     pub lower: CallAt,
     pub higher: CallAt,

@@ -14,7 +14,7 @@ use wire_plan::{Kind, Plan};
 use wire_types::{Event, Proc};
 
 /// A live call that can change a name, in a list of them.
-#[derive(Clone, Copy, Debug, PartialEq, Eq)]
+#[derive(Clone, Copy, Debug)]
 pub struct Update {
     /// The call: a publish, or one that takes away this name or all names of its process.
     pub event: Event,

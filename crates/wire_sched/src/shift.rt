@@ -15,7 +15,7 @@ use wire_types::{Event, Proc};
 const MOST_TURNS: u32 = 1_000_000;
 
 /// What a worker saw of a rank when it served it last: how many of its events were done, and for which event it waited.
-#[derive(Clone, Copy, PartialEq, Eq)]
+#[derive(Clone, Copy)]
 struct Seen {
     done: usize,
     missing: Option<Event>,

@@ -1,4 +1,4 @@
-pub mod TextTable
+mod TextTable
 mod Apart
 pub mod Adding
 pub mod Judging

@@ -11,9 +11,9 @@ use Rattle.wire_script.specs.Reads.{Seen, set_members}
 abbrev pub seen_of : NumberedTables → Seen
 seen_of t = record { keys = t.keys; names = t.names; values = t.values; sets = t.sets }
 
--- the same of the tables of scripts
-abbrev pub seen_in : Tables → Seen
-seen_in t = record { keys = t.keys; names = t.names; values = t.values; sets = t.sets }
+-- what the tables of scripts hold
+abbrev pub seen_by_tables : Tables → Seen
+seen_by_tables t = record { keys = t.keys; names = t.names; values = t.values; sets = t.sets }
 
 -- the scripts of a version, with or without the line `keep`, of these nodes and jobs, whose calls name what the tables hold
 abbrev pub scripts_said : Version → Bool → List (List ℕ) → List (List ℕ) → Seen → List Process → Scripts

@@ -79,15 +79,15 @@ impl Drop for Draft<'_> {
 }
 
 impl Draft<'_> {
-    /// The scripts of what was declared, whose calls name what these tables hold.
+    /// The scripts of what was declared: its processes with numbers for what their calls name, which these tables hold.
     pub fn into_scripts(
         self,
         alloc: Global,
         tables: NumberedTables,
-        processes: Vec<Process>,
+        numbered: Vec<Process>,
     ) -> Result<Scripts, AllocError>
-        requires { IsSound (scripts_said self.version self.keeps self.nodes self.jobs (seen_of tables) processes.items) }
-        ensures { IfOk result (λ s. s ≡ scripts_said self.entry.version self.entry.keeps self.entry.nodes self.entry.jobs (seen_of tables) processes.items) }
+        requires { IsSound (scripts_said self.version self.keeps self.nodes self.jobs (seen_of tables) numbered.items) }
+        ensures { IfOk result (λ s. s ≡ scripts_said self.entry.version self.entry.keeps self.entry.nodes self.entry.jobs (seen_of tables) numbered.items) }
     {
         let Draft {
             version,
@@ -95,15 +95,15 @@ impl Draft<'_> {
             limits: _,
             nodes,
             jobs,
-            processes: declared,
+            processes,
             ranks: _,
             calls: _,
         } = self;
-        drop(declared);
+        drop(processes);
         let nodes = nodes.into_texts(alloc)?;
         let jobs = jobs.into_texts(alloc)?;
         let tables = tables.into_tables(alloc)?;
         let format = Format { version, keeps };
-        Ok(Scripts::new(format, nodes, jobs, tables, processes))
+        Ok(Scripts::new(format, nodes, jobs, tables, numbered))
     }
 }

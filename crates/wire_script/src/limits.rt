@@ -12,7 +12,7 @@ pub const NAME_BYTES: usize = 63;
 pub const VALUE_BYTES: usize = 255;
 
 /// Which limits hold: those of the version that the header says, or large ones for any version.
-#[derive(Clone, Copy, PartialEq, Eq)]
+#[derive(Clone, Copy)]
 pub enum Size {
     OfVersion,
     Large,
@@ -41,7 +41,7 @@ impl Size {
 }
 
 /// How much a file may declare.
-#[derive(Clone, Copy, PartialEq, Eq)]
+#[derive(Clone, Copy)]
 pub struct Limits {
     pub nodes: u32,
     pub jobs: u32,

@@ -72,7 +72,7 @@ impl NumberedSets {
         Ok(())
     }
 
-    /// The same sets, with the same numbers, as a table.
+    /// The same sets, with the same numbers, as scripts hold them.
     pub fn into_sets(self, alloc: Global) -> Result<Sets, AllocError>
         ensures { IfOk result (λ sets. sets ≡ self) }
     {

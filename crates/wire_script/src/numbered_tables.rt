@@ -1,7 +1,7 @@
 //! What calls name, numbered as first seen.
 
 ghost use Rattle.std.specs.Prelude.{◌≡◌, IfOk};
-ghost use Rattle.wire_script.specs.Tabled.{nothing_seen, seen_in, seen_of};
+ghost use Rattle.wire_script.specs.Tabled.{nothing_seen, seen_by_tables, seen_of};
 
 use crate::numbered_sets::NumberedSets;
 use crate::numbered_texts::NumberedTexts;
@@ -41,9 +41,9 @@ impl NumberedTables {
         }
     }
 
-    /// The same, as the tables of scripts.
+    /// What they hold, with the same numbers, as scripts hold it.
     pub fn into_tables(self, alloc: Global) -> Result<Tables, AllocError>
-        ensures { IfOk result (λ tables. seen_in tables ≡ seen_of self) }
+        ensures { IfOk result (λ tables. seen_by_tables tables ≡ seen_of self) }
     {
         let NumberedTables {
             keys,

@@ -55,7 +55,7 @@ impl NumberedTexts {
     }
 
     /// The number of a text, or nothing where it isn't there.
-    pub fn number_of(&self, text: &[u8]) -> Option<u32>
+    fn number_of(&self, text: &[u8]) -> Option<u32>
         ensures { result ≡ position (bytes_eq text.now) self.now }
     {
         match self.set.get_index_of(text) {
@@ -92,7 +92,7 @@ impl NumberedTexts {
         Ok(())
     }
 
-    /// The same texts, with the same numbers, as a table.
+    /// The same texts, with the same numbers, as scripts hold them.
     pub fn into_texts(self, alloc: Global) -> Result<Texts, AllocError>
         ensures { IfOk result (λ texts. texts ≡ self) }
     {

@@ -7,7 +7,7 @@ use wire_types::{CallAt, Scope};
 
 /// What another process, or the owner's server, shows under a key: the value of a put, that there is
 /// one out of its scope, or nothing.
-#[derive(Clone, Copy, PartialEq, Eq)]
+#[derive(Clone, Copy)]
 pub enum Seen {
     Value(CallAt),
     Outside,

@@ -5,7 +5,7 @@ ghost use Rattle.std.specs.Io.KnownBytes.{Appends, WriteAppends};
 ghost use Rattle.wire_types.specs.Counting.{one_more, CountsWrite};
 
 /// That a call of a reader or of a writer failed.
-#[derive(Clone, Copy)]
+#[derive(Clone, Copy, Debug)]
 pub struct Failed;
 
 /// A writer that tells what was written, where that is known, and counts its failed calls.
