@@ -5,7 +5,7 @@ ghost use Rattle.std.specs.List.{All};
 ghost use Rattle.wire_content.specs.Planned.{plan_of};
 ghost use Rattle.wire_board.specs.Cuts.{procs_of};
 ghost use Rattle.wire_board.specs.Seats.{opening_seats};
-ghost use Rattle.wire_lanes.specs.Lanes.{AreTrails};
+ghost use Rattle.wire_board.specs.Lanes.{AreTrails};
 
 use crate::workers::{APART, CARDS, WAITING, are_alike, commits, settle};
 use std::alloc::Global;
@@ -13,8 +13,8 @@ use std::sync::Wait;
 use std::test::Fail;
 use std::thread::{self, Threads, join};
 use wire_board::{Board, Seat};
+use wire_collect::outcome_of;
 use wire_core::plain_outcome;
-use wire_outcome::outcome_of;
 use wire_races::{Fate, Settled};
 use wire_sched::{Lanes, OpenGate, Round, work};
 use wire_types::{Fault, Outcome, Proc};

@@ -25,8 +25,7 @@ use std::thread::Threads;
 use std::time::Clock;
 use std::{env, io, thread};
 use terminal_line::{NotedReader, NotedWriter, Progress, Streams, Work, start_line};
-use wire_explain::{explain_order, explain_plan, explain_word};
-use wire_stops::explain_stop;
+use wire_explain::{explain_order, explain_plan, explain_stop, explain_word};
 use wire_types::{Fault, FromRead, Sink, ToWrite, write_out};
 use wire_up::{CallWords, Refusal, Request, Size, read_request};
 

@@ -4,3 +4,10 @@ pub mod Dealing
 pub mod Closing
 pub mod Showing
 pub mod Steps
+pub mod Trails
+pub mod Opening
+mod Looking
+mod Leaving
+mod Fronting
+mod Told
+pub mod PlainTrails

@@ -1,6 +1,7 @@
-//! The laws of the words. Each is the contract of a function that does nothing.
+//! The laws of the words and of trails. Each is the contract of a function that does nothing.
 
 ghost use Rattle.wire_board.specs.Cuts.{CutsAreSound};
+ghost use Rattle.wire_board.specs.PlainTrails.{TrailsArePlain};
 ghost use Rattle.wire_board.specs.Steps.{StoresAreSteps};
 
 /// The words of a board of a settled plan are a sound cut: with each event that is done its sources are
@@ -15,4 +16,10 @@ pub fn cuts_are_sound()
 /// leads to the state of the words after it.
 pub fn stores_are_steps()
     ensures { StoresAreSteps }
+{}
+
+/// In a settled plan, each entry of a trail is what the plain run replies to its event, where the trail has
+/// no more entries than its rank's word says, and the words are the cut of a state that a run can come to.
+pub fn trails_are_plain()
+    ensures { TrailsArePlain }
 {}

@@ -1,1 +1,3 @@
 pub mod Passes
+pub mod AtRest
+pub mod Plainly

@@ -1,2 +1,3 @@
 pub mod Collect
 pub mod Passes
+pub mod Trails

@@ -4,17 +4,17 @@ ghost use Rattle.std.specs.Prelude.{◌≡◌, ◌<◌, IfOk, IfSome, IsOkUnless
 ghost use Rattle.wire_types.specs.Outcome.{ends_of};
 ghost use Rattle.wire_content.specs.Planned.{plan_of};
 ghost use Rattle.wire_board.specs.Seats.{opening_seats};
-ghost use Rattle.wire_lanes.specs.Lanes.{AreTrails};
+ghost use Rattle.wire_board.specs.Lanes.{AreTrails};
 ghost use Rattle.wire_rounds.specs.Rounds.{ArePassesOf};
 ghost use Rattle.wire_core.specs.EndsAfter.{plain_ends};
 
+use crate::outcome::outcome_of;
 use crate::rounds::{Dealt, serve_round, workers_after};
 use std::alloc::Global;
 use std::sync::Wait;
 use std::thread::Threads;
 use wire_board::{Board, Seat};
 use wire_fates::{Fate, Settled};
-use wire_outcome::outcome_of;
 use wire_sched::{Gate, Lanes, Round};
 use wire_types::{Fault, Outcome, Proc};
 

@@ -110,30 +110,11 @@ pub fn why<R: Source, W: Sink>(
     ensures read_failed { result ≡ Err Read → R.failures reader.new ≡ one_more (R.failures reader.old) }
     ensures unfailed { IfErr result (λ e. e ≢ Memory → e ≢ Read → R.failures reader.new ≡ R.failures reader.old) }
 {
-    why_sized(alloc, Size::OfVersion, reader, writer, words)
-}
-
-/// Answers a question about two calls as `why` does, within the limits of this size.
-pub fn why_sized<R: Source, W: Sink>(
-    alloc: Global,
-    size: Size,
-    reader: &mut R,
-    writer: &mut W,
-    words: [&str; 4],
-) -> Result<(), Fault>
-    ensures ok { OnOk result (WritesAnswer size false (R.coming reader.old) (map (λ w. w.now) words.entry) (W.written writer.old) (W.written writer.new)) }
-    ensures quiet { OnOk result ((R.failures reader.new ≡ R.failures reader.old) × (W.failures writer.new ≡ W.failures writer.old)) }
-
-    // Either nothing was written, or the front of the answer that the fault counts.
-    ensures err { IfErr result (λ e. (StopsBeforeAnswer size (R.coming reader.old) (map (λ w. w.now) words.entry) e × (writer.new ≡ writer.old))
-        ⊎ (BreaksOffAnswer size false (R.coming reader.old) (map (λ w. w.now) words.entry) (W.written writer.old) (W.written writer.new) e
-        × (W.failures writer.new ≡ one_more (W.failures writer.old)))) }
-
-    // A failed read is answered only where the reader failed.
-    ensures read_failed { result ≡ Err Read → R.failures reader.new ≡ one_more (R.failures reader.old) }
-    ensures unfailed { IfErr result (λ e. e ≢ Memory → e ≢ Read → R.failures reader.new ≡ R.failures reader.old) }
-{
-    why_in_form(alloc, Form { size, json: false }, reader, writer, words)
+    let form = Form {
+        size: Size::OfVersion,
+        json: false,
+    };
+    why_in_form(alloc, form, reader, writer, words)
 }
 
 /// Answers a question about two calls as `why` does, within the limits of this form's size, and writes the answer in

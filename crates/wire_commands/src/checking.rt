@@ -138,33 +138,11 @@ pub fn check<R: Source, W: Sink>(
     ensures read_failed { result ≡ Err Read → R.failures reader.new ≡ one_more (R.failures reader.old) }
     ensures unfailed { IfErr result (λ e. e ≢ Memory → e ≢ Read → R.failures reader.new ≡ R.failures reader.old) }
 {
-    check_sized(rt, alloc, Size::OfVersion, reader, writer)
-}
-
-/// Checks a plan as `check` does, within the limits of this size.
-pub fn check_sized<R: Source, W: Sink>(
-    rt: &(impl Threads + Sync),
-    alloc: Global,
-    size: Size,
-    reader: &mut R,
-    writer: &mut W,
-) -> Result<Ended, Fault>
-    ensures ok { IfOk result (λ ended. WritesFindings size false (R.coming reader.old) ended (W.written writer.old) (W.written writer.new)) }
-    ensures quiet { OnOk result ((R.failures reader.new ≡ R.failures reader.old) × (W.failures writer.new ≡ W.failures writer.old)) }
-
-    // The headline: where it finds nothing, every interleaving that can't go on ends in one state, the plain run's.
-    ensures one_end { result ≡ Ok Clean → EndsInOneState size (R.coming reader.old) }
-
-    // Either nothing was written, or the front of the findings that the fault counts.
-    ensures err { IfErr result (λ e. (StopsBeforeFindings size (R.coming reader.old) e × (writer.new ≡ writer.old))
-        ⊎ (BreaksOffFindings size false (R.coming reader.old) (W.written writer.old) (W.written writer.new) e
-        × (W.failures writer.new ≡ one_more (W.failures writer.old)))) }
-
-    // A failed read is answered only where the reader failed.
-    ensures read_failed { result ≡ Err Read → R.failures reader.new ≡ one_more (R.failures reader.old) }
-    ensures unfailed { IfErr result (λ e. e ≢ Memory → e ≢ Read → R.failures reader.new ≡ R.failures reader.old) }
-{
-    check_in_form(rt, alloc, Form { size, json: false }, reader, writer)
+    let form = Form {
+        size: Size::OfVersion,
+        json: false,
+    };
+    check_in_form(rt, alloc, form, reader, writer)
 }
 
 /// Checks a plan as `check` does, within the limits of this form's size, and writes the findings in this

@@ -122,33 +122,10 @@ pub fn follow<R: Source, O: Source, W: Sink>(
     ensures unfailed { IfErr result (λ e. e ≢ Memory → e ≢ Read → (R.failures reader.new ≡ R.failures reader.old)
         × (O.failures order_reader.new ≡ O.failures order_reader.old)) }
 {
-    follow_sized(alloc, Size::OfVersion, reader, order_reader, writer)
-}
-
-/// Runs the steps of an order as `follow` does, within the limits of this size.
-pub fn follow_sized<R: Source, O: Source, W: Sink>(
-    alloc: Global,
-    size: Size,
-    reader: &mut R,
-    order_reader: &mut O,
-    writer: &mut W,
-) -> Result<(), Fault>
-    ensures ok { OnOk result (WritesFollowed size false (R.coming reader.old) (O.coming order_reader.old) (W.written writer.old) (W.written writer.new)) }
-    ensures quiet { OnOk result ((R.failures reader.new ≡ R.failures reader.old) × (O.failures order_reader.new ≡ O.failures order_reader.old)
-        × (W.failures writer.new ≡ W.failures writer.old)) }
-
-    // Either nothing was written, or the front of the report that the fault counts.
-    ensures err { IfErr result (λ e. (StopsBefore size (R.coming reader.old) (O.coming order_reader.old) e × (writer.new ≡ writer.old))
-        ⊎ (BreaksOffFollowed size false (R.coming reader.old) (O.coming order_reader.old) (W.written writer.old) (W.written writer.new) e
-        × (W.failures writer.new ≡ one_more (W.failures writer.old)))) }
-
-    // A failed read is answered only where a reader failed, that of the order only where the file reads.
-    ensures read_failed { result ≡ Err Read → (R.failures reader.new ≡ one_more (R.failures reader.old))
-        ⊎ ((O.failures order_reader.new ≡ one_more (O.failures order_reader.old)) × (scripts : Scripts) × ReadAs size (R.coming reader.old) scripts) }
-    ensures unfailed { IfErr result (λ e. e ≢ Memory → e ≢ Read → (R.failures reader.new ≡ R.failures reader.old)
-        × (O.failures order_reader.new ≡ O.failures order_reader.old)) }
-{
-    let form = Form { size, json: false };
+    let form = Form {
+        size: Size::OfVersion,
+        json: false,
+    };
     follow_in_form(alloc, form, reader, order_reader, writer)
 }
 

@@ -12,9 +12,9 @@ mod plain_run;
 mod reading;
 
 pub use answer::{Answer, write_answer};
-pub use asking::{read_pair, why, why_in_form, why_sized};
-pub use checking::{Ended, check, check_in_form, check_sized};
-pub use following::{follow, follow_in_form, follow_sized};
+pub use asking::{read_pair, why, why_in_form};
+pub use checking::{Ended, check, check_in_form};
+pub use following::{follow, follow_in_form};
 pub use form::Form;
 pub use migrating::{migrate, migrate_sized};
 pub use plain_run::{plain, read_scripts};

@@ -5,3 +5,6 @@ pub mod Shown
 pub mod Usages
 mod Lines
 mod Words
+pub mod Reasons
+pub mod Sets
+pub mod Texts

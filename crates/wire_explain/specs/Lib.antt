@@ -5,3 +5,5 @@ pub mod Place
 pub mod Hint
 pub mod Explained
 pub mod Order
+pub mod Stops
+pub mod Told

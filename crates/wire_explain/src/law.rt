@@ -1,6 +1,7 @@
-//! What holds of the usages, and of the words that may be meant.
+//! What holds of the usages, of the words that may be meant, and of what a rank is said to wait for.
 
 ghost use Rattle.wire_explain.specs.Format.{ChoicesAreWords, LinesHaveUsages, UsagesAreLines};
+ghost use Rattle.wire_explain.specs.Told.{AreReasons};
 
 /// Each line of the format has a usage, which begins with the first word of the line.
 #[tactic(auto, using(crate::proofs::Usages::lines_have_usages))]
@@ -18,4 +19,10 @@ pub fn usages_are_lines()
 #[tactic(auto, using(crate::proofs::Words::choices_are_words))]
 pub fn choices_are_words()
     ensures { ChoicesAreWords }
+{}
+
+/// What a rank is said to wait for is why it isn't ready.
+#[tactic(auto, using(crate::proofs::Reasons::reasons))]
+pub fn waits_are_reasons()
+    ensures { AreReasons }
 {}

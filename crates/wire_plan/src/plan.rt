@@ -25,28 +25,41 @@ use crate::index::Index;
 use crate::kind::Kind;
 use crate::meetings::{arrivals_at, fence_at, is_full};
 use crate::sources::{Sources, previous_event};
-use std::alloc::Global;
+use std::alloc::{AllocError, Global};
 use std::marker::Model;
 use wire_content::Scripts;
 use wire_fence::{FenceId, Fences};
 use wire_procmap::ProcMap;
 use wire_types::{CallAt, Event, Fault, Proc};
 
-/// Scripts, with their process map, their fences, the events of each process, and what they wait for.
-pub struct Plan {
+/// The tables of a plan.
+struct Tables {
     events: Events,
     fences: Fences,
     index: Index,
 }
 
 // By hand and not derived: so dropping one is a call, and the proof of a function that drops one doesn't take it apart.
-impl Drop for Plan {
+impl Drop for Tables {
     fn drop(self) {
-        let Plan {
+        let Tables {
             events: _,
             fences: _,
             index: _,
         } = self;
+    }
+}
+
+/// Scripts, with their process map, their fences, the events of each process, and what they wait for.
+pub struct Plan {
+    // In a box: what a value is laid out as stands in the proof of each function that holds one, or something with a reference to one.
+    tables: Box<Tables>,
+}
+
+// By hand and not derived: so dropping one is a call, and the proof of a function that drops one doesn't take it apart.
+impl Drop for Plan {
+    fn drop(self) {
+        let Plan { tables: _ } = self;
     }
 }
 
@@ -57,9 +70,10 @@ impl Model for Plan {
 
     ghost Value = { spec.Scripts };
 
-    ghost view = { λ p. p.events };
+    ghost view = { λ p. p.tables.value.events };
 
-    ghost invariant = { λ p. AreFencesOf p.events p.fences × IsIndexed p.events p.fences p.index };
+    ghost invariant = { λ p. AreFencesOf p.tables.value.events p.tables.value.fences
+        × IsIndexed p.tables.value.events p.tables.value.fences p.tables.value.index };
 }
 
 /// The fences of these events, and the index of the events.
@@ -81,11 +95,18 @@ impl Plan {
     {
         let events = Events::of(alloc, scripts)?;
         match tables_of(alloc, &events) {
-            Ok((fences, index)) => Ok(Plan {
-                events,
-                fences,
-                index,
-            }),
+            Ok((fences, index)) => {
+                let tables = Box::new(
+                    alloc,
+                    Tables {
+                        events,
+                        fences,
+                        index,
+                    },
+                )
+                .map_err(AllocError::from)?;
+                Ok(Plan { tables })
+            }
             Err(fault) => {
                 drop(events);
                 Err(fault)
@@ -98,42 +119,42 @@ impl Plan {
         ensures scripts { result.now ≡ self.now }
         ensures sound { IsSound self.now }
     {
-        self.events.scripts()
+        self.tables.events.scripts()
     }
 
     /// The process map of its scripts.
     pub fn map(&self) -> &ProcMap
         ensures { result.now ≡ map_of self.now }
     {
-        self.events.map()
+        self.tables.events.map()
     }
 
     /// The fences of its scripts.
     pub fn fences(&self) -> &Fences
         ensures { AreFencesOf self.now result.now }
     {
-        &self.fences
+        &self.tables.fences
     }
 
     /// How many processes there are.
     pub fn process_count(&self) -> u32
         ensures { result ≡ process_count (plan_of self.now) }
     {
-        self.events.process_count()
+        self.tables.events.process_count()
     }
 
     /// What the events of a process are, in their order; none where it isn't of the plan.
     pub fn events(&self, proc: Proc) -> &[Kind]
         ensures { map (kind_of self.now.sets) result.now ≡ kinds (plan_of self.now) proc.number }
     {
-        self.events.events(proc)
+        self.tables.events.events(proc)
     }
 
     /// How many events a process has, none where it isn't of the plan.
     pub fn event_count(&self, proc: Proc) -> u32
         ensures { result ≡ event_count (plan_of self.now) proc.number }
     {
-        self.events.event_count(proc)
+        self.tables.events.event_count(proc)
     }
 
     /// How many events all processes have.
@@ -141,7 +162,7 @@ impl Plan {
         ensures total { result ≡ event_total (plan_of self.now) }
         ensures fits { result < 2 ^ 32 }
     {
-        self.events.event_total()
+        self.tables.events.event_total()
     }
 
     /// What an event of the plan is.
@@ -149,7 +170,7 @@ impl Plan {
         requires { event.at < event_count (plan_of self.now) event.proc.number }
         ensures { kind_at (plan_of self.now) event.proc.number event.at ≡ Some (kind_of self.now.sets result) }
     {
-        self.events.kind(event)
+        self.tables.events.kind(event)
     }
 
     /// The call that an event of the plan belongs to.
@@ -157,7 +178,7 @@ impl Plan {
         requires { event.at < event_count (plan_of self.now) event.proc.number }
         ensures { result ≡ call_of (plan_of self.now) (event_of event) }
     {
-        self.events.call_of(event)
+        self.tables.events.call_of(event)
     }
 
     /// The first event of a call of the plan: the one event of most calls, the arrival of a fence.
@@ -165,7 +186,7 @@ impl Plan {
         requires { call.call < length (calls_of (plan_of self.now) call.proc.number) }
         ensures { event_of result ≡ first_event (plan_of self.now) call }
     {
-        self.events.first_event(call)
+        self.tables.events.first_event(call)
     }
 
     /// The number of the node of a process of the plan.
@@ -173,7 +194,7 @@ impl Plan {
         requires { proc.number < process_count (plan_of self.now) }
         ensures { result ≡ node_of (plan_of self.now) proc.number }
     {
-        self.events.node_of(proc)
+        self.tables.events.node_of(proc)
     }
 
     // Whether a get of a key isn't ruled out by the scripts.
@@ -181,9 +202,9 @@ impl Plan {
         ensures { result ≡ may_come (plan_of self.now) (event_of event) (Some (Get owner.number key)) }
     {
         if owner == event.proc {
-            self.index.keys.is_put_before(owner, key, event.at)
+            self.tables.index.keys.is_put_before(owner, key, event.at)
         } else {
-            self.index.keys.may_get(owner, key)
+            self.tables.index.keys.may_get(owner, key)
         }
     }
 
@@ -196,7 +217,7 @@ impl Plan {
     {
         match self.kind(event) {
             Kind::Get { owner, key } => self.may_get(event, owner, key),
-            Kind::Leave { .. } => is_full(&self.events, &self.fences, event),
+            Kind::Leave { .. } => is_full(&self.tables.events, &self.tables.fences, event),
             _ => true,
         }
     }
@@ -211,10 +232,10 @@ impl Plan {
                 if owner == event.proc {
                     None
                 } else {
-                    self.index.keys.feeding_commit(owner, key)
+                    self.tables.index.keys.feeding_commit(owner, key)
                 }
             }
-            Kind::LookupWait { name } => self.index.names.once_published(name),
+            Kind::LookupWait { name } => self.tables.index.names.once_published(name),
             _ => None,
         }
     }
@@ -228,9 +249,9 @@ impl Plan {
     {
         match self.kind(event) {
             Kind::Leave { .. } => arrivals_at(
-                &self.index.meetings,
-                &self.events,
-                &self.fences,
+                &self.tables.index.meetings,
+                &self.tables.events,
+                &self.tables.fences,
                 event,
             ),
             _ => &[],
@@ -261,7 +282,7 @@ impl Plan {
     pub fn put_count(&self, owner: Proc, key: u32) -> u32
         ensures { result ≡ put_count (plan_of self.now) owner.number key (event_count (plan_of self.now) owner.number) }
     {
-        self.index.keys.put_count(owner, key)
+        self.tables.index.keys.put_count(owner, key)
     }
 
     /// The event by which a process puts a key first; `None` where it never does.
@@ -269,7 +290,7 @@ impl Plan {
         ensures { MatchOption result (put_count (plan_of self.now) owner.number key (event_count (plan_of self.now) owner.number) ≡ 0)
             (λ x. (x.proc ≡ owner) × IsFirstPut (plan_of self.now) (event_of x) key) }
     {
-        self.index.keys.first_put(owner, key)
+        self.tables.index.keys.first_put(owner, key)
     }
 
     /// The commit that stores a key of a process: the first one after its first put of the key; `None`
@@ -278,7 +299,7 @@ impl Plan {
         ensures { MatchOption result ((x : runs.Event) → x.proc ≡ owner.number → Stores (plan_of self.now) x key → ⊥)
             (λ x. (x.proc ≡ owner) × Stores (plan_of self.now) (event_of x) key) }
     {
-        self.index.keys.store_of(owner, key)
+        self.tables.index.keys.store_of(owner, key)
     }
 
     /// The first arrival of a process, from its event of this number on, at a fence that brings a key of
@@ -291,9 +312,9 @@ impl Plan {
             IsNextDelivery (plan_of self.now) owner.number key node from (option_map (λ e. e.at) result) }
     {
         next_delivery(
-            &self.events,
-            &self.fences,
-            &self.index,
+            &self.tables.events,
+            &self.tables.fences,
+            &self.tables.index,
             Delivery { owner, key, node },
             from,
         )
@@ -306,8 +327,8 @@ impl Plan {
         ensures { IsPutOnce (plan_of self.now) owner.number key → AreGetDeliveries (plan_of self.now) owner.number key node (map event_of result.now) }
     {
         delivering_gets(
-            &self.index.gets,
-            &self.index.keys,
+            &self.tables.index.gets,
+            &self.tables.index.keys,
             Delivery { owner, key, node },
             self.event_count(owner),
         )
@@ -318,28 +339,28 @@ impl Plan {
         ensures { MatchOption result ((x : runs.Event) → PublishesOnce (plan_of self.now) x name → ⊥)
             (λ x. PublishesOnce (plan_of self.now) (event_of x) name) }
     {
-        self.index.names.once_published(name)
+        self.tables.index.names.once_published(name)
     }
 
     /// The calls on a name alone, in process order. Each name is a shard of its own.
     pub fn name_calls(&self, name: u32) -> &[Event]
         ensures { AreNameCalls (plan_of self.now) name (map event_of result.now) }
     {
-        self.index.names.calls(name)
+        self.tables.index.names.calls(name)
     }
 
     /// The publishes of a name, in process order.
     pub fn publishes(&self, name: u32) -> &[Event]
         ensures { ArePublishes (plan_of self.now) name (map event_of result.now) }
     {
-        self.index.names.publishes(name)
+        self.tables.index.names.publishes(name)
     }
 
     /// The calls of a process that take away all names that it has published, in their order.
     pub fn sweeps(&self, proc: Proc) -> &[Event]
         ensures { AreSweeps (plan_of self.now) proc.number (map event_of result.now) }
     {
-        self.index.names.sweeps(proc)
+        self.tables.index.names.sweeps(proc)
     }
 }
 
@@ -350,7 +371,7 @@ pub fn fence_of(plan: &Plan, fences: &Fences, event: Event) -> FenceId
     requires half { is_of_fence (kind (plan_of plan.now) (event_of event)) ≡ true }
     ensures { IsMet plan.now fences.now (event_of event) result.number }
 {
-    fence_at(&plan.events, fences, event)
+    fence_at(&plan.tables.events, fences, event)
 }
 
 impl PartialEq for Plan {

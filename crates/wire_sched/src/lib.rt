@@ -8,5 +8,5 @@ mod shift;
 pub use gate::{Gate, OpenGate};
 pub use serve::{Serves, serve_pieces, work, work_locked};
 pub use shift::{Crew, take_turns};
-pub use wire_lanes::{Lane, Lanes, Served};
+pub use wire_board::{Lane, Lanes, Served};
 pub use wire_rounds::{Pass, Piece, Round, Take};

@@ -6,7 +6,7 @@ ghost use Rattle.wire_rounds.specs.Taken.{TookOneMore};
 
 use crate::gate::Gate;
 use std::sync::Wait;
-use wire_lanes::{Lanes, Served};
+use wire_board::{Lanes, Served};
 use wire_locked::LockedCore;
 use wire_rounds::{Pass, Piece, Round, Take};
 use wire_types::Proc;

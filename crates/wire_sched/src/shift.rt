@@ -7,7 +7,7 @@ use crate::gate::Gate;
 use crate::serve::{Serves, Victim, next_piece, serve_pieces};
 use std::alloc::{AllocError, Global};
 use std::sync::Wait;
-use wire_lanes::Served;
+use wire_board::Served;
 use wire_rounds::{Pass, Round};
 use wire_types::{Event, Proc};
 

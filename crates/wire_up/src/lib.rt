@@ -10,8 +10,8 @@ pub use wire_command_line::{
     RacesRequest, Refusal, ReplayRequest, Request, WhyRequest, asked, read_request, workers_of,
 };
 pub use wire_commands::{
-    Ended, Form, check, check_in_form, check_sized, follow, follow_in_form, follow_sized, migrate,
-    migrate_sized, plain, why, why_in_form, why_sized,
+    Ended, Form, check, check_in_form, follow, follow_in_form, migrate, migrate_sized, plain, why,
+    why_in_form,
 };
 pub use wire_script::Size;
 pub use wire_witness_command::{Part, Tries, witness, witnesses, witnesses_in_form};

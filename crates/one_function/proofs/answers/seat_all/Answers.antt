@@ -1,5 +1,5 @@
 use Rattle.std.proofs.lemmas.Result.{IfOk-weaker}
-use Rattle.wire_lanes.proofs.Opening.{new_seats}
+use Rattle.wire_board.proofs.Opening.{new_seats}
 use Rattle.one_function.proofs.answers.seat_all.Goals as goal
 
 pub returns-clause-seats : goal.returns-clause-seats

@@ -1,9 +1,0 @@
-use Rattle.std.proofs.Common.{subst}
-use Rattle.wire_lanes.specs.Lanes.{IsTrail}
-use Rattle.wire_lanes.proofs.Trails.{trail_kept}
-use Rattle.wire_lanes.proofs.lane.Lane.trail.Goals as goal
-
-pub returns-clause-trail : goal.returns-clause-trail
-returns-clause-trail c =
-    let lane = c.self.inside in
-    subst IsTrail c.self.view_is (trail_kept (record { seat = lane.seat; trail = lane.trail.items }) lane.board.now lane.settled.now _ c.self.invariant.0)

@@ -1,9 +1,0 @@
-use Rattle.std.proofs.Common.{◌≡◌, ◌+◌, ◌≤◌, vec_len}
-use Rattle.std.specs.Prelude.{vec_capacity}
-use Rattle.wire_lanes.proofs.lanes.unlock_lanes.Given as goal
-
-abbrev pub invariant-locks : goal.invariant-locks
-invariant-locks l = (vec_len l.lanes + vec_len l.locked ≡ vec_len l.fn.locked) × (vec_len l.fn.locked ≤ vec_capacity l.lanes)
-
-abbrev pub decreases-locks : goal.decreases-locks
-decreases-locks l = vec_len l.locked

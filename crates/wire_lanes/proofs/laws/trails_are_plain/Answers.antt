@@ -1,5 +1,0 @@
-use Rattle.wire_lanes.proofs.PlainTrails.{trails_are_plain}
-use Rattle.wire_lanes.proofs.laws.trails_are_plain.Goals as goal
-
-pub returns : goal.returns
-returns c = trails_are_plain

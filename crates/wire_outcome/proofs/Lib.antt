@@ -1,2 +1,0 @@
-pub mod AtRest
-pub mod Plainly
