@@ -1,7 +1,7 @@
 -- Lines are written one process, or one call, after the other.
 use Rattle.std.proofs.Common.{◌≡◌, ◌∙◌, ap, sym, ℕ, ◌+◌, ◌<◌, List, [], ◌∷◌, ◌++◌, Bool, true, false, cond, length, map, filter, flat_map, drop, drop-cons, get_or, add-one, append_assoc, append-nil}
 use Rattle.std.proofs.lemmas.Grind.{flat_map-append}
-use Rattle.wire_spelling.specs.Said as said
+use Rattle.wire_types.specs.Said as said
 use Rattle.wire_content.specs.Canonical.{line_text}
 
 opened : {A : Type 0} (xs : List A) (n : ℕ) (x : A) → n < length xs → x ≡ get_or xs n x → drop n xs ≡ x ∷ drop (n + 1) xs

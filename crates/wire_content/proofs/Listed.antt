@@ -5,7 +5,7 @@ use Rattle.std.specs.Prelude.{IsSome, option_to_list}
 use Rattle.std.specs.List.{join_with_byte}
 use Rattle.std.proofs.lemmas.List.{same_from_push}
 use Rattle.std.proofs.lemmas.Grind.{flat_map-append}
-use Rattle.wire_spelling.specs.Said.{Item, spelled_item}
+use Rattle.wire_types.specs.Said.{Item, spelled_item}
 use Rattle.wire_content.specs.Scripts.{Scripts}
 use Rattle.wire_content.specs.Canonical.{process_at, is_whole, process_items, member_items, items_text}
 

@@ -7,7 +7,7 @@ use Rattle.wire_runs.specs.Fences.{is_member}
 use Rattle.wire_types.specs.declared.Call.{Call}
 use Rattle.wire_types.specs.declared.Call.TheVariants.{Put, Commit, Fence, Get, GetNow}
 use Rattle.wire_types.specs.declared.Call.TheVariants.{Publish, Lookup, LookupWait, Unpublish, UnpublishAll}
-use Rattle.wire_spelling.specs.Said as said
+use Rattle.wire_types.specs.Said as said
 use Rattle.wire_content.specs.Scripts.{Process, Scripts, text_at, set_at}
 
 -- the process of a number

@@ -1,6 +1,6 @@
 pub use Rattle.wire_runs.specs.Plan
 pub use Rattle.wire_runs.specs.Fences
-pub use Rattle.wire_spelling.specs.Said
+pub use Rattle.wire_types.specs.Said
 pub mod Process
 pub mod Map
 pub mod Scripts

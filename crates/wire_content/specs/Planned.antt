@@ -8,7 +8,7 @@ use Rattle.wire_types.specs.declared.Call.{Call}
 use Rattle.wire_types.specs.declared.Call.TheVariants.{Put, Commit, Fence, Get, GetNow, Publish, Lookup, LookupWait, Unpublish, UnpublishAll}
 use Rattle.wire_types.specs.declared.Reply.{Reply}
 use Rattle.wire_types.specs.declared.Status.TheVariants.{NotFound, BadParam}
-use Rattle.wire_spelling.specs.Said.{is_reserved}
+use Rattle.wire_types.specs.Said.{is_reserved}
 use Rattle.wire_content.specs.Scripts.{Process, Scripts, text_at, set_at}
 use Rattle.wire_content.specs.Reserved.{reserved_reply}
 

@@ -7,9 +7,9 @@ use Rattle.std.specs.Str.{bytes_eq}
 use Rattle.wire_types.specs.declared.Call.{Call}
 use Rattle.wire_types.specs.contracts.call.CallPartialEq.TheImpl as call
 use Rattle.wire_types.specs.contracts.call.CallPartialEq.TheImpl.Laws as law
-use Rattle.wire_spelling.specs.declared.Version.{Version}
-use Rattle.wire_spelling.specs.contracts.version.VersionPartialEq.TheImpl as version
-use Rattle.wire_spelling.specs.contracts.version.VersionPartialEq.TheImpl.Laws as version_law
+use Rattle.wire_types.specs.declared.Version.{Version}
+use Rattle.wire_types.specs.contracts.version.VersionPartialEq.TheImpl as version
+use Rattle.wire_types.specs.contracts.version.VersionPartialEq.TheImpl.Laws as version_law
 use Rattle.wire_content.specs.Scripts.{Process, Scripts}
 
 abbrev pub same_call : Call → Call → Bool

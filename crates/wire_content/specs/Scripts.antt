@@ -7,8 +7,8 @@ use Rattle.wire_runs.specs.Fences.{is_member}
 use Rattle.wire_types.specs.declared.Call.{Call}
 use Rattle.wire_types.specs.declared.Call.TheVariants.{Fence, Get, GetNow, Publish, Lookup, LookupWait, Unpublish}
 use Rattle.wire_types.specs.declared.Proc.{Proc}
-use Rattle.wire_spelling.specs.declared.Version.{Version}
-use Rattle.wire_spelling.specs.declared.Version.TheVariants.{One, Two}
+use Rattle.wire_types.specs.declared.Version.{Version}
+use Rattle.wire_types.specs.declared.Version.TheVariants.{One, Two}
 use Rattle.wire_content.specs.Map.{job_at, rank_of}
 pub use Rattle.wire_content.specs.Process.{Process}
 

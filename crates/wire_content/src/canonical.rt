@@ -1,8 +1,8 @@
 //! The canonical text of scripts.
 
 ghost use Rattle.std.specs.Prelude.{◌≡◌, ◌++◌, ◌∷◌, [], map, flat_map, codes, OnOk, IfOk, IfErr};
-ghost use Rattle.wire_spelling.specs.Said as said;
-ghost use Rattle.wire_spelling.specs.Said.{spelled_scope, spelled_version};
+ghost use Rattle.wire_types.specs.Said as said;
+ghost use Rattle.wire_types.specs.Said.{spelled_scope, spelled_version};
 ghost use Rattle.wire_content.specs.Scripts.{text_at, set_at};
 ghost use Rattle.wire_content.specs.Canonical.{process_at, process_text, words_text, line_text, set_said};
 ghost use Rattle.wire_content.specs.Canonical.{call_said, process_said, job_said, jobs_said, keep_said};
@@ -11,8 +11,7 @@ use crate::process::Process;
 use crate::scripts::Scripts;
 use crate::set_word::{job_and_rank, set_word};
 use std::alloc::{AllocError, Global};
-use wire_spelling::{Version, proc_word};
-use wire_types::{Call, Fault, Proc, Scope};
+use wire_types::{Call, Fault, Proc, Scope, Version, proc_word};
 
 /// Writes a line: its words with a space between each two, and a line feed.
 fn write_line(out: &mut Vec<u8>, first: &[u8], others: &[&[u8]]) -> Result<(), AllocError>

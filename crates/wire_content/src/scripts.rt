@@ -9,7 +9,7 @@ use crate::process::Process;
 use crate::sets::Sets;
 use crate::texts::Texts;
 use std::marker::Model;
-use wire_spelling::Version;
+use wire_types::Version;
 
 /// What calls name, numbered as first seen: keys of puts and gets, published names, values of puts and
 /// publishes, and the sets of processes of fences.

@@ -5,16 +5,15 @@ ghost use Rattle.std.specs.Prelude.{OnOk, IfOk};
 ghost use Rattle.std.specs.List.{list_any};
 ghost use Rattle.std.specs.Str.{bytes_eq as same_members};
 ghost use Rattle.wire_runs.specs.Fences.{is_member};
-ghost use Rattle.wire_spelling.specs.Said as said;
-ghost use Rattle.wire_spelling.specs.Said.{spelled_set};
+ghost use Rattle.wire_types.specs.Said as said;
+ghost use Rattle.wire_types.specs.Said.{spelled_set};
 ghost use Rattle.wire_content.specs.Scripts.{numbers_of, set_at};
 ghost use Rattle.wire_content.specs.Canonical.{process_at, rank_at, job_members, is_whole};
 ghost use Rattle.wire_content.specs.Canonical.{process_items, set_items, set_said, items_text};
 
 use crate::scripts::Scripts;
 use std::alloc::{AllocError, Global};
-use wire_spelling::write_proc;
-use wire_types::Proc;
+use wire_types::{Proc, write_proc};
 
 /// The numbers of a process's job and its rank there, 0 and 0 where there is no such process.
 pub fn job_and_rank(scripts: &Scripts, proc: Proc) -> (u32, u32)

@@ -28,7 +28,8 @@ pub struct FenceId {
 /// fence over the set.
 pub struct Fences {
     sets: Vec<Vec<Proc>>,
-    reached: HashSet<(u32, u32)>,
+    // In a box, which keeps small what has a reference to fences: a `HashSet` has many parts.
+    reached: Box<HashSet<(u32, u32)>>,
     rows: Vec<FenceDraft>,
     numbers: Vec<Vec<Option<u32>>>,
 }
@@ -56,7 +57,7 @@ impl Model for Fences {
     ghost view = { λ f. record {
       fences = map (info_of (map (λ v. numbers_of v.items) f.sets.items)) f.rows.items;
       numbers = map (λ v. v.items) f.numbers.items;
-      reached = f.reached.keys;
+      reached = f.reached.value.keys;
     } };
 }
 
@@ -95,16 +96,16 @@ fn nodes_of_sets(
     alloc: Global,
     map: &ProcMap,
     sets: &Sets,
-) -> Result<HashSet<(u32, u32)>, AllocError>
+) -> Result<Box<HashSet<(u32, u32)>>, AllocError>
     requires { (set k : ℕ) → k < length (set_at sets.now set) → slice_index_or (set_at sets.now set) k 0 < row_count map.now }
     ensures { IfOk result (λ reached. (s : TheScripts) (set node : ℕ) → map.now ≡ map_of s
-        → is_noted reached.keys set node ≡ has_node (plan_of s) (set_at sets.now set) node) }
+        → is_noted reached.value.keys set node ≡ has_node (plan_of s) (set_at sets.now set) node) }
 {
     let mut reached = HashSet::new(alloc);
     for set in 0..sets.len() {
         note_nodes(&mut reached, map, set, sets.members(set))?;
     }
-    Ok(reached)
+    Ok(Box::new(alloc, reached)?)
 }
 
 // Whether a set and a node are noted.

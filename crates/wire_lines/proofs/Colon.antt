@@ -4,7 +4,7 @@ use Rattle.std.specs.Prelude.{◌==◌, not, nat_lt, ◌&&◌, ◌||◌, positio
 use Rattle.std.specs.List.{prefix_len, list_all}
 use borrow.Author.Tests.{ltb-true, ltb-false, eqb-true}
 use Rattle.std.proofs.lemmas.List.{take_all}
-use Rattle.wire_spelling.specs.Said.{is_name_byte, is_word_byte}
+use Rattle.wire_types.specs.Said.{is_name_byte, is_word_byte}
 
 abbrev pub colon : ℕ → Bool
 colon b = b == 58

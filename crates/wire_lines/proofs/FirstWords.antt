@@ -1,10 +1,10 @@
 -- Each line that can be said begins with the word of a kind.
 use Rattle.std.proofs.Common.{◌≡◌, refl, ℕ, List, [], ◌∷◌, map, get_or}
 use Rattle.std.specs.Borrow.{Bor}
-use Rattle.wire_spelling.specs.Said.{Said, Header, Keep, Node, Job, Rank, Calls, Call, first_word, first_of_call, verb_in}
+use Rattle.wire_types.specs.Said.{Said, Header, Keep, Node, Job, Rank, Calls, Call, first_word, first_of_call, verb_in}
 use Rattle.wire_lines.specs.Kind.{text_of}
-use Rattle.wire_spelling.specs.Verbs.{text_of_verb}
-use Rattle.wire_spelling.specs.declared.verb.Verb.{Verb}
+use Rattle.wire_types.specs.Verbs.{text_of_verb}
+use Rattle.wire_types.specs.declared.verb.Verb.{Verb}
 use Rattle.wire_lines.specs.declared.line.Kind.{Kind}
 use Rattle.wire_lines.specs.declared.line.Kind.TheVariants as kind
 

@@ -11,9 +11,9 @@ use Rattle.std.proofs.lemmas.List.Folds.{list_all-append}
 use Rattle.std.proofs.lemmas.List.Splits.{join_with_byte-slice_split, length-slice_split}
 use Rattle.std.proofs.lemmas.Grind.{common_steps}
 use Rattle.std.specs.Borrow.{Bor}
-use Rattle.wire_spelling.specs.Said.{is_name, is_name_byte, is_word_byte}
+use Rattle.wire_types.specs.Said.{is_name, is_name_byte, is_word_byte}
 use Rattle.wire_lines.proofs.Colon.{plain, names_plain, cut_once, and_left, and_right}
-use Rattle.wire_spelling.specs.Said.{Item, One, Every, Set, Own, Listed, spelled_item, IsLawfulItem, AreLawful, spelled_set, IsLawfulSet}
+use Rattle.wire_types.specs.Said.{Item, One, Every, Set, Own, Listed, spelled_item, IsLawfulItem, AreLawful, spelled_set, IsLawfulSet}
 
 abbrev pub no_comma : ℕ → Bool
 no_comma b = not (b == 44)

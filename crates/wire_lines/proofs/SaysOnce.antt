@@ -3,15 +3,15 @@ use Rattle.std.proofs.Common.{◌≡◌, ◌∙◌, ap, sym, refl, subst, true�
 use Rattle.std.specs.Str.{bytes_eq}
 use Rattle.std.proofs.lemmas.Fmt.{decimal_injective}
 use Rattle.std.specs.List.{slice_split}
-use Rattle.wire_spelling.specs.Said.{Item, One, Every, Set, Own, Listed, Call, Put, Commit, Fence, Get, GetNow, Publish, Lookup}
-use Rattle.wire_spelling.specs.Said.{LookupWait, Unpublish, UnpublishAll, Said, Header, Keep, Node, Job, Rank, Calls}
-use Rattle.wire_spelling.specs.Said.{IsLawful, IsLawfulCall, IsLawfulSet, IsLawfulItem, AreLawful, first_word, other_words, first_of_call}
-use Rattle.wire_spelling.specs.Said.{others_of_call, collect_words, spelled_proc, spelled_scope, spelled_version}
-use Rattle.wire_spelling.specs.Said.{spelled_item, spelled_set, is_name, is_key}
+use Rattle.wire_types.specs.Said.{Item, One, Every, Set, Own, Listed, Call, Put, Commit, Fence, Get, GetNow, Publish, Lookup}
+use Rattle.wire_types.specs.Said.{LookupWait, Unpublish, UnpublishAll, Said, Header, Keep, Node, Job, Rank, Calls}
+use Rattle.wire_types.specs.Said.{IsLawful, IsLawfulCall, IsLawfulSet, IsLawfulItem, AreLawful, first_word, other_words, first_of_call}
+use Rattle.wire_types.specs.Said.{others_of_call, collect_words, spelled_proc, spelled_scope, spelled_version}
+use Rattle.wire_types.specs.Said.{spelled_item, spelled_set, is_name, is_key}
 use Rattle.wire_types.specs.declared.Scope.{Scope}
 use Rattle.wire_types.specs.declared.Scope.TheVariants.{Local, Remote, Global}
-use Rattle.wire_spelling.specs.declared.version.Version.{Version}
-use Rattle.wire_spelling.specs.declared.version.Version.TheVariants as version
+use Rattle.wire_types.specs.declared.version.Version.{Version}
+use Rattle.wire_types.specs.declared.version.Version.TheVariants as version
 use Rattle.wire_lines.specs.Once.{SaysOnce}
 use Rattle.wire_lines.proofs.Colon.{names_plain, cut_once, and_right, colon_none}
 use Rattle.wire_lines.proofs.Joined.{comma, cut_items, decimal_digits, no_colon_item}

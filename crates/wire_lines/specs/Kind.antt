@@ -1,6 +1,6 @@
 -- The first word of each kind of line.
 use Rattle.std.specs.Prelude.{ℕ, List, codes}
-use Rattle.wire_spelling.specs.Verbs.{text_of_verb}
+use Rattle.wire_types.specs.Verbs.{text_of_verb}
 use Rattle.wire_lines.specs.declared.line.Kind.{Kind}
 use Rattle.wire_lines.specs.declared.line.Kind.TheVariants.{Header, Keep, Node, Job, Rank, Calls}
 

@@ -1,7 +1,7 @@
 -- What a parsed line says, without where its parts lie.
 use Rattle.std.specs.Prelude.{map}
-use Rattle.wire_spelling.specs.Said.{Call, Said}
-use Rattle.wire_spelling.specs.Said as said
+use Rattle.wire_types.specs.Said.{Call, Said}
+use Rattle.wire_types.specs.Said as said
 use Rattle.wire_lines.specs.declared.sets.Item.{Item}
 use Rattle.wire_lines.specs.declared.sets.Item.TheVariants.{One, Every}
 use Rattle.wire_lines.specs.declared.sets.Set.{Set}

@@ -2,18 +2,17 @@
 
 ghost use Rattle.std.specs.Prelude.{[], ◌≡◌, ◌≢◌, ℕ, ◌^◌, ◌<◌, ◌↔◌, List, ◌∷◌, Bool, IsTrue, map, codes, IfOk, IfSome, IfNone};
 ghost use Rattle.wire_types.specs.declared.Scope.{Scope};
-ghost use Rattle.wire_spelling.specs.Said as spec;
-ghost use Rattle.wire_spelling.specs.Said.{spelled_proc, spelled_scope, spelled_set, collect_words, IsLawfulSet, IsLawfulCall};
-ghost use Rattle.wire_spelling.specs.Said.{first_of_call, others_of_call};
+ghost use Rattle.wire_types.specs.Said as spec;
+ghost use Rattle.wire_types.specs.Said.{spelled_proc, spelled_scope, spelled_set, collect_words, IsLawfulSet, IsLawfulCall};
+ghost use Rattle.wire_types.specs.Said.{first_of_call, others_of_call};
 ghost use Rattle.wire_lines.specs.Shown.{call_by};
-ghost use Rattle.wire_spelling.specs.Verbs.{text_of_verb};
-ghost use Rattle.wire_spelling.specs.declared.verb.Verb.{Verb};
+ghost use Rattle.wire_types.specs.Verbs.{text_of_verb};
+ghost use Rattle.wire_types.specs.declared.verb.Verb.{Verb};
 
 use crate::sets::{Set, set_of};
 use crate::word::{ProcName, is_key, is_text, is_word, proc_of, scope_of};
 use std::alloc::{AllocError, Global};
-use wire_spelling::Verb;
-use wire_types::Scope;
+use wire_types::{Scope, Verb};
 
 /// A call line, with its parts as they stand in the text.
 pub enum CallLine<'a> {

@@ -1,19 +1,19 @@
 //! What one line says.
 
 ghost use Rattle.std.specs.Prelude.{[], ◌≡◌, ◌≢◌, ℕ, List, ◌∷◌, IsTrue, map, IfOk, IfSome, IfNone};
-ghost use Rattle.wire_spelling.specs.Said as spec;
-ghost use Rattle.wire_spelling.specs.Said.{Said, Header, Says, IsLawful, first_word, other_words};
-ghost use Rattle.wire_spelling.specs.Verbs.{text_of_verb};
+ghost use Rattle.wire_types.specs.Said as spec;
+ghost use Rattle.wire_types.specs.Said.{Said, Header, Says, IsLawful, first_word, other_words};
+ghost use Rattle.wire_types.specs.Verbs.{text_of_verb};
 ghost use Rattle.wire_lines.specs.Shown.{said_by};
 ghost use Rattle.wire_lines.specs.Kind.{text_of};
 ghost use Rattle.wire_lines.specs.Once.{SaysOnce};
 ghost use Rattle.wire_lines.specs.declared.line.Kind.{Kind};
-ghost use Rattle.wire_spelling.specs.declared.version.Version.{Version};
+ghost use Rattle.wire_types.specs.declared.version.Version.{Version};
 
 use crate::call::{CallLine, call_of, verb_of};
 use crate::word::{is_name, is_text};
 use std::alloc::{AllocError, Global};
-use wire_spelling::{Verb, Version};
+use wire_types::{Verb, Version};
 
 /// A line, with its parts as they stand in the text.
 #[derive(Drop)]

@@ -2,8 +2,8 @@
 
 ghost use Rattle.std.specs.Prelude.{◌≡◌, ◌≢◌, ◌==◌, List, map, [], ◌∷◌, IfOk, IfSome, IfNone};
 ghost use Rattle.std.specs.List.{slice_split};
-ghost use Rattle.wire_spelling.specs.Said as spec;
-ghost use Rattle.wire_spelling.specs.Said.{spelled_item, spelled_set, IsLawfulItem, AreLawful, IsLawfulSet};
+ghost use Rattle.wire_types.specs.Said as spec;
+ghost use Rattle.wire_types.specs.Said.{spelled_item, spelled_set, IsLawfulItem, AreLawful, IsLawfulSet};
 ghost use Rattle.wire_lines.specs.Shown.{item_by, set_by};
 
 use crate::word::{ProcName, cut_at_colon, is_name, is_text, number_of};

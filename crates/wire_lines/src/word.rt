@@ -4,8 +4,8 @@ ghost use Rattle.std.specs.List.{list_all};
 ghost use Rattle.std.specs.Prelude.{not, true, position, ◌==◌, ◌≡◌, ◌≢◌, ℕ, ◌+◌, ◌^◌, ◌<◌, ◌↔◌, List, ◌∷◌, ◌++◌, IsTrue, decimal, codes, get_or, length};
 ghost use Rattle.std.specs.Prelude.{IfSome, IfNone};
 ghost use Rattle.wire_types.specs.declared.Scope.{Scope};
-ghost use Rattle.wire_spelling.specs.Said as spec;
-ghost use Rattle.wire_spelling.specs.Said.{spelled_proc, spelled_scope};
+ghost use Rattle.wire_types.specs.Said as spec;
+ghost use Rattle.wire_types.specs.Said.{spelled_proc, spelled_scope};
 
 use std::str;
 use wire_types::Scope;

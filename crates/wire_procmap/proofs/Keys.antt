@@ -9,7 +9,7 @@ use Rattle.std.proofs.lemmas.Slice.Eq.{bytes_eq-Decides}
 use Rattle.wire_types.specs.Replies.{bare, success_with}
 use Rattle.wire_types.specs.declared.Status.TheVariants.{NotFound}
 use Rattle.wire_types.specs.declared.Value.TheVariants.{Number, NodeName}
-use Rattle.wire_spelling.specs.Said.{is_reserved}
+use Rattle.wire_types.specs.Said.{is_reserved}
 use Rattle.wire_content.specs.Scripts.{Process, text_at}
 use Rattle.wire_content.specs.Map.{job_at, node_at, rank_of, local_rank_of, node_rank_of, size_of_job}
 use Rattle.wire_content.specs.Reserved.{reserved_reply}

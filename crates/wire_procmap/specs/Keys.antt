@@ -1,7 +1,7 @@
 -- What a get of a key asks of the process map.
 use Rattle.std.specs.Prelude.{ℕ, Bool, true, false, List, codes, if◌then◌else◌}
 use Rattle.std.specs.Str.{bytes_eq}
-use Rattle.wire_spelling.specs.Said.{is_reserved}
+use Rattle.wire_types.specs.Said.{is_reserved}
 use Rattle.wire_procmap.specs.declared.key.KeyKind.{KeyKind}
 use Rattle.wire_procmap.specs.declared.key.KeyKind.TheVariants.{Plain, Rank, LocalRank, NodeRank, JobSize, Hostname, Other}
 

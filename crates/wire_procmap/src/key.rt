@@ -5,7 +5,7 @@ ghost use Rattle.wire_procmap.specs.Keys as keys;
 
 use std::alloc::{AllocError, Global};
 use wire_content::Texts;
-use wire_spelling::is_reserved;
+use wire_types::is_reserved;
 
 /// What a get of a key asks of the process map.
 #[derive(Clone, Copy)]

@@ -1,7 +1,7 @@
 //! The process map.
 
 ghost use Rattle.std.specs.Prelude.{◌≡◌, ℕ, ◌<◌, IfOk, IsOkUnless, IfSome, IfNone};
-ghost use Rattle.wire_spelling.specs.Said.{is_reserved};
+ghost use Rattle.wire_types.specs.Said.{is_reserved};
 ghost use Rattle.wire_content.specs.Scripts.{Scripts, text_at};
 ghost use Rattle.wire_content.specs.Map.{job_at, node_at, rank_of, local_rank_of, node_rank_of, size_of_job};
 ghost use Rattle.wire_content.specs.Reserved.{reserved_reply};

@@ -3,3 +3,5 @@ pub mod Fault
 pub mod Front
 pub mod Outcome
 pub mod Replies
+pub mod Verbs
+pub mod Said

@@ -1,5 +1,6 @@
 //! The words that all crates of `wire_up` speak: places, calls, replies, outcomes and faults, and the
-//! readers and writers that its calls take.
+//! readers and writers that its calls take. And how the words of a plan are spelled: code here writes
+//! versions, verbs and ranks; the definitions also spell scopes and sets.
 #![tactic(auto)]
 
 mod call;
@@ -9,6 +10,9 @@ mod place;
 mod reply;
 mod sink;
 mod source;
+mod verb;
+mod version;
+mod word;
 mod wrap;
 
 pub use call::{Call, Scope};
@@ -18,4 +22,7 @@ pub use place::{CallAt, Event, Proc};
 pub use reply::{CallEnd, Outcome, Reply, Status, Value};
 pub use sink::{Failed, Sink, write_out};
 pub use source::Source;
+pub use verb::Verb;
+pub use version::Version;
+pub use word::{is_reserved, proc_word, write_proc};
 pub use wrap::{FromRead, ToWrite};

@@ -9,9 +9,9 @@ use Rattle.wire_types.specs.declared.Value.{Value}
 use Rattle.wire_types.specs.declared.Value.TheVariants as value
 use Rattle.wire_types.specs.declared.CallEnd.{CallEnd}
 use Rattle.wire_types.specs.declared.CallEnd.TheVariants.{Replied, Waiting, Ready, Unreached}
-use Rattle.wire_spelling.specs.declared.verb.Verb.{Verb}
-use Rattle.wire_spelling.specs.declared.verb.Verb.TheVariants as verb
-use Rattle.wire_spelling.specs.Verbs.{text_of_verb}
+use Rattle.wire_types.specs.declared.verb.Verb.{Verb}
+use Rattle.wire_types.specs.declared.verb.Verb.TheVariants as verb
+use Rattle.wire_types.specs.Verbs.{text_of_verb}
 use Rattle.wire_content.specs.Scripts.{Scripts, Process, text_at, call_at}
 use Rattle.wire_content.specs.Canonical.{process_text}
 

@@ -1,6 +1,6 @@
 use Rattle.std.proofs.Common.{◌∙◌, ◌+◌, ◌++◌, ◌==◌, [], ◌∷◌, ap, sym, drop, filter, flat_map}
 use Rattle.std.proofs.lemmas.Bool.{eq-eqb, ne_eqb}
-use Rattle.wire_spelling.specs.Said as said
+use Rattle.wire_types.specs.Said as said
 use Rattle.wire_content.specs.Scripts.{text_at}
 use Rattle.wire_content.specs.Canonical.{words_text, line_text, process_said}
 use Rattle.wire_content.proofs.Lines.{first_line, one_chosen, one_left}

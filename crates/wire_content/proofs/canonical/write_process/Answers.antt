@@ -2,7 +2,7 @@ use Rattle.std.proofs.Common.{◌∙◌, ◌++◌, [], ◌∷◌, ap, map, get_o
 use Rattle.wire_types.specs.declared.Call.{Call}
 use Rattle.wire_types.specs.declared.Call.TheVariants.{Put}
 use Rattle.wire_types.specs.declared.Scope.TheVariants.{Local}
-use Rattle.wire_spelling.specs.Said as said
+use Rattle.wire_types.specs.Said as said
 use Rattle.wire_content.specs.Scripts.{text_at}
 use Rattle.wire_content.specs.Canonical.{words_text, line_text, call_said}
 use Rattle.wire_content.proofs.Lines.{first_line, one_line}

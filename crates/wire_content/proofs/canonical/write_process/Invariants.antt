@@ -1,5 +1,5 @@
 use Rattle.std.proofs.Common.{◌≡◌, ◌++◌, map, drop, flat_map}
-use Rattle.wire_spelling.specs.Said as said
+use Rattle.wire_types.specs.Said as said
 use Rattle.wire_content.specs.Canonical.{line_text, call_said, process_said}
 use Rattle.wire_content.proofs.canonical.write_process.Given as goal
 

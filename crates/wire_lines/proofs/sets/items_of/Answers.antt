@@ -1,5 +1,5 @@
 use Rattle.wire_lines.proofs.Joined.{no_items, lawful_more, spelt_more}
-use Rattle.wire_spelling.specs.Said.{spelled_item}
+use Rattle.wire_types.specs.Said.{spelled_item}
 use Rattle.wire_lines.specs.Shown.{item_by}
 use Rattle.wire_lines.proofs.sets.items_of.Goals as goal
 

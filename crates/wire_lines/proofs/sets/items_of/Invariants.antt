@@ -1,5 +1,5 @@
 use Rattle.std.proofs.Common.{◌≡◌, map, take}
-use Rattle.wire_spelling.specs.Said.{spelled_item, AreLawful}
+use Rattle.wire_types.specs.Said.{spelled_item, AreLawful}
 use Rattle.wire_lines.specs.Shown.{item_by}
 use Rattle.wire_lines.proofs.sets.items_of.Given as goal
 

@@ -1,6 +1,6 @@
 use Rattle.std.proofs.Common.{◌≡◌, ◌∙◌, sym, map, true≢false}
 use Rattle.std.specs.List.{slice_split}
-use Rattle.wire_spelling.specs.Said.{spelled_item}
+use Rattle.wire_types.specs.Said.{spelled_item}
 use Rattle.wire_lines.specs.Shown.{item_by}
 use Rattle.wire_lines.proofs.Joined.{comma, joined, some_items, no_set}
 use Rattle.wire_lines.proofs.sets.set_of.Goals as goal

@@ -1,5 +1,5 @@
 use Rattle.std.proofs.Common.{◌≡◌, ◌∙◌, sym, decimal, true}
-use Rattle.wire_spelling.specs.Said.{is_name}
+use Rattle.wire_types.specs.Said.{is_name}
 use Rattle.wire_lines.proofs.Colon.{names_plain, cut_once, and_right}
 use Rattle.wire_lines.proofs.word.proc_of.Goals as goal
 

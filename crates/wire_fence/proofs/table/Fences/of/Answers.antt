@@ -42,9 +42,9 @@ returns-clause-ok c =
     subst (λ (xs : List (List ℕ)). AreFencesOf s (record {
       fences = map (info_of xs) c.in_ok-rows.rows.items;
       numbers = map (λ v. v.items) c.in_ok-rows.numbers.items;
-      reached = c.in_ok-reached.reached.keys;
+      reached = c.in_ok-reached.reached.value.keys;
     })) (sym copied) (
-    fences_are s sound c.in_ok-rows.rows.items (map (λ v. v.items) c.in_ok-rows.numbers.items) c.in_ok-reached.reached.keys
+    fences_are s sound c.in_ok-rows.rows.items (map (λ v. v.items) c.in_ok-rows.numbers.items) c.in_ok-reached.reached.value.keys
     (subst (λ (ps : List Process). AreRead s (read_to s (length ps)) c.in_ok-rows.rows.items) processes (c.in_ok-rows.ensures.read s sound read processes))
     (subst (λ (ps : List Process). AreAllNumbers c.in_ok-rows.rows.items ps (map (λ v. v.items) c.in_ok-rows.numbers.items) (length ps)) processes c.in_ok-rows.ensures.numbers)
     (λ k node. c.in_ok-reached.ensures s k node c.requires ∙ ap (λ (xs : List (List ℕ)). has_node (plan_of s) (set_at xs k) node) c.sets-2.ensures)

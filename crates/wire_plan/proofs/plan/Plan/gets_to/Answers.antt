@@ -9,7 +9,7 @@ pub returns : goal.returns
 returns c =
     c.delivering_gets.ensures (plan_of c.args.self.now)
     (subst (λ (t : Tables). AreGetLists (plan_of c.args.self.now) t.index.gets) (sym c.deref.ensures)
-        (subst (λ s. AreGetLists (plan_of s) c.self.inside.tables.value.index.gets) c.self.view_is c.self.invariant.1.gets))
+    (subst (λ s. AreGetLists (plan_of s) c.self.inside.tables.value.index.gets) c.self.view_is c.self.invariant.1.gets))
     (subst (λ (t : Tables). AreKeysOf (plan_of c.args.self.now) t.index.keys) (sym c.deref-2.ensures)
-        (subst (λ s. AreKeysOf (plan_of s) c.self.inside.tables.value.index.keys) c.self.view_is c.self.invariant.1.keys))
+    (subst (λ s. AreKeysOf (plan_of s) c.self.inside.tables.value.index.keys) c.self.view_is c.self.invariant.1.keys))
     c.event_count.ensures

@@ -1,8 +1,8 @@
 //! The words of processes, and which keys are reserved.
 
 ghost use Rattle.std.specs.Prelude.{◌≡◌, ◌++◌, IfOk, OnOk};
-ghost use Rattle.wire_spelling.specs.Said as spec;
-ghost use Rattle.wire_spelling.specs.Said.{spelled_proc};
+ghost use Rattle.wire_types.specs.Said as spec;
+ghost use Rattle.wire_types.specs.Said.{spelled_proc};
 
 use itoa::Buffer;
 use std::alloc::{AllocError, Global};

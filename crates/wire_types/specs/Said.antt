@@ -3,13 +3,13 @@ use Rattle.std.specs.Prelude.{◌≡◌, ℕ, ◌^◌, ◌<◌, ◌==◌, ◌||�
 use Rattle.std.specs.Prelude.{decimal, ⊤}
 use Rattle.std.specs.List.{list_all, join_with_byte}
 use Rattle.std.specs.Str.{bytes_eq}
-use Rattle.wire_types.specs.declared.Scope.{Scope}
-use Rattle.wire_types.specs.declared.Scope.TheVariants.{Local, Remote, Global}
-use Rattle.wire_spelling.specs.declared.verb.Verb.{Verb}
-use Rattle.wire_spelling.specs.declared.verb.Verb.TheVariants as verb
-use Rattle.wire_spelling.specs.declared.version.Version.{Version}
-use Rattle.wire_spelling.specs.declared.version.Version.TheVariants as version
-use Rattle.wire_spelling.specs.Verbs.{text_of_verb}
+use Rattle.wire_types.specs.declared.call.Scope.{Scope}
+use Rattle.wire_types.specs.declared.call.Scope.TheVariants.{Local, Remote, Global}
+use Rattle.wire_types.specs.declared.verb.Verb.{Verb}
+use Rattle.wire_types.specs.declared.verb.Verb.TheVariants as verb
+use Rattle.wire_types.specs.declared.version.Version.{Version}
+use Rattle.wire_types.specs.declared.version.Version.TheVariants as version
+use Rattle.wire_types.specs.Verbs.{text_of_verb}
 
 -- a byte of a word
 abbrev pub is_word_byte : ℕ → Bool
