@@ -1,7 +1,7 @@
 //! The board of a run by threads: one word for each process, the number of its events that are done. No
 //! call waits for a lock. Each word is moved by one seat alone, and the words are at every moment the cut
-//! of a state that a run can come to. And lanes: for each rank its seat, with the trail of what its events
-//! did, under a lock of its own. Threads that serve different ranks don't wait for each other.
+//! of a state that a run can come to. Each rank has a lane besides: its seat, with the trail of what its
+//! events did, under a lock of its own. Threads that serve different ranks don't wait for each other.
 #![tactic(auto)]
 
 mod board;

@@ -1,5 +1,5 @@
-//! Explanations of faults: the line that is at fault, what was expected there, and the nearest word. Of a step of an order
-//! that can't be taken: where its rank stands, and what it waits for.
+//! Explanations of faults: the line that is at fault, what was expected there, and the nearest word. Where a step of an
+//! order can't be taken, they say where its rank stands and what it waits for.
 #![tactic(auto)]
 
 mod arrivals;

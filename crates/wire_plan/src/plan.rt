@@ -32,17 +32,17 @@ use wire_fence::{FenceId, Fences};
 use wire_procmap::ProcMap;
 use wire_types::{CallAt, Event, Fault, Proc};
 
-/// The tables of a plan.
-struct Tables {
+/// The scripts of a plan with their events, their fences, and the index of the events.
+struct PlanTables {
     events: Events,
     fences: Fences,
     index: Index,
 }
 
 // By hand and not derived: so dropping one is a call, and the proof of a function that drops one doesn't take it apart.
-impl Drop for Tables {
+impl Drop for PlanTables {
     fn drop(self) {
-        let Tables {
+        let PlanTables {
             events: _,
             fences: _,
             index: _,
@@ -52,8 +52,8 @@ impl Drop for Tables {
 
 /// Scripts, with their process map, their fences, the events of each process, and what they wait for.
 pub struct Plan {
-    // In a box: what a value is laid out as stands in the proof of each function that holds one, or something with a reference to one.
-    tables: Box<Tables>,
+    // In a box, so that the layout of a plan is one pointer: a proof writes out the layout of all that its function holds, through references too.
+    tables: Box<PlanTables>,
 }
 
 // By hand and not derived: so dropping one is a call, and the proof of a function that drops one doesn't take it apart.
@@ -77,9 +77,9 @@ impl Model for Plan {
 }
 
 /// The fences of these events, and the index of the events.
-fn tables_of(alloc: Global, events: &Events) -> Result<(Fences, Index), Fault>
-    ensures fences { IfOk result (λ tables. AreFencesOf events.now tables.0) }
-    ensures index { IfOk result (λ tables. IsIndexed events.now tables.0 tables.1) }
+fn fences_and_index(alloc: Global, events: &Events) -> Result<(Fences, Index), Fault>
+    ensures fences { IfOk result (λ made. AreFencesOf events.now made.0) }
+    ensures index { IfOk result (λ made. IsIndexed events.now made.0 made.1) }
     ensures err { IfErr result (λ e. e ≡ Fault.Memory) }
 {
     let fences = Fences::of(alloc, events.scripts(), events.map())?;
@@ -94,11 +94,11 @@ impl Plan {
         ensures err { IfErr result (λ e. e ≡ Fault.Memory) }
     {
         let events = Events::of(alloc, scripts)?;
-        match tables_of(alloc, &events) {
+        match fences_and_index(alloc, &events) {
             Ok((fences, index)) => {
                 let tables = Box::new(
                     alloc,
-                    Tables {
+                    PlanTables {
                         events,
                         fences,
                         index,

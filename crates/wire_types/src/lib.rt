@@ -1,6 +1,6 @@
 //! The words that all crates of `wire_up` speak: places, calls, replies, outcomes and faults, and the
-//! readers and writers that its calls take. And how the words of a plan are spelled: code here writes
-//! versions, verbs and ranks; the definitions also spell scopes and sets.
+//! readers and writers that its calls take. The definitions also say how the words of a plan are spelled;
+//! code here writes the word of a process, and says which keys are reserved.
 #![tactic(auto)]
 
 mod call;

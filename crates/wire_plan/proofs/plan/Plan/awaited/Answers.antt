@@ -5,7 +5,7 @@ use Rattle.wire_content.specs.Planned.{plan_of}
 use Rattle.wire_plan.specs.Kinds.{kind_of}
 use Rattle.wire_plan.specs.Keys.{AreKeysOf}
 use Rattle.wire_plan.specs.Tables.{AreNamesOf}
-use Rattle.wire_plan.specs.declared.plan.Tables.{Tables}
+use Rattle.wire_plan.specs.declared.plan.PlanTables.{PlanTables}
 use Rattle.wire_plan.proofs.Awaited.{own_key, key_of_other, once_name, awaits_other}
 use Rattle.wire_plan.proofs.plan.Plan.awaited.Goals as goal
 
@@ -20,14 +20,14 @@ returns-else-eq c =
     key_of_other (plan_of c.args.self.now) (event_of c.args.event) c.in-Get.owner c.in-Get.key c.feeding_commit.result
     (c.kind.ensures ∙ ap (λ k. Some (kind_of c.args.self.now.sets k)) c.in-Get.is)
     (λ same. true≢false (sym (eq-eqb c.in-Get.owner.number c.args.event.proc.number same) ∙ sym c.if-eq.ensures))
-    (c.feeding_commit.ensures (plan_of c.args.self.now) (subst (λ (t : Tables). AreKeysOf (plan_of c.args.self.now) t.index.keys) (sym c.deref.ensures)
+    (c.feeding_commit.ensures (plan_of c.args.self.now) (subst (λ (t : PlanTables). AreKeysOf (plan_of c.args.self.now) t.index.keys) (sym c.deref.ensures)
     (subst (λ s. AreKeysOf (plan_of s) c.self.inside.tables.value.index.keys) c.self.view_is c.self.invariant.1.keys)))
 
 pub returns-in-LookupWait : goal.returns-in-LookupWait
 returns-in-LookupWait c =
     once_name (plan_of c.args.self.now) (event_of c.args.event) c.in-LookupWait.name c.once_published.result
     (c.kind.ensures ∙ ap (λ k. Some (kind_of c.args.self.now.sets k)) c.in-LookupWait.is)
-    (c.once_published.ensures (plan_of c.args.self.now) (subst (λ (t : Tables). AreNamesOf (plan_of c.args.self.now) t.index.names) (sym c.deref-in-LookupWait.ensures)
+    (c.once_published.ensures (plan_of c.args.self.now) (subst (λ (t : PlanTables). AreNamesOf (plan_of c.args.self.now) t.index.names) (sym c.deref-in-LookupWait.ensures)
     (subst (λ s. AreNamesOf (plan_of s) c.self.inside.tables.value.index.names) c.self.view_is c.self.invariant.1.names)))
 
 pub returns-in_default : goal.returns-in_default
