@@ -8,7 +8,7 @@ ghost use Rattle.wire_runs.specs.Ends.{calls_of};
 ghost use Rattle.wire_report.specs.Chain.{IsChainText};
 ghost use Rattle.wire_commands.specs.Why.{Asks, Answers, WritesAnswer, BreaksOffAnswer, StopsBeforeAnswer};
 
-use crate::form::Form;
+use crate::form::{Form, LINES};
 use crate::plain_run::read_scripts;
 use std::alloc::Global;
 use wire_content::Scripts;
@@ -110,11 +110,7 @@ pub fn why<R: Source, W: Sink>(
     ensures read_failed { result ≡ Err Read → R.failures reader.new ≡ one_more (R.failures reader.old) }
     ensures unfailed { IfErr result (λ e. e ≢ Memory → e ≢ Read → R.failures reader.new ≡ R.failures reader.old) }
 {
-    let form = Form {
-        size: Size::OfVersion,
-        json: false,
-    };
-    why_in_form(alloc, form, reader, writer, words)
+    why_in_form(alloc, LINES, reader, writer, words)
 }
 
 /// Answers a question about two calls as `why` does, within the limits of this form's size, and writes the answer in

@@ -9,7 +9,7 @@ ghost use Rattle.wire_commands.specs.declared.checking.Ended.TheVariants.{Clean}
 ghost use Rattle.wire_commands.specs.Check as spec;
 ghost use Rattle.wire_commands.specs.Check.{WritesVerdict, BreaksOffVerdict, WritesFindings, EndsInOneState, BreaksOffFindings, StopsBeforeFindings};
 
-use crate::form::Form;
+use crate::form::{Form, LINES};
 use crate::plain_run::read_scripts;
 use std::alloc::Global;
 use std::thread::Threads;
@@ -138,11 +138,7 @@ pub fn check<R: Source, W: Sink>(
     ensures read_failed { result ≡ Err Read → R.failures reader.new ≡ one_more (R.failures reader.old) }
     ensures unfailed { IfErr result (λ e. e ≢ Memory → e ≢ Read → R.failures reader.new ≡ R.failures reader.old) }
 {
-    let form = Form {
-        size: Size::OfVersion,
-        json: false,
-    };
-    check_in_form(rt, alloc, form, reader, writer)
+    check_in_form(rt, alloc, LINES, reader, writer)
 }
 
 /// Checks a plan as `check` does, within the limits of this form's size, and writes the findings in this

@@ -14,7 +14,7 @@ ghost use Rattle.wire_core.specs.Course.{plan_in, state_of};
 ghost use Rattle.wire_commands.specs.Plain.{ReadAs};
 ghost use Rattle.wire_commands.specs.Follow.{WritesFollowed, BreaksOffFollowed, StopsBefore, OrdersAs, RefusesSteps, StopsAfter, report_after};
 
-use crate::form::Form;
+use crate::form::{Form, LINES};
 use crate::plain_run::read_scripts;
 use crate::reading::read_up_to;
 use std::alloc::Global;
@@ -122,11 +122,7 @@ pub fn follow<R: Source, O: Source, W: Sink>(
     ensures unfailed { IfErr result (λ e. e ≢ Memory → e ≢ Read → (R.failures reader.new ≡ R.failures reader.old)
         × (O.failures order_reader.new ≡ O.failures order_reader.old)) }
 {
-    let form = Form {
-        size: Size::OfVersion,
-        json: false,
-    };
-    follow_in_form(alloc, form, reader, order_reader, writer)
+    follow_in_form(alloc, LINES, reader, order_reader, writer)
 }
 
 /// Runs the steps of an order as `follow` does, within the limits of this form's size, and writes the report in this

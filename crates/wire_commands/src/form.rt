@@ -9,3 +9,9 @@ pub struct Form {
     /// JSON in place of lines.
     pub json: bool,
 }
+
+/// Within the limits of a plan's version, and in lines.
+pub(crate) const LINES: Form = Form {
+    size: Size::OfVersion,
+    json: false,
+};

@@ -12,4 +12,3 @@ pub use process::Process;
 pub use scripts::{Format, Scripts, Tables};
 pub use sets::Sets;
 pub use texts::Texts;
-pub use wire_types::Version;

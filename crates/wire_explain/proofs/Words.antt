@@ -5,7 +5,7 @@ use Rattle.std.specs.Str.{bytes_eq}
 use Rattle.std.proofs.lemmas.List.Elements.{All-from_recursion}
 use Rattle.std.proofs.lemmas.Slice.Eq.{bytes_eq-Decides}
 use Rattle.wire_types.specs.declared.Scope.TheVariants.{Local, Remote, Global}
-use Rattle.wire_lines.specs.declared.Version.TheVariants.{One}
+use Rattle.wire_types.specs.declared.Version.TheVariants.{One}
 use Rattle.wire_lines.specs.Said.{Said, IsLawful, first_word, Own, Header, Keep, Node, Job, Rank, Calls, Put, Commit, Fence, Get, GetNow, Publish, Lookup, LookupWait, UnpublishAll}
 use Rattle.wire_lines.specs.Said.{collect_words}
 use Rattle.wire_explain.specs.Format.{IsOfFormat, UsagesAreLines, ChoicesAreWords, format_words, scopes}

@@ -11,5 +11,4 @@ pub use call::CallLine;
 pub use line::{Line, header_version, read_line, says_once};
 pub use sets::{Item, Set};
 pub use text::{cut_piece, cut_words, line_past, trim_return};
-pub use wire_types::{Version, proc_word};
 pub use word::{ProcName, number_of};

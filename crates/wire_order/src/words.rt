@@ -8,8 +8,7 @@ ghost use Rattle.wire_order.specs.Words.{number_in, IsTableOf};
 use std::alloc::{AllocError, Global};
 use std::collections::HashMap;
 use wire_content::Scripts;
-use wire_lines::proc_word;
-use wire_types::Proc;
+use wire_types::{Proc, proc_word};
 
 /// The processes of scripts by their words. Where a word is that of several, it has the first of them.
 pub struct ProcWords {

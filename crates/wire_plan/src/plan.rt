@@ -76,8 +76,8 @@ impl Model for Plan {
         × IsIndexed p.tables.value.events p.tables.value.fences p.tables.value.index };
 }
 
-/// The fences of these events, and the index of the events.
-fn fences_and_index(alloc: Global, events: &Events) -> Result<(Fences, Index), Fault>
+/// Makes the fences of these events, and the index of the events.
+fn make_fences_and_index(alloc: Global, events: &Events) -> Result<(Fences, Index), Fault>
     ensures fences { IfOk result (λ made. AreFencesOf events.now made.0) }
     ensures index { IfOk result (λ made. IsIndexed events.now made.0 made.1) }
     ensures err { IfErr result (λ e. e ≡ Fault.Memory) }
@@ -94,7 +94,7 @@ impl Plan {
         ensures err { IfErr result (λ e. e ≡ Fault.Memory) }
     {
         let events = Events::of(alloc, scripts)?;
-        match fences_and_index(alloc, &events) {
+        match make_fences_and_index(alloc, &events) {
             Ok((fences, index)) => {
                 let tables = Box::new(
                     alloc,

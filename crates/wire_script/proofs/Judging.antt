@@ -2,7 +2,7 @@
 use Rattle.std.proofs.Common.{◌≡◌, refl, ℕ, List, ◌∷◌, Result, Err, ◌⊎◌, inl, inr}
 use Rattle.wire_types.specs.declared.Fault.{Fault}
 use Rattle.wire_types.specs.declared.Fault.TheVariants.{Memory, BadHeader}
-use Rattle.wire_lines.specs.declared.Version.{Version}
+use Rattle.wire_types.specs.declared.Version.{Version}
 use Rattle.wire_lines.specs.Said.{Says, Header}
 use Rattle.wire_script.specs.Statements.{Statement}
 use Rattle.wire_script.specs.FirstPass.{Declared, Judges, JudgesAll, FirstPass}

@@ -6,8 +6,8 @@ use borrow.Author.Tests.{ltb-true, lt-ltb}
 use Rattle.wire_types.specs.declared.Fault.{Fault}
 use Rattle.wire_types.specs.declared.Fault.TheVariants.{UnknownName, NotMember}
 use Rattle.wire_types.specs.declared.Call.TheVariants as call
-use Rattle.wire_lines.specs.declared.Version.{Version}
-use Rattle.wire_lines.specs.declared.Version.TheVariants as version
+use Rattle.wire_types.specs.declared.Version.{Version}
+use Rattle.wire_types.specs.declared.Version.TheVariants as version
 use Rattle.wire_lines.specs.Text.{lines_of}
 use Rattle.wire_lines.specs.Said.{Item, One, Every, Set, Own, Listed, Call, Put, Commit, Fence, Get, GetNow, Publish, Lookup}
 use Rattle.wire_lines.specs.Said.{LookupWait, Unpublish, UnpublishAll, Said, Header, Keep, Node, Job, Rank, Calls}

@@ -6,7 +6,7 @@ use Rattle.wire_lines.specs.Text.{lines_of}
 use Rattle.wire_script.specs.Statements.{Statement, statements}
 use Rattle.wire_script.specs.FirstPass.{Declared, nothing, judged, Judges, JudgesAll, FirstPass}
 use Rattle.wire_content.specs.Scripts.{Scripts}
-use Rattle.wire_lines.specs.declared.Version.{Version}
+use Rattle.wire_types.specs.declared.Version.{Version}
 use Rattle.wire_lines.specs.Said.{Said, Header}
 use Rattle.wire_script.specs.declared.limits.Size.{Size}
 use Rattle.wire_script.specs.Reads.{second_pass, ReadsShort, ReadsOnce, scripts_of, unless_fault}

@@ -4,7 +4,7 @@ use Rattle.std.proofs.Common.{length-append, true≢false, zero-add}
 use Rattle.std.specs.Prelude.{◌==◌, ◌&&◌, not, ⊤}
 use borrow.Author.Tests.{ltb-true, eqb-true, eq-eqb, ne_eqb}
 use Rattle.std.proofs.lemmas.List.{map-append}
-use Rattle.wire_lines.specs.declared.Version.{Version}
+use Rattle.wire_types.specs.declared.Version.{Version}
 use Rattle.wire_lines.specs.Said.{Call, Said, Header, Keep, Node, Job, Rank, Calls}
 use Rattle.wire_script.specs.declared.limits.Size.{Size}
 use Rattle.wire_lines.proofs.Colon.{and_left}

@@ -9,7 +9,7 @@ use Rattle.std.proofs.lemmas.Bool.{or_from, or_parts}
 use borrow.Author.Tests.{ltb-true, eqb-true, eq-eqb, ne_eqb}
 use Rattle.wire_lines.specs.Said.{Call, Said, Header, Keep, Node, Job, Rank, Calls, IsLawful, is_name}
 use Rattle.wire_content.specs.Scripts.{text_at}
-use Rattle.wire_lines.specs.declared.Version.{Version}
+use Rattle.wire_types.specs.declared.Version.{Version}
 use Rattle.wire_script.specs.declared.limits.Size.{Size}
 use Rattle.wire_script.specs.Limits.{largest}
 use Rattle.wire_script.proofs.Within.{processes_low}

@@ -5,7 +5,7 @@ use Rattle.wire_types.specs.declared.Fault.{Fault}
 use Rattle.wire_lines.specs.Text.{lines_of}
 use Rattle.wire_lines.specs.Said.{Call, Said, Header, Keep, Node, Job, Rank, Calls, IsLawful}
 use Rattle.wire_content.specs.Scripts.{Scripts}
-use Rattle.wire_lines.specs.declared.Version.{Version}
+use Rattle.wire_types.specs.declared.Version.{Version}
 use Rattle.wire_script.specs.declared.limits.Size.{Size}
 use Rattle.wire_content.specs.Canonical.{line_text, lines_said, canonical}
 use Rattle.wire_script.specs.Statements.{statements}

@@ -10,7 +10,7 @@ use borrow.Author.Tests.{leb-true, le-leb, not-true, ne_eqb}
 use Rattle.wire_types.specs.declared.Scope.{Scope}
 use Rattle.wire_types.specs.declared.Scope.TheVariants.{Local, Remote, Global}
 use Rattle.wire_runs.proofs.Lists.{list_all_weaker}
-use Rattle.wire_lines.specs.declared.Version.TheVariants as version
+use Rattle.wire_types.specs.declared.Version.TheVariants as version
 use Rattle.wire_lines.specs.Text.{pieces_of, lines_of, is_blank, words_of}
 use Rattle.wire_lines.specs.Said.{Item, One, Every, Set, Own, Listed, Put, Commit, Fence, Get, GetNow, Publish, Lookup, LookupWait, Unpublish, UnpublishAll}
 use Rattle.wire_lines.specs.Said.{Said, Header, Keep, Node, Job, Rank, Calls, IsLawfulItem, AreLawful, IsLawfulSet, IsLawful, first_word, other_words, is_word_byte, is_name_byte, is_word, is_name}

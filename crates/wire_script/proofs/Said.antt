@@ -11,7 +11,7 @@ use Rattle.wire_lines.specs.Said.{Set, Call, Put, Commit, Fence, Get, GetNow, Pu
 use Rattle.wire_lines.proofs.Colon.{and_left, and_right}
 use Rattle.wire_content.specs.Scripts.{Process, text_at}
 use Rattle.wire_content.specs.Canonical.{process_at, job_of, set_said, call_said, process_said, jobs_said, keep_said, lines_said}
-use Rattle.wire_lines.specs.declared.Version.{Version}
+use Rattle.wire_types.specs.declared.Version.{Version}
 use Rattle.wire_script.specs.FirstPass.{Name, Started, Declared, is_among, number_or_count, has_call}
 use Rattle.wire_script.specs.Reads.{Seen, is_proc, proc_number, has_proc, is_in, set_members, is_declared_call, is_with_caller, first_fault, keys_in, names_in, values_in, sets_in, in_calls}
 use Rattle.wire_script.specs.Reads.{first_seen, seen_in, numbered, process_of, scripts_with, scripts_of}

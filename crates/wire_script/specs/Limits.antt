@@ -1,7 +1,7 @@
 -- How large a file, an order, and what a file declares may be.
 use Rattle.std.specs.Prelude.{ℕ}
-use Rattle.wire_lines.specs.declared.Version.{Version}
-use Rattle.wire_lines.specs.declared.Version.TheVariants as version
+use Rattle.wire_types.specs.declared.Version.{Version}
+use Rattle.wire_types.specs.declared.Version.TheVariants as version
 use Rattle.wire_script.specs.declared.limits.Limits.{Limits}
 use Rattle.wire_script.specs.declared.limits.Size.{Size}
 use Rattle.wire_script.specs.declared.limits.Size.TheVariants.{OfVersion, Large}

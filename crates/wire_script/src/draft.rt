@@ -8,8 +8,9 @@ use crate::limits::Limits;
 use crate::numbered_tables::NumberedTables;
 use crate::numbered_texts::NumberedTexts;
 use std::alloc::{AllocError, Global};
-use wire_content::{Format, Process, Scripts, Version};
+use wire_content::{Format, Process, Scripts};
 use wire_lines::CallLine;
+use wire_types::Version;
 
 /// A call line, with its number.
 pub struct Placed<'a> {

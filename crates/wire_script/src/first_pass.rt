@@ -17,9 +17,8 @@ use crate::limits::{Limits, NAME_BYTES, Size, VALUE_BYTES};
 use crate::lines::Cursor;
 use crate::numbered_texts::NumberedTexts;
 use std::alloc::{AllocError, Global};
-use wire_content::Version;
 use wire_lines::{CallLine, Item, Line, Set, header_version, read_line};
-use wire_types::Fault;
+use wire_types::{Fault, Version};
 
 fn is_short_name(name: &[u8]) -> bool
     ensures { result ≡ spec.is_short_name name.now }

@@ -19,4 +19,5 @@ pub use limits::{Limits, Size};
 pub use lines::{Cursor, Statement};
 pub use located::read_located;
 pub use reader::{migrated_reads_back, one_canonical, read, read_sized, reads_back, reads_once};
-pub use wire_content::{Process, Scripts, Sets, Texts, Version};
+pub use wire_content::{Process, Scripts, Sets, Texts};
+pub use wire_types::Version;

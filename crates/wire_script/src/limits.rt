@@ -3,7 +3,7 @@
 ghost use Rattle.std.specs.Prelude.{◌≡◌, ◌<◌, ◌^◌};
 ghost use Rattle.wire_script.specs.Limits as spec;
 
-use wire_lines::Version;
+use wire_types::Version;
 
 /// The bytes of a name of a node or a job, and of a key.
 pub const NAME_BYTES: usize = 63;

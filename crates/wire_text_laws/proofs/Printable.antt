@@ -10,7 +10,7 @@ use Rattle.wire_lines.specs.Said.{Said, Header, Keep, Node, Job, Rank, Calls, Is
 use Rattle.wire_lines.specs.Said.{is_word, is_name, is_key}
 use Rattle.wire_lines.proofs.Colon.{and_left, and_right}
 use Rattle.wire_content.specs.Scripts.{Scripts, text_at}
-use Rattle.wire_lines.specs.declared.Version.{Version}
+use Rattle.wire_types.specs.declared.Version.{Version}
 use Rattle.wire_script.specs.declared.Size.{Size}
 use Rattle.wire_script.specs.FirstPass.{Name, Started, Declared, nothing, number_or_count, after, with_call}
 use Rattle.wire_script.specs.Reads.{keys_in, names_in, values_in, in_calls, first_seen, seen_in, scripts_of}

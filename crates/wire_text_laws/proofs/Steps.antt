@@ -12,8 +12,8 @@ use Rattle.wire_runs.proofs.Length.{runs_end}
 use Rattle.wire_lines.specs.Text.{lines_of, words_of}
 use Rattle.wire_content.specs.Scripts.{Scripts}
 use Rattle.wire_content.specs.Planned.{planned_process, plan_of}
-use Rattle.wire_lines.specs.declared.Version.{Version}
-use Rattle.wire_lines.specs.declared.Version.TheVariants as version
+use Rattle.wire_types.specs.declared.Version.{Version}
+use Rattle.wire_types.specs.declared.Version.TheVariants as version
 use Rattle.wire_script.specs.declared.Size.{Size}
 use Rattle.wire_script.specs.declared.Size.TheVariants.{OfVersion, Large}
 use Rattle.wire_script.specs.Limits.{limits_of, order_bytes}
