@@ -8,7 +8,7 @@ use Rattle.wire_types.specs.Front.{WritesFront}
 use Rattle.wire_content.specs.Scripts.{Scripts}
 use Rattle.wire_content.specs.Planned.{plan_of}
 use Rattle.wire_script.specs.declared.Size.{Size}
-use Rattle.wire_order.specs.Question.{QuestionReads, Asks as AsksBoth, First, Second, Third, Fourth, IsCallNamed}
+use Rattle.wire_script.specs.Question.{QuestionReads, Asks as AsksBoth, First, Second, Third, Fourth, IsCallNamed}
 use Rattle.wire_runs.specs.Ends.{calls_of}
 use Rattle.wire_content.proofs.PlannedCalls.{as_many_planned}
 use Rattle.wire_report.specs.Chain.{IsChainText}

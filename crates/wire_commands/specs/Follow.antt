@@ -7,7 +7,7 @@ use Rattle.wire_types.specs.declared.Fault.TheVariants.{Memory, Read, NotReady}
 use Rattle.wire_content.specs.Scripts.{Scripts}
 use Rattle.wire_content.specs.Planned.{plan_of}
 use Rattle.wire_script.specs.declared.Size.{Size}
-use Rattle.wire_order.specs.Order.{order_read}
+use Rattle.wire_script.specs.Order.{order_read}
 use Rattle.wire_runs.specs.State.{start}
 use Rattle.wire_runs.specs.Step.{is_enabled, run, IsInterleaving}
 use Rattle.wire_core.specs.EndsAfter.{ends_after}

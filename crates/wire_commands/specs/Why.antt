@@ -7,7 +7,7 @@ use Rattle.wire_types.specs.declared.Fault.{Fault}
 use Rattle.wire_types.specs.declared.Fault.TheVariants.{Memory, Read}
 use Rattle.wire_content.specs.Scripts.{Scripts}
 use Rattle.wire_script.specs.declared.Size.{Size}
-use Rattle.wire_order.specs.Question.{QuestionReads}
+use Rattle.wire_script.specs.Question.{QuestionReads}
 use Rattle.wire_report.specs.Chain.{IsChainText}
 use Rattle.wire_commands.specs.Plain.{ReadAs, Refuses}
 

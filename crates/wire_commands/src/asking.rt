@@ -13,10 +13,9 @@ use crate::plain_run::read_scripts;
 use std::alloc::Global;
 use wire_content::Scripts;
 use wire_marks::Marks;
-use wire_order::{Question, read_question};
 use wire_plan::Plan;
 use wire_report::{chain_text, write_text};
-use wire_script::Size;
+use wire_script::{Question, Size, read_question};
 use wire_types::{CallAt, Fault, Sink, Source};
 
 /// The two calls that the words of a question name.

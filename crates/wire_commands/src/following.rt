@@ -20,10 +20,9 @@ use crate::reading::read_up_to;
 use std::alloc::Global;
 use wire_content::Scripts;
 use wire_core::Core;
-use wire_order::read_order_sized;
 use wire_plan::Plan;
 use wire_report::{report_text, write_text};
-use wire_script::Size;
+use wire_script::{Size, read_order_sized};
 use wire_types::{Fault, Outcome, Proc, Sink, Source};
 
 /// The steps of an order that is read to its end, or to one byte more than it may have, by which it is seen

@@ -19,7 +19,7 @@ use Rattle.wire_core.specs.Course.{Course, plan_in, state_of}
 use Rattle.wire_core.specs.Following.{StopsAt}
 use Rattle.wire_script.specs.declared.Size.{Size}
 use Rattle.wire_script.specs.Reads.{Reads}
-use Rattle.wire_order.specs.Order.{order_read}
+use Rattle.wire_script.specs.Order.{order_read}
 use Rattle.wire_explain.specs.Quote.{shown_byte, labelled}
 use Rattle.wire_explain.specs.Stops.{said_call, wait_text, standing_text, explanation}
 use Rattle.wire_explain.specs.Told.{TellsStop, Stops, TellsNothing}

@@ -10,7 +10,7 @@ use Rattle.wire_content.specs.Scripts.{Scripts}
 use Rattle.wire_content.specs.Planned.{plan_of}
 use Rattle.wire_script.specs.declared.Size.{Size}
 use Rattle.wire_script.specs.Reads.{Reads}
-use Rattle.wire_order.specs.Order.{order_read}
+use Rattle.wire_script.specs.Order.{order_read}
 use Rattle.wire_explain.specs.Quote.{shown_byte}
 use Rattle.wire_explain.specs.Stops.{missing_for, explanation}
 

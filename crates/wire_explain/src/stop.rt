@@ -10,9 +10,8 @@ use crate::explanation::explanation_of;
 use std::alloc::{AllocError, Global};
 use wire_content::Scripts;
 use wire_core::Core;
-use wire_order::read_order_sized;
 use wire_plan::Plan;
-use wire_script::{Size, read_sized};
+use wire_script::{Size, read_order_sized, read_sized};
 use wire_types::{Fault, Proc};
 
 /// What is told of the steps of an order, of which these are the bytes, by a core that has taken none.

@@ -128,7 +128,7 @@ fn scripts_answer(
     answer
 }
 
-/// Shows the race of two calls of a plan as `wire_witness_command::witness` does, with the places of both calls: first
+/// Shows the race of two calls of a plan as `wire_up::witness` does, with the places of both calls: first
 /// the call that ends differently and then the other, each behind the name of the file and its line, and then how
 /// the first ends in each run, and the orders of both. As JSON both calls have the numbers of their lines.
 ///

@@ -115,7 +115,7 @@ fn scripts_answer(
     answer
 }
 
-/// Tries to show the races of a plan as `wire_witness_command::witnesses` does, with the places of their calls: the
+/// Tries to show the races of a plan as `wire_up::witnesses` does, with the places of their calls: the
 /// line of a race stands behind the name of the file and the line of its lower call, and is followed by the place
 /// of the other. As JSON each race has its two calls with the numbers of their lines.
 ///

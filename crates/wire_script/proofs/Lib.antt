@@ -1,3 +1,7 @@
+pub mod ProcTable
+pub mod OrderSteps
+pub mod Limited
+pub mod Asked
 mod TextTable
 mod Apart
 pub mod Adding
@@ -14,7 +18,7 @@ pub mod Tables
 pub mod Sound
 pub mod Recut
 pub mod Changed
-pub mod Order
+pub mod InOrder
 pub mod Ranked
 pub mod Standing
 pub mod Numbered

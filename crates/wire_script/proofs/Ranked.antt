@@ -15,7 +15,7 @@ use Rattle.wire_script.specs.Limits.{largest}
 use Rattle.wire_script.proofs.Within.{processes_low}
 use Rattle.wire_script.specs.FirstPass.{Name, Started, Declared, nothing, is_among, number_or_count, is_short_name, after, with_call}
 use Rattle.wire_script.proofs.Changed.{IsTaken, Runs, ranks_with}
-use Rattle.wire_script.proofs.Order.{AllBelow, below_more, below_push}
+use Rattle.wire_script.proofs.InOrder.{AllBelow, below_more, below_push}
 
 same_self : (x : Name) → bytes_eq x x ≡ true
 same_self x = (bytes_eq-Decides x x).1 refl

@@ -14,7 +14,7 @@ use Rattle.wire_script.specs.Reads.{first_fault, scripts_of, unless_fault, secon
 use Rattle.wire_script.specs.Back.{ReadsBack, OneCanonical}
 use Rattle.wire_script.proofs.Recut.{AllLawful, numbered_lines, said_again}
 use Rattle.wire_script.proofs.Changed.{IsTaken, IsFit, CallsAre, AllCalls, Runs, Takes, changed_declaration, first_run, run_header, lines_changed, lines_judged}
-use Rattle.wire_script.proofs.Order.{lines_added, nothing_shaped}
+use Rattle.wire_script.proofs.InOrder.{lines_added, nothing_shaped}
 use Rattle.wire_script.proofs.Ranked.{run_good}
 use Rattle.wire_script.proofs.Once.{short_once, second_ok}
 use Rattle.wire_script.proofs.Again.{canonical_call, scripts_changed, scripts_bare, met_changed, met_full}

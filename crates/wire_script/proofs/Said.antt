@@ -17,7 +17,7 @@ use Rattle.wire_script.specs.Reads.{Seen, is_proc, proc_number, has_proc, is_in,
 use Rattle.wire_script.specs.Reads.{first_seen, seen_in, numbered, process_of, scripts_with, scripts_of}
 use Rattle.wire_script.proofs.Seen.{seen_among, among_flat, text_at_number, alone}
 use Rattle.wire_script.proofs.Changed.{changed_call, changed_process, changed_declaration, IsFit, IsFitFor, CallsAre, AllCalls}
-use Rattle.wire_script.proofs.Order.{process_lines, of_job, jobs_lines, declared_lines}
+use Rattle.wire_script.proofs.InOrder.{process_lines, of_job, jobs_lines, declared_lines}
 use Rattle.wire_script.proofs.Ranked.{IsGood, below_at}
 use Rattle.wire_script.proofs.SameMembers.{process_there, set_kept, members_kept, set_declared, set_short, set_lawful}
 use Rattle.wire_script.proofs.Again.{canonical_call, IsAgain, same_again, CallAt, IsSameChange, all_met}

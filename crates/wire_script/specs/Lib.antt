@@ -1,3 +1,6 @@
+pub mod Order
+pub mod Words
+pub mod Question
 pub mod Limits
 pub mod Statements
 pub mod Left

@@ -1,4 +1,5 @@
-//! The reader of the scripts' file: from its bytes to what it says, or to its first fault.
+//! The reader of the scripts' file: from its bytes to what it says, or to its first fault. Beside it stand the reader of an order of
+//! steps, from its bytes to the processes that take the steps, and that of a question about two calls.
 #![tactic(auto)]
 
 mod draft;
@@ -12,12 +13,17 @@ mod numbered_sets;
 mod numbered_tables;
 mod numbered_texts;
 mod numbers;
+mod order;
+mod question;
 mod reader;
 mod second_pass;
+mod words;
 
 pub use limits::{Limits, Size};
 pub use lines::{Cursor, Statement};
 pub use located::read_located;
+pub use order::{read_order, read_order_sized};
+pub use question::{Question, question_reads_once, read_question};
 pub use reader::{migrated_reads_back, one_canonical, read, read_sized, reads_back, reads_once};
 pub use wire_content::{Process, Scripts, Sets, Texts};
 pub use wire_types::Version;

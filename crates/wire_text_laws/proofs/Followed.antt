@@ -12,7 +12,7 @@ use Rattle.wire_content.specs.Planned.{plan_of}
 use Rattle.wire_script.specs.declared.Size.{Size}
 use Rattle.wire_script.specs.Reads.{Reads}
 use Rattle.wire_script.proofs.Once.{reads_once}
-use Rattle.wire_order.specs.Order.{order_read}
+use Rattle.wire_script.specs.Order.{order_read}
 use Rattle.wire_commands.specs.Plain.{ReadAs, Refuses}
 use Rattle.wire_commands.specs.Follow.{OrdersAs, RefusesOrder, StopsInOrder, WritesFollowed, StopsBefore, report_after}
 use Rattle.wire_text_laws.specs.Again.{steps_text, ReadsAsOrder}

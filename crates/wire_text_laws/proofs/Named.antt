@@ -17,7 +17,7 @@ use Rattle.wire_script.specs.Statements.{is_skipped}
 use Rattle.wire_script.specs.FirstPass.{Started, Declared, number_or_count}
 use Rattle.wire_script.specs.Reads.{seen_in, process_of, scripts_of}
 use Rattle.wire_script.proofs.Ranked.{IsGood, below_at, rank_most, name_at, number_at, one_process}
-use Rattle.wire_order.specs.Order.{proc_named}
+use Rattle.wire_script.specs.Order.{proc_named}
 use Rattle.wire_words.specs.Words.{name_of, text_of_process}
 use Rattle.wire_script.proofs.Recut.{proc_word}
 use Rattle.wire_text_laws.proofs.Lines.{proc_counts}

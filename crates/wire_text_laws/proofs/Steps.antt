@@ -22,7 +22,7 @@ use Rattle.wire_script.specs.Statements.{is_skipped, statements_from, statements
 use Rattle.wire_script.specs.FirstPass.{Declared}
 use Rattle.wire_script.specs.Reads.{seen_in, process_of, scripts_of}
 use Rattle.wire_script.proofs.Ranked.{IsGood}
-use Rattle.wire_order.specs.Order.{proc_named, order_of, order_within, order_read}
+use Rattle.wire_script.specs.Order.{proc_named, order_of, order_within, order_read}
 use Rattle.wire_words.specs.Words.{name_of}
 use Rattle.wire_report.specs.Unsettled.{step_line}
 use Rattle.wire_text_laws.specs.Again.{steps_text, FitsOrder, OrderReadsBack}

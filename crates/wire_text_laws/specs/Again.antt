@@ -9,7 +9,7 @@ use Rattle.wire_script.specs.declared.Size.{Size}
 use Rattle.wire_script.specs.declared.Size.TheVariants.{OfVersion, Large}
 use Rattle.wire_script.specs.Limits.{order_bytes}
 use Rattle.wire_script.specs.Reads.{Reads}
-use Rattle.wire_order.specs.Order.{order_read}
+use Rattle.wire_script.specs.Order.{order_read}
 use Rattle.wire_report.specs.Unsettled.{step_line}
 
 -- the lines of these steps, as a replay writes them

@@ -6,9 +6,9 @@ use Rattle.wire_script.specs.declared.Size.TheVariants.{OfVersion}
 use Rattle.wire_script.specs.Reads.{Reads}
 use Rattle.wire_witness.specs.declared.witness.Witness.{Witness}
 use Rattle.wire_witness.specs.Witness.{IsWitness}
-use Rattle.wire_witness_command.specs.declared.part.Part.{Part}
-use Rattle.wire_witness_command.specs.declared.part.Part.TheVariants.{FirstOrder, SecondOrder}
-use Rattle.wire_witness_command.specs.Texts.{witness_text}
+use Rattle.wire_up.specs.declared.part.Part.{Part}
+use Rattle.wire_up.specs.declared.part.Part.TheVariants.{FirstOrder, SecondOrder}
+use Rattle.wire_up.specs.WitnessTexts.{witness_text}
 use Rattle.wire_text_laws.specs.Again.{steps_text, ReadsAsOrder}
 use Rattle.wire_text_laws.specs.Following.{IsFollowed}
 

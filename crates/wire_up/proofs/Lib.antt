@@ -1,3 +1,4 @@
+pub mod WitnessWritten
 pub mod Failures
 pub mod Judged
 pub mod Worked

@@ -1,10 +1,19 @@
-//! Rehearsals of the wire-up of a PMIx job, from bytes to bytes.
+//! Rehearsals of the wire-up of a PMIx job, and what shows that the races of a plan are real, for two calls and for all races: from
+//! bytes to bytes.
 #![tactic(auto)]
 
 mod failing;
+mod part;
 mod replaying;
+mod showing_pair;
+mod showing_races;
+mod tried;
+mod witness_texts;
 
+pub use part::Part;
 pub use replaying::{Manner, Mode, Rehearsed, rehearse, rehearse_complete, rehearse_sized};
+pub use showing_pair::witness;
+pub use showing_races::{Tries, witnesses, witnesses_in_form};
 pub use wire_command_line::{
     Asked, CallWords, CheckRequest, FollowRequest, MigrateRequest, Orders, PairRequest,
     RacesRequest, Refusal, ReplayRequest, Request, WhyRequest, asked, read_request, workers_of,
@@ -14,4 +23,3 @@ pub use wire_commands::{
     why_in_form,
 };
 pub use wire_script::Size;
-pub use wire_witness_command::{Part, Tries, witness, witnesses, witnesses_in_form};

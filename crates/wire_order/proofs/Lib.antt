@@ -1,4 +1,0 @@
-pub mod Table
-pub mod Steps
-pub mod Limited
-pub mod Asked

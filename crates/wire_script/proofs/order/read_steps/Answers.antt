@@ -1,0 +1,14 @@
+use Rattle.std.proofs.Common.{arith}
+use Rattle.wire_script.specs.Left.{statements_left, stated}
+use Rattle.wire_script.proofs.OrderSteps.{one_more}
+use Rattle.wire_script.proofs.order.read_steps.Goals as goal
+
+pub statements-preserved : goal.statements-preserved
+statements-preserved c = record {
+  so_far = one_more c.args.scripts.now (stated c.in-Some.statement) (statements_left c.next_line.new.self) (statements_left c.statements.cursor) c.statements.order.items _
+      c.statements.invariant.so_far (rw c.in-Some.is at c.in_ok-statement.ensures.left)
+      c.in-Some-step_of.step c.add_step.new.order.items
+      (rw c.deref.ensures.value at (c.in-Some-step_of.ensures c.args.scripts.now c.in_ok-table.ensures))
+      c.in_ok-add_step.ensures;
+  room = omega (arith, c.in_ok-statement.ensures.room, c.statements.invariant.room);
+}

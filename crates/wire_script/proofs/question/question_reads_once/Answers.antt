@@ -1,0 +1,5 @@
+use Rattle.wire_script.proofs.Asked.{one_question}
+use Rattle.wire_script.proofs.question.question_reads_once.Goals as goal
+
+pub returns : goal.returns
+returns c = one_question

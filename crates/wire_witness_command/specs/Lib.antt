@@ -1,4 +1,0 @@
-pub mod Texts
-pub mod Tried
-pub mod Pair
-pub mod All
