@@ -32,7 +32,9 @@ def prove(room):
     """Proves the crates from nothing, and answers the seconds of each."""
     # (a kit that keeps what was proved would take it from there)
     words = ["rt", "ci", *["--anew"] * hasattr(kit.rt, "Kept"), *THEN]
-    how = {"cwd": room, "env": {**os.environ, "RT_JOBS": str(kit.rt.processors())}, "text": True, "errors": "replace"}
+    # (what `kit` says to the prover's allocator wasn't said then)
+    said = {name: value for name, value in os.environ.items() if name != "MIMALLOC_PURGE_DELAY"}
+    how = {"cwd": room, "env": {**said, "RT_JOBS": str(kit.rt.processors())}, "text": True, "errors": "replace"}
     with costs.Costs() as watch:
         ran = subprocess.run(words, check=False, stdout=subprocess.PIPE, stderr=subprocess.STDOUT, **how)
     if ran.returncode:

@@ -12,7 +12,7 @@ use Rattle.wire_script.specs.declared.Size.{Size}
 use Rattle.wire_script.specs.Limits.{order_bytes}
 use Rattle.wire_script.specs.Statements.{Statement, statements}
 use Rattle.wire_script.specs.Order.{order_read, order_within, order_of, step_of, with_step}
-use Rattle.wire_script.proofs.Limited.{order_limited}
+use Rattle.wire_script.proofs.OrderLimited.{order_limited}
 use Rattle.wire_runs.specs.State.{start}
 use Rattle.wire_runs.specs.Step.{IsInterleaving, is_enabled, run}
 use Rattle.wire_runs.specs.Ends.{outcome}

@@ -5,9 +5,9 @@ use Rattle.std.specs.Bool.{Decides}
 use Rattle.std.specs.Cmp.{booleans_Decides}
 use Rattle.std.specs.Cmp.Lexicographic.{pointwise, pointwise_decides}
 use Rattle.std.proofs.lemmas.Slice.Eq.{bytes_eq-Decides}
-use Rattle.wire_content.specs.Scripts.{Process, Scripts}
 use Rattle.wire_types.specs.declared.Version.{Version}
 use Rattle.wire_types.specs.declared.Version.TheVariants.{One, Two}
+use Rattle.wire_content.specs.Scripts.{Process, Scripts}
 use Rattle.wire_content.specs.Same.{same_version, same_texts, same_process, same_scripts}
 use Rattle.wire_content.proofs.SameCalls.{apart, alike, both, through, number, calls_decide}
 

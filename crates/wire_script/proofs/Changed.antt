@@ -2,13 +2,13 @@
 use Rattle.std.proofs.Common.{◌≡◌, ◌∙◌, ap, sym, subst, refl, ℕ, ◌+◌, ◌-◌, ◌<◌, ◌≤◌, List, [], ◌∷◌, ◌++◌, Bool, true, false, map, length, length-append, Result, Ok, Err, MatchResult, inl, inr, arith}
 use Rattle.std.proofs.Common.{if◌then◌else◌}
 use Rattle.std.specs.Prelude.{not, nat_lt, ◌&&◌, ⊤}
+use Rattle.wire_types.specs.declared.Version.{Version}
 use Rattle.wire_lines.proofs.Colon.{and_left}
 use Rattle.std.proofs.lemmas.List.{length-map, map-append}
 use borrow.Author.Tests.{ltb-true}
 use Rattle.wire_types.specs.declared.Fault.{Fault}
 use Rattle.wire_types.specs.declared.Fault.TheVariants.{TooLong, BadLine, UnknownName, Twice, TooMany}
 use Rattle.wire_lines.specs.Said.{Call, Said, Header, Keep, Node, Job, Rank, Calls, IsLawful, IsLawfulCall}
-use Rattle.wire_types.specs.declared.Version.{Version}
 use Rattle.wire_script.specs.declared.limits.Size.{Size}
 use Rattle.wire_script.specs.Statements.{Statement}
 use Rattle.wire_script.specs.FirstPass.{Started, Declared, number_or_count, after, judged, is_in_place, is_short, is_short_call}

@@ -1,7 +1,3 @@
-pub mod ProcTable
-pub mod OrderSteps
-pub mod Limited
-pub mod Asked
 mod TextTable
 mod Apart
 pub mod Adding
@@ -18,7 +14,7 @@ pub mod Tables
 pub mod Sound
 pub mod Recut
 pub mod Changed
-pub mod InOrder
+pub mod DeclaredLines
 pub mod Ranked
 pub mod Standing
 pub mod Numbered
@@ -27,3 +23,7 @@ pub mod Again
 pub mod Said
 pub mod ReadBack
 pub mod Migrated
+pub mod ProcTable
+pub mod OrderSteps
+pub mod OrderLimited
+pub mod QuestionRead

@@ -1,12 +1,12 @@
 -- A text reads as one value.
 use Rattle.std.proofs.Common.{◌≡◌, ◌∙◌, ap, sym, subst, ℕ, List, [], ◌∷◌, length, Result, Ok, Err, MatchResult, inl, inr, arith, Option, Some, None, refl}
 use Rattle.wire_types.specs.declared.Fault.{Fault}
+use Rattle.wire_types.specs.declared.Version.{Version}
 use Rattle.wire_lines.proofs.SaysOnce.{says_once}
 use Rattle.wire_lines.specs.Text.{lines_of}
 use Rattle.wire_script.specs.Statements.{Statement, statements}
 use Rattle.wire_script.specs.FirstPass.{Declared, nothing, judged, Judges, JudgesAll, FirstPass}
 use Rattle.wire_content.specs.Scripts.{Scripts}
-use Rattle.wire_types.specs.declared.Version.{Version}
 use Rattle.wire_lines.specs.Said.{Said, Header}
 use Rattle.wire_script.specs.declared.limits.Size.{Size}
 use Rattle.wire_script.specs.Reads.{second_pass, ReadsShort, ReadsOnce, scripts_of, unless_fault}

@@ -6,7 +6,7 @@ use Rattle.wire_types.specs.declared.Proc.{Proc}
 use Rattle.wire_content.specs.Scripts.{Scripts, numbers_of}
 use Rattle.wire_script.specs.Statements.{Statement}
 use Rattle.wire_script.specs.Order.{step_of, with_step, order_of}
-use Rattle.wire_script.specs.Words.{steps_before}
+use Rattle.wire_script.specs.ProcWords.{steps_before}
 
 -- before the first step there are none
 pub none_before : (r : Result (List ℕ) Fault) → r ≡ steps_before [] r

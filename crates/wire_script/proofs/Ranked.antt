@@ -7,15 +7,15 @@ use Rattle.std.specs.Str.{bytes_eq}
 use Rattle.std.proofs.lemmas.Slice.Eq.{bytes_eq-Decides}
 use Rattle.std.proofs.lemmas.Bool.{or_from, or_parts}
 use borrow.Author.Tests.{ltb-true, eqb-true, eq-eqb, ne_eqb}
+use Rattle.wire_types.specs.declared.Version.{Version}
 use Rattle.wire_lines.specs.Said.{Call, Said, Header, Keep, Node, Job, Rank, Calls, IsLawful, is_name}
 use Rattle.wire_content.specs.Scripts.{text_at}
-use Rattle.wire_types.specs.declared.Version.{Version}
 use Rattle.wire_script.specs.declared.limits.Size.{Size}
 use Rattle.wire_script.specs.Limits.{largest}
 use Rattle.wire_script.proofs.Within.{processes_low}
 use Rattle.wire_script.specs.FirstPass.{Name, Started, Declared, nothing, is_among, number_or_count, is_short_name, after, with_call}
 use Rattle.wire_script.proofs.Changed.{IsTaken, Runs, ranks_with}
-use Rattle.wire_script.proofs.InOrder.{AllBelow, below_more, below_push}
+use Rattle.wire_script.proofs.DeclaredLines.{AllBelow, below_more, below_push}
 
 same_self : (x : Name) → bytes_eq x x ≡ true
 same_self x = (bytes_eq-Decides x x).1 refl

@@ -2,10 +2,10 @@
 use Rattle.std.proofs.Common.{◌≡◌, ◌∙◌, ap, sym, subst, refl, ℕ, ◌-◌, List, [], ◌∷◌, ◌++◌, length, arith, None, Result, Ok, Err, MatchResult, inl, inr}
 use Rattle.std.specs.List.{flat_map}
 use Rattle.wire_types.specs.declared.Fault.{Fault}
+use Rattle.wire_types.specs.declared.Version.{Version}
 use Rattle.wire_lines.specs.Text.{lines_of}
 use Rattle.wire_lines.specs.Said.{Call, Said, Header, Keep, Node, Job, Rank, Calls, IsLawful}
 use Rattle.wire_content.specs.Scripts.{Scripts}
-use Rattle.wire_types.specs.declared.Version.{Version}
 use Rattle.wire_script.specs.declared.limits.Size.{Size}
 use Rattle.wire_content.specs.Canonical.{line_text, lines_said, canonical}
 use Rattle.wire_script.specs.Statements.{statements}
@@ -14,7 +14,7 @@ use Rattle.wire_script.specs.Reads.{first_fault, scripts_of, unless_fault, secon
 use Rattle.wire_script.specs.Back.{ReadsBack, OneCanonical}
 use Rattle.wire_script.proofs.Recut.{AllLawful, numbered_lines, said_again}
 use Rattle.wire_script.proofs.Changed.{IsTaken, IsFit, CallsAre, AllCalls, Runs, Takes, changed_declaration, first_run, run_header, lines_changed, lines_judged}
-use Rattle.wire_script.proofs.InOrder.{lines_added, nothing_shaped}
+use Rattle.wire_script.proofs.DeclaredLines.{lines_added, nothing_shaped}
 use Rattle.wire_script.proofs.Ranked.{run_good}
 use Rattle.wire_script.proofs.Once.{short_once, second_ok}
 use Rattle.wire_script.proofs.Again.{canonical_call, scripts_changed, scripts_bare, met_changed, met_full}

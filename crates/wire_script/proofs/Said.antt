@@ -7,17 +7,17 @@ use borrow.Author.Tests.{ltb-true, eqb-true}
 use Rattle.wire_types.specs.declared.Scope.{Scope}
 use Rattle.wire_types.specs.declared.Call as call
 use Rattle.wire_types.specs.declared.Call.TheVariants as variant
+use Rattle.wire_types.specs.declared.Version.{Version}
 use Rattle.wire_lines.specs.Said.{Set, Call, Put, Commit, Fence, Get, GetNow, Publish, Lookup, LookupWait, Unpublish, UnpublishAll, Header, Node, Job, Rank, Calls}
 use Rattle.wire_lines.proofs.Colon.{and_left, and_right}
 use Rattle.wire_content.specs.Scripts.{Process, text_at}
 use Rattle.wire_content.specs.Canonical.{process_at, job_of, set_said, call_said, process_said, jobs_said, keep_said, lines_said}
-use Rattle.wire_types.specs.declared.Version.{Version}
 use Rattle.wire_script.specs.FirstPass.{Name, Started, Declared, is_among, number_or_count, has_call}
 use Rattle.wire_script.specs.Reads.{Seen, is_proc, proc_number, has_proc, is_in, set_members, is_declared_call, is_with_caller, first_fault, keys_in, names_in, values_in, sets_in, in_calls}
 use Rattle.wire_script.specs.Reads.{first_seen, seen_in, numbered, process_of, scripts_with, scripts_of}
 use Rattle.wire_script.proofs.Seen.{seen_among, among_flat, text_at_number, alone}
 use Rattle.wire_script.proofs.Changed.{changed_call, changed_process, changed_declaration, IsFit, IsFitFor, CallsAre, AllCalls}
-use Rattle.wire_script.proofs.InOrder.{process_lines, of_job, jobs_lines, declared_lines}
+use Rattle.wire_script.proofs.DeclaredLines.{process_lines, of_job, jobs_lines, declared_lines}
 use Rattle.wire_script.proofs.Ranked.{IsGood, below_at}
 use Rattle.wire_script.proofs.SameMembers.{process_there, set_kept, members_kept, set_declared, set_short, set_lawful}
 use Rattle.wire_script.proofs.Again.{canonical_call, IsAgain, same_again, CallAt, IsSameChange, all_met}

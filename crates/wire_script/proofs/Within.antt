@@ -7,14 +7,14 @@ use Rattle.std.proofs.lemmas.List.{length-map}
 use Rattle.std.proofs.lemmas.List.Sums.{sum_by-cons}
 use Rattle.wire_types.specs.declared.Fault.{Fault}
 use Rattle.wire_types.specs.declared.Fault.TheVariants.{TooLong, BadLine, UnknownName, Twice, TooMany}
+use Rattle.wire_types.specs.declared.Version.{Version}
+use Rattle.wire_types.specs.declared.Version.TheVariants as version
 use Rattle.wire_lines.specs.Said.{Said, Header, Keep, Node, Job, Rank, Calls, Call}
 use Rattle.wire_lines.proofs.Colon.{and_left}
 use Rattle.wire_content.specs.Scripts.{IsCounted}
 use Rattle.wire_script.specs.Statements.{Statement}
 use Rattle.wire_script.specs.FirstPass.{Started, Declared, number_or_count, nothing, after, is_in_place, is_short, is_known, is_again, has_room, has_call, with_call, Judges, JudgesAll, FirstPass}
 use Rattle.wire_script.specs.Reads.{Seen, numbered, process_of}
-use Rattle.wire_types.specs.declared.Version.{Version}
-use Rattle.wire_types.specs.declared.Version.TheVariants as version
 use Rattle.wire_script.specs.declared.limits.Limits.{Limits}
 use Rattle.wire_script.specs.declared.limits.Size.{Size}
 use Rattle.wire_script.specs.declared.limits.Size.TheVariants.{OfVersion, Large}

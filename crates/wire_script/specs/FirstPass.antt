@@ -3,11 +3,11 @@ use Rattle.std.specs.Prelude.{◌≡◌, ℕ, ◌+◌, ◌-◌, ◌==◌, ◌&&�
 use Rattle.std.specs.Prelude.{◌⊎◌, if◌then◌else◌}
 use Rattle.std.specs.List.{list_any, list_all, position_or_len}
 use Rattle.std.specs.Str.{bytes_eq}
+use Rattle.wire_types.specs.declared.Version.{Version}
+use Rattle.wire_types.specs.declared.Version.TheVariants as version
 use Rattle.wire_lines.specs.Said.{Item, One, Every, Set, Own, Listed, Call, Put, Commit, Fence, Get}
 use Rattle.wire_lines.specs.Said.{GetNow, Publish, Lookup, LookupWait, Unpublish, UnpublishAll}
 use Rattle.wire_lines.specs.Said.{Said, Header, Keep, Node, Job, Rank, Calls, Says}
-use Rattle.wire_types.specs.declared.Version.{Version}
-use Rattle.wire_types.specs.declared.Version.TheVariants as version
 use Rattle.wire_script.specs.declared.limits.Limits.{Limits}
 use Rattle.wire_script.specs.declared.limits.Size.{Size}
 use Rattle.wire_script.specs.Limits.{name_bytes, value_bytes, limits_of}

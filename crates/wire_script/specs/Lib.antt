@@ -1,6 +1,3 @@
-pub mod Order
-pub mod Words
-pub mod Question
 pub mod Limits
 pub mod Statements
 pub mod Left
@@ -12,3 +9,6 @@ pub mod Located
 pub mod Tabled
 pub mod Targets
 pub mod Back
+pub mod ProcWords
+pub mod Order
+pub mod Question

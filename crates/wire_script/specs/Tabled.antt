@@ -1,7 +1,7 @@
 -- What the tables hold while the calls are numbered: for the contracts of private functions. What is read is said in Reads.
 use Rattle.std.specs.Prelude.{◌≡◌, ℕ, ◌+◌, Bool, List, [], ◌∷◌, ◌++◌, length, if◌then◌else◌}
-use Rattle.wire_lines.specs.Said as said
 use Rattle.wire_types.specs.declared.Version.{Version}
+use Rattle.wire_lines.specs.Said as said
 use Rattle.wire_content.specs.Scripts.{Process, Scripts}
 use Rattle.wire_content.specs.declared.Tables.{Tables}
 use Rattle.wire_script.specs.declared.numbered_tables.NumberedTables.{NumberedTables}

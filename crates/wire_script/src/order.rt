@@ -6,11 +6,11 @@ ghost use Rattle.wire_script.specs.Statements.{statements};
 ghost use Rattle.wire_script.specs.Limits as limit;
 ghost use Rattle.wire_script.specs.Order as spec;
 ghost use Rattle.wire_script.specs.Order.{order_of, order_read};
-ghost use Rattle.wire_script.specs.Words.{IsTableOf};
+ghost use Rattle.wire_script.specs.ProcWords.{IsTableOf};
 
 use crate::limits::Size;
 use crate::lines::Cursor;
-use crate::words::ProcWords;
+use crate::proc_words::ProcWords;
 use std::alloc::{AllocError, Global};
 use wire_content::Scripts;
 use wire_lines::line_past;

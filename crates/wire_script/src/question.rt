@@ -2,9 +2,9 @@
 
 ghost use Rattle.std.specs.Prelude.{◌≡◌, ◌⊎◌, ℕ, Ok, Err, IfOk, IfErr, IfSome, IfNone};
 ghost use Rattle.wire_script.specs.Question.{QuestionReads, IsCallNumber, IsCallNamed, IsProcWrong, IsNumberWrong, OneQuestion, calls_made};
-ghost use Rattle.wire_script.specs.Words.{IsTableOf};
+ghost use Rattle.wire_script.specs.ProcWords.{IsTableOf};
 
-use crate::words::ProcWords;
+use crate::proc_words::ProcWords;
 use std::alloc::Global;
 use wire_content::Scripts;
 use wire_lines::number_of;

@@ -5,12 +5,12 @@ use Rattle.std.specs.Fmt.{digits, digits_onto, digit_glyph}
 use Rattle.std.specs.List.{list_all, flat_map}
 use Rattle.std.proofs.lemmas.List.{map-append}
 use borrow.Author.Tests.{leb-true, lt-ltb}
+use Rattle.wire_types.specs.declared.Version.{Version}
 use Rattle.wire_lines.specs.Said.{Call, Put, Commit, Fence, Get, GetNow, Publish, Lookup, LookupWait, Unpublish, UnpublishAll}
 use Rattle.wire_lines.specs.Said.{Said, Header, Keep, Node, Job, Rank, Calls, IsLawful, IsLawfulCall, is_word_byte}
 use Rattle.wire_lines.specs.Said.{is_word, is_name, is_key}
 use Rattle.wire_lines.proofs.Colon.{and_left, and_right}
 use Rattle.wire_content.specs.Scripts.{Scripts, text_at}
-use Rattle.wire_types.specs.declared.Version.{Version}
 use Rattle.wire_script.specs.declared.Size.{Size}
 use Rattle.wire_script.specs.FirstPass.{Name, Started, Declared, nothing, number_or_count, after, with_call}
 use Rattle.wire_script.specs.Reads.{keys_in, names_in, values_in, in_calls, first_seen, seen_in, scripts_of}

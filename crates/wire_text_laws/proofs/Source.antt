@@ -1,10 +1,10 @@
 -- What a file that was read declares.
 use Rattle.std.proofs.Common.{◌≡◌, ℕ, List, Result, Ok, Err, MatchResult, length, inl, inr}
 use Rattle.wire_types.specs.declared.Fault.{Fault}
+use Rattle.wire_types.specs.declared.Version.{Version}
 use Rattle.wire_lines.specs.Text.{lines_of}
 use Rattle.wire_lines.specs.Said.{Said}
 use Rattle.wire_content.specs.Scripts.{Scripts}
-use Rattle.wire_types.specs.declared.Version.{Version}
 use Rattle.wire_script.specs.declared.Size.{Size}
 use Rattle.wire_script.specs.Limits.{limits_of}
 use Rattle.wire_script.specs.Statements.{statements}

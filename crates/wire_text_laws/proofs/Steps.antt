@@ -3,6 +3,8 @@ use Rattle.std.proofs.Common.{◌≡◌, ◌∙◌, ap, sym, subst, refl, ℕ, �
 use Rattle.std.specs.Prelude.{⊤}
 use Rattle.std.proofs.lemmas.List.{length-map}
 use borrow.Author.Tests.{le-ltb}
+use Rattle.wire_types.specs.declared.Version.{Version}
+use Rattle.wire_types.specs.declared.Version.TheVariants as version
 use Rattle.wire_runs.specs.Plan.{Plan, event_total}
 use Rattle.wire_runs.specs.State.{State, start, next_kind}
 use Rattle.wire_runs.specs.Step.{step, IsInterleaving}
@@ -12,8 +14,6 @@ use Rattle.wire_runs.proofs.Length.{runs_end}
 use Rattle.wire_lines.specs.Text.{lines_of, words_of}
 use Rattle.wire_content.specs.Scripts.{Scripts}
 use Rattle.wire_content.specs.Planned.{planned_process, plan_of}
-use Rattle.wire_types.specs.declared.Version.{Version}
-use Rattle.wire_types.specs.declared.Version.TheVariants as version
 use Rattle.wire_script.specs.declared.Size.{Size}
 use Rattle.wire_script.specs.declared.Size.TheVariants.{OfVersion, Large}
 use Rattle.wire_script.specs.Limits.{limits_of, order_bytes}

@@ -8,7 +8,7 @@ use Rattle.wire_witness.specs.declared.witness.Witness.{Witness}
 use Rattle.wire_witness.specs.Witness.{IsWitness}
 use Rattle.wire_up.specs.declared.part.Part.{Part}
 use Rattle.wire_up.specs.declared.part.Part.TheVariants.{FirstOrder, SecondOrder}
-use Rattle.wire_up.specs.WitnessTexts.{witness_text}
+use Rattle.wire_up.specs.PairText.{witness_text}
 use Rattle.wire_text_laws.specs.Again.{steps_text, ReadsAsOrder}
 use Rattle.wire_text_laws.specs.Following.{IsFollowed}
 

@@ -1,5 +1,5 @@
-pub mod WitnessWritten
 pub mod Failures
 pub mod Judged
 pub mod Worked
 pub mod Written
+pub mod WitnessWritten

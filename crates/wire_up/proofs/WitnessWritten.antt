@@ -1,4 +1,4 @@
--- From what the parts of the commands answer to what they answer.
+-- From what the parts of `witness` answer to what it answers.
 use Rattle.std.proofs.Common.{◌≡◌, subst, sym, ℕ, Bool, List, ◌⊎◌, inr, Option, Result, Ok, Err, IfOk, IfErr}
 use Rattle.std.specs.Io.KnownBytes.{Appends}
 use Rattle.wire_types.specs.declared.Fault.{Fault}
@@ -10,8 +10,8 @@ use Rattle.wire_commands.specs.Plain.{ReadAs}
 use Rattle.wire_commands.specs.Why.{StopsBeforeAnswer}
 use Rattle.wire_commands.specs.Check.{StopsBeforeFindings}
 use Rattle.wire_up.specs.declared.part.Part.{Part}
-use Rattle.wire_up.specs.Witness.{AnswersPair, WritesPair, BreaksOffPair}
-use Rattle.wire_up.specs.Witnesses.{IsTriedText, WritesTried, BreaksOffTried}
+use Rattle.wire_up.specs.ShownPair.{AnswersPair, WritesPair, BreaksOffPair}
+use Rattle.wire_up.specs.ShownRaces.{IsTriedText, WritesTried, BreaksOffTried}
 
 -- the answer about two calls goes out
 pub pair_ok : (coming : Option (List ℕ)) (words : List (List ℕ)) (part : Part) (old new : Option (List ℕ)) (s : Scripts) (text : List ℕ) (ended : Ended) (r : Result Ended Fault) →

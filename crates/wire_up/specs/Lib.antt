@@ -1,6 +1,6 @@
-pub mod WitnessTexts
-pub mod Tried
-pub mod Witness
-pub mod Witnesses
 pub mod Replay
 pub mod Complete
+pub mod PairText
+pub mod RacesText
+pub mod ShownPair
+pub mod ShownRaces

@@ -1,14 +1,14 @@
-//! Rehearsals of the wire-up of a PMIx job, and what shows that the races of a plan are real, for two calls and for all races: from
-//! bytes to bytes.
+//! Rehearsals of the wire-up of a PMIx job, and the command `witness`, which shows that races of a plan are real (that of two calls, or
+//! all of them): from bytes to bytes.
 #![tactic(auto)]
 
 mod failing;
+mod pair_text;
 mod part;
+mod races_text;
 mod replaying;
 mod showing_pair;
 mod showing_races;
-mod tried;
-mod witness_texts;
 
 pub use part::Part;
 pub use replaying::{Manner, Mode, Rehearsed, rehearse, rehearse_complete, rehearse_sized};

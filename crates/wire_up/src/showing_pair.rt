@@ -4,10 +4,10 @@ ghost use Rattle.std.specs.Prelude.{◌≡◌, ◌≢◌, ◌⊎◌, Err, map, O
 ghost use Rattle.wire_types.specs.declared.Fault.TheVariants.{Memory, Read};
 ghost use Rattle.wire_types.specs.Counting.{one_more};
 ghost use Rattle.wire_commands.specs.Why.{Asks, StopsBeforeAnswer};
-ghost use Rattle.wire_up.specs.Witness.{AnswersPair, BreaksOffPair, WritesPair};
+ghost use Rattle.wire_up.specs.ShownPair.{AnswersPair, BreaksOffPair, WritesPair};
 
+use crate::pair_text::pair_text;
 use crate::part::Part;
-use crate::witness_texts::pair_text;
 use std::alloc::Global;
 use wire_commands::{Answer, Ended, read_pair, read_scripts, write_answer};
 use wire_content::Scripts;

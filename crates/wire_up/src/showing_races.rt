@@ -4,9 +4,9 @@ ghost use Rattle.std.specs.Prelude.{◌≡◌, ◌≢◌, ◌⊎◌, false, Err,
 ghost use Rattle.wire_types.specs.declared.Fault.TheVariants.{Memory, Read};
 ghost use Rattle.wire_types.specs.Counting.{one_more};
 ghost use Rattle.wire_commands.specs.Check.{StopsBeforeFindings};
-ghost use Rattle.wire_up.specs.Witnesses.{BreaksOffTried, IsTriedText, WritesTried};
+ghost use Rattle.wire_up.specs.ShownRaces.{BreaksOffTried, IsTriedText, WritesTried};
 
-use crate::tried::races_form;
+use crate::races_text::races_form;
 use std::alloc::Global;
 use std::thread::Threads;
 use wire_commands::{Answer, Ended, read_scripts, write_answer};

@@ -3,7 +3,7 @@ use Rattle.wire_content.specs.Scripts.{numbers_of}
 use Rattle.wire_script.specs.Statements.{statements}
 use Rattle.wire_script.specs.Left.{statements_left}
 use Rattle.wire_script.specs.Order.{order_of}
-use Rattle.wire_script.specs.Words.{steps_before}
+use Rattle.wire_script.specs.ProcWords.{steps_before}
 use Rattle.wire_script.proofs.order.read_steps.Given as goal
 
 abbrev pub invariant-statements : goal.invariant-statements

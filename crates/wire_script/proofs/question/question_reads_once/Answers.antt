@@ -1,4 +1,4 @@
-use Rattle.wire_script.proofs.Asked.{one_question}
+use Rattle.wire_script.proofs.QuestionRead.{one_question}
 use Rattle.wire_script.proofs.question.question_reads_once.Goals as goal
 
 pub returns : goal.returns

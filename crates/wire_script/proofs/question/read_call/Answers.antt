@@ -1,4 +1,4 @@
-use Rattle.wire_script.proofs.Asked.{number_wrong}
+use Rattle.wire_script.proofs.QuestionRead.{number_wrong}
 use Rattle.wire_script.proofs.question.read_call.Goals as goal
 
 pub returns-in-None-clause-no_number : goal.returns-in-None-clause-no_number

@@ -1,5 +1,5 @@
 use Rattle.std.proofs.Common.{◌∙◌, sym, arith}
-use Rattle.wire_script.proofs.Asked.{not_zero, not_past}
+use Rattle.wire_script.proofs.QuestionRead.{not_zero, not_past}
 use Rattle.wire_script.proofs.question.read_call_number.Goals as goal
 
 pub returns-then-number-eq0-clause-none : goal.returns-then-number-eq0-clause-none

@@ -2,7 +2,7 @@ use Rattle.std.proofs.Common.{map, ◌∙◌, ap}
 use Rattle.wire_commands.proofs.Replayed.{handed_on, not_ok}
 use Rattle.wire_commands.proofs.Questioned.{asked_too, refused_too}
 use Rattle.wire_commands.specs.Check.{ended_of}
-use Rattle.wire_up.specs.WitnessTexts.{pair_text}
+use Rattle.wire_up.specs.PairText.{pair_text}
 use Rattle.wire_up.proofs.showing_pair.plan_answer.Goals as goal
 
 pub returns-in_err-calls-clause-ok : goal.returns-in_err-calls-clause-ok

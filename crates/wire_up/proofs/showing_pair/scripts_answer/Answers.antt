@@ -2,7 +2,7 @@ use Rattle.std.proofs.Common.{◌≡◌, ◌⊎◌, subst, inl, map, IfOk, IfErr
 use Rattle.wire_types.specs.declared.Fault.TheVariants.{Memory}
 use Rattle.wire_commands.specs.Why.{Asks}
 use Rattle.wire_commands.proofs.Replayed.{handed_on, not_ok}
-use Rattle.wire_up.specs.Witness.{AnswersPair}
+use Rattle.wire_up.specs.ShownPair.{AnswersPair}
 use Rattle.wire_up.proofs.showing_pair.scripts_answer.Goals as goal
 
 pub returns-in_err-plan-clause-ok : goal.returns-in_err-plan-clause-ok

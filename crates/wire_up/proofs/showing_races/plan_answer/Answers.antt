@@ -1,6 +1,6 @@
 use Rattle.std.proofs.Common.{◌∙◌, ap}
 use Rattle.wire_commands.specs.Check.{ended_of}
-use Rattle.wire_up.specs.Tried.{races_form}
+use Rattle.wire_up.specs.RacesText.{races_form}
 use Rattle.wire_up.proofs.showing_races.plan_answer.Goals as goal
 
 pub returns-clause-ok : goal.returns-clause-ok

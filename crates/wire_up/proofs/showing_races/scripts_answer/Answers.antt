@@ -1,5 +1,5 @@
 use Rattle.std.proofs.Common.{subst, IfOk}
-use Rattle.wire_up.specs.Witnesses.{IsTriedText}
+use Rattle.wire_up.specs.ShownRaces.{IsTriedText}
 use Rattle.wire_up.proofs.showing_races.scripts_answer.Goals as goal
 
 pub returns-clause-ok : goal.returns-clause-ok

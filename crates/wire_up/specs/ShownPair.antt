@@ -13,7 +13,7 @@ use Rattle.wire_commands.specs.Check.{ended_of}
 use Rattle.wire_commands.specs.Plain.{ReadAs}
 use Rattle.wire_commands.specs.Why.{Asks}
 use Rattle.wire_up.specs.declared.part.Part.{Part}
-use Rattle.wire_up.specs.WitnessTexts.{pair_text}
+use Rattle.wire_up.specs.PairText.{pair_text}
 
 -- the words name two calls of the scripts, and the text tells what a search for a witness of them found. It ends with one finding exactly
 -- where that is a witness

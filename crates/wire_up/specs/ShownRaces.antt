@@ -10,7 +10,7 @@ use Rattle.wire_witness.specs.Searches.{IsRaceSearch, shown_by_races}
 use Rattle.wire_commands.specs.declared.checking.Ended.{Ended}
 use Rattle.wire_commands.specs.Check.{ended_of}
 use Rattle.wire_commands.specs.Plain.{ReadAs}
-use Rattle.wire_up.specs.Tried.{races_form}
+use Rattle.wire_up.specs.RacesText.{races_form}
 
 -- the first races among the findings were tried, so many at most: each that the text calls shown has a witness, and it ends with as many as
 -- are shown

@@ -5,7 +5,7 @@ use Rattle.std.specs.HashMap.{get_by}
 use Rattle.wire_types.specs.declared.Fault.{Fault}
 use Rattle.wire_content.specs.Scripts.{Scripts}
 use Rattle.wire_script.specs.Order.{proc_named}
-use Rattle.wire_script.specs.declared.words.ProcWords.{ProcWords}
+use Rattle.wire_script.specs.declared.proc_words.ProcWords.{ProcWords}
 
 -- the number of the process that a table has for a word
 abbrev pub number_in : ProcWords → List ℕ → Option ℕ

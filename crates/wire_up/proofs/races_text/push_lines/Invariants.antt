@@ -1,7 +1,7 @@
 use Rattle.std.proofs.Common.{◌≡◌, ◌++◌, drop}
 use Rattle.std.specs.List.{flat_map}
-use Rattle.wire_up.specs.Tried.{race_line}
-use Rattle.wire_up.proofs.tried.push_lines.Given as goal
+use Rattle.wire_up.specs.RacesText.{race_line}
+use Rattle.wire_up.proofs.races_text.push_lines.Given as goal
 
 -- what is written, and the lines of the races that are left, are all lines
 abbrev pub invariant-loop-one : goal.invariant-loop-one

@@ -1,6 +1,6 @@
 use Rattle.std.proofs.Common.{◌≡◌, ◌++◌, map, drop}
-use Rattle.wire_up.specs.Tried.{words_of}
-use Rattle.wire_up.proofs.tried.words_of.Given as goal
+use Rattle.wire_up.specs.RacesText.{words_of}
+use Rattle.wire_up.proofs.races_text.words_of.Given as goal
 
 -- the words that are made, and those of the races that are left, are all words
 abbrev pub invariant-loop-one : goal.invariant-loop-one

@@ -4,7 +4,7 @@ use Rattle.std.proofs.lemmas.List.{take_all}
 use Rattle.wire_lines.specs.Said.{spelled_proc}
 use Rattle.wire_content.specs.Canonical.{process_text}
 use Rattle.wire_script.proofs.ProcTable.{position_next}
-use Rattle.wire_script.proofs.words.ProcWords.new.Goals as goal
+use Rattle.wire_script.proofs.proc_words.ProcWords.new.Goals as goal
 
 pub loop-number-preserved : goal.loop-number-preserved
 loop-number-preserved c = λ word.

@@ -1,5 +1,5 @@
 use Rattle.std.proofs.Common.{◌≡◌, ◌++◌, map, drop}
-use Rattle.wire_up.proofs.tried.shown_of.Given as goal
+use Rattle.wire_up.proofs.races_text.shown_of.Given as goal
 
 -- the calls so far, and those of the races that are left, are all calls
 abbrev pub invariant-loop-one : goal.invariant-loop-one

@@ -3,7 +3,7 @@ use Rattle.std.specs.Str.{bytes_eq}
 use Rattle.std.specs.HashMap.{get_by}
 use Rattle.std.proofs.lemmas.Grind.{common_steps}
 use Rattle.wire_script.proofs.ProcTable.{found_after, number_comes}
-use Rattle.wire_script.proofs.words.ProcWords.add.Goals as goal
+use Rattle.wire_script.proofs.proc_words.ProcWords.add.Goals as goal
 
 pub returns-in_ok-insert : goal.returns-in_ok-insert
 returns-in_ok-insert c = λ text.

@@ -2,7 +2,7 @@
 
 ghost use Rattle.std.specs.Prelude.{◌≡◌, ◌++◌, true, map, IfOk, OnOk};
 ghost use Rattle.std.specs.List.{flat_map};
-ghost use Rattle.wire_up.specs.Tried as spec;
+ghost use Rattle.wire_up.specs.RacesText as spec;
 
 use std::alloc::{AllocError, Global};
 use wire_content::Scripts;

@@ -3,7 +3,7 @@
 ghost use Rattle.std.specs.Prelude.{◌≡◌, ℕ, List, Some, None, option_map, OnOk, IfOk, if◌then◌else◌};
 ghost use Rattle.std.specs.Option.{option_or};
 ghost use Rattle.std.specs.Str.{bytes_eq};
-ghost use Rattle.wire_script.specs.Words.{number_in, IsTableOf};
+ghost use Rattle.wire_script.specs.ProcWords.{number_in, IsTableOf};
 
 use std::alloc::{AllocError, Global};
 use std::collections::HashMap;

@@ -2,7 +2,7 @@
 
 ghost use Rattle.std.specs.Prelude.{◌≡◌, IfOk};
 ghost use Rattle.wire_content.specs.Scripts.{numbers_of};
-ghost use Rattle.wire_up.specs.WitnessTexts as spec;
+ghost use Rattle.wire_up.specs.PairText as spec;
 
 use crate::part::Part;
 use std::alloc::{AllocError, Global};
