@@ -14,12 +14,14 @@ import fcntl
 import itertools
 import os
 import re
+import resource
 import shutil
 import signal
 import subprocess
 import sys
 import tempfile
 import threading
+import time
 
 sys.dont_write_bytecode = True
 import kit
@@ -144,7 +146,7 @@ def run():
 
 def run_alone():
     """The same, where no other `make run` works here."""
-    log = progress.log_at("run.log")
+    log, begun = progress.log_at("run.log"), time.monotonic()
     proof = Proof(log)
     if not os.path.exists(PLACE):
         with tempfile.TemporaryDirectory(prefix="wire-up-") as room:
@@ -153,9 +155,17 @@ def run_alone():
     failed = proof.end()
     if failed:
         fail(f"{failed}. ./wire_up is as it was", log)
+    note_time(log, time.monotonic() - begun)
     os.replace(MADE, PLACE)
     print("Proved, and built as ./wire_up:", flush=True)
     show()
+
+
+def note_time(log, seconds):
+    """Writes to the end of the log how long the run took, and the processor time of all that was started for it."""
+    used = resource.getrusage(resource.RUSAGE_CHILDREN)
+    with open(log, "a", encoding="utf-8") as to:
+        to.write(f"$ {seconds / 60:.1f} minutes, {(used.ru_utime + used.ru_stime) / 60:.1f} of processor time\n")
 
 
 def prove_crates(crates, line, log, keeps=False):

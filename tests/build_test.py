@@ -6,6 +6,7 @@ Prints a line for each case that went otherwise than it must, and last 'N passed
 """
 import io
 import os
+import re
 import shutil
 import sys
 import tempfile
@@ -13,6 +14,7 @@ import traceback
 from unittest import mock
 
 sys.dont_write_bytecode = True
+import build as builder
 import kit
 import lanes
 
@@ -398,6 +400,18 @@ def program_refused(top):
     return True
 
 
+def time_is_noted(top):
+    # At the end of the log, behind what the proofs said.
+    log = os.path.join(top, "run.log")
+    for text in "what the proofs said\n", "":
+        with open(log, "a", encoding="utf-8") as it:
+            it.write(text)
+        builder.note_time(log, 90)
+    with open(log, encoding="utf-8") as it:
+        said, *times = it.read().splitlines()
+    return said == "what the proofs said" and len(times) == 2 and all(re.fullmatch(r"\$ 1\.5 minutes, \d+\.\d of processor time", it) for it in times)
+
+
 CASES = [
     from_nothing,
     nothing_changed,
@@ -432,6 +446,7 @@ CASES = [
     none_waits_for_ever,
     another_program_in_its_place,
     program_refused,
+    time_is_noted,
 ]
 
 
