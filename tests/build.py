@@ -82,14 +82,12 @@ def try_it(file, top=progress.TOP):
 
 
 def expected(crates, keeps=False):
-    """About how many minutes the proofs of crates take: as long as the longest chain of them, or as all of them by all processors. Where two processes share
-    the last proof, the chain takes a little less."""
-    minutes, chain, machine = progress.minutes_of(), {}, kit.machine_for(crates, keeps)
+    """About how many minutes the proofs of crates take: as long as the longest chain of them, or as all of them by all processors."""
+    minutes, chain = progress.minutes_of(), {}
     left = {it.name: minutes.get(it.name, 1) for it in crates if not kit.is_done(it, keeps)}
     for crate in crates:
         chain[crate.name] = left.get(crate.name, 0) + max((chain[it.name] for it in crate.deps), default=0)
-    by_chain, by_all = max(chain.values()), sum(left.values()) / machine.processors
-    return max(by_chain, by_all) if machine.most == 1 else max(0.93 * by_chain, by_all)
+    return max(*chain.values(), sum(left.values()) / kit.machine_here().processors)
 
 
 class Proof(threading.Thread):
@@ -140,7 +138,7 @@ def alone():
 
 def run():
     """The answer without proofs where there is no other yet, and meanwhile the proof; then the same answer."""
-    with alone():
+    with alone(), kit.files_in_memory():
         run_alone()
 
 
@@ -180,7 +178,7 @@ def build_libraries():
     # As `rt` does: Python would wait for the threads' checks.
     signal.signal(signal.SIGINT, signal.SIG_DFL)
     log, crates = progress.log_at("libraries.log"), [it for it in kit.crates_at(progress.TOP) if not it.is_program]
-    with progress.Progress("proving", expected(crates, True)) as line, kit.locked(crates):
+    with progress.Progress("proving", expected(crates, True)) as line, kit.locked(crates), kit.files_in_memory():
         failed = prove_crates(crates, line, log, True)
     if failed:
         fail(f"not proved: {' '.join(failed)}", log)

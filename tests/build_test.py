@@ -290,14 +290,30 @@ def proofs_kept_and_lost(top):
 
 
 def side_by_side(top):
-    # RT_JOBS says how many proofs run side by side, each by one process, and whatever memory is free.
+    # RT_JOBS says how many proofs run side by side, whatever memory is free.
     found = []
     with mock.patch.object(kit.lanes, "run_all", lambda proofs, machine: found.append((machine, {it.memory for it in proofs.values()}))):
         for number in "7", "":
             with mock.patch.dict(os.environ, {"RT_JOBS": number}), mock.patch.object(kit.rt, "processors", lambda: 3):
                 build(top, Prover())
     told, free = found
-    return told[0] == (7, float("inf"), 1) and free[0].processors == 3 and free[0].most == kit.lanes.MOST and max(free[1]) < min(told[1])
+    return told[0] == (7, float("inf")) and free[0].processors == 3 and free[0].memory < kit.rt.free() and told[1] == free[1]
+
+
+def made_in_memory(top):
+    # The prover's files are made in memory, and go with what killed ones left; on the disk where there is no room, or where TMPDIR says so.
+    left = os.path.join(top, "wire-up-999999999-left")
+    seen = []
+    for free, told in (1e12, {}), (1e9, {}), (1e12, {"TMPDIR": top}):
+        os.makedirs(left)
+        with mock.patch.dict(os.environ, told), mock.patch.object(kit.rt, "free", lambda: free):
+            if not told:
+                os.environ.pop("TMPDIR", None)
+            with kit.files_in_memory(top):
+                room = os.environ.get("TMPDIR", "")
+                seen.append((os.path.dirname(room) == top, room == top, os.path.exists(left)))
+            seen.append("TMPDIR" in os.environ or os.path.exists(room))
+    return seen == [(True, False, False), False, (False, False, False), False, (False, True, False), True]
 
 
 def program_too(top):
@@ -307,19 +323,13 @@ def program_too(top):
     return first[:2] == (sorted([*CRATES, "app"]), []) and again[:2] == ([], []) and build(top, Prover())[0] == ["app", "high"] and "app" in built(top)
 
 
-def by_idle_processors(top):
-    # Where nothing else is to be proved, a proof gets as many processes as it is worth; one where RT_JOBS says so, and over libraries that hold proofs.
-    # As long as nothing is known, each proof counts as one minute, and here half a minute is worth one process more.
-    add_program(top)
-    given = []
-    worth = mock.patch.object(lanes, "WORTH", 0.5)
-    with worth, mock.patch.object(kit.rt, "processors", lambda: 4), mock.patch.object(kit.rt, "free", lambda: 1e12):
-        for number, keeps in ("", False), ("2", False), ("", True):
-            write(top, "low", f"//! proved with {number} {keeps}\n")
-            with mock.patch.dict(os.environ, {"RT_JOBS": number}):
-                build(top, prover := Prover(), keeps)
-            given.append([prover.jobs[it] for it in ("low", "middle", "high", "app")])
-    return given == [["2"] * 4, ["1"] * 4, ["1"] * 4]
+def over_proofs(top):
+    # Over libraries that hold proofs, or are to, a proof takes more memory.
+    taken = []
+    with mock.patch.object(kit.lanes, "run_all", lambda proofs, _: taken.append({it.memory for it in proofs.values()})):
+        build(top, Prover())
+        build(top, Prover(), keeps=True)
+    return max(taken[0]) < min(taken[1])
 
 
 def over_libraries_of_rt(top):
@@ -333,33 +343,36 @@ def over_libraries_of_rt(top):
     return prover.jobs == {"high": "1"} and prover.cut == ["high"]
 
 
-def started(proofs, ready, running, processors, memory=100, most=4):
+def started(proofs, ready, running, processors, memory=100):
     """Which proofs start, by the words of each: what it takes, and for which it waits. Each takes ten bytes."""
     of = {name: lanes.Proof(waits, minutes, 10, None) for name, (minutes, *waits) in proofs.items()}
-    return lanes.start_ready(of, ready, running, lanes.Machine(processors, memory, most))
+    return lanes.start_ready(of, ready, running, lanes.Machine(processors, memory))
 
 
-def first_gets_most(_):
-    # The longest chain is that of `low`. One processor is left to the others.
-    proofs = {"low": (12,), "apart": (16,), "other": (12,), "high": (36, "low")}
-    ready = ["low", "apart", "other"]
-    by_four, by_two = started(proofs, ready, {}, 4), started(proofs, ready, {}, 2)
-    beside = started(proofs, ["apart", "other"], {"low": 1}, 4)
-    return by_four == {"low": 4, "apart": 1} and by_two == {"low": 1, "apart": 1} and beside == {"apart": 1, "other": 1}
+def one_to_a_processor(_):
+    # In the order in which they are ready.
+    proofs = {"low": (12,), "apart": (16,), "other": (12,)}
+    by_processors = [started(proofs, list(proofs), [], it) for it in (1, 2, 3, 4)]
+    beside = [started(proofs, ["apart", "other"], ["low"], it) for it in (1, 2)]
+    return by_processors == [["low"], ["low", "apart"], list(proofs), list(proofs)] and beside == [[], ["apart"]]
 
 
-def last_gets_all(_):
-    by_processors = [started({"last": (9,)}, ["last"], {}, it)["last"] for it in (1, 2, 3, 4, 9)]
-    by_minutes = [started({"last": (minutes,)}, ["last"], {}, 4)["last"] for minutes in (0, 2.9, 3, 6, 8.9, 9)]
-    return by_processors == [1, 2, 3, 4, 4] and by_minutes == [1, 1, 2, 3, 3, 4]
+def longest_chain_first(_):
+    # That of `low`.
+    order = []
+
+    def proof(name, minutes, *waits):
+        return lanes.Proof(waits, minutes, 10, lambda given: order.append((name, sorted(given))))
+
+    lanes.run_all({"apart": proof("apart", 16), "low": proof("low", 12), "high": proof("high", 36, "low")}, lanes.Machine(1, 100))
+    return order == [("low", []), ("high", ["low"]), ("apart", ["high", "low"])]
 
 
 def memory_is_kept(_):
-    # Ten bytes each, and six more for each further process. The first one starts in any case.
+    # Ten bytes each. The first one starts in any case.
     proofs = {"one": (12,), "two": (1,)}
-    by_room = [started({"one": (12,)}, ["one"], {}, 4, memory)["one"] for memory in (5, 10, 16, 22, 28, 100)]
-    beside = [started(proofs, ["two"], {"one": number}, 4, memory) for number, memory in ((1, 19), (1, 20), (2, 25), (2, 26))]
-    return by_room == [1, 1, 2, 3, 4, 4] and beside == [{}, {"two": 1}, {}, {"two": 1}]
+    beside = [started(proofs, ["two"], ["one"], 4, memory) for memory in (19, 20)]
+    return started(proofs, ["one"], [], 4, 5) == ["one"] and beside == [[], ["two"]]
 
 
 def none_waits_for_ever(_):
@@ -369,12 +382,12 @@ def none_waits_for_ever(_):
         for memory in 1, 35, 1000:
             begun = []
 
-            def call(given, number, begun=begun):
-                begun.append((len(given), number))
-                return number >= 1
+            def call(given, begun=begun):
+                begun.append(len(given))
+                return True
 
             proofs = {it: lanes.Proof([below for below in names[:at] if at % (names.index(below) + 2) == 0], at % 4, 10, call) for at, it in enumerate(names)}
-            given = lanes.run_all(proofs, lanes.Machine(processors, memory, 4))
+            given = lanes.run_all(proofs, lanes.Machine(processors, memory))
             if sorted(given) != sorted(names) or not all(given.values()) or len(begun) != len(names):
                 return False
     return True
@@ -438,10 +451,11 @@ CASES = [
     proofs_kept_and_lost,
     side_by_side,
     program_too,
-    by_idle_processors,
+    over_proofs,
     over_libraries_of_rt,
-    first_gets_most,
-    last_gets_all,
+    made_in_memory,
+    one_to_a_processor,
+    longest_chain_first,
     memory_is_kept,
     none_waits_for_ever,
     another_program_in_its_place,

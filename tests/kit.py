@@ -4,6 +4,7 @@ used here as it stands.
 Usage: python3 tests/kit.py try FOLDER    in a program's folder: what `rt try --cases FOLDER` does, without its hint
 """
 import contextlib
+import glob
 import importlib.machinery
 import importlib.util
 import os
@@ -24,6 +25,9 @@ DOUBTS = {"foreign", "hides", "partial", "may-abort", "may-serve", "bugs"}
 # The prover's allocator gives freed memory back to the system, which clears it before the prover gets it again. Here it keeps that memory. In two crates that saved
 # one and two hundredths of the processor time; in one, whose proof takes 1.1 GB, it took 40 MB more.
 os.environ.setdefault("MIMALLOC_PURGE_DELAY", "-1")
+# Where a Linux system keeps files in memory, how many bytes the files take that the prover makes of all crates that are proved side by side, and how much memory
+# must be free for both.
+MEMORY, MADE_THERE, ENOUGH = "/dev/shm", 2 << 30, 12 << 30
 # Why a build doesn't count that is of a text which isn't there any more.
 CHANGED = "its text, or that of a library below it, changed meanwhile"
 
@@ -124,6 +128,35 @@ def locked(crates):
             os.close(it)
 
 
+@contextlib.contextmanager
+def files_in_memory(place=MEMORY):
+    """Within this, the prover makes its files in memory, if there is room for them and nobody said by TMPDIR where else. Of a library it writes thousands of
+    small files, packs them, and removes them, which takes longer on a disk. What others left who were killed there is removed."""
+    for left in glob.glob(f"{place}/wire-up-[0-9]*-*"):
+        if not os.path.exists(f"/proc/{os.path.basename(left).split('-')[2]}"):
+            shutil.rmtree(left, ignore_errors=True)
+    if "TMPDIR" in os.environ or not has_room(place):
+        yield
+        return
+    # (Python asks once where temporary files go. Its own stay on the disk.)
+    tempfile.gettempdir()
+    room = os.environ["TMPDIR"] = tempfile.mkdtemp(prefix=f"wire-up-{os.getpid()}-", dir=place)
+    try:
+        yield
+    finally:
+        del os.environ["TMPDIR"]
+        shutil.rmtree(room, ignore_errors=True)
+
+
+def has_room(place):
+    """Whether files can be made in memory there, for all crates that are proved side by side."""
+    try:
+        found = os.statvfs(place)
+    except OSError:
+        return False
+    return os.access(place, os.W_OK) and found.f_bavail * found.f_frsize >= MADE_THERE and rt.free() >= ENOUGH
+
+
 def build(crates, log=sys.stdout, tell=lambda name: None, keeps=False):
     """Proves and builds crates side by side, each once those below it are built. A crate whose text and libraries are as they were isn't proved
     again. With `keeps` a library is, where the proofs of its functions aren't kept. What a check prints goes to the log, that of those that failed
@@ -134,11 +167,11 @@ def build(crates, log=sys.stdout, tell=lambda name: None, keeps=False):
         # (`rt` would take a library as built that doesn't fit what is below it now)
         if is_new[it.name]:
             take_away(it)
-    machine = machine_for(crates, keeps)
+    share = 1 if holds_proofs(crates, keeps) else SHARE
     for it in crates:
         takes = minutes.get(it.name, 1) if is_new[it.name] else 0
-        proofs[it.name] = lanes.Proof(names_below(it), takes, memory_for(it, machine.most), proof_of(it, log, tell, failed, keeps))
-    lanes.run_all(proofs, machine)
+        proofs[it.name] = lanes.Proof(names_below(it), takes, share * rt.need(it), proof_of(it, log, tell, failed, keeps))
+    lanes.run_all(proofs, machine_here())
     if failed:
         log.write("$ what the proofs that failed said\n")
     for name, said in failed.items():
@@ -147,18 +180,18 @@ def build(crates, log=sys.stdout, tell=lambda name: None, keeps=False):
     return list(failed)
 
 
-def machine_for(crates, keeps):
-    """What there is for the proofs of crates. Who says by RT_JOBS how many processes work side by side is obeyed. Over a library that holds proofs each
-    proof has one process: each further one would load them too."""
+def holds_proofs(crates, keeps):
+    """Whether a library among crates holds its proofs, or is to. A proof over it takes all the memory that the kit reckons with."""
+    return keeps or any(it.has_kept() or os.path.exists(it.rlib) and not is_cut(it) for it in crates if not it.is_program)
+
+
+def machine_here():
+    """What there is for proofs. Who says by RT_JOBS how many work side by side is obeyed."""
     number = os.environ.get("RT_JOBS", "")
-    told = int(number) if number.isdigit() else 0
-    holds_proofs = keeps or any(it.has_kept() or os.path.exists(it.rlib) and not is_cut(it) for it in crates if not it.is_program)
-    return lanes.Machine(told or rt.processors(), float("inf") if told else 0.85 * rt.free(), 1 if told or holds_proofs else lanes.MOST)
-
-
-def memory_for(crate, most):
-    """The bytes that a crate's proof takes by one process. (Over libraries that hold proofs it takes all that the kit reckons with.)"""
-    return rt.need(crate) * (SHARE if most > 1 else 1)
+    if number.isdigit() and int(number):
+        return lanes.Machine(int(number), float("inf"))
+    is_in_memory = os.environ.get("TMPDIR", "").startswith(f"{MEMORY}/")
+    return lanes.Machine(rt.processors(), 0.85 * rt.free() - is_in_memory * MADE_THERE)
 
 
 def lanes_for(crates):
@@ -174,11 +207,11 @@ def names_below(crate):
 def proof_of(crate, log, tell, failed, keeps):
     """What proves and builds one crate, where it isn't built. It gives whether that went well."""
 
-    def prove(given, processes):
+    def prove(given):
         if not all(given[it] for it in names_below(crate)):
             return False
         if not is_done(crate, keeps):
-            said, why = prove_anew(crate, keeps, processes)
+            said, why = prove_anew(crate, keeps)
             if why:
                 take_away(crate)
                 failed[crate.name] = f"{said}{why}\n"
@@ -191,14 +224,14 @@ def proof_of(crate, log, tell, failed, keeps):
     return prove
 
 
-def prove_anew(crate, keeps, processes):
-    """Proves and builds a crate by so many processes. Answers what the prover said, and why what was built doesn't count, if it doesn't."""
+def prove_anew(crate, keeps):
+    """Proves and builds a crate. Answers what the prover said, and why what was built doesn't count, if it doesn't."""
     take_away(crate)
     try:
         before = known(crate)
         if not are_built(crate.below()):
             return "", CHANGED
-        status, said = check(crate, keeps, processes)
+        status, said = check(crate, keeps)
         why = why_refused(status, said)
         if not why and (known(crate) != before or not are_built(crate.below())):
             why = CHANGED
@@ -209,15 +242,15 @@ def prove_anew(crate, keeps, processes):
         return "", f"{why.filename or crate.name}: {why.strerror}"
 
 
-def check(crate, keeps, processes):
-    """Checks and builds a crate by so many processes. Where proofs of a library's functions are kept, or are to be, it is built over these, as `rt lib`
+def check(crate, keeps):
+    """Checks and builds a crate by one process. Where proofs of a library's functions are kept, or are to be, it is built over these, as `rt lib`
     does. Answers the status of what failed, or 0, and what was printed."""
     with tempfile.TemporaryFile("w+", errors="replace") as crate.out:
         try:
             if crate.is_program:
-                status = build_program(crate, processes)
+                status = build_program(crate)
             else:
-                status = crate.build_rlib(["--jobs", "1"], anew=False) if keeps or crate.has_kept() else build_cut(crate, processes)
+                status = crate.build_rlib(["--jobs", "1"], anew=False) if keeps or crate.has_kept() else build_cut(crate)
             crate.out.seek(0)
             return status, crate.out.read()
         finally:
@@ -311,20 +344,20 @@ def take_away(crate):
         shutil.rmtree(os.path.dirname(crate.rlib), ignore_errors=True)
 
 
-def build_cut(crate, processes):
+def build_cut(crate):
     """Proves and builds a library that holds no more than what crates above can cite, as `rt ci` does: these load it sooner, and it takes less of
     the disk. The proofs of its functions aren't kept. The kit itself writes no stamp for such a library, since it fits only the very libraries over
     which it was built; `is_done` sees to that."""
     os.makedirs(os.path.dirname(crate.rlib))
     open(os.path.join(os.path.dirname(crate.rlib), "cut"), "wb").close()
-    return crate.call(rt.rtlib.RATTLE, "build", *crate.words(["--jobs", str(processes)], keeps=False), "--statements", "-o", crate.rlib)
+    return crate.call(rt.rtlib.RATTLE, "build", *crate.words(["--jobs", "1"], keeps=False), "--statements", "-o", crate.rlib)
 
 
-def build_program(crate, processes):
+def build_program(crate):
     """Proves, builds and links a program."""
     kit, made = rt.rtlib.KIT, made_of(crate)
     os.makedirs(os.path.dirname(made), exist_ok=True)
-    words = [*crate.words(["--jobs", str(processes)], keeps=False), "--toolchain", f"{kit}/toolchain", "--backend", "llvm", "-o", f"{made}.o"]
+    words = [*crate.words(["--jobs", "1"], keeps=False), "--toolchain", f"{kit}/toolchain", "--backend", "llvm", "-o", f"{made}.o"]
     link = ["--target", "x86_64-unknown-linux-gnu", "--toolchain", f"{kit}/toolchain", "-o", made, f"{made}.o"]
     status = crate.call(rt.rtlib.RATTLE, "build", *words)
     return status or crate.call(f"{kit}/bin/rattle-link", *link, f"{kit}/c/libos_c.a", f"{kit}/c/liblibc_c.a")

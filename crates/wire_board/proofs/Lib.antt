@@ -10,4 +10,5 @@ mod Looking
 mod Leaving
 mod Fronting
 mod Told
+mod SameFates
 pub mod PlainTrails

@@ -2,7 +2,7 @@
 use Rattle.std.proofs.Common.{◌≡◌, ◌∙◌, ap, refl, ℕ, List, [], ◌∷◌, map}
 use Rattle.std.specs.Borrow.{Bor}
 
-abbrev Row : Type 0
+abbrev pub Row : Type 0
 Row = Bor (List ℕ) × Bor (List ℕ)
 
 abbrev Text : Type 0

@@ -25,7 +25,7 @@ use Rattle.wire_explain.specs.Stops.{said_call, wait_text, standing_text, explan
 use Rattle.wire_explain.specs.Told.{TellsStop, Stops, TellsNothing}
 
 -- three parts
-joined : (zero one two three a b c : List ℕ) → one ≡ zero ++ a → two ≡ one ++ b → three ≡ two ++ c → three ≡ zero ++ (a ++ (b ++ c))
+pub joined : (zero one two three a b c : List ℕ) → one ≡ zero ++ a → two ≡ one ++ b → three ≡ two ++ c → three ≡ zero ++ (a ++ (b ++ c))
 joined zero one two three a b c e f g =
     g ∙ ap (λ t. t ++ c) (f ∙ ap (λ t. t ++ b) e) ∙ append_assoc (zero ++ a) b c ∙ append_assoc zero a (b ++ c)
 

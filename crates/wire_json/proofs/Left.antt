@@ -1,5 +1,6 @@
--- Nothing is left of calls without ends, of processes without rows, nor of races without what shows them.
-use Rattle.std.proofs.Common.{◌≡◌, ◌∙◌, ap, sym, refl, ℕ, List, [], ◌∷◌, ◌++◌, append-nil, map, ◌⊎◌, inl, inr, Option}
+-- What is made of a list, and what is left: nothing of calls without ends, of processes without rows, nor of races without what shows them.
+use Rattle.std.proofs.Common.{◌≡◌, ◌∙◌, ap, sym, refl, ℕ, ◌+◌, ◌<◌, List, [], ◌∷◌, ◌++◌, append-nil, append_assoc, length, map, drop, drop-cons, get_or, add-one, ◌⊎◌, inl, inr, Option}
+use Rattle.std.proofs.lemmas.List.{map_push}
 use Rattle.serde_json.specs.Data.{Data}
 use Rattle.wire_types.specs.declared.Call.{Call}
 use Rattle.wire_types.specs.declared.CallEnd.{CallEnd}
@@ -8,7 +9,7 @@ use Rattle.wire_types.specs.declared.CallAt.{CallAt}
 use Rattle.wire_json.specs.Trees.{calls_data, ranks_data}
 use Rattle.wire_json.specs.WitnessTrees.{tried_data}
 
-all_made : (out left all : List Data) → left ≡ [] → out ++ left ≡ all → out ≡ all
+pub all_made : {Y : Type 0} (out left all : List Y) → left ≡ [] → out ++ left ≡ all → out ≡ all
 all_made out left all none before = sym (append-nil out) ∙ ap (λ t. out ++ t) (sym none) ∙ before
 
 calls_after : (s : Scripts) (calls : List Call) → calls_data s calls [] ≡ []
@@ -39,3 +40,13 @@ pub no_tried : {R : Type 0} (s : Scripts) (f : R → List ℕ) (findings : List 
 no_tried s f findings shown out all none =
     all_made out (tried_data s (map f findings) shown) all
     (elim none [ inl e ↦ ap (λ t. tried_data s (map f t) shown) e | inr e ↦ ap (λ t. tried_data s (map f findings) t) e ∙ tried_after s (map f findings) ])
+
+-- what is made for one element more
+pub next_made : {X V Y : Type 0} (shown : V → Y) (f : X → Y) (xs : List X) (i : ℕ) (d : X) (old new : List V) (made : V) (all : List Y) → i < length xs → map shown old ++ map f (drop i xs) ≡ all →
+    shown made ≡ f (get_or xs i d) → new ≡ old ++ made ∷ [] → map shown new ++ map f (drop (i + 1) xs) ≡ all
+next_made shown f xs i d old new made all there before is pushed =
+    ap (λ vs. map shown vs ++ map f (drop (i + 1) xs)) pushed ∙ ap (λ ys. ys ++ map f (drop (i + 1) xs)) (map_push shown old made)
+    ∙ append_assoc (map shown old) (shown made ∷ []) (map f (drop (i + 1) xs))
+    ∙ ap (λ y. map shown old ++ y ∷ map f (drop (i + 1) xs)) is
+    ∙ sym (ap (λ ys. map shown old ++ map f ys) (drop-cons xs i d there ∙ ap (λ n. get_or xs i d ∷ drop n xs) (sym (add-one i))))
+    ∙ before

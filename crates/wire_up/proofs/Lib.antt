@@ -3,3 +3,4 @@ pub mod Judged
 pub mod Worked
 pub mod Written
 pub mod WitnessWritten
+pub mod ShownCalls

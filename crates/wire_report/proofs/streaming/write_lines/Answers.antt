@@ -1,4 +1,5 @@
-use Rattle.std.proofs.Common.{◌≡◌, ◌∙◌, ◌++◌, Some, length, slice_get, take, ◌+◌, refl, sym, ap, subst, arith, length-append}
+use Rattle.std.proofs.Common.{◌≡◌, ◌∙◌, ◌++◌, Some, length, slice_get, take, ◌+◌, refl, sym, ap, subst, inl, inr, arith, length-append}
+use Rattle.std.proofs.lemmas.Option.{slice_get_cases}
 use Rattle.std.specs.List.{flat_map}
 use Rattle.wire_types.specs.Counting.{one_more}
 use Rattle.wire_words.specs.Chunks.{IsOnItsWay}
@@ -75,3 +76,9 @@ returns-in-Err-clause-room g c = omega (arith, c.loop-number.invariant.room, c.i
 
 pub returns-in-Err-clause-failed : goal.returns-in-Err-clause-failed
 returns-in-Err-clause-failed g c = c.in-Err.ensures.failed ∙ ap one_more c.loop-number.invariant.quiet
+
+pub unreachable-requires : goal.unreachable-requires
+unreachable-requires g c = elim (slice_get_cases c.args.lines.findings.now c.loop-number.number).1 [
+  | inl there ↦ c.in_default.not-Some there.0 (c.get.ensures ∙ there.2)
+  | inr past ↦ omega (arith, past.0, c.loop-number-test.true, c.len-number-end.ensures)
+]

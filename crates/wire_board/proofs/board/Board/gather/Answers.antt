@@ -8,6 +8,19 @@ use Rattle.wire_board.proofs.Keeps.{joins}
 use Rattle.wire_board.proofs.Dealing.{bundled_more}
 use Rattle.wire_board.proofs.board.Board.gather.Goals as goal
 
+pub loop-seat-init : goal.loop-seat-init
+loop-seat-init c =
+    let rest = c.pop.new.self.items in
+    let popped = c.in_ok-token.ensures.items in
+    let here = All-pop (λ (s : SeatIs). s.board ≡ c.args.self.now) c.args.seats.items rest (Some c.in_ok-token.field-0) popped c.requires in
+    let knows = c.token.invariant.knows in (
+      ap (λ (s : SeatIs). s.board.id) c.token.view_is ∙ ap (λ (b : BoardIs). b.id) here.1,
+      ap (λ m. m.1) knows,
+      ap (λ m. map hold_of rest ++ m.0) knows ∙ (ap (λ (s : SeatIs). map hold_of rest ++ hold_of s ∷ []) c.token.view_is
+          ∙ sym (ap (map hold_of) popped ∙ map-append hold_of rest (c.in_ok-token.field-0 ∷ []))),
+      here.0,
+    )
+
 pub join_seat-requires : goal.join_seat-requires
 join_seat-requires c =
     let shared = c.self.inside.table.shared in
