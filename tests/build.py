@@ -55,7 +55,9 @@ def tried(file, top, log):
     """What each command wrote about the file and to standard error, by a build without proofs of the repository at `top`."""
     with tempfile.TemporaryDirectory(prefix="wire-up-") as room, open(log, "a", encoding="utf-8") as to:
         words = [sys.executable, kit.__file__, "try", cases_of(room, file)]
-        how = {"cwd": os.path.join(top, PROGRAM), "text": True, "errors": "replace", "capture_output": True}
+        # On the disk: a file that lies in memory can't be run on each system.
+        where = {**os.environ, "TMPDIR": tempfile.gettempdir()}
+        how = {"cwd": os.path.join(top, PROGRAM), "env": where, "text": True, "errors": "replace", "capture_output": True}
         ran = subprocess.run(words, stdin=subprocess.DEVNULL, **how)
         to.write(f"$ rt try\n{ran.stdout}{ran.stderr}")
     wrote = dict(re.findall(r"^== (\w+)\n((?:(?!== ).*\n)*)", ran.stdout, re.M))
@@ -178,7 +180,7 @@ def build_libraries():
     # As `rt` does: Python would wait for the threads' checks.
     signal.signal(signal.SIGINT, signal.SIG_DFL)
     log, crates = progress.log_at("libraries.log"), [it for it in kit.crates_at(progress.TOP) if not it.is_program]
-    with progress.Progress("proving", expected(crates, True)) as line, kit.locked(crates), kit.files_in_memory():
+    with progress.Progress("proving", expected(crates, True)) as line, kit.locked(crates):
         failed = prove_crates(crates, line, log, True)
     if failed:
         fail(f"not proved: {' '.join(failed)}", log)

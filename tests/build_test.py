@@ -4,12 +4,16 @@ is asked.
 Usage: python3 tests/build_test.py
 Prints a line for each case that went otherwise than it must, and last 'N passed, M failed'.
 """
+import functools
 import io
 import os
 import re
 import shutil
+import signal
+import subprocess
 import sys
 import tempfile
+import time
 import traceback
 from unittest import mock
 
@@ -301,19 +305,32 @@ def side_by_side(top):
 
 
 def made_in_memory(top):
-    # The prover's files are made in memory, and go with what killed ones left; on the disk where there is no room, or where TMPDIR says so.
-    left = os.path.join(top, "wire-up-999999999-left")
+    # The prover's files are made in memory, and removed at the end; on the disk where there is no room, no such place, or where TMPDIR says so.
+    ample, scarce = mock.Mock(f_bavail=1e9, f_frsize=4096), mock.Mock(f_bavail=100, f_frsize=4096)
     seen = []
-    for free, told in (1e12, {}), (1e9, {}), (1e12, {"TMPDIR": top}):
-        os.makedirs(left)
-        with mock.patch.dict(os.environ, told), mock.patch.object(kit.rt, "free", lambda: free):
+    for free, found, told in (1e12, ample, {}), (1e9, ample, {}), (1e12, scarce, {}), (1e12, ample, {"TMPDIR": "/elsewhere"}):
+        with mock.patch.dict(os.environ, told), mock.patch.object(kit.rt, "free", lambda: free), mock.patch.object(os, "statvfs", lambda _: found):
             if not told:
                 os.environ.pop("TMPDIR", None)
+            before = os.environ.get("TMPDIR")
             with kit.files_in_memory(top):
-                room = os.environ.get("TMPDIR", "")
-                seen.append((os.path.dirname(room) == top, room == top, os.path.exists(left)))
-            seen.append("TMPDIR" in os.environ or os.path.exists(room))
-    return seen == [(True, False, False), False, (False, False, False), False, (False, True, False), True]
+                room = os.environ.get("TMPDIR")
+                seen.append(room != before and os.path.isdir(room) and tempfile.gettempdir() != room)
+            if os.environ.get("TMPDIR") != before or room != before and os.path.exists(room):
+                return False
+    return seen == [True, False, False, False] and not kit.has_room(os.path.join(top, "none"))
+
+
+def removed_when_killed(top):
+    # A folder goes with the program that made it.
+    words = [sys.executable, "-c", f"import kit, os, signal; kit.remover_of({top!r} + '/low'); os.kill(os.getpid(), signal.SIGKILL)"]
+    os.makedirs(os.path.join(top, "low", "below"))
+    ended = subprocess.run(words, cwd=os.path.dirname(kit.__file__), check=False).returncode
+    for _ in range(100):
+        if not os.path.exists(os.path.join(top, "low")):
+            return ended == -signal.SIGKILL
+        time.sleep(0.1)
+    return False
 
 
 def program_too(top):
@@ -340,7 +357,7 @@ def over_libraries_of_rt(top):
     write(top, "high", "//! another text\n")
     with mock.patch.object(kit.rt, "processors", lambda: 4), mock.patch.object(kit.rt, "free", lambda: 1e12):
         build(top, prover := Prover())
-    return prover.jobs == {"high": "1"} and prover.cut == ["high"]
+    return prover.jobs == {"high": "1"} and prover.cut == ["high"] and kit.holds_proofs(kit.crates_at(top), False)
 
 
 def started(proofs, ready, running, processors, memory=100):
@@ -358,7 +375,7 @@ def one_to_a_processor(_):
 
 
 def longest_chain_first(_):
-    # That of `low`.
+    # `low` begins the longest chain, so it starts first.
     order = []
 
     def proof(name, minutes, *waits):
@@ -382,13 +399,14 @@ def none_waits_for_ever(_):
         for memory in 1, 35, 1000:
             begun = []
 
-            def call(given, begun=begun):
-                begun.append(len(given))
-                return True
+            def call(name, waits, given, begun=begun):
+                begun.append(name)
+                return all(given.get(it) for it in waits)
 
-            proofs = {it: lanes.Proof([below for below in names[:at] if at % (names.index(below) + 2) == 0], at % 4, 10, call) for at, it in enumerate(names)}
+            waits = {it: [below for below in names[:at] if at % (names.index(below) + 2) == 0] for at, it in enumerate(names)}
+            proofs = {it: lanes.Proof(waits[it], at % 4, 10, functools.partial(call, it, waits[it])) for at, it in enumerate(names)}
             given = lanes.run_all(proofs, lanes.Machine(processors, memory))
-            if sorted(given) != sorted(names) or not all(given.values()) or len(begun) != len(names):
+            if sorted(given) != sorted(names) or not all(given.values()) or sorted(begun) != sorted(names):
                 return False
     return True
 
@@ -454,6 +472,7 @@ CASES = [
     over_proofs,
     over_libraries_of_rt,
     made_in_memory,
+    removed_when_killed,
     one_to_a_processor,
     longest_chain_first,
     memory_is_kept,

@@ -4,12 +4,12 @@ used here as it stands.
 Usage: python3 tests/kit.py try FOLDER    in a program's folder: what `rt try --cases FOLDER` does, without its hint
 """
 import contextlib
-import glob
 import importlib.machinery
 import importlib.util
 import os
 import shutil
 import signal
+import subprocess
 import sys
 import tempfile
 import threading
@@ -25,9 +25,11 @@ DOUBTS = {"foreign", "hides", "partial", "may-abort", "may-serve", "bugs"}
 # The prover's allocator gives freed memory back to the system, which clears it before the prover gets it again. Here it keeps that memory. In two crates that saved
 # one and two hundredths of the processor time; in one, whose proof takes 1.1 GB, it took 40 MB more.
 os.environ.setdefault("MIMALLOC_PURGE_DELAY", "-1")
-# Where a Linux system keeps files in memory, how many bytes the files take that the prover makes of all crates that are proved side by side, and how much memory
-# must be free for both.
-MEMORY, MADE_THERE, ENOUGH = "/dev/shm", 2 << 30, 12 << 30
+# Where Linux keeps files in memory.
+MEMORY = "/dev/shm"
+# How many bytes the files take at most that the prover makes of one crate (those of `wire_script` took 340 MB), and the memory that a proof of a library takes
+# beside them (2.0 GB).
+FILES, TAKEN = 400 << 20, 2 << 30
 # Why a build doesn't count that is of a text which isn't there any more.
 CHANGED = "its text, or that of a library below it, changed meanwhile"
 
@@ -130,31 +132,39 @@ def locked(crates):
 
 @contextlib.contextmanager
 def files_in_memory(place=MEMORY):
-    """Within this, the prover makes its files in memory, if there is room for them and nobody said by TMPDIR where else. Of a library it writes thousands of
-    small files, packs them, and removes them, which takes longer on a disk. What others left who were killed there is removed."""
-    for left in glob.glob(f"{place}/wire-up-[0-9]*-*"):
-        if not os.path.exists(f"/proc/{os.path.basename(left).split('-')[2]}"):
-            shutil.rmtree(left, ignore_errors=True)
+    """Within this, the prover makes its files in memory, where there is room for them, unless TMPDIR says where else. Of a library it writes thousands of small
+    files, packs them, and removes them, which takes longer on a disk."""
     if "TMPDIR" in os.environ or not has_room(place):
         yield
         return
-    # (Python asks once where temporary files go. Its own stay on the disk.)
+    # (Python asks only once where temporary files go: this program's own stay on the disk.)
     tempfile.gettempdir()
-    room = os.environ["TMPDIR"] = tempfile.mkdtemp(prefix=f"wire-up-{os.getpid()}-", dir=place)
+    room = tempfile.mkdtemp(prefix="wire-up-", dir=place)
+    os.environ["TMPDIR"] = room
+    remover = remover_of(room)
     try:
         yield
     finally:
         del os.environ["TMPDIR"]
-        shutil.rmtree(room, ignore_errors=True)
+    remover.communicate()
+
+
+def remover_of(room):
+    """Starts what removes a folder once its standard input is closed: when it is told to, or when this program ends, however it ends. For a minute it tries again,
+    since provers may write there a little longer."""
+    words = ["sh", "-c", 'read -r _; left=60; until rm -rf "$0" || [ $((left -= 1)) -eq 0 ]; do sleep 1; done', room]
+    how = {"stdin": subprocess.PIPE, "stdout": subprocess.DEVNULL, "stderr": subprocess.DEVNULL, "start_new_session": True}
+    return subprocess.Popen(words, **how)
 
 
 def has_room(place):
-    """Whether files can be made in memory there, for all crates that are proved side by side."""
+    """Whether there is room in memory for a proof on each processor, and for its files at that place."""
     try:
         found = os.statvfs(place)
     except OSError:
         return False
-    return os.access(place, os.W_OK) and found.f_bavail * found.f_frsize >= MADE_THERE and rt.free() >= ENOUGH
+    number = rt.processors()
+    return os.access(place, os.W_OK) and found.f_bavail * found.f_frsize >= number * FILES and rt.free() >= number * (TAKEN + FILES)
 
 
 def build(crates, log=sys.stdout, tell=lambda name: None, keeps=False):
@@ -170,7 +180,7 @@ def build(crates, log=sys.stdout, tell=lambda name: None, keeps=False):
     share = 1 if holds_proofs(crates, keeps) else SHARE
     for it in crates:
         takes = minutes.get(it.name, 1) if is_new[it.name] else 0
-        proofs[it.name] = lanes.Proof(names_below(it), takes, share * rt.need(it), proof_of(it, log, tell, failed, keeps))
+        proofs[it.name] = lanes.Proof(names_below(it), takes, share * rt.need(it) + FILES, proof_of(it, log, tell, failed, keeps))
     lanes.run_all(proofs, machine_here())
     if failed:
         log.write("$ what the proofs that failed said\n")
@@ -190,8 +200,7 @@ def machine_here():
     number = os.environ.get("RT_JOBS", "")
     if number.isdigit() and int(number):
         return lanes.Machine(int(number), float("inf"))
-    is_in_memory = os.environ.get("TMPDIR", "").startswith(f"{MEMORY}/")
-    return lanes.Machine(rt.processors(), 0.85 * rt.free() - is_in_memory * MADE_THERE)
+    return lanes.Machine(rt.processors(), 0.85 * rt.free())
 
 
 def lanes_for(crates):

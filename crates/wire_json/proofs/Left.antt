@@ -1,6 +1,6 @@
--- What is made of a list, and what is left: nothing of calls without ends, of processes without rows, nor of races without what shows them.
-use Rattle.std.proofs.Common.{◌≡◌, ◌∙◌, ap, sym, refl, ℕ, ◌+◌, ◌<◌, List, [], ◌∷◌, ◌++◌, append-nil, append_assoc, length, map, drop, drop-cons, get_or, add-one, ◌⊎◌, inl, inr, Option}
-use Rattle.std.proofs.lemmas.List.{map_push}
+-- Lists that are made element by element, and that nothing is left of calls without ends, of processes without rows and of races without what shows them.
+use Rattle.std.proofs.Common.{◌≡◌, ◌∙◌, ap, sym, refl, ℕ, ◌+◌, ◌<◌, List, [], ◌∷◌, ◌++◌, append-nil, append_assoc, length, map, drop, get_or, ◌⊎◌, inl, inr, Option}
+use Rattle.std.proofs.lemmas.List.{map_push, at_drop_more}
 use Rattle.serde_json.specs.Data.{Data}
 use Rattle.wire_types.specs.declared.Call.{Call}
 use Rattle.wire_types.specs.declared.CallEnd.{CallEnd}
@@ -9,6 +9,7 @@ use Rattle.wire_types.specs.declared.CallAt.{CallAt}
 use Rattle.wire_json.specs.Trees.{calls_data, ranks_data}
 use Rattle.wire_json.specs.WitnessTrees.{tried_data}
 
+-- where nothing is left, all is made
 pub all_made : {Y : Type 0} (out left all : List Y) → left ≡ [] → out ++ left ≡ all → out ≡ all
 all_made out left all none before = sym (append-nil out) ∙ ap (λ t. out ++ t) (sym none) ∙ before
 
@@ -48,5 +49,5 @@ next_made shown f xs i d old new made all there before is pushed =
     ap (λ vs. map shown vs ++ map f (drop (i + 1) xs)) pushed ∙ ap (λ ys. ys ++ map f (drop (i + 1) xs)) (map_push shown old made)
     ∙ append_assoc (map shown old) (shown made ∷ []) (map f (drop (i + 1) xs))
     ∙ ap (λ y. map shown old ++ y ∷ map f (drop (i + 1) xs)) is
-    ∙ sym (ap (λ ys. map shown old ++ map f ys) (drop-cons xs i d there ∙ ap (λ n. get_or xs i d ∷ drop n xs) (sym (add-one i))))
+    ∙ sym (at_drop_more (λ rest. map shown old ++ map f rest) xs i d there)
     ∙ before

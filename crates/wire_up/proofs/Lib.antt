@@ -3,4 +3,3 @@ pub mod Judged
 pub mod Worked
 pub mod Written
 pub mod WitnessWritten
-pub mod ShownCalls

@@ -9,10 +9,12 @@ use Rattle.wire_collect.specs.Trails.{said_by, said_in}
 use Rattle.wire_collect.proofs.rows.ends_of_trail.Goals.{in-Says+in_ok-push, in_default}
 use Rattle.wire_collect.proofs.rows.ends_of_trail.Goals as goal
 
+-- what one fate more says
 one_more : (trail : List Fate) (n : ℕ) (d fate : Fate) → n < length trail → get_or trail n d ≡ fate → said_in (take (n + 1) trail) ≡ said_in (take n trail) ++ said_in (fate ∷ [])
 one_more trail n d fate there is =
     ap said_in (take_more trail n d there) ∙ flat_map-append said_by (take n trail) (get_or trail n d ∷ []) ∙ ap (λ f. said_in (take n trail) ++ said_in (f ∷ [])) is
 
+-- a fate that is no reply says nothing
 unsaid : (fate : Fate) → ((reply : Reply) → fate ≢ Says reply) → said_in (fate ∷ []) ≡ []
 unsaid (Says reply) not = absurd (not reply refl)
 unsaid Silent not = refl
