@@ -55,7 +55,7 @@ def tried(file, top, log):
     """What each command wrote about the file and to standard error, by a build without proofs of the repository at `top`."""
     with tempfile.TemporaryDirectory(prefix="wire-up-") as room, open(log, "a", encoding="utf-8") as to:
         words = [sys.executable, kit.__file__, "try", cases_of(room, file)]
-        # On the disk: a file that lies in memory can't be run on each system.
+        # On the disk, since on some systems no program can be run from where files lie in memory.
         where = {**os.environ, "TMPDIR": tempfile.gettempdir()}
         how = {"cwd": os.path.join(top, PROGRAM), "env": where, "text": True, "errors": "replace", "capture_output": True}
         ran = subprocess.run(words, stdin=subprocess.DEVNULL, **how)
