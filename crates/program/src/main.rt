@@ -67,13 +67,17 @@ fn arguments(rt: &(impl Env + Eprint + AllocGlobal)) -> Result<Vec<String>, Fail
     }
 }
 
-/// The words of the command line: the command's name, whatever the program's file is called, and then
-/// all arguments but the first.
+/// The words of the command line: the arguments, with the command's name in place of the first,
+/// whatever the program's file is called.
 fn words<'a>(alloc: Global, arguments: &'a [String]) -> Result<Vec<&'a str>, AllocError> {
     let mut words = Vec::new(alloc);
-    words.push("wire_up")?;
-    for argument in arguments.iter().skip(1) {
-        words.push(argument.as_str())?;
+    for (place, argument) in arguments.iter().enumerate() {
+        let word = if place == 0 {
+            "wire_up"
+        } else {
+            argument.as_str()
+        };
+        words.push(word)?;
     }
     Ok(words)
 }
@@ -89,18 +93,22 @@ fn obey<'a>(
             let progress = Progress::new(work_of(&request), streams);
             serve_with_line(rt, request, &progress)
         }
-        Err(Refusal::Workers) => {
+        Err(refusal) => refuse(rt, refusal),
+    }
+}
+
+/// Tells why the words request nothing, and answers the exit status.
+fn refuse(rt: &(impl Print + Eprint + AllocGlobal), refusal: Refusal) -> Result<u8, Failure> {
+    match refusal {
+        Refusal::Workers => {
             let _ = rt.eprintln("wire_up: usage --workers");
             Err(Failure::Usage)
         }
-        Err(Refusal::Witness) => {
+        Refusal::Witness => {
             let _ = rt.eprintln("wire_up: usage witness");
             Err(Failure::Usage)
         }
-        Err(Refusal::Usage(error)) => {
-            tell(rt, &error)?;
-            Ok(DONE)
-        }
+        Refusal::Usage(error) => tell(rt, &error),
     }
 }
 
@@ -352,8 +360,9 @@ fn run_command<R: Read, W: Sink>(
     }
 }
 
-/// Tells why there is nothing to do: the user asked for help or the version, or the words can't be read.
-fn tell(rt: &(impl Print + Eprint + AllocGlobal), error: &Error) -> Result<(), Failure> {
+/// Tells why there is nothing to do, and answers the exit status: the user asked for help or the version, or the words
+/// can't be read.
+fn tell(rt: &(impl Print + Eprint + AllocGlobal), error: &Error) -> Result<u8, Failure> {
     if error.kind() == ErrorKind::OutOfMemory {
         return Err(Fault::Memory.into());
     }
@@ -363,7 +372,7 @@ fn tell(rt: &(impl Print + Eprint + AllocGlobal), error: &Error) -> Result<(), F
     }
     let help = error.to_string(rt.alloc())?;
     write_out(&mut ToWrite::new(io::writer(rt)), help.as_bytes()).map_err(Fault::Write)?;
-    Ok(())
+    Ok(DONE)
 }
 
 /// A plan that is open: a file, or standard input.

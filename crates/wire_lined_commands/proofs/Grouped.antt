@@ -7,8 +7,8 @@ use Rattle.wire_content.specs.Planned.{plan_of}
 use Rattle.wire_runs.specs.Races.{IsSettled}
 use Rattle.wire_findings.specs.declared.finding.Finding.{Finding}
 use Rattle.wire_findings.specs.Findings.{AreFindings}
-use Rattle.wire_groups.specs.declared.Group.{Group}
-use Rattle.wire_located.specs.Grouped.{AreGroupsOf}
+use Rattle.wire_report.specs.declared.tally.Group.{Group}
+use Rattle.wire_report.specs.Grouped.{AreGroupsOf}
 use Rattle.wire_script.specs.declared.Size.{Size}
 use Rattle.wire_commands.specs.declared.checking.Ended.{Ended}
 use Rattle.wire_commands.specs.declared.checking.Ended.TheVariants.{Clean}

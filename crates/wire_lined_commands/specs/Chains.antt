@@ -7,7 +7,7 @@ use Rattle.wire_runs.specs.Ends.{call_of}
 use Rattle.wire_content.specs.Scripts.{Scripts}
 use Rattle.wire_content.specs.Planned.{plan_of}
 use Rattle.wire_report.specs.Chain.{event_line, dead_line, order_line, step_of, IsCallBefore, IsCallChain, AreDead}
-use Rattle.wire_located.specs.Place.{place_text}
+use Rattle.wire_report.specs.Place.{place_text}
 use Rattle.wire_lined_commands.specs.Lined.{json_chain, json_unordered}
 
 -- the line of an event as `why` writes it, behind the place of its call

@@ -3,7 +3,7 @@ use Rattle.std.specs.Prelude.{ℕ, Bool, List, ◌++◌, Option, Some, None, cod
 use Rattle.wire_types.specs.declared.CallAt.{CallAt}
 use Rattle.wire_content.specs.Scripts.{Scripts, numbers_of}
 use Rattle.wire_findings.specs.declared.finding.Finding.{Finding}
-use Rattle.wire_groups.specs.declared.Group.{Group}
+use Rattle.wire_report.specs.declared.tally.Group.{Group}
 use Rattle.wire_json.specs.declared.chains.ChainStep.{ChainStep}
 use Rattle.wire_json.specs.declared.chains.Half.TheVariants.{Whole}
 use Rattle.wire_json.specs.Json.{quoted, bracketed}
@@ -11,8 +11,8 @@ use Rattle.wire_json.specs.Chains.{which_word}
 use Rattle.wire_json.specs.Lined.{lined_step, lined_place}
 use Rattle.wire_json.specs.Witnesses.{json_run, json_counts}
 use Rattle.wire_report.specs.Findings.{finding_words}
-use Rattle.wire_located.specs.Label.{pair_of}
-use Rattle.wire_located.specs.Place.{line_of}
+use Rattle.wire_report.specs.Label.{pair_of}
+use Rattle.wire_report.specs.Place.{line_of}
 use Rattle.wire_witness.specs.declared.witness.Witness.{Witness}
 use Rattle.wire_witness.specs.declared.all.RaceSearch.{RaceSearch}
 use Rattle.wire_witness.specs.declared.tried.TriedRace.{TriedRace}

@@ -16,9 +16,9 @@ use crate::reading::read_placed;
 use std::alloc::Global;
 use wire_commands::{Answer, Ended, read_pair, write_answer};
 use wire_content::Scripts;
-use wire_located::Places;
 use wire_marks::Marks;
 use wire_plan::Plan;
+use wire_report::Places;
 use wire_types::{CallAt, Fault, Sink, Source};
 
 /// The text of the order of two calls of a plan.

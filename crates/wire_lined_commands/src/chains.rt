@@ -15,10 +15,11 @@ use crate::file::Telling;
 use crate::lined::{chain_json, unordered_json};
 use std::alloc::{AllocError, Global};
 use wire_content::Scripts;
-use wire_located::{Places, push_place};
 use wire_marks::MarkedPlan;
 use wire_plan::Plan;
-use wire_report::{chain_steps, find_dead_calls, order_line, push_dead_line, push_event};
+use wire_report::{
+    Places, chain_steps, find_dead_calls, order_line, push_dead_line, push_event, push_place,
+};
 use wire_types::{CallAt, Event, Fault};
 
 /// The text of `wire_report::chain_text`, with the place of each call that it tells of, or the same as JSON with the

@@ -17,11 +17,11 @@ use std::thread::Threads;
 use wire_commands::{Answer, Ended, write_answer};
 use wire_content::Scripts;
 use wire_findings::FindingList;
-use wire_located::{Places, group_findings, grouped_lines};
 use wire_marks::Marks;
 use wire_plan::Plan;
 use wire_races::finding_list;
 use wire_races::laws::settled_exactly;
+use wire_report::{Places, group_findings, grouped_lines};
 use wire_types::{Fault, Sink, Source};
 
 /// Findings in groups, as JSON.

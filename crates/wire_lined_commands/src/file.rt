@@ -1,6 +1,6 @@
 //! The file that a command reads.
 
-use wire_located::Places;
+use wire_report::Places;
 use wire_script::Size;
 
 /// The file that a command reads: the name that places in it have, the limits that hold for it, and the form of

@@ -8,12 +8,10 @@ use crate::forms::FormBuilder;
 use std::alloc::{AllocError, Global};
 use wire_content::Scripts;
 use wire_findings::{Finding, FindingList};
-use wire_groups::Group;
 use wire_json::{
     ChainStep, Half, RunTold, counts_json, lined_place_json, lined_step_json, run_json, which_word,
 };
-use wire_located::{line_of, pair_of};
-use wire_report::push_finding;
+use wire_report::{Group, line_of, pair_of, push_finding};
 use wire_types::CallAt;
 use wire_witness::{RaceSearch, TriedRace, Witness};
 

@@ -14,9 +14,10 @@ use crate::reading::read_placed;
 use std::alloc::{AllocError, Global};
 use wire_commands::{Answer, Ended, read_pair, write_answer};
 use wire_content::Scripts;
-use wire_located::{Places, push_note, push_place};
 use wire_plan::Plan;
-use wire_report::{push_ends, push_orders, push_shown, unshown_text};
+use wire_report::{
+    Places, push_ends, push_note, push_orders, push_place, push_shown, unshown_text,
+};
 use wire_types::{CallAt, Fault, Sink, Source};
 use wire_witness::{PairSearch, Witness, search_pair};
 

@@ -16,9 +16,8 @@ use std::alloc::{AllocError, Global};
 use std::thread::Threads;
 use wire_commands::{Answer, Ended, write_answer};
 use wire_content::Scripts;
-use wire_located::{Places, pair_of, push_place, push_second};
 use wire_plan::Plan;
-use wire_report::{push_counts, push_tried};
+use wire_report::{Places, pair_of, push_counts, push_place, push_second, push_tried};
 use wire_types::{Fault, Sink, Source};
 use wire_witness::{RaceSearch, TriedRace, search_races};
 

@@ -1,6 +1,0 @@
-use Rattle.std.proofs.Common.{take}
-use Rattle.wire_groups.specs.Tally.{IsTally}
-use Rattle.wire_groups.proofs.Tally.of.Given as goal
-
-abbrev pub invariant-loop-place : goal.invariant-loop-place
-invariant-loop-place g l = IsTally g.K.PartialEq.eq (take l.place l.labels) l.tally

@@ -1,4 +1,0 @@
-mod Grouped
-mod Labels
-mod Laws
-mod Same

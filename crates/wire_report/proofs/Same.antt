@@ -1,0 +1,130 @@
+-- What `==` says of two labels.
+use Rattle.std.proofs.Common.{◌≡◌, ap, refl}
+use Rattle.std.specs.Bool.{Decides}
+use Rattle.wire_content.proofs.SameCalls.{apart, alike, number, both, through}
+use Rattle.wire_report.specs.declared.label.Deed.{Deed}
+use Rattle.wire_report.specs.declared.label.Deed.TheVariants.{Put, Commit, Fence, Get, GetNow, Publish, Lookup, LookupWait, Unpublish, Nothing}
+use Rattle.wire_report.specs.declared.label.Subject.{Subject}
+use Rattle.wire_report.specs.declared.label.Subject.TheVariants.{Rewrite, KeyRace, NameRace}
+use Rattle.wire_report.specs.declared.label.Label.{Label}
+use Rattle.wire_report.specs.contracts.label.DeedPartialEq.TheImpl as deeds
+use Rattle.wire_report.specs.contracts.label.SubjectPartialEq.TheImpl as subjects
+use Rattle.wire_report.specs.contracts.label.LabelPartialEq.TheImpl as labels
+
+deeds_decide : (d e : Deed) → Decides (deeds.ghosts.eq d e) (d ≡ e)
+deeds_decide Put Put = alike refl
+deeds_decide Put Commit = apart (λ e. cc)
+deeds_decide Put Fence = apart (λ e. cc)
+deeds_decide Put Get = apart (λ e. cc)
+deeds_decide Put GetNow = apart (λ e. cc)
+deeds_decide Put Publish = apart (λ e. cc)
+deeds_decide Put Lookup = apart (λ e. cc)
+deeds_decide Put LookupWait = apart (λ e. cc)
+deeds_decide Put Unpublish = apart (λ e. cc)
+deeds_decide Put Nothing = apart (λ e. cc)
+deeds_decide Commit Put = apart (λ e. cc)
+deeds_decide Commit Commit = alike refl
+deeds_decide Commit Fence = apart (λ e. cc)
+deeds_decide Commit Get = apart (λ e. cc)
+deeds_decide Commit GetNow = apart (λ e. cc)
+deeds_decide Commit Publish = apart (λ e. cc)
+deeds_decide Commit Lookup = apart (λ e. cc)
+deeds_decide Commit LookupWait = apart (λ e. cc)
+deeds_decide Commit Unpublish = apart (λ e. cc)
+deeds_decide Commit Nothing = apart (λ e. cc)
+deeds_decide Fence Put = apart (λ e. cc)
+deeds_decide Fence Commit = apart (λ e. cc)
+deeds_decide Fence Fence = alike refl
+deeds_decide Fence Get = apart (λ e. cc)
+deeds_decide Fence GetNow = apart (λ e. cc)
+deeds_decide Fence Publish = apart (λ e. cc)
+deeds_decide Fence Lookup = apart (λ e. cc)
+deeds_decide Fence LookupWait = apart (λ e. cc)
+deeds_decide Fence Unpublish = apart (λ e. cc)
+deeds_decide Fence Nothing = apart (λ e. cc)
+deeds_decide Get Put = apart (λ e. cc)
+deeds_decide Get Commit = apart (λ e. cc)
+deeds_decide Get Fence = apart (λ e. cc)
+deeds_decide Get Get = alike refl
+deeds_decide Get GetNow = apart (λ e. cc)
+deeds_decide Get Publish = apart (λ e. cc)
+deeds_decide Get Lookup = apart (λ e. cc)
+deeds_decide Get LookupWait = apart (λ e. cc)
+deeds_decide Get Unpublish = apart (λ e. cc)
+deeds_decide Get Nothing = apart (λ e. cc)
+deeds_decide GetNow Put = apart (λ e. cc)
+deeds_decide GetNow Commit = apart (λ e. cc)
+deeds_decide GetNow Fence = apart (λ e. cc)
+deeds_decide GetNow Get = apart (λ e. cc)
+deeds_decide GetNow GetNow = alike refl
+deeds_decide GetNow Publish = apart (λ e. cc)
+deeds_decide GetNow Lookup = apart (λ e. cc)
+deeds_decide GetNow LookupWait = apart (λ e. cc)
+deeds_decide GetNow Unpublish = apart (λ e. cc)
+deeds_decide GetNow Nothing = apart (λ e. cc)
+deeds_decide Publish Put = apart (λ e. cc)
+deeds_decide Publish Commit = apart (λ e. cc)
+deeds_decide Publish Fence = apart (λ e. cc)
+deeds_decide Publish Get = apart (λ e. cc)
+deeds_decide Publish GetNow = apart (λ e. cc)
+deeds_decide Publish Publish = alike refl
+deeds_decide Publish Lookup = apart (λ e. cc)
+deeds_decide Publish LookupWait = apart (λ e. cc)
+deeds_decide Publish Unpublish = apart (λ e. cc)
+deeds_decide Publish Nothing = apart (λ e. cc)
+deeds_decide Lookup Put = apart (λ e. cc)
+deeds_decide Lookup Commit = apart (λ e. cc)
+deeds_decide Lookup Fence = apart (λ e. cc)
+deeds_decide Lookup Get = apart (λ e. cc)
+deeds_decide Lookup GetNow = apart (λ e. cc)
+deeds_decide Lookup Publish = apart (λ e. cc)
+deeds_decide Lookup Lookup = alike refl
+deeds_decide Lookup LookupWait = apart (λ e. cc)
+deeds_decide Lookup Unpublish = apart (λ e. cc)
+deeds_decide Lookup Nothing = apart (λ e. cc)
+deeds_decide LookupWait Put = apart (λ e. cc)
+deeds_decide LookupWait Commit = apart (λ e. cc)
+deeds_decide LookupWait Fence = apart (λ e. cc)
+deeds_decide LookupWait Get = apart (λ e. cc)
+deeds_decide LookupWait GetNow = apart (λ e. cc)
+deeds_decide LookupWait Publish = apart (λ e. cc)
+deeds_decide LookupWait Lookup = apart (λ e. cc)
+deeds_decide LookupWait LookupWait = alike refl
+deeds_decide LookupWait Unpublish = apart (λ e. cc)
+deeds_decide LookupWait Nothing = apart (λ e. cc)
+deeds_decide Unpublish Put = apart (λ e. cc)
+deeds_decide Unpublish Commit = apart (λ e. cc)
+deeds_decide Unpublish Fence = apart (λ e. cc)
+deeds_decide Unpublish Get = apart (λ e. cc)
+deeds_decide Unpublish GetNow = apart (λ e. cc)
+deeds_decide Unpublish Publish = apart (λ e. cc)
+deeds_decide Unpublish Lookup = apart (λ e. cc)
+deeds_decide Unpublish LookupWait = apart (λ e. cc)
+deeds_decide Unpublish Unpublish = alike refl
+deeds_decide Unpublish Nothing = apart (λ e. cc)
+deeds_decide Nothing Put = apart (λ e. cc)
+deeds_decide Nothing Commit = apart (λ e. cc)
+deeds_decide Nothing Fence = apart (λ e. cc)
+deeds_decide Nothing Get = apart (λ e. cc)
+deeds_decide Nothing GetNow = apart (λ e. cc)
+deeds_decide Nothing Publish = apart (λ e. cc)
+deeds_decide Nothing Lookup = apart (λ e. cc)
+deeds_decide Nothing LookupWait = apart (λ e. cc)
+deeds_decide Nothing Unpublish = apart (λ e. cc)
+deeds_decide Nothing Nothing = alike refl
+
+subjects_decide : (x y : Subject) → Decides (subjects.ghosts.eq x y) (x ≡ y)
+subjects_decide (Rewrite m) (Rewrite n) = through _ (number m n) (λ h i. Rewrite (h i)) (λ e. cc)
+subjects_decide (Rewrite m) (KeyRace n) = apart (λ e. cc)
+subjects_decide (Rewrite m) (NameRace n) = apart (λ e. cc)
+subjects_decide (KeyRace m) (Rewrite n) = apart (λ e. cc)
+subjects_decide (KeyRace m) (KeyRace n) = through _ (number m n) (λ h i. KeyRace (h i)) (λ e. cc)
+subjects_decide (KeyRace m) (NameRace n) = apart (λ e. cc)
+subjects_decide (NameRace m) (Rewrite n) = apart (λ e. cc)
+subjects_decide (NameRace m) (KeyRace n) = apart (λ e. cc)
+subjects_decide (NameRace m) (NameRace n) = through _ (number m n) (λ h i. NameRace (h i)) (λ e. cc)
+
+pub labels_decide : (x y : Label) → Decides (labels.ghosts.eq x y) (x ≡ y)
+labels_decide x y = through _ (both _ _ (subjects_decide x.subject y.subject) (both _ _ (deeds_decide x.one y.one) (deeds_decide x.other y.other)))
+    (λ h i. record { subject = h.0 i; one = h.1.0 i; other = h.1.1 i })
+    (λ e. (ap (λ (l : Label). l.subject) e, (ap (λ (l : Label). l.one) e, ap (λ (l : Label). l.other) e)))
