@@ -97,7 +97,7 @@ fn obey<'a>(
     }
 }
 
-/// Tells why the words request nothing, and answers the exit status.
+/// Tells why the words request nothing.
 fn refuse(rt: &(impl Print + Eprint + AllocGlobal), refusal: Refusal) -> Result<u8, Failure> {
     match refusal {
         Refusal::Workers => {
@@ -360,8 +360,8 @@ fn run_command<R: Read, W: Sink>(
     }
 }
 
-/// Tells why there is nothing to do, and answers the exit status: the user asked for help or the version, or the words
-/// can't be read.
+/// Tells why there is nothing to do: the user asked for help or the version, which is done then, or the words can't be
+/// read.
 fn tell(rt: &(impl Print + Eprint + AllocGlobal), error: &Error) -> Result<u8, Failure> {
     if error.kind() == ErrorKind::OutOfMemory {
         return Err(Fault::Memory.into());

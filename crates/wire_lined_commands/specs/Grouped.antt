@@ -4,7 +4,7 @@ use Rattle.wire_content.specs.Scripts.{Scripts}
 use Rattle.wire_findings.specs.declared.finding.Finding.{Finding}
 use Rattle.wire_report.specs.declared.tally.Group.{Group}
 use Rattle.wire_report.specs.Grouped.{AreGroupsOf}
-use Rattle.wire_report.specs.Text.{IsLocatedText}
+use Rattle.wire_report.specs.GroupedText.{IsLocatedText}
 use Rattle.wire_commands.specs.declared.checking.Ended.{Ended}
 use Rattle.wire_commands.specs.Check.{IsJudged}
 use Rattle.wire_lined_commands.specs.Lined.{json_groups}

@@ -4,7 +4,7 @@ use Rattle.wire_types.specs.declared.CallAt.{CallAt}
 use Rattle.wire_content.specs.Scripts.{Scripts, numbers_of}
 use Rattle.wire_report.specs.Shown.{shown_line, both_ends, both_orders, unshown_form}
 use Rattle.wire_report.specs.Place.{place_text}
-use Rattle.wire_report.specs.Text.{note_line}
+use Rattle.wire_report.specs.GroupedText.{note_line}
 use Rattle.wire_witness.specs.declared.pair.PairSearch.{PairSearch}
 use Rattle.wire_witness.specs.declared.pair.PairSearch.TheVariants.{NoRace, NotShown, Shown}
 use Rattle.wire_witness.specs.declared.witness.Witness.{Witness}

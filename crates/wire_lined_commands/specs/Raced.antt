@@ -5,7 +5,7 @@ use Rattle.wire_content.specs.Scripts.{Scripts}
 use Rattle.wire_report.specs.Shown.{tried_line, counts_line}
 use Rattle.wire_report.specs.Label.{pair_of}
 use Rattle.wire_report.specs.Place.{place_text}
-use Rattle.wire_report.specs.Text.{second_line}
+use Rattle.wire_report.specs.GroupedText.{second_line}
 use Rattle.wire_witness.specs.declared.all.RaceSearch.{RaceSearch}
 use Rattle.wire_witness.specs.declared.tried.TriedRace.{TriedRace}
 use Rattle.wire_witness.specs.Searches.{IsRaceSearch, counts_of, shown_by_races}

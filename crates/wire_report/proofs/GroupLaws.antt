@@ -18,7 +18,7 @@ use Rattle.wire_report.specs.declared.tally.Group.{Group}
 use Rattle.wire_report.specs.Groups.{AreGroups, IsOfLabel, group_of}
 use Rattle.wire_report.specs.GroupLaws.{HasLabel, HasOneGroup, GroupsPart, OneListOfGroups}
 use Rattle.wire_report.proofs.Noted.{within}
-use Rattle.wire_report.proofs.Order.{total}
+use Rattle.wire_report.proofs.GroupOrder.{total}
 use Rattle.wire_report.proofs.Parted.{one_group}
 
 module _ {X : Type 0} {c : X → X → Ordering} (o : IsTotalOrder c) where

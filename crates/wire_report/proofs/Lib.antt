@@ -6,13 +6,13 @@ mod GroupLaws
 mod Grouped
 mod Groups
 mod Labels
-mod Laws
+mod LabelLaws
 pub mod LinesLeft
 mod Noted
-mod Order
+mod GroupOrder
 mod Parted
 pub mod Parts
 pub mod Room
 pub mod Rows
-mod Same
+mod SameLabels
 pub mod Streams

@@ -20,7 +20,7 @@ use Rattle.wire_report.specs.Groups.{AreGroups, IsOfLabel, group_of, group_cmp}
 use Rattle.wire_report.specs.Tally.{distinct}
 use Rattle.wire_report.proofs.Distinct.{AreApart, AreAmong, any_distinct, distinct_apart, distinct_among}
 use Rattle.wire_report.proofs.Noted.{within}
-use Rattle.wire_report.proofs.Order.{total}
+use Rattle.wire_report.proofs.GroupOrder.{total}
 
 -- two groups begin at the same place
 abbrev begin_alike : Group → Group → Bool

@@ -1,4 +1,4 @@
-//! What holds of groups.
+//! What holds of the groups of a list of labels.
 
 ghost use Rattle.wire_report.specs.GroupLaws.{GroupsPart, OneListOfGroups};
 

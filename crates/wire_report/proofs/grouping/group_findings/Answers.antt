@@ -1,4 +1,4 @@
-use Rattle.wire_report.proofs.Same.{labels_decide}
+use Rattle.wire_report.proofs.SameLabels.{labels_decide}
 use Rattle.wire_report.proofs.Grouped.{grouped}
 use Rattle.wire_report.proofs.grouping.group_findings.Goals as goal
 

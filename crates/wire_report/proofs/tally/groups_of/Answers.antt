@@ -5,7 +5,7 @@ use Rattle.std.proofs.lemmas.Fn.{always_returns_same}
 use Rattle.std.proofs.lemmas.List.Sorted.{sum_by-IsPermutation}
 use Rattle.wire_report.specs.declared.tally.Group.{Group}
 use Rattle.wire_report.specs.Groups.{group_cmp}
-use Rattle.wire_report.proofs.Order.{groups_rank}
+use Rattle.wire_report.proofs.GroupOrder.{groups_rank}
 use Rattle.wire_report.proofs.Parted.{parted}
 use Rattle.wire_report.proofs.tally.groups_of.Goals as goal
 

@@ -1,7 +1,7 @@
 use Rattle.std.proofs.Common.{◌≡◌, ◌++◌, map, drop}
 use Rattle.std.specs.List.{flat_map}
-use Rattle.wire_report.specs.Text.{group_text}
-use Rattle.wire_report.proofs.text.push_all.Given as goal
+use Rattle.wire_report.specs.GroupedText.{group_text}
+use Rattle.wire_report.proofs.grouped_text.push_all_groups.Given as goal
 
 -- what is written, and the lines of the groups that are left, are all lines
 abbrev pub invariant-loop-group : goal.invariant-loop-group

@@ -14,7 +14,7 @@ use Rattle.wire_report.specs.declared.label.Deed.TheVariants.{Put, Commit, Fence
 use Rattle.wire_report.specs.declared.label.Subject.{Subject}
 use Rattle.wire_report.specs.declared.label.Label.{Label}
 use Rattle.wire_report.specs.Label.{call_there, deed_of, deed_number, label_of, label_with, pair_of, subject_of}
-use Rattle.wire_report.specs.Laws.{LabelsTell, OneGrouping}
+use Rattle.wire_report.specs.LabelLaws.{LabelsTell, OneGrouping}
 
 -- the verb of what a call does
 verb_of : Deed → List ℕ

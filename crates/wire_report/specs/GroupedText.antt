@@ -56,11 +56,11 @@ abbrev pub group_text : List ℕ → Scripts → List (List ℕ) → List Findin
 group_text name s rows found group = lines_of_group name s rows (slice_get found group.first) group.count
 
 -- the last line
-abbrev pub groups_part : ℕ → List ℕ
-groups_part groups = if groups == 0 then [] else codes " in " ++ decimal groups ++ word_for groups (codes " group") (codes " groups")
+abbrev pub in_groups : ℕ → List ℕ
+in_groups groups = if groups == 0 then [] else codes " in " ++ decimal groups ++ word_for groups (codes " group") (codes " groups")
 
 abbrev pub last_line : ℕ → ℕ → List ℕ
-last_line findings groups = codes "findings " ++ decimal findings ++ groups_part groups ++ codes "\n"
+last_line findings groups = codes "findings " ++ decimal findings ++ in_groups groups ++ codes "\n"
 
 abbrev pub groups_report : List ℕ → Scripts → List (List ℕ) → List Finding → List Group → List ℕ
 groups_report name s rows found groups = flat_map (group_text name s rows found) groups ++ last_line (length found) (length groups)

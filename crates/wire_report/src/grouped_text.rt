@@ -3,8 +3,8 @@
 ghost use Rattle.std.specs.Prelude.{◌≡◌, ◌++◌, codes, map, OnOk, IfOk, IfErr};
 ghost use Rattle.std.specs.List.{flat_map};
 ghost use Rattle.wire_types.specs.declared.Fault.TheVariants.{Memory};
-ghost use Rattle.wire_report.specs.Text as spec;
-ghost use Rattle.wire_report.specs.Text.{IsLocatedText};
+ghost use Rattle.wire_report.specs.GroupedText as spec;
+ghost use Rattle.wire_report.specs.GroupedText.{IsLocatedText};
 
 use crate::grouping::group_findings;
 use crate::label::{Subject, pair_of, subject_of};
@@ -55,7 +55,7 @@ fn subject_text(scripts: &Scripts, subject: Subject) -> &[u8]
 }
 
 /// Appends how many findings of a group are what, and on which key or name.
-fn push_counted(
+fn push_counted_findings(
     out: &mut Vec<u8>,
     scripts: &Scripts,
     count: usize,
@@ -81,7 +81,7 @@ fn push_first(
 {
     let lower = pair_of(finding).lower;
     push_place(out, places, lower)?;
-    push_counted(out, scripts, count, subject_of(scripts, finding))?;
+    push_counted_findings(out, scripts, count, subject_of(scripts, finding))?;
     out.extend_from_slice(b": ")?;
     push_said(out, scripts, lower)
 }
@@ -140,13 +140,13 @@ fn push_last(out: &mut Vec<u8>, findings: usize, groups: usize) -> Result<(), Al
 {
     out.extend_from_slice(b"findings ")?;
     push_number(out, findings as u64)?;
-    push_groups(out, groups)?;
+    push_group_count(out, groups)?;
     out.extend_from_slice(b"\n")
 }
 
 /// Appends how many groups there are, nothing where there is none.
-fn push_groups(out: &mut Vec<u8>, groups: usize) -> Result<(), AllocError>
-    ensures { OnOk result (out.new.items ≡ out.old.items ++ spec.groups_part groups) }
+fn push_group_count(out: &mut Vec<u8>, groups: usize) -> Result<(), AllocError>
+    ensures { OnOk result (out.new.items ≡ out.old.items ++ spec.in_groups groups) }
 {
     if groups == 0 {
         return Ok(());
@@ -157,7 +157,7 @@ fn push_groups(out: &mut Vec<u8>, groups: usize) -> Result<(), AllocError>
 }
 
 /// Appends the lines of all groups.
-fn push_all(
+fn push_all_groups(
     out: &mut Vec<u8>,
     places: Places<'_>,
     scripts: &Scripts,
@@ -185,7 +185,7 @@ fn groups_text(
         ≡ spec.groups_report places.entry.name.now scripts.now (map (λ row. row.items) places.entry.rows.now) findings.now groups.now) }
 {
     let mut text = Vec::new(alloc);
-    push_all(&mut text, places, scripts, findings, groups)?;
+    push_all_groups(&mut text, places, scripts, findings, groups)?;
     push_last(&mut text, findings.len(), groups.len())?;
     Ok(text)
 }
