@@ -27,8 +27,8 @@ DOUBTS = {"foreign", "hides", "partial", "may-abort", "may-serve", "bugs"}
 os.environ.setdefault("MIMALLOC_PURGE_DELAY", "-1")
 # Where Linux keeps files in memory.
 MEMORY = "/dev/shm"
-# How many bytes the files take at most that the prover makes of one crate (those of `wire_report` took 155 MB when it had 69 functions and not 107; what a check of `wire_script`, the largest, can keep
-# has 339), and how many a proof of a library takes beside them (1.97 GB).
+# How many bytes the files take at most that the prover makes of one crate (those of `wire_report` took 155 MB when it had 69 functions and not 107; what a
+# check of `wire_script`, the largest, can keep has 339), and how many a proof of a library takes beside them (1.97 GB).
 FILES, TAKEN = 400 << 20, 2 << 30
 # Why a build doesn't count that is of a text which isn't there any more.
 CHANGED = "its text, or that of a library below it, changed meanwhile"

@@ -360,8 +360,8 @@ fn run_command<R: Read, W: Sink>(
     }
 }
 
-/// Tells why there is nothing to do: the user asked for help or the version, which is done then, or the words can't be
-/// read.
+/// Tells why there is nothing to do. Where the user asked for help or the version, the program is done then. Else the
+/// words can't be read.
 fn tell(rt: &(impl Print + Eprint + AllocGlobal), error: &Error) -> Result<u8, Failure> {
     if error.kind() == ErrorKind::OutOfMemory {
         return Err(Fault::Memory.into());
