@@ -11,24 +11,24 @@ SHARED = -std=gnu11 $(CFLAGS) -shared -fPIC -pthread
 
 # An example without proofs, then the proof, and the same example by the proved ./wire_up.
 run:
-	@python3 tests/build.py run
+	@python3 -m build.run run
 
 # For developers: all libraries, with the proof of each function kept, so that `rt check` in a crate begins at once.
 libraries:
-	@python3 tests/build.py libraries
+	@python3 -m build.run libraries
 
 # `make try FILE=my.plan`: checks and replays a file by a build without proofs.
 try:
 	@test -n "$(FILE)" || { echo "which file? make try FILE=my.plan"; exit 1; }
-	@python3 tests/build.py try "$(FILE)"
+	@python3 -m build.run try "$(FILE)"
 
 # The gate: every proof, every test, and the program as a user calls it.
 test:
-	@python3 tests/gate.py
+	@python3 -m build.gate
 
 # The edits that the prover must refuse: all of them, or `make edits EDITS=wire_core`, or one by its file. What is below them is proved first.
 edits:
-	@python3 tests/edits.py $(EDITS)
+	@python3 -m build.edits $(EDITS)
 
 # Random and damaged files, for so many minutes: `make soak MINUTES=60`, and `SEED=1` for the same files again.
 soak:
@@ -36,7 +36,7 @@ soak:
 
 # Times ./wire_up on files near the limits. `make bench BESIDE=program` times another program beside it.
 bench:
-	@python3 tests/bench.py $(if $(BESIDE),--beside "$(BESIDE)")
+	@python3 -m build.bench $(if $(BESIDE),--beside "$(BESIDE)")
 
 # The recorder of PMIx calls, which ./wire_up-record preloads. `PMIX_CFLAGS=-I..` says where the headers are, if pkg-config doesn't know.
 record: record/record.so

@@ -18,9 +18,9 @@ import traceback
 from unittest import mock
 
 sys.dont_write_bytecode = True
-import build as builder
-import kit
-import lanes
+sys.path.insert(0, os.path.dirname(os.path.dirname(os.path.abspath(__file__))))
+from build import kit, lanes
+from build import run as builder
 
 # Each crate, and what it uses: a chain of three, and one apart.
 CRATES = {"low": "", "middle": "low", "high": "middle", "apart": ""}
@@ -323,9 +323,9 @@ def made_in_memory(top):
 
 def removed_when_killed(top):
     # A folder goes with the program that made it.
-    words = [sys.executable, "-c", f"import kit, os, signal; kit.remover_of({top!r} + '/low'); os.kill(os.getpid(), signal.SIGKILL)"]
+    words = [sys.executable, "-c", f"import os, signal; from build import kit; kit.remover_of({top!r} + '/low'); os.kill(os.getpid(), signal.SIGKILL)"]
     os.makedirs(os.path.join(top, "low", "below"))
-    ended = subprocess.run(words, cwd=os.path.dirname(kit.__file__), check=False).returncode
+    ended = subprocess.run(words, cwd=os.path.dirname(os.path.dirname(kit.__file__)), check=False).returncode
     for _ in range(100):
         if not os.path.exists(os.path.join(top, "low")):
             return ended == -signal.SIGKILL

@@ -9,8 +9,9 @@ import tempfile
 import types
 
 sys.dont_write_bytecode = True
-import edits
-from kit import crates_at
+sys.path.insert(0, os.path.dirname(os.path.dirname(os.path.abspath(__file__))))
+from build import edits
+from build.kit import crates_at
 
 CODE = """\
 //! Functions with wrong bodies of each sort.

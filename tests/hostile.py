@@ -19,7 +19,8 @@ import tempfile
 import threading
 
 sys.dont_write_bytecode = True
-import bench
+sys.path.insert(0, os.path.dirname(os.path.dirname(os.path.abspath(__file__))))
+from build import bench
 import grammar
 import program
 import refuse

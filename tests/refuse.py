@@ -21,7 +21,8 @@ import sys
 import tempfile
 
 sys.dont_write_bytecode = True
-import bench
+sys.path.insert(0, os.path.dirname(os.path.dirname(os.path.abspath(__file__))))
+from build import bench
 import program
 
 SOURCE = os.path.join(program.TOP, "tests", "refuse.c")

@@ -5,7 +5,7 @@ Usage: python3 tests/strict.py [PROGRAM] [--only WORD] [--memcheck] [--share N]
 Without --memcheck it prints the tables of docs/hostile.md: for each file and command the processor seconds, the greatest resident size, and the
 least address space with which the command does its work; with less it must end with fault 1, or not begin at all. With --memcheck it
 runs each command under Valgrind, which the machine must have. --share N takes files with one N-th of the calls. Files are those of
-tests/bench.py, and some with as many findings as such a file can have. Prints last 'N passed, M failed'. No part of the gate.
+build/bench.py, and some with as many findings as such a file can have. Prints last 'N passed, M failed'. No part of the gate.
 """
 import argparse
 import os
@@ -15,7 +15,8 @@ import sys
 import tempfile
 
 sys.dont_write_bytecode = True
-import bench
+sys.path.insert(0, os.path.dirname(os.path.dirname(os.path.abspath(__file__))))
+from build import bench
 import program
 from program import tell
 

@@ -24,7 +24,8 @@ import sys
 import tempfile
 
 sys.dont_write_bytecode = True
-import bench
+sys.path.insert(0, os.path.dirname(os.path.dirname(os.path.abspath(__file__))))
+from build import bench
 import program
 from rows import NOTHING, Asked, Canonical, Checked, Fault, Followed, Formed, Large, Refused, Reported, Shown
 

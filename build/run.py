@@ -1,9 +1,9 @@
 """What `make try`, `make run` and `make libraries` do.
 
-Usage: python3 tests/build.py try FILE     checks and replays FILE, by a build without proofs
-       python3 tests/build.py run          does that for an example, while it proves the program, builds it as ./wire_up, and does it again
+Usage: python3 -m build.run try FILE     checks and replays FILE, by a build without proofs
+       python3 -m build.run run          does that for an example, while it proves the program, builds it as ./wire_up, and does it again
                                            (only the latter where there is a ./wire_up already)
-       python3 tests/build.py libraries    proves and builds all libraries, and keeps the proof of each function
+       python3 -m build.run libraries    proves and builds all libraries, and keeps the proof of each function
 
 `run` and `libraries` prove in the crates' own folders, and nothing again whose text and libraries are as they were. `run` builds libraries that hold
 no more than what crates above can cite: these load them sooner, and they take less of the disk. `libraries` is for developers: a check in a
@@ -24,8 +24,8 @@ import threading
 import time
 
 sys.dont_write_bytecode = True
-import kit
-import progress
+from build import kit
+from build import progress
 
 EXAMPLE = "examples/business-card.plan"
 COMMANDS = ("check", "replay")
@@ -54,9 +54,9 @@ def cases_of(room, file):
 def tried(file, top, log):
     """What each command wrote about the file and to standard error, by a build without proofs of the repository at `top`."""
     with tempfile.TemporaryDirectory(prefix="wire-up-") as room, open(log, "a", encoding="utf-8") as to:
-        words = [sys.executable, kit.__file__, "try", cases_of(room, file)]
+        words = [sys.executable, "-m", "build.kit", "try", cases_of(room, file)]
         # On the disk, since on some systems no program can be run from where files lie in memory.
-        where = {**os.environ, "TMPDIR": tempfile.gettempdir()}
+        where = {**os.environ, "TMPDIR": tempfile.gettempdir(), "PYTHONPATH": progress.TOP}
         how = {"cwd": os.path.join(top, PROGRAM), "env": where, "text": True, "errors": "replace", "capture_output": True}
         ran = subprocess.run(words, stdin=subprocess.DEVNULL, **how)
         to.write(f"$ rt try\n{ran.stdout}{ran.stderr}")

@@ -19,17 +19,19 @@ import tempfile
 import traceback
 
 sys.dont_write_bytecode = True
-import bench
+from build import bench
+from build import ci
+from build import costs
+from build import edits
+from build import kit
+from build import progress
+
+sys.path.insert(0, os.path.join(progress.TOP, "tests"))
 import build_test
-import ci
-import costs
-import edits
 import edits_test
 import hostile
-import kit
 import package
 import program
-import progress
 import readme
 import recording
 import refuse
@@ -184,7 +186,7 @@ def tell_costs(watch, seconds):
     told, budget = watch.report(crates, seconds), BUDGET + FOR_EACH * (len(crates) - WERE)
     with open(os.path.join(progress.LOGS, "gate-costs.md"), "w", encoding="utf-8") as it:
         it.write(f"{told}\n")
-    print(f"{told} The budget is {budget}: more is a reason to look, and no failure, as machines differ (`tests/speed.py` says by how much).", flush=True)
+    print(f"{told} The budget is {budget}: more is a reason to look, and no failure, as machines differ (`python3 -m build.speed` says by how much).", flush=True)
 
 
 def main():

@@ -13,7 +13,7 @@ TAIL = 60
 
 def minutes_of():
     """How many minutes things took when they were measured, by name (`minutes.txt`)."""
-    with open(os.path.join(TOP, "tests", "minutes.txt"), encoding="utf-8") as it:
+    with open(os.path.join(TOP, "build", "minutes.txt"), encoding="utf-8") as it:
         lines = [line.split() for line in it if line.strip() and not line.startswith("#")]
     return {name: float(minutes) for name, minutes in lines}
 

@@ -1,8 +1,8 @@
 """Tries the edits that the prover must refuse, those of many functions in one check.
 
-Usage: python3 tests/edits.py              all edits
-       python3 tests/edits.py CRATE..      the edits of some crates
-       python3 tests/edits.py FILE..       some edits, such as crates/wire_store/edits/put_is_stored.edit
+Usage: python3 -m build.edits             all edits
+       python3 -m build.edits CRATE..      the edits of some crates
+       python3 -m build.edits FILE..       some edits, such as crates/wire_store/edits/put_is_stored.edit
 
 An edit is a wrong body: `crates/NAME/edits/MISTAKE.edit` has lines 'file: src/FILE.rt', 'old: TEXT' and 'new: TEXT', where TEXT is one line.
 The proof of a function depends only on the contracts of the functions that it calls, so wrong bodies of several functions don't disturb each
@@ -36,8 +36,8 @@ import tempfile
 import time
 
 sys.dont_write_bytecode = True
-import progress
-from kit import build, crates_at, locked, rt
+from build import progress
+from build.kit import build, crates_at, locked, rt
 
 HEADER = re.compile(r"^( *)(?:pub(?:\([a-z]+\))? )?(?:const )?(?:unsafe )?fn (\w+)", re.M)
 TYPE = re.compile(r"^(?:pub(?:\([a-z]+\))? )?(?:struct|enum) (\w+)", re.M)

@@ -1,7 +1,7 @@
 """The kit's command `rt` as a module. It is a Python program, and what it knows of crates, of edits and of how much fits side by side is
 used here as it stands.
 
-Usage: python3 tests/kit.py try FOLDER    in a program's folder: what `rt try --cases FOLDER` does, without its hint
+Usage: python3 -m build.kit try FOLDER    in a program's folder: what `rt try --cases FOLDER` does, without its hint
 """
 import contextlib
 import importlib.machinery
@@ -15,8 +15,8 @@ import tempfile
 import threading
 
 sys.dont_write_bytecode = True
-import lanes
-import progress
+from build import lanes
+from build import progress
 
 # How much of the memory that the kit reckons with for a check one process takes at most.
 SHARE = 0.6

@@ -1,6 +1,6 @@
 """How fast this machine proves: some crates as they were at an old commit, so the same text whenever and wherever it is measured.
 
-Usage: python3 tests/speed.py
+Usage: python3 -m build.speed
 It takes five to ten minutes, in which nothing else should be at work, and needs the history of the repository. It prints how many seconds of processor
 time each crate took in the fastest gate so far and takes now, and last how many times as long it takes now. So figures of different machines, and of
 different hours of one machine, can be compared.
@@ -11,9 +11,9 @@ import sys
 import tempfile
 
 sys.dont_write_bytecode = True
-import costs
-import kit
-import progress
+from build import costs
+from build import kit
+from build import progress
 
 # The commit of the fastest gate so far, and the seconds of processor time that the proofs of these crates took in it.
 COMMIT = "51f0f7b"

@@ -1,6 +1,6 @@
 """Times the program on files near the limits, and on files a quarter as large.
 
-Usage: python3 tests/bench.py [PROGRAM] [--beside OTHER] [--only WORD] [--runs N] [--small]
+Usage: python3 -m build.bench [PROGRAM] [--beside OTHER] [--only WORD] [--runs N] [--small]
 Prints the tables of docs/performance.md: for each file its bytes, calls and findings; for each command the least time of N runs,
 with the start of the process in it and the output thrown away, how that grows from a quarter of the calls, and the greatest
 resident size. With OTHER, its time and size in the same runs, and the ratio. The last two tables have runs that judge no findings (of
@@ -263,8 +263,8 @@ def has_parts():
     if not os.path.exists(PARTS):
         print("proving and building crates/one_function, and the libraries below it as far as they aren't built", file=sys.stderr, flush=True)
         # (it needs the kit)
-        import kit
-        import progress
+        from build import kit
+        from build import progress
 
         wanted = progress.crates_below("one_function")
         crates = [it for it in kit.crates_at(TOP) if it.name in wanted]
@@ -275,12 +275,12 @@ def has_parts():
 
 def works(program):
     """Times the program on files of a few calls. Answers how many such runs passed and failed, of one."""
-    words = [sys.executable, os.path.abspath(__file__), program, "--small", "--beside", program]
-    ran = subprocess.run(words, stdin=subprocess.DEVNULL, capture_output=True, text=True, check=False)
+    words = [sys.executable, "-m", "build.bench", program, "--small", "--beside", program]
+    ran = subprocess.run(words, cwd=TOP, stdin=subprocess.DEVNULL, capture_output=True, text=True, check=False)
     is_well = ran.returncode == 0 and ran.stdout.count("\n| ") >= (2 + len(COMMANDS)) * (len(KINDS) + 1) + len(WHY) + 1
     if not is_well:
-        print(f"tests/bench.py: {ran.stdout}{ran.stderr}", end="")
-    print(f"tests/bench.py: {int(is_well)} passed, {int(not is_well)} failed", flush=True)
+        print(f"build/bench.py: {ran.stdout}{ran.stderr}", end="")
+    print(f"build/bench.py: {int(is_well)} passed, {int(not is_well)} failed", flush=True)
     return int(is_well), int(not is_well)
 
 

@@ -7,8 +7,8 @@ proved again then.
 import os
 import re
 
-import kit
-import progress
+from build import kit
+from build import progress
 
 # The lines of `rt ci` that tell how far it is.
 JUDGED = re.compile(r"rt: (\w+)(: its tests are)? (proved|NOT PROVED|is kept)\b")
