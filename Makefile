@@ -32,7 +32,7 @@ edits:
 
 # Random and damaged files, for so many minutes: `make soak MINUTES=60`, and `SEED=1` for the same files again.
 soak:
-	@python3 tests/soak.py --minutes $(or $(MINUTES),1) $(if $(SEED),--seed $(SEED))
+	@PYTHONPATH=tests python3 -m build.soak --minutes $(or $(MINUTES),1) $(if $(SEED),--seed $(SEED))
 
 # Times ./wire_up on files near the limits. `make bench BESIDE=program` times another program beside it.
 bench:
