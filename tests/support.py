@@ -1,8 +1,12 @@
-"""What all tests share: where the repository is, and the built program."""
+"""What all tests share: where the repository is, and the built programs."""
 import os
+import sys
 import unittest
 
 TOP = os.path.dirname(os.path.dirname(os.path.abspath(__file__)))
+# A test that imports this module can import the packages of the Python programs and of the build.
+sys.path[:0] = [os.path.join(TOP, "python"), TOP]
+sys.dont_write_bytecode = True
 
 
 def program() -> str:
@@ -14,3 +18,14 @@ def program() -> str:
     if not os.access(path, os.X_OK):
         raise unittest.SkipTest("there is no built wire_up: WIRE_UP_PROGRAM names none")
     return os.path.abspath(path)
+
+
+def parts() -> str:
+    """The program of crates/one_function, which runs functions of the library by themselves.
+
+    A test that calls this is skipped where it isn't built.
+    """
+    path = os.path.join(TOP, "crates", "one_function", "out", "one_function")
+    if not os.access(path, os.X_OK):
+        raise unittest.SkipTest("crates/one_function isn't built: make parts builds it")
+    return path
