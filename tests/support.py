@@ -4,8 +4,9 @@ import sys
 import unittest
 
 TOP = os.path.dirname(os.path.dirname(os.path.abspath(__file__)))
-# A test that imports this module can import the packages of the Python programs and of the build.
-sys.path[:0] = [os.path.join(TOP, "python"), TOP]
+# A test that imports this module can import the package of the Python programs, the build, and what
+# makes the package.
+sys.path[:0] = [os.path.join(TOP, "python"), TOP, os.path.join(TOP, "packaging")]
 sys.dont_write_bytecode = True
 
 
