@@ -4,6 +4,8 @@ Usage: python3 -m build.checkers
 Prints what each finds, and what is left out since its program isn't there, and last 'N passed, M
 failed'.
 """
+import glob
+import os
 import shutil
 import subprocess
 import sys
@@ -13,16 +15,18 @@ from dataclasses import dataclass
 from build.counts import Counts, summed
 from build.places import TOP
 
-# Folders and files with Python.
+# Folders and files with Python, but for the programs that tests record.
 PYTHON = (
     "build",
     "packaging",
     "python",
     "tests",
-    "record/others.py",
+    *sorted(glob.glob("record/*.py", root_dir=TOP)),
     "wire_up-record",
     "wire_up-report",
 )
+# The script that checks C, and how it says what it can't check.
+LINT_C, LEFT_OUT = os.path.join(TOP, "record", "lint"), "left out:"
 
 
 @dataclass(frozen=True)
@@ -38,15 +42,16 @@ class Checker:
 CHECKERS = (
     Checker("mypy", ("mypy", "--strict", "--scripts-are-modules", *PYTHON), ("mypy",)),
     Checker("flake8", ("flake8", *PYTHON), ("flake8",)),
-    Checker("lint-c", ("make", "-s", "lint-c"), ("cc", "cppcheck", "mpicc", "pkg-config")),
+    Checker("lint-c", ("make", "-s", "lint-c"), (LINT_C, "cc", "make")),
 )
 
 
 def run_checker(checker: Checker) -> Counts:
-    """Whether a checker finds nothing; nothing is counted where a program isn't there."""
+    """Whether a checker finds nothing. Nothing is counted where it, or a part of what it checks, is
+    left out."""
     lacking = [it for it in checker.needs if not shutil.which(it)]
     if lacking:
-        print(f"{checker.name}: left out, as there is no {', '.join(lacking)}", flush=True)
+        print(f"{checker.name}: {LEFT_OUT} there is no {', '.join(lacking)}", flush=True)
         return Counts()
     ran = subprocess.run(
         checker.words,
@@ -61,8 +66,9 @@ def run_checker(checker: Checker) -> Counts:
     if ran.returncode:
         print(f"{ran.stdout}{checker.name}: failed", flush=True)
         return Counts(0, 1)
-    print(f"{checker.name}: 1 passed", flush=True)
-    return Counts(1, 0)
+    left_out = [it for it in ran.stdout.splitlines() if it.startswith(LEFT_OUT)]
+    print(*(f"{checker.name}: {it}" for it in left_out or ["1 passed"]), sep="\n", flush=True)
+    return Counts(0 if left_out else 1, 0)
 
 
 def run_checkers() -> Counts:

@@ -25,6 +25,7 @@ from collections.abc import Callable, Sequence
 from typing import TextIO
 
 from build import checkers, ci, costs, crate_list, records, test_files
+from build.counted_runs import LINES, WIDTH
 from build.counts import Counts, counted, summed
 from build.crates import Crate, copy_to, crates_at, locked
 from build.edits.reading import EditFile, edits_of, not_applied
@@ -40,9 +41,6 @@ KEPT = (BUILT, PARTS)
 # Minutes of processor time: for the 30 crates that there were when it was set, which are 32 since
 # two of them were cut in two, and for each further one.
 BUDGET, FOR_EACH, WERE = 110, 4, 32
-# How much of what a part said is told again at the end, where it failed: so many of its last lines,
-# and so much of each.
-LINES, WIDTH = 8, 160
 
 
 class Copied(io.StringIO):
@@ -119,13 +117,8 @@ class Gate:
             ran = test_files.run_file(file, {"WIRE_UP_PROGRAM": BUILT})
             self.seconds[file] = costs.used() - before
             self.counts.append(ran.counts)
-            self.failures += [it[:WIDTH] for it in ran.failures()]
-            print(f"{told_of(ran)}{file}: {ran.counts}", flush=True)
-
-
-def told_of(ran: test_files.Ran) -> str:
-    """What a file of tests printed, without its counts."""
-    return "".join(f"{it}\n" for it in ran.said.splitlines()[:-1] if it)
+            self.failures += ran.failures()
+            print(ran.whole(), flush=True)
 
 
 def prove(room: str) -> Counts:

@@ -1,10 +1,19 @@
-"""Whether each file of the crates is as `rt fmt` lays it out."""
+"""Whether each file of the crates is as `rt fmt` lays it out, and whether each edit can be applied.
+
+Usage: python3 -m build.layout
+Prints a line for each that isn't so, and last 'N passed, M failed'.
+"""
 import filecmp
 import os
 import subprocess
+import sys
+import tempfile
 from concurrent.futures import ThreadPoolExecutor
 
 from build import crate_list, kit
+from build.counts import Counts
+from build.crates import Crate, copy_to, crates_at
+from build.edits.reading import edits_of, not_applied
 from build.places import TOP
 
 
@@ -29,3 +38,16 @@ def not_laid_out(room: str) -> list[str]:
 def is_same(made: str, file: str) -> bool:
     """Whether a file is that of the repository."""
     return filecmp.cmp(made, os.path.join(TOP, file), shallow=False)
+
+
+def main() -> int:
+    wrong = not_applied(edits_of(crates_at(TOP, Crate)))
+    with tempfile.TemporaryDirectory(prefix="wire-up-layout-") as room:
+        copy_to(room, TOP)
+        wrong += not_laid_out(room)
+    print(*wrong, Counts(int(not wrong), len(wrong)), sep="\n")
+    return 1 if wrong else 0
+
+
+if __name__ == "__main__":
+    sys.exit(main())

@@ -1,5 +1,5 @@
-"""Holds the program, on one file, to itself, to a second reader (grammar.py) and to a model of plans
-(model.py).
+"""Holds the program, on one file, to itself, to a second reader (grammar.py) and to a model of
+plans (model.py).
 
 - A file that the second reader refuses is refused by every command with the fault and the line that
   this reader names, and no other.
@@ -11,17 +11,17 @@
 - `migrate` writes the canonical text under version 2 that the second reader has, and `check` and
   `replay`, with 1 and 7 workers, write the same about it. `--large` changes no byte of what `check`
   writes.
-- Without findings `replay` writes the same with 1, 2, 7 and 64 workers, its JSON form says the same,
-  and so does the report of a random complete order. With findings it writes those that `check`
-  writes, and the order of `--anyway`, followed, gives its report. `--complete` changes no byte of
-  either, and tells the first line of the report that isn't `PMIX_SUCCESS`.
+- Without findings `replay` writes the same with 1, 2, 7 and 64 workers, its JSON form says the
+  same, and so does the report of a random complete order. With findings it writes those that
+  `check` writes, and the order of `--anyway`, followed, gives its report. `--complete` changes no
+  byte of either, and tells the first line of the report that isn't `PMIX_SUCCESS`.
 - `why` says the same of two calls in both directions. A question or an order that the second reader
   refuses is refused with the fault that it names. Where a step can't be taken, the order before it
   can be followed, and leaves that rank unready.
 - Of a plan of at most 60 events, the findings of `check` are those of the model. Without findings,
   the report of `replay` is that of the model's plain run. So is each report of `follow` that of the
-  same steps in the model, and a step that can't be taken is the same one. The first line of `why` is
-  the model's too, and which calls are dead.
+  same steps in the model, and a step that can't be taken is the same one. The first line of `why`
+  is the model's too, and which calls are dead.
 """
 import json
 import os
