@@ -88,7 +88,7 @@ class Bench:
     def tell_file(self, kind: Kind) -> None:
         """Prints a row of the table of files."""
         path, text = self.file_of(kind, WHOLE)
-        numbers = len(text), calls_in(text), findings_in(self.programs[0], path)
+        numbers = len(text), calls_in(text), findings_in([self.programs[0], "check", path])
         told = " | ".join(f"{it:,}" for it in numbers)
         print(f"| {kind.name} | {kind.what} | {told} |", flush=True)
 
@@ -117,7 +117,7 @@ class Bench:
         """Prints a row of the table of runs that judge no findings. With findings, `replay` runs
         nothing, and there is no row."""
         path, _ = self.file_of(kind, WHOLE)
-        if findings_in(self.programs[0], path):
+        if findings_in([self.programs[0], "check", path]):
             return
         runs = [Command([PARTS, "plain"], path), Command([PARTS, "workers"], path)]
         for workers in ("1", "2", "4"):

@@ -66,11 +66,11 @@ def mebibytes(taken: Taken, least: int) -> str:
     return f"{taken.size / 1024:.1f}"
 
 
-def findings_in(program: str, path: str) -> int:
-    """How many findings `check` tells of a plan."""
+def findings_in(words: Sequence[str]) -> int:
+    """How many findings a `check` of these words tells."""
     with tempfile.TemporaryFile() as told:
         subprocess.run(
-            [program, "check", path],
+            words,
             stdin=subprocess.DEVNULL,
             stdout=told,
             stderr=subprocess.DEVNULL,
