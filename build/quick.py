@@ -23,9 +23,9 @@ from build.minutes import minutes_of
 from build.progress import Progress
 from build.test_files import test_files
 
-# No program, so that tests which need one are left out, whatever an earlier `make run` built; and
-# the tables of plans that are run without one.
-SETTINGS = {"WIRE_UP_PROGRAM": os.devnull, "WIRE_UP_TRIED": "fences names keeps refusals"}
+# The tables of plans that are run, those of each line by a build of their own: so they end within
+# the time.
+TRIED = ("fences witnesses", "names forms")
 # Tests that ask the prover, and those that start MPI programs.
 LONG = re.compile(r"test_(edits_proved|recording_live)\.py$")
 # What takes longest, so that it begins first.
@@ -38,12 +38,20 @@ class Part:
 
     name: str
     words: Sequence[str]
+    # The tables of plans that it runs by a build without proofs.
+    tried: str = ""
+
+    def run(self) -> Ran:
+        """Runs it. There is no program for it, so that tests which need one are left out, whatever
+        an earlier `make run` built."""
+        settings = {"WIRE_UP_PROGRAM": os.devnull, "WIRE_UP_TRIED": self.tried}
+        return run_counted(self.name, self.words, settings)
 
 
 def parts() -> list[Part]:
     """All parts, the longest first."""
     files = [it for it in test_files() if not LONG.search(it) and it != TABLES]
-    found = [Part(TABLES, ["build.unit_tests", TABLES])]
+    found = [Part(f"{TABLES}, {it}", ["build.unit_tests", TABLES], it) for it in TRIED]
     found += [Part(it, [f"build.{it}"]) for it in ("checkers", "layout")]
     return found + [Part(it, ["build.unit_tests", it]) for it in files]
 
@@ -53,7 +61,7 @@ def run_all(line: Progress) -> list[Ran]:
     todo = parts()
     count, found = itertools.count(1), []
     with ThreadPoolExecutor(kit.processors()) as pool:
-        ran = [pool.submit(run_counted, it.name, it.words, SETTINGS) for it in todo]
+        ran = [pool.submit(it.run) for it in todo]
         for it in as_completed(ran):
             found.append(it.result())
             line.note(it.result().whole())

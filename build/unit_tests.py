@@ -5,6 +5,7 @@ Usage: python3 -m build.unit_tests FILE..     such as tests/test_readme.py
 Prints what failed, which tests were left out and why, and last 'N passed, M failed'.
 """
 import os
+import re
 import sys
 import traceback
 import unittest
@@ -16,6 +17,8 @@ from build.counts import Counts
 from build.places import TOP
 
 TESTS = os.path.join(TOP, "tests")
+# How a class is named whose tests are left out together.
+CLASS = re.compile(r"^setUpClass \((.*)\)$")
 # How much of what is told of a failure stands in its last line.
 WIDTH = 160
 Raised = Union[tuple[type[BaseException], BaseException, TracebackType], tuple[None, None, None]]
@@ -94,7 +97,8 @@ def left_out(result: Result) -> list[str]:
     """A line for each reason why tests were left out, with these tests."""
     reasons: dict[str, list[str]] = {}
     for test, why in result.skipped:
-        reasons.setdefault(why, []).append(str(test).split(" ")[0])
+        name = CLASS.search(test.id())
+        reasons.setdefault(why, []).append(name[1] if name else test.id())
     return [f"left out, as {why}: {', '.join(tests)}" for why, tests in reasons.items()]
 
 
@@ -105,7 +109,8 @@ def main(files: Sequence[str]) -> int:
     for file in files:
         result = run_file(file)
         shown = os.path.relpath(file, TOP)
-        print(*(f"{shown}: {it}" for it in [*left_out(result), *result.told]), sep="\n")
+        for it in [*left_out(result), *result.told]:
+            print(f"{shown}: {it}")
         counts += result.counts()
     print(counts, flush=True)
     return 1 if counts.failed else 0
