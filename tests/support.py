@@ -1,12 +1,11 @@
-"""What all tests share: where the repository is, and the built programs."""
+"""What all tests share: where the repository is, and the built program."""
 import os
 import sys
 import unittest
 
 TOP = os.path.dirname(os.path.dirname(os.path.abspath(__file__)))
-# A test that imports this module can import the package of the Python programs, the build, and what
-# makes the package.
-sys.path[:0] = [os.path.join(TOP, "python"), TOP, os.path.join(TOP, "packaging")]
+# Where the package of the Python programs is: a test that imports this module can import it.
+sys.path.insert(0, os.path.join(TOP, "python"))
 sys.dont_write_bytecode = True
 
 
@@ -30,3 +29,7 @@ def parts() -> str:
     if not os.access(path, os.X_OK):
         raise unittest.SkipTest("crates/one_function isn't built: make parts builds it")
     return path
+
+
+# The build, and what makes the package, can be imported too.
+sys.path[1:1] = [TOP, os.path.join(TOP, "packaging")]
