@@ -1,9 +1,13 @@
-# What a user and a developer of wire_up call. `run`, `libraries`, `try`, `test` and `edits` need the kit's `rt` on the path, and python3. `record` needs a C
-# compiler and the headers of PMIx, `record-mpi` also `mpicc`.
+# What a user and a developer of wire_up call. `run`, `libraries`, `try`, `test`, `quick`, `edits` and
+# `parts` need the kit's `rt` on the path, and python3. `record` needs a C compiler and the headers of
+# PMIx, `record-mpi` also `mpicc`.
 
 PREFIX ?= /usr/local
+# No program leaves compiled files in the tree.
+export PYTHONDONTWRITEBYTECODE = 1
 
-.PHONY: run libraries try test edits soak bench record record-mpi install deb picture
+.PHONY: run libraries parts try test quick lint lint-c edits soak bench figures
+.PHONY: record record-mpi install deb picture
 
 MPICC ?= mpicc
 CFLAGS ?= -O2 -Wall -Wextra
@@ -11,32 +15,55 @@ SHARED = -std=gnu11 $(CFLAGS) -shared -fPIC -pthread
 
 # An example without proofs, then the proof, and the same example by the proved ./wire_up.
 run:
-	@python3 tests/build.py run
+	@python3 -m build.run
 
-# For developers: all libraries, with the proof of each function kept, so that `rt check` in a crate begins at once.
+# For developers: all libraries, with the proof of each function kept, so that `rt check` in a crate
+# begins at once.
 libraries:
-	@python3 tests/build.py libraries
+	@python3 -m build.libraries
+
+# For tests and `make bench`: the program that has functions of the library by themselves.
+parts:
+	@python3 -m build.parts
 
 # `make try FILE=my.plan`: checks and replays a file by a build without proofs.
 try:
 	@test -n "$(FILE)" || { echo "which file? make try FILE=my.plan"; exit 1; }
-	@python3 tests/build.py try "$(FILE)"
+	@python3 -m build.trying "$(FILE)"
 
 # The gate: every proof, every test, and the program as a user calls it.
 test:
-	@python3 tests/gate.py
+	@python3 -m build.gate
 
-# The edits that the prover must refuse: all of them, or `make edits EDITS=wire_core`, or one by its file. What is below them is proved first.
+# Five minutes: whether a change holds water, without a proof.
+quick:
+	@python3 -m build.quick
+
+# Types and style of the Python programs, and the checks of C.
+lint:
+	@python3 -m build.checkers
+
+lint-c:
+	@test ! -x record/lint || record/lint
+
+# The edits that the prover must refuse: all of them, or `make edits EDITS=wire_core`, or one by its
+# file. What is below them is proved first.
 edits:
-	@python3 tests/edits.py $(EDITS)
+	@python3 -m build.edits $(EDITS)
 
-# Random and damaged files, for so many minutes: `make soak MINUTES=60`, and `SEED=1` for the same files again.
+# Random and damaged files, for so many minutes: `make soak MINUTES=60`, and `SEED=1` for the same
+# files again.
 soak:
-	@python3 tests/soak.py --minutes $(or $(MINUTES),1) $(if $(SEED),--seed $(SEED))
+	@PYTHONPATH=tests python3 -m build.soak --minutes $(or $(MINUTES),1) $(if $(SEED),--seed $(SEED))
 
-# Times ./wire_up on files near the limits. `make bench BESIDE=program` times another program beside it.
+# Times ./wire_up on files near the limits. `make bench BESIDE=program` times another program beside
+# it.
 bench:
-	@python3 tests/bench.py $(if $(BESIDE),--beside "$(BESIDE)")
+	@python3 -m build.bench $(if $(BESIDE),--beside "$(BESIDE)")
+
+# Measures, and writes docs/figures.md. Nothing else should be at work.
+figures:
+	@python3 -m build.figures "$(PROGRAM)"
 
 # The recorder of PMIx calls, which ./wire_up-record preloads. `PMIX_CFLAGS=-I..` says where the headers are, if pkg-config doesn't know.
 record: record/record.so

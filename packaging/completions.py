@@ -4,9 +4,10 @@ Usage: python3 packaging/completions.py PROGRAM FOLDER
 """
 import os
 import sys
+from collections.abc import Callable, Sequence
 
-sys.dont_write_bytecode = True
 import helps
+from helps import Help, Word
 from manual import RECORDER, REPORTER
 
 # The words that are files.
@@ -24,75 +25,105 @@ complete -o filenames -F _{plain} {name}
 """
 
 
-def quoted(text):
+def quoted(text: str) -> str:
     """A text in single quotes, for zsh and fish."""
     return "'" + text.replace("\\", "\\\\").replace("'", "'\\''") + "'"
 
 
-def names_of(options):
+def names_of(options: Sequence[Word]) -> str:
     return " ".join(name for it in options for name in it.names)
 
 
-def bash(name, alone, commands):
-    """The completions of bash: the commands first, then the options of the command that is there, else files."""
-    cases = [f'    1,*) mapfile -t COMPREPLY < <(compgen -W "{" ".join(it.name for it in commands)} {names_of(alone)}" -- "$word") ;;'] if commands else []
-    cases += [f'    *,{it.name},-*) mapfile -t COMPREPLY < <(compgen -W "{names_of(it.options)}" -- "$word") ;;' for it in commands]
-    if not commands:
-        cases = [f'    *,*,-*) mapfile -t COMPREPLY < <(compgen -W "{names_of(alone)}" -- "$word") ;;']
+def bash_case(pattern: str, words: str) -> str:
+    """The words that bash offers where the place, the command and the word are like a pattern."""
+    return f'    {pattern}) mapfile -t COMPREPLY < <(compgen -W "{words}" -- "$word") ;;'
+
+
+def bash(name: str, alone: Sequence[Word], commands: Sequence[Help]) -> str:
+    """The completions of bash: the commands first, then the options of the command that is there,
+    else files."""
+    cases = [bash_case(f"*,{it.name},-*", names_of(it.options)) for it in commands]
+    if commands:
+        names = " ".join(it.name for it in commands)
+        cases.insert(0, bash_case("1,*", f"{names} {names_of(alone)}"))
+    else:
+        cases = [bash_case("*,*,-*", names_of(alone))]
     return BASH.format(name=name, plain=name.replace("-", "_"), cases="\n".join(cases))
 
 
-def zsh_option(it):
+def zsh_option(it: Word) -> list[str]:
     """An option as `_arguments` takes it."""
     value = f":{it.value}:{'_files' if it.value in FILES else ' '}" if it.value else ""
     meaning = it.meaning.replace("[", "(").replace("]", ")").replace(":", "\\:")
     return [quoted(f"{name}[{meaning}]{value}") for name in it.names]
 
 
-def zsh(name, alone, commands):
+def zsh_arguments(indent: str, options: Sequence[Word], end: str) -> list[str]:
+    """The lines by which zsh offers options and files."""
+    words = [word for it in options for word in zsh_option(it)]
+    offered = [f"{indent}    {word} \\" for word in words]
+    return [f"{indent}_arguments \\", *offered, f"{indent}    '*:file:_files'{end}"]
+
+
+def zsh(name: str, alone: Sequence[Word], commands: Sequence[Help]) -> str:
     """The completions of zsh."""
     made = [f"#compdef {name}", f"# Completions of {name} for zsh."]
     if not commands:
-        return "\n".join([*made, "_arguments \\", *(f"    {word} \\" for it in alone for word in zsh_option(it)), "    '*:file:_files'", ""])
-    made += ["local -a commands=("]
-    made += [f"    {quoted(it.name + ':' + it.about.replace(':', chr(92) + ':'))}" for it in commands]
-    made += [")", "if (( CURRENT == 2 )); then", "    _describe command commands", "    return", "fi", 'case "$words[2]" in']
+        return "\n".join([*made, *zsh_arguments("", alone, ""), ""])
+    made.append("local -a commands=(")
     for it in commands:
-        words = [word for option in it.options for word in zsh_option(option)]
-        made += [f"{it.name})", "    shift words; (( CURRENT-- ))", "    _arguments \\", *(f"        {word} \\" for word in words), "        '*:file:_files' ;;"]
+        about = it.about.replace(":", "\\:")
+        made.append(f"    {quoted(f'{it.name}:{about}')}")
+    made += [")", "if (( CURRENT == 2 )); then", "    _describe command commands", "    return"]
+    made += ["fi", 'case "$words[2]" in']
+    for it in commands:
+        made += [f"{it.name})", "    shift words; (( CURRENT-- ))"]
+        made += zsh_arguments("    ", it.options, " ;;")
     return "\n".join([*made, "esac", ""])
 
 
-def fish_option(name, condition, it):
+def fish_option(name: str, condition: str, it: Word) -> str:
     """An option as fish takes it."""
     words = [f"-l {word[2:]}" if word.startswith("--") else f"-s {word[1:]}" for word in it.names]
     takes = (" -r" + ("" if it.value in FILES else " -f")) if it.value else ""
     return f"complete -c {name}{condition} {' '.join(words)}{takes} -d {quoted(it.meaning)}"
 
 
-def fish(name, alone, commands):
+def fish(name: str, alone: Sequence[Word], commands: Sequence[Help]) -> str:
     """The completions of fish."""
     made = [f"# Completions of {name} for fish."]
     for it in commands:
-        made.append(f"complete -c {name} -n __fish_use_subcommand -f -a {it.name} -d {quoted(it.about)}")
-        made += [fish_option(name, f" -n '__fish_seen_subcommand_from {it.name}'", option) for option in it.options]
-    made += [fish_option(name, " -n __fish_use_subcommand" if commands else "", it) for it in alone]
+        about = quoted(it.about)
+        made.append(f"complete -c {name} -n __fish_use_subcommand -f -a {it.name} -d {about}")
+        condition = f" -n '__fish_seen_subcommand_from {it.name}'"
+        made += [fish_option(name, condition, option) for option in it.options]
+    first = " -n __fish_use_subcommand" if commands else ""
+    made += [fish_option(name, first, it) for it in alone]
     return "\n".join([*made, ""])
 
 
-SHELLS = {"bash": (bash, "{}"), "zsh": (zsh, "_{}"), "fish": (fish, "{}.fish")}
+# The completions of a shell, by the name of a program, its options and its commands; and the name
+# of the file of a program.
+Made = Callable[[str, Sequence[Word], Sequence[Help]], str]
+SHELLS: dict[str, tuple[Made, str]] = {
+    "bash": (bash, "{}"),
+    "zsh": (zsh, "_{}"),
+    "fish": (fish, "{}.fish"),
+}
 
 
-def write_completions(program, folder, shell, has_recorder=True):
+def write_completions(program: str, folder: str, shell: str, has_recorder: bool = True) -> None:
     """Writes the completions of a shell to a folder."""
     made, file = SHELLS[shell]
     alone, *commands = helps.of_program(program)
-    scripts = [*([RECORDER] if has_recorder else []), REPORTER]
-    parts = [("wire_up", alone.options, commands), *((os.path.basename(it), helps.of_script(it)[2], []) for it in scripts)]
+    texts = {"wire_up": made("wire_up", alone.options, commands)}
+    for script in [*[RECORDER] * has_recorder, REPORTER]:
+        name = os.path.basename(script)
+        texts[name] = made(name, helps.of_script(script).options, [])
     os.makedirs(folder, exist_ok=True)
-    for name, options, those in parts:
+    for name, text in texts.items():
         with open(os.path.join(folder, file.format(name)), "w", encoding="utf-8") as it:
-            it.write(made(name, options, those))
+            it.write(text)
 
 
 if __name__ == "__main__":

@@ -1,7 +1,7 @@
 """Builds the Debian package of the program that `make run` proved and built.
 
-Usage: python3 packaging/deb.py PROGRAM [FOLDER]     FOLDER is where the package goes, else the current one
-The recorder is in it where `make record record-mpi` built it.
+Usage: python3 packaging/deb.py PROGRAM [FOLDER]     FOLDER is where the package goes, else the
+current one The recorder is in it where `make record record-mpi` built it.
 """
 import email.utils
 import glob
@@ -14,8 +14,8 @@ import sys
 import tempfile
 import textwrap
 import time
+from typing import NamedTuple
 
-sys.dont_write_bytecode = True
 import helps
 import stage
 from manual import TOP
@@ -38,84 +38,125 @@ wire_up was written by its developers.
 
 No licence is granted yet: the owner of the repository has chosen none so far.
 """
+# The compiled programs and libraries of the package.
+COMPILED = ("usr/bin/wire_up", "usr/lib/wire_up/*.so")
+RELEASE = re.compile(r"(?m)^## (\S+) - (\S+)\n")
+CHANGE = re.compile(r"(?m)^- .*\n(?:  .*\n)*")
+DEBIAN = textwrap.TextWrapper(
+    78, initial_indent="  * ", subsequent_indent="    ", break_on_hyphens=False
+)
+SHLIBS = re.compile(r"shlibs:Depends=(.*)")
 
 
-def dated():
-    """The versions of CHANGELOG.md with their dates and what they say, the newest first."""
+class Release(NamedTuple):
+    """A version of CHANGELOG.md, with its day and what it says."""
+
+    version: str
+    day: str
+    text: str
+
+
+def releases() -> list[Release]:
+    """The versions of CHANGELOG.md, the newest first."""
     with open(os.path.join(TOP, "CHANGELOG.md"), encoding="utf-8") as it:
-        parts = re.split(r"(?m)^## (\S+) - (\S+)\n", it.read())[1:]
-    return list(zip(parts[::3], parts[1::3], parts[2::3]))
+        parts = RELEASE.split(it.read())[1:]
+    return [Release(*it) for it in zip(parts[::3], parts[1::3], parts[2::3])]
 
 
-def changelog():
+def entry_of(release: Release) -> str:
+    """The changes of a version in Debian's form."""
+    lines = []
+    for it in CHANGE.finditer(release.text):
+        words = " ".join(it.group()[2:].split())
+        lines.append(DEBIAN.fill(words))
+    day = time.mktime(time.strptime(release.day, "%Y-%m-%d"))
+    when, changes = email.utils.formatdate(day, True), "\n".join(lines)
+    title = f"{NAME} ({release.version}) unstable; urgency=medium"
+    return f"{title}\n\n{changes}\n\n -- {MAINTAINER}  {when}\n"
+
+
+def changelog() -> str:
     """The changes in Debian's form."""
-    made = []
-    for version, day, text in dated():
-        changes = [" ".join(it.group()[2:].split()) for it in re.finditer(r"(?m)^- .*\n(?:  .*\n)*", text)]
-        lines = [textwrap.fill(it, 78, initial_indent="  * ", subsequent_indent="    ", break_on_hyphens=False) for it in changes]
-        when = email.utils.formatdate(time.mktime(time.strptime(day, "%Y-%m-%d")), True)
-        made.append(f"{NAME} ({version}) unstable; urgency=medium\n\n" + "\n".join(lines) + f"\n\n -- {MAINTAINER}  {when}\n")
-    return "\n".join(made)
+    return "\n".join(entry_of(it) for it in releases())
 
 
-def packed(path, text):
+def write_packed(path: str, text: bytes) -> None:
     """Writes a text, packed by gzip without a time of its own."""
     with open(path, "wb") as to, gzip.GzipFile("", "wb", 9, to, 0) as it:
         it.write(text)
 
 
-def pack_pages(root):
+def pack_pages(root: str) -> None:
     """Packs the manual pages, as Debian wants them."""
     for path in glob.glob(os.path.join(root, "usr", "share", "man", "man*", "*.[0-9]")):
         with open(path, "rb") as it:
-            packed(f"{path}.gz", it.read())
+            write_packed(f"{path}.gz", it.read())
         os.chmod(f"{path}.gz", 0o644)
         os.remove(path)
 
 
-def fill_documents(folder):
+def fill_documents(folder: str) -> None:
     """What Debian wants beside the documents. Those of over 4 KiB may stay as they are."""
     os.remove(os.path.join(folder, "CHANGELOG.md"))
-    packed(os.path.join(folder, "changelog.gz"), changelog().encode())
+    write_packed(os.path.join(folder, "changelog.gz"), changelog().encode())
     with open(os.path.join(folder, "copyright"), "w", encoding="utf-8") as it:
         it.write(COPYRIGHT)
 
 
-def strip(root):
+def compiled(root: str) -> list[str]:
+    """The paths of the compiled programs and libraries."""
+    return [path for it in COMPILED for path in glob.glob(os.path.join(root, it))]
+
+
+def strip(root: str) -> None:
     """Takes debugging data out of the program and of the recorder."""
-    if shutil.which("strip"):
-        for path in [os.path.join(root, "usr", "bin", "wire_up"), *glob.glob(os.path.join(root, "usr", "lib", "wire_up", "*.so"))]:
-            subprocess.run(["strip", "--strip-unneeded", "--remove-section=.comment", "--remove-section=.note", path], check=True)
+    removed = ["--remove-section=.comment", "--remove-section=.note"]
+    for path in compiled(root) if shutil.which("strip") else []:
+        subprocess.run(["strip", "--strip-unneeded", *removed, path], check=True)
 
 
-def needed(root):
+def needed(root: str) -> str:
     """The packages of the libraries that the program and the recorder are linked with."""
-    files = [os.path.join(root, "usr", "bin", "wire_up"), *glob.glob(os.path.join(root, "usr", "lib", "wire_up", "*.so"))]
+    if not shutil.which("dpkg-shlibdeps"):
+        return "libc6"
     with tempfile.TemporaryDirectory() as room:
         os.mkdir(os.path.join(room, "debian"))
         with open(os.path.join(room, "debian", "control"), "w", encoding="utf-8") as it:
             it.write(f"Source: {NAME}\n\nPackage: {NAME}\nArchitecture: amd64\n")
-        words = ["dpkg-shlibdeps", "-O", *files]
-        ran = subprocess.run(words, cwd=room, capture_output=True, text=True, check=False) if shutil.which(words[0]) else None
-    found = re.search(r"shlibs:Depends=(.*)", ran.stdout) if ran else None
+        words = ["dpkg-shlibdeps", "-O", *compiled(root)]
+        ran = subprocess.run(words, cwd=room, capture_output=True, text=True, check=False)
+    found = SHLIBS.search(ran.stdout)
     return found[1] if found else "libc6"
 
 
-def control(root, version):
+def files_below(root: str) -> list[str]:
+    """The paths of all files below a folder, from there."""
+    found = [os.path.join(at, it) for at, _, names in os.walk(root) for it in names]
+    return sorted(os.path.relpath(it, root) for it in found)
+
+
+def control(root: str, version: str) -> str:
     """The fields of the package."""
-    size = sum(os.path.getsize(os.path.join(path, it)) for path, _, names in os.walk(root) for it in names)
-    has_recorder = os.path.exists(os.path.join(root, "usr", "bin", "wire_up-record"))
-    depends = f"{needed(root)}, python3"
-    return "".join(f"{it}\n" for it in (
-        f"Package: {NAME}", f"Version: {version}", "Section: devel", "Priority: optional", "Architecture: amd64", f"Maintainer: {MAINTAINER}",
-        f"Installed-Size: {-(-size // 1024)}", f"Depends: {depends}", *(["Suggests: openmpi-bin, binutils"] * has_recorder), f"Description: {ABOUT}")) + LONG
+    size = sum(os.path.getsize(os.path.join(root, it)) for it in files_below(root))
+    fields = {
+        "Package": NAME,
+        "Version": version,
+        "Section": "devel",
+        "Priority": "optional",
+        "Architecture": "amd64",
+        "Maintainer": MAINTAINER,
+        "Installed-Size": str(-(-size // 1024)),
+        "Depends": f"{needed(root)}, python3",
+    }
+    if os.path.exists(os.path.join(root, "usr", "bin", "wire_up-record")):
+        fields["Suggests"] = "openmpi-bin, binutils"
+    fields["Description"] = ABOUT
+    return "".join(f"{name}: {it}\n" for name, it in fields.items()) + LONG
 
 
-def write_control(root, version):
+def write_control(root: str, version: str) -> None:
     """Writes the fields and the sums of all files."""
-    folder = os.path.join(root, "DEBIAN")
-    fields = control(root, version)
-    files = sorted(os.path.relpath(os.path.join(path, it), root) for path, _, names in os.walk(root) for it in names)
+    folder, fields, files = os.path.join(root, "DEBIAN"), control(root, version), files_below(root)
     sums = subprocess.run(["md5sum", *files], cwd=root, capture_output=True, check=True).stdout
     os.mkdir(folder)
     for name, text in (("control", fields.encode()), ("md5sums", sums)):
@@ -123,11 +164,11 @@ def write_control(root, version):
             it.write(text)
 
 
-def build(program, folder):
+def build(program: str, folder: str) -> str:
     """Builds the package in the folder, and answers its path."""
-    version = helps.version_of(program)
-    if version != dated()[0][0]:
-        sys.exit(f"{program} is version {version}, and the newest of CHANGELOG.md is {dated()[0][0]}")
+    version, newest = helps.version_of(program), releases()[0].version
+    if version != newest:
+        sys.exit(f"{program} is version {version}, and the newest of CHANGELOG.md is {newest}")
     path = os.path.join(folder, f"{NAME}_{version}_amd64.deb")
     with tempfile.TemporaryDirectory(prefix="wire-up-deb-") as root:
         os.chmod(root, 0o755)
@@ -136,15 +177,23 @@ def build(program, folder):
         pack_pages(root)
         strip(root)
         write_control(root, version)
-        subprocess.run(["dpkg-deb", "--root-owner-group", "--build", root, path], check=True, stdout=subprocess.DEVNULL)
+        words = ["dpkg-deb", "--root-owner-group", "--build", root, path]
+        subprocess.run(words, check=True, stdout=subprocess.DEVNULL)
     return path
 
 
-if __name__ == "__main__":
+def main() -> None:
     if len(sys.argv) not in (2, 3):
         sys.exit(__doc__)
     if not os.access(sys.argv[1], os.X_OK):
         sys.exit(f"there is no {sys.argv[1]}: make run builds it")
     if not shutil.which("dpkg-deb"):
-        sys.exit("there is no dpkg-deb: a Debian package is built on Debian or on a system made from it")
-    print(build(os.path.abspath(sys.argv[1]), os.path.abspath(sys.argv[2] if len(sys.argv) == 3 else ".")))
+        sys.exit(
+            "there is no dpkg-deb: a Debian package is built on Debian or on a system made from it"
+        )
+    folder = sys.argv[2] if len(sys.argv) == 3 else "."
+    print(build(os.path.abspath(sys.argv[1]), os.path.abspath(folder)))
+
+
+if __name__ == "__main__":
+    main()

@@ -1,74 +1,132 @@
-"""What the programs say of themselves by `--help`, taken apart: the manual pages and the completions are made of it."""
-import collections
+"""What the programs say of themselves by `--help`, taken apart: the manual pages and the
+completions are made of it."""
 import re
 import subprocess
 import sys
+from collections.abc import Sequence
+from dataclasses import dataclass
+from typing import Optional
 
 SECONDS = 60
+ROW = re.compile(r"(?m)^ {2,6}(\S.*?) {2,}(\S.*)$")
+# A row of the options of the recorder or the reporter, and a use of either.
+SCRIPT_ROW = re.compile(r"  (-\S.*?) {2,}(\S.*)")
+USE = re.compile(r"(?m)^ +(wire_up-\w+ .*?(?:\.\.|PLAN)) +([a-z].*)$")
 
-# A command: its name (nothing for the program alone), what it does, its usage, its words, its options, and what stands below them.
-Help = collections.namedtuple("Help", "name about usage words options below")
-# A word or an option: how it is written, such as `--workers` and `COUNT`, and what it means. An option without a word of its own has no `value`.
-Word = collections.namedtuple("Word", "names value meaning")
+
+@dataclass(frozen=True)
+class Word:
+    """A word or an option: how it is written, such as `--workers` and `COUNT`, and what it means.
+    An option without a word of its own has no value."""
+
+    names: list[str]
+    value: Optional[str]
+    meaning: str
 
 
-def asked(words):
-    """What a program writes about itself."""
-    ran = subprocess.run(words, stdin=subprocess.DEVNULL, capture_output=True, text=True, timeout=SECONDS, check=False)
+@dataclass(frozen=True)
+class Help:
+    """What a command says of itself."""
+
+    # Nothing for the program alone.
+    name: str
+    about: str
+    usage: str
+    words: list[Word]
+    options: list[Word]
+    # What stands below the options.
+    below: str
+
+
+@dataclass(frozen=True)
+class ScriptHelp:
+    """What the recorder or the reporter says of itself."""
+
+    about: str
+    # Each use, and what it does.
+    uses: list[tuple[str, str]]
+    options: list[Word]
+    # The paragraphs below the options.
+    below: str
+
+
+def asked(words: Sequence[str]) -> str:
+    """What a program writes about itself. One that fails ends this program."""
+    ran = subprocess.run(
+        words,
+        stdin=subprocess.DEVNULL,
+        capture_output=True,
+        text=True,
+        timeout=SECONDS,
+        check=False,
+    )
     if ran.returncode:
         sys.exit(f"{' '.join(words)} ended with status {ran.returncode}: {ran.stderr}")
     return ran.stdout
 
 
-def version_of(program):
+def version_of(program: str) -> str:
     """The version that a program says, without the program's name."""
     return asked([program, "--version"]).split()[-1]
 
 
-def rows(text):
-    """The rows of two columns, of which the first is what is written and the second what it means."""
-    return re.findall(r"(?m)^ {2,6}(\S.*?) {2,}(\S.*)$", text)
+def rows(text: str) -> list[tuple[str, str]]:
+    """The rows of two columns, of which the first is what is written and the second what it
+    means."""
+    return [(it[1], it[2]) for it in ROW.finditer(text)]
 
 
-def word_of(written, meaning):
+def word_of(written: str, meaning: str) -> Word:
     """A word or an option by its row, such as `-h, --help` or `--workers <COUNT>`."""
     names = re.findall(r"(?:^|, )(-[\w-]+)", written)
     values = re.findall(r"[<\[](\w+)[>\]]", written)
     return Word(names or values, values[0] if names and values else None, meaning)
 
 
-def part(text, title):
+def part(text: str, title: str) -> str:
     """The lines below a title, up to the next line that isn't indented."""
     found = re.search(rf"(?m)^{title}:\n((?: .*\n|\n(?= ))*)", text)
     return found[1] if found else ""
 
 
-def of_command(program, name):
+def words_below(text: str, title: str) -> list[Word]:
+    """The words or options below a title."""
+    return [word_of(*it) for it in rows(part(text, title))]
+
+
+def of_command(program: str, name: str) -> Help:
     """What a command says of itself."""
     text = asked([program, name, "--help"] if name else [program, "--help"])
     about, _, rest = text.partition("\n\n")
-    usage = re.search(r"(?m)^Usage: (.*)$", rest)[1]
+    usage = re.search(r"(?m)^Usage: (.*)$", rest)
     below = rest.partition("Options:\n")[2].partition("\n\n")[2]
-    words, options = ([word_of(*it) for it in rows(part(rest, title))] for title in ("Arguments", "Options"))
-    return Help(name, about.strip(), usage, words, options, below)
+    words, options = (words_below(rest, title) for title in ("Arguments", "Options"))
+    return Help(name, about.strip(), usage[1] if usage else "", words, options, below)
 
 
-def of_program(program):
+def of_program(program: str) -> list[Help]:
     """What the program and each of its commands say: first the program alone."""
     names = [name for name, _ in rows(part(asked([program, "--help"]), "Commands"))]
     return [of_command(program, name) for name in ["", *(it for it in names if it != "help")]]
 
 
-def of_script(script):
-    """What the recorder or the reporter says: its uses, its options, and the paragraphs below them."""
-    text = asked([sys.executable, script, "--help"])
-    about, uses, *rest = text.split("\n\n")
-    options = []
-    for line in rest[0].split("\n"):
-        row = re.fullmatch(r"  (-\S.*?) {2,}(\S.*)", line)
+def script_option(written: str, meaning: str) -> Word:
+    """An option of the recorder or the reporter, such as `-o PLAN`."""
+    values = re.findall(r" ([A-Z]+)$", written)
+    return Word(re.findall(r"(?<!\w)-[\w-]+", written), values[0] if values else None, meaning)
+
+
+def of_script(script: str) -> ScriptHelp:
+    """What the recorder or the reporter says of itself."""
+    about, uses, options, *below = asked([sys.executable, script, "--help"]).split("\n\n")
+    written: list[tuple[str, str]] = []
+    for line in options.split("\n"):
+        row = SCRIPT_ROW.fullmatch(line)
         if row:
-            options.append([*row.groups()])
-        elif options and line.strip():
-            options[-1][1] += f" {line.strip()}"
-    found = [Word(re.findall(r"(?<!\w)-[\w-]+", written), (re.findall(r" ([A-Z]+)$", written) or [None])[0], meaning) for written, meaning in options]
-    return about.strip(), re.findall(r"(?m)^ +(wire_up-\w+ .*?(?:\.\.|PLAN)) +([a-z].*)$", uses), found, "\n\n".join(rest[1:])
+            written.append((row[1], row[2]))
+        elif written and line.strip():
+            name, meaning = written.pop()
+            written.append((name, f"{meaning} {line.strip()}"))
+    found = [script_option(*it) for it in written]
+    used = [(it[1], it[2]) for it in USE.finditer(uses)]
+    return ScriptHelp(about.strip(), used, found, "\n\n".join(below))

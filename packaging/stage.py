@@ -1,4 +1,5 @@
-"""Lays out what is installed: the program, the reporter, the recorder, manual pages, completions, documents and examples.
+"""Lays out what is installed: the program, the reporter, the recorder, the package of both, manual
+pages, completions, documents and examples.
 
 Usage: python3 packaging/stage.py PROGRAM FOLDER     FOLDER is the prefix, such as /usr/local
 """
@@ -7,20 +8,27 @@ import os
 import shutil
 import sys
 
-sys.dont_write_bytecode = True
 import completions
 import manual
 from manual import TOP
 
 RECORDERS = [os.path.join(TOP, "record", it) for it in ("record.so", "record-mpi.so")]
+# The package of the recorder and the reporter, and where these look for it, below the prefix.
+PACKAGE, PACKAGES = os.path.join(TOP, "python", "wire_up_tools"), "share/wire_up"
 # Where each shell looks for completions, below the prefix.
-COMPLETIONS = {"bash": "share/bash-completion/completions", "zsh": "share/zsh/vendor-completions", "fish": "share/fish/vendor_completions.d"}
+COMPLETIONS = {
+    "bash": "share/bash-completion/completions",
+    "zsh": "share/zsh/vendor-completions",
+    "fish": "share/fish/vendor_completions.d",
+}
 # What is for developers alone.
 FOR_DEVELOPERS = ("architecture.md", "proofs.md", "DECISIONS.md")
+AT_TOP = ("README.md", "SECURITY.md", "CHANGELOG.md")
 
 
-def put(source, folder, mode=0o644, name=None):
-    """Copies a file to a folder, which is made if it isn't there. The new file takes the place of an old one at once."""
+def put(source: str, folder: str, mode: int = 0o644, name: str = "") -> None:
+    """Copies a file to a folder, which is made if it isn't there. The new file takes the place of
+    an old one at once."""
     os.makedirs(folder, exist_ok=True)
     path = os.path.join(folder, name or os.path.basename(source))
     shutil.copyfile(source, f"{path}.new")
@@ -28,8 +36,9 @@ def put(source, folder, mode=0o644, name=None):
     os.replace(f"{path}.new", path)
 
 
-def lay_out_programs(program, prefix):
-    """The program, the reporter, and the recorder where it is built."""
+def lay_out_programs(program: str, prefix: str) -> bool:
+    """The program, the reporter, and the recorder where it is built. Answers whether that is
+    so."""
     put(program, os.path.join(prefix, "bin"), 0o755, "wire_up")
     put(manual.REPORTER, os.path.join(prefix, "bin"), 0o755)
     built = [it for it in RECORDERS if os.path.exists(it)]
@@ -40,34 +49,49 @@ def lay_out_programs(program, prefix):
     return bool(built)
 
 
-def lay_out_pages(program, prefix, has_recorder):
+def lay_out_package(prefix: str) -> None:
+    """The package of the recorder and the reporter. What an earlier version had of it goes."""
+    folder = os.path.join(prefix, PACKAGES)
+    place = os.path.join(folder, os.path.basename(PACKAGE))
+    sources = glob.glob(os.path.join(PACKAGE, "**"), recursive=True)
+    files = [os.path.relpath(it, PACKAGE) for it in sources if os.path.isfile(it)]
+    wanted = [it for it in files if "__pycache__" not in it.split(os.sep)]
+    for it in wanted:
+        put(os.path.join(PACKAGE, it), os.path.join(place, os.path.dirname(it)))
+    for at, _, names in os.walk(place):
+        for path in (os.path.join(at, it) for it in names):
+            if os.path.relpath(path, place) not in wanted:
+                os.remove(path)
+
+
+def lay_out_pages(program: str, prefix: str, has_recorder: bool) -> None:
     """The manual pages and the completions: those of the recorder only where it is there."""
-    share = os.path.join(prefix, "share")
-    for name, page in manual.PAGES.items():
+    for name in manual.PAGES:
         if has_recorder or "record" not in name:
-            folder = os.path.join(share, "man", f"man{name[-1]}")
-            os.makedirs(folder, exist_ok=True)
-            with open(os.path.join(folder, name), "w", encoding="utf-8") as it:
-                it.writelines(f"{line}\n" for line in page(program))
-    for shell, folder in COMPLETIONS.items():
-        completions.write_completions(program, os.path.join(prefix, folder), shell, has_recorder)
+            folder = os.path.join(prefix, "share", "man", f"man{name[-1]}")
+            manual.write_page(name, program, folder)
+    for shell, place in COMPLETIONS.items():
+        completions.write_completions(program, os.path.join(prefix, place), shell, has_recorder)
 
 
-def lay_out_documents(prefix, name):
-    """The documents for users with their picture, and the examples."""
+def lay_out_documents(prefix: str, name: str) -> str:
+    """The documents for users with their picture, and the examples. Answers their folder."""
     folder = os.path.join(prefix, "share", "doc", name)
-    documents = [os.path.join(TOP, it) for it in ("README.md", "SECURITY.md", "CHANGELOG.md")]
-    for path in documents + sorted(glob.glob(os.path.join(TOP, "docs", "*.md")) + glob.glob(os.path.join(TOP, "docs", "*.png"))):
-        if os.path.basename(path) not in FOR_DEVELOPERS:
-            put(path, os.path.join(folder, "docs") if "docs" in os.path.relpath(path, TOP).split(os.sep) else folder)
+    for it in AT_TOP:
+        put(os.path.join(TOP, it), folder)
+    for ending in ("md", "png"):
+        for path in sorted(glob.glob(os.path.join(TOP, "docs", f"*.{ending}"))):
+            if os.path.basename(path) not in FOR_DEVELOPERS:
+                put(path, os.path.join(folder, "docs"))
     for path in sorted(glob.glob(os.path.join(TOP, "examples", "*"))):
         put(path, os.path.join(folder, "examples"))
     return folder
 
 
-def lay_out(program, prefix, name="wire_up"):
+def lay_out(program: str, prefix: str, name: str = "wire_up") -> str:
     """Lays out all below the prefix. Answers the folder of the documents."""
     has_recorder = lay_out_programs(program, prefix)
+    lay_out_package(prefix)
     lay_out_pages(program, prefix, has_recorder)
     return lay_out_documents(prefix, name)
 

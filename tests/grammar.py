@@ -1,23 +1,42 @@
-"""A second reader of plans, orders and questions, written from docs/plan-format.md alone: judges them, and gives the canonical
-text of a file.
+"""A second reader of plans, orders and questions, written from docs/plan-format.md alone: judges
+them, and gives the canonical text of a file.
 
 Usage: python3 tests/grammar.py FILE
 Prints the fault that the program must name, or the canonical text.
 """
-import collections
 import re
 import sys
+from typing import NamedTuple, Optional
 
 FILE_BYTES, NAME_BYTES, VALUE_BYTES = 4_194_304, 63, 255
-# How many nodes, jobs, ranks and calls a file of each version may have.
-Limits = collections.namedtuple("Limits", "nodes jobs ranks calls")
+
+
+class Limits(NamedTuple):
+    """How many of each a file may have."""
+
+    nodes: int
+    jobs: int
+    ranks: int
+    calls: int
+
+
+# Those of each version.
 LIMITS = {b"1": Limits(64, 16, 256, 16_384), b"2": Limits(64, 16, 512, 32_768)}
-NUMBERS = {"TooLong": 2, "BadHeader": 3, "BadLine": 4, "UnknownName": 5, "Twice": 6, "NotMember": 7, "TooMany": 8, "BadOrder": 13}
+NUMBERS = {
+    "TooLong": 2,
+    "BadHeader": 3,
+    "BadLine": 4,
+    "UnknownName": 5,
+    "Twice": 6,
+    "NotMember": 7,
+    "TooMany": 8,
+    "BadOrder": 13,
+}
 SCOPES = (b"local", b"remote", b"global")
 RANK = re.compile(rb"0|[1-9][0-9]{0,8}")
 NUMBER = re.compile(rb"[1-9][0-9]{0,8}")
 # What stands behind the first word of each call.
-SHAPES = {
+SHAPES: dict[bytes, tuple[str, ...]] = {
     b"put": ("scope", "key", "value"),
     b"commit": (),
     b"fence": ("set",),
@@ -29,24 +48,45 @@ SHAPES = {
     b"unpublish": ("key",),
 }
 
-# The version, whether it keeps what gets bring, the nodes, the jobs (a name, and how many processes), and the processes: the job and rank, the node, and the words of each call.
-Scripts = collections.namedtuple("Scripts", "version keeps nodes jobs procs")
-Process = collections.namedtuple("Process", "job rank node calls")
+# The words of a line. And an item of a set: a name and a rank, or None for all of its ranks.
+Words = list[bytes]
+Item = tuple[bytes, Optional[int]]
+
+
+class Process(NamedTuple):
+    """A process: its job and rank, its node, and the words of each of its calls."""
+
+    job: bytes
+    rank: int
+    node: bytes
+    calls: list[Words]
+
+
+class Scripts(NamedTuple):
+    """What a file says."""
+
+    version: bytes
+    # Whether it keeps what gets bring.
+    keeps: bool
+    nodes: list[bytes]
+    # How many processes each job has.
+    jobs: dict[bytes, int]
+    procs: list[Process]
 
 
 class Refused(Exception):
     """A file that is refused, by the name of the fault and the line."""
 
-    def __init__(self, name, line):
+    def __init__(self, name: str, line: int) -> None:
         super().__init__(name, line)
         self.name, self.line = name, line
 
-    def said(self):
+    def said(self) -> bytes:
         """What the program says of it."""
         return f"wire_up: fault {NUMBERS[self.name]} {self.name} {self.line}\n".encode()
 
 
-def lines_of(text):
+def lines_of(text: bytes) -> tuple[list[tuple[int, Words]], int]:
     """The number and the words of each line that isn't skipped, and how many lines there are."""
     pieces = text.split(b"\n")
     if not pieces[-1]:
@@ -60,18 +100,19 @@ def lines_of(text):
     return found, len(pieces)
 
 
-def is_name(word):
+def is_name(word: bytes) -> bool:
     return bool(word) and not re.search(rb"[:,#*]", word)
 
 
-def parts_of_proc(word):
+def parts_of_proc(word: bytes) -> Optional[Item]:
     """The name and the rank of a PROC, or None."""
     name, colon, rank = word.partition(b":")
     return (name, int(rank)) if colon and is_name(name) and RANK.fullmatch(rank) else None
 
 
-def items_of_set(word):
-    """The items of a SET, each a name and a rank (None for all of its ranks); an empty list for `all`; None where it's no SET."""
+def items_of_set(word: bytes) -> Optional[list[Item]]:
+    """The items of a SET, each a name and a rank (None for all of its ranks); an empty list for
+    `all`; None where it's no SET."""
     if word == b"all":
         return []
     items = []
@@ -84,7 +125,7 @@ def items_of_set(word):
     return items
 
 
-def fits(kind, word):
+def fits(kind: str, word: bytes) -> bool:
     """Whether a word has its shape, length aside."""
     if kind == "scope":
         return word in SCOPES
@@ -99,23 +140,27 @@ def fits(kind, word):
     return True
 
 
-def is_long(kind, word):
+def is_long(kind: str, word: bytes) -> bool:
     """Whether a word, or a name in it, is too long."""
     if kind == "proc":
-        return len(parts_of_proc(word)[0]) > NAME_BYTES
+        named = parts_of_proc(word)
+        return named is not None and len(named[0]) > NAME_BYTES
     if kind == "set":
-        return any(len(name) > NAME_BYTES for name, _ in items_of_set(word))
+        return any(len(name) > NAME_BYTES for name, _ in items_of_set(word) or [])
     return len(word) > (VALUE_BYTES if kind == "value" else NAME_BYTES)
 
 
 class FirstPass:
     """The lines from the top, each judged by itself and by those above it."""
 
-    def __init__(self, version):
+    def __init__(self, version: bytes) -> None:
         self.version, self.limits, self.keeps = version, LIMITS[version], False
-        self.nodes, self.jobs, self.procs, self.calls = [], [], [], []
+        self.nodes: list[bytes] = []
+        self.jobs: dict[bytes, int] = {}
+        self.procs: list[Process] = []
+        self.calls: list[tuple[int, Process, Words]] = []
 
-    def take(self, number, words):
+    def take(self, number: int, words: Words) -> None:
         """Takes the next line, which isn't skipped."""
         verb, rest = words[0], words[1:]
         if any(byte < 33 or byte > 126 for word in words for byte in word):
@@ -129,43 +174,51 @@ class FirstPass:
         else:
             raise Refused("BadLine", number)
 
-    def take_keep(self, number, rest):
+    def take_keep(self, number: int, rest: Words) -> None:
         """Takes the line `keep`, which stands alone, once, right after the header of version 2."""
         if rest or self.version == b"1" or self.keeps or self.nodes or self.jobs:
             raise Refused("BadLine", number)
         self.keeps = True
 
-    def take_place(self, number, verb, rest):
+    def take_place(self, number: int, verb: bytes, rest: Words) -> None:
         """Takes a line of a node, a job or a rank."""
-        is_early = (verb == b"rank" and not self.jobs) or (verb == b"node" and self.jobs)
+        is_early = (verb == b"rank" and not self.jobs) or (verb == b"node" and bool(self.jobs))
         if len(rest) != 1 or not is_name(rest[0]) or is_early:
             raise Refused("BadLine", number)
         if len(rest[0]) > NAME_BYTES:
             raise Refused("TooLong", number)
         if verb == b"rank":
-            if rest[0] not in self.nodes:
-                raise Refused("UnknownName", number)
-            here, most = self.procs, self.limits.ranks
-        else:
-            here, most = (self.nodes, self.limits.nodes) if verb == b"node" else (self.jobs, self.limits.jobs)
-            if rest[0] in (here if verb == b"node" else [it[0] for it in here]):
-                raise Refused("Twice", number)
-        if len(here) == most:
-            raise Refused("TooMany", number)
-        if verb == b"node":
+            self.take_rank(number, rest[0])
+        elif rest[0] in (self.nodes if verb == b"node" else self.jobs):
+            raise Refused("Twice", number)
+        elif verb == b"node":
+            self.judge_count(number, len(self.nodes), self.limits.nodes)
             self.nodes.append(rest[0])
-        elif verb == b"job":
-            self.jobs.append([rest[0], 0])
         else:
-            self.procs.append(Process(self.jobs[-1][0], self.jobs[-1][1], rest[0], []))
-            self.jobs[-1][1] += 1
+            self.judge_count(number, len(self.jobs), self.limits.jobs)
+            self.jobs[rest[0]] = 0
 
-    def take_call(self, number, verb, rest):
+    def take_rank(self, number: int, node: bytes) -> None:
+        """Takes a rank, of the last job."""
+        if node not in self.nodes:
+            raise Refused("UnknownName", number)
+        self.judge_count(number, len(self.procs), self.limits.ranks)
+        job, count = list(self.jobs.items())[-1]
+        self.procs.append(Process(job, count, node, []))
+        self.jobs[job] += 1
+
+    def judge_count(self, number: int, count: int, most: int) -> None:
+        """Refuses a line where there are as many already as there may be."""
+        if count == most:
+            raise Refused("TooMany", number)
+
+    def take_call(self, number: int, verb: bytes, rest: Words) -> None:
         """Takes a line of a call."""
         shape = SHAPES[verb] + (("collect",) if verb == b"fence" and len(rest) == 2 else ())
-        shape = ("star",) if verb == b"unpublish" and rest == [b"*"] and self.version == b"2" else shape
+        if verb == b"unpublish" and rest == [b"*"] and self.version == b"2":
+            shape = ("star",)
         well = len(rest) == len(shape) and all(fits(*it) for it in zip(shape, rest))
-        if not well or not self.jobs or not self.jobs[-1][1]:
+        if not well or not any(list(self.jobs.values())[-1:]):
             raise Refused("BadLine", number)
         if any(is_long(*it) for it in zip(shape, rest)):
             raise Refused("TooLong", number)
@@ -175,32 +228,44 @@ class FirstPass:
         self.procs[-1].calls.append([verb, *rest])
 
 
-def members_of(scripts, caller, word):
-    """The numbers of the processes in a SET, by the processes that there are. The caller's job is that of `all`."""
+def members_of(scripts: Scripts, caller: Process, word: bytes) -> set[int]:
+    """The numbers of the processes in a SET, by the processes that there are. The caller's job is
+    that of `all`."""
     items = items_of_set(word) or [(caller.job, None)]
-    return {n for n, it in enumerate(scripts.procs) if (it.job, it.rank) in items or (it.job, None) in items}
+    return {
+        n
+        for n, it in enumerate(scripts.procs)
+        if (it.job, it.rank) in items or (it.job, None) in items
+    }
 
 
-def judge_names(scripts, number, caller, words):
+def judge_names(scripts: Scripts, number: int, caller: Process, words: Words) -> None:
     """The second pass over a line of a call."""
-    sizes = dict(map(tuple, scripts.jobs))
-    named = []
+    sizes = scripts.jobs
+    named: list[Item] = []
     if words[0] in (b"get", b"get-now"):
-        named = [parts_of_proc(words[1])]
+        named = [it for it in [parts_of_proc(words[1])] if it]
     elif words[0] == b"fence":
-        named = items_of_set(words[1])
+        named = items_of_set(words[1]) or []
     if any(job not in sizes or (rank is not None and rank >= sizes[job]) for job, rank in named):
         raise Refused("UnknownName", number)
-    if words[0] == b"fence" and scripts.procs.index(caller) not in members_of(scripts, caller, words[1]):
+    if words[0] == b"fence" and scripts.procs.index(caller) not in members_of(
+        scripts, caller, words[1]
+    ):
         raise Refused("NotMember", number)
 
 
-def read(text):
+def read(text: bytes) -> Scripts:
     """The scripts of a file. Raises what it's refused for."""
     if len(text) > FILE_BYTES:
         raise Refused("TooLong", 1 + text[:FILE_BYTES].count(b"\n"))
     lines, count = lines_of(text)
-    if not lines or lines[0][1][0] != b"rehearsal" or len(lines[0][1]) != 2 or lines[0][1][1] not in LIMITS:
+    if (
+        not lines
+        or lines[0][1][0] != b"rehearsal"
+        or len(lines[0][1]) != 2
+        or lines[0][1][1] not in LIMITS
+    ):
         raise Refused("BadHeader", lines[0][0] if lines else count + 1)
     version = lines[0][1][1]
     first = FirstPass(version)
@@ -212,13 +277,13 @@ def read(text):
     return scripts
 
 
-def process_named(scripts, word):
+def process_named(scripts: Scripts, word: bytes) -> Optional[Process]:
     """The process that a PROC names, or None."""
     named = parts_of_proc(word)
     return next((it for it in scripts.procs if (it.job, it.rank) == named), None)
 
 
-def steps_of(scripts, order):
+def steps_of(scripts: Scripts, order: bytes) -> list[bytes]:
     """The steps of an order, each a PROC. Raises what it's refused for."""
     steps = []
     for number, words in lines_of(order)[0]:
@@ -228,7 +293,7 @@ def steps_of(scripts, order):
     return steps
 
 
-def judge_question(scripts, words):
+def judge_question(scripts: Scripts, words: Words) -> None:
     """Raises what the four words of a question are refused for."""
     for at in (0, 2):
         process = process_named(scripts, words[at])
@@ -238,13 +303,15 @@ def judge_question(scripts, words):
             raise Refused("BadOrder", at + 2)
 
 
-def canonical_set(scripts, caller, word):
+def canonical_set(scripts: Scripts, caller: Process, word: bytes) -> bytes:
     """A SET as the canonical text spells it."""
-    members, job = members_of(scripts, caller, word), {n for n, it in enumerate(scripts.procs) if it.job == caller.job}
+    members, job = members_of(scripts, caller, word), {
+        n for n, it in enumerate(scripts.procs) if it.job == caller.job
+    }
     if members == job:
         return b"all"
     items = []
-    for name, _ in scripts.jobs:
+    for name in scripts.jobs:
         its = [n for n, it in enumerate(scripts.procs) if it.job == name]
         if its and members.issuperset(its):
             items.append(name + b":*")
@@ -253,10 +320,14 @@ def canonical_set(scripts, caller, word):
     return b",".join(items)
 
 
-def canonical(scripts):
+def canonical(scripts: Scripts) -> bytes:
     """The canonical text."""
-    lines = [b"rehearsal " + scripts.version, *([b"keep"] if scripts.keeps else []), *(b"node " + it for it in scripts.nodes)]
-    for name, _ in scripts.jobs:
+    lines = [
+        b"rehearsal " + scripts.version,
+        *([b"keep"] if scripts.keeps else []),
+        *(b"node " + it for it in scripts.nodes),
+    ]
+    for name in scripts.jobs:
         lines.append(b"job " + name)
         for proc in scripts.procs:
             if proc.job == name:

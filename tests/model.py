@@ -1,40 +1,82 @@
-"""A model of plans, written from docs/plan-format.md and docs/profile.md alone, over the second reader of files (tests/grammar.py): the
-events and their order, the findings, runs and their reports, and the four runs that may show a race, as docs/commands.md has them.
+"""A model of plans, written from docs/plan-format.md and docs/profile.md alone, over the second
+reader of files (tests/grammar.py): the events and their order, the findings, runs and their
+reports, and the four runs that may show a race, as docs/commands.md has them.
 
 Usage: python3 tests/model.py FILE
 Prints what `check` must write about FILE, or the fault that the program must name.
 
-Ranks are numbered in rank order, from 0, and the calls of a rank from 0 too. The model is slow, and meant for small plans.
+Ranks are numbered in rank order, from 0, and the calls of a rank from 0 too. The model is slow, and
+meant for small plans.
 """
-import collections
 import functools
+import operator
 import sys
+from collections import Counter, defaultdict
+from collections.abc import Sequence
+from typing import NamedTuple, Optional
 
-sys.dont_write_bytecode = True
 import grammar
+from grammar import Words
 
-# A step of a rank. A call is one event, and only the second one of a fence leaves. They sort by their ranks, and then as they come.
-Event = collections.namedtuple("Event", "rank call leaves")
-# A fence: the ranks of its set, and which of their fences over this set it is.
-Fence = collections.namedtuple("Fence", "members turn")
-# A pair that was put: the number of the put among its rank's calls, the scope and the value.
-Put = collections.namedtuple("Put", "call scope value")
-# Two calls that race, each by its first event, the lower one first, and what on: a key of a rank, or a name, as the line tells it.
-Race = collections.namedtuple("Race", "x y about")
-# What shows a race: the first event of the call that ends differently, and the runs in which x and in which y comes first.
-Shown = collections.namedtuple("Shown", "event first second")
 
-SUCCESS, NOT_FOUND, OUTSIDE = b"PMIX_SUCCESS", b"PMIX_ERR_NOT_FOUND", b"PMIX_ERR_EXISTS_OUTSIDE_SCOPE"
+class Event(NamedTuple):
+    """A step of a rank. A call is one event, and only the second one of a fence leaves. They sort
+    by their ranks, and then as they come."""
+
+    rank: int
+    call: int
+    leaves: bool
+
+
+class Fence(NamedTuple):
+    """A fence: the ranks of its set, and which of their fences over this set it is."""
+
+    members: frozenset[int]
+    turn: int
+
+
+class Put(NamedTuple):
+    """A pair that was put: the number of the put among its rank's calls, the scope and the
+    value."""
+
+    call: int
+    scope: bytes
+    value: bytes
+
+
+class Race(NamedTuple):
+    """Two calls that race, each by its first event, the lower one first, and what on: a key of a
+    rank, or a name, as the line tells it."""
+
+    x: Event
+    y: Event
+    about: bytes
+
+
+class Shown(NamedTuple):
+    """What shows a race: the first event of the call that ends differently, and the runs in which x
+    and in which y comes first."""
+
+    event: Event
+    first: "Run"
+    second: "Run"
+
+
+SUCCESS, NOT_FOUND, OUTSIDE = (
+    b"PMIX_SUCCESS",
+    b"PMIX_ERR_NOT_FOUND",
+    b"PMIX_ERR_EXISTS_OUTSIDE_SCOPE",
+)
 DUPLICATE, BAD_PARAM = b"PMIX_ERR_DUPLICATE_KEY", b"PMIX_ERR_BAD_PARAM"
 NAME_VERBS = (b"publish", b"lookup", b"lookup-wait", b"unpublish")
 STAR = [b"unpublish", b"*"]
 
 
-def is_reserved(key):
+def is_reserved(key: bytes) -> bool:
     return key.startswith((b"pmix", b"PMIX_"))
 
 
-def reaches(scope, is_same_node):
+def reaches(scope: bytes, is_same_node: bool) -> bool:
     """Whether a scope has the ranks of the owner's node in it, or those of other nodes."""
     return scope in (b"global", b"local" if is_same_node else b"remote")
 
@@ -42,36 +84,45 @@ def reaches(scope, is_same_node):
 class Plan:
     """The calls of a plan and its events, those that are live, and their order."""
 
-    def __init__(self, scripts):
+    def __init__(self, scripts: grammar.Scripts) -> None:
         self.keeps, self.procs, self.ranks = scripts.keeps, scripts.procs, range(len(scripts.procs))
         self.nodes, self.calls = [it.node for it in self.procs], [it.calls for it in self.procs]
         self.spelt = [b"%s:%d" % (it.job, it.rank) for it in self.procs]
         self.rank_of = {word: rank for rank, word in enumerate(self.spelt)}
         # Each call, by its first event.
-        self.firsts = [Event(rank, n, False) for rank in self.ranks for n in range(len(self.calls[rank]))]
+        self.firsts = [
+            Event(rank, n, False) for rank in self.ranks for n in range(len(self.calls[rank]))
+        ]
         self.find_fences(scripts)
         self.find_keys()
         self.find_names()
         self.find_events()
 
-    def words(self, event):
+    def words(self, event: Event) -> Words:
         return self.calls[event.rank][event.call]
 
-    def find_fences(self, scripts):
+    def find_fences(self, scripts: grammar.Scripts) -> None:
         """The fence of each call of one, and the arrivals at each fence, by rank."""
-        self.fence_of, self.arrivals, turns, sets = {}, collections.defaultdict(dict), collections.Counter(), {}
+        self.fence_of: dict[Event, Fence] = {}
+        self.arrivals: dict[Fence, dict[int, Event]] = defaultdict(dict)
+        turns: Counter[tuple[int, frozenset[int]]] = Counter()
+        sets: dict[tuple[bytes, bytes], frozenset[int]] = {}
         for event in self.firsts:
             verb, *words = self.words(event)
             if verb == b"fence":
                 caller, known = self.procs[event.rank], (self.procs[event.rank].job, words[0])
-                members = sets[known] = sets.get(known) or frozenset(grammar.members_of(scripts, caller, words[0]))
+                members = sets[known] = sets.get(known) or frozenset(
+                    grammar.members_of(scripts, caller, words[0])
+                )
                 fence = Fence(members, turns[event.rank, members])
                 turns[event.rank, members] += 1
                 self.fence_of[event], self.arrivals[fence][event.rank] = fence, event
 
-    def find_keys(self):
+    def find_keys(self) -> None:
         """The puts and the gets of each key of each rank, and the commits of each rank."""
-        self.puts, self.commits, self.gets = (collections.defaultdict(list) for _ in range(3))
+        self.puts: dict[tuple[int, bytes], list[Put]] = defaultdict(list)
+        self.commits: dict[int, list[Event]] = defaultdict(list)
+        self.gets: dict[tuple[int, bytes], list[Event]] = defaultdict(list)
         for event in self.firsts:
             verb, *words = self.words(event)
             if verb == b"put" and not is_reserved(words[1]):
@@ -81,34 +132,55 @@ class Plan:
             elif verb == b"get":
                 self.gets[self.rank_of[words[0]], words[1]].append(event)
 
-    def find_names(self):
-        """The publishes of each name, and the calls on each. An `unpublish *` is one on each name that its rank publishes anywhere."""
-        self.publishes, self.on_name = collections.defaultdict(list), collections.defaultdict(list)
-        named = [it for it in self.firsts if self.words(it)[0] in NAME_VERBS and not is_reserved(self.words(it)[1])]
+    def find_names(self) -> None:
+        """The publishes of each name, and the calls on each. An `unpublish *` is one on each name
+        that its rank publishes anywhere."""
+        self.publishes: dict[bytes, list[Event]] = defaultdict(list)
+        self.on_name: dict[bytes, list[Event]] = defaultdict(list)
+        named = [
+            it
+            for it in self.firsts
+            if self.words(it)[0] in NAME_VERBS and not is_reserved(self.words(it)[1])
+        ]
         for event in named:
             if self.words(event)[0] == b"publish":
                 self.publishes[self.words(event)[1]].append(event)
         for event in named:
-            own = [name for name, events in self.publishes.items() if any(it.rank == event.rank for it in events)]
+            own = [
+                name
+                for name, events in self.publishes.items()
+                if any(it.rank == event.rank for it in events)
+            ]
             for name in own if self.words(event) == STAR else [self.words(event)[1]]:
                 self.on_name[name].append(event)
 
-    def commit_of(self, owner, key):
+    def commit_of(self, owner: int, key: bytes) -> Optional[Event]:
         """The owner's first commit after its only put of a key, or None."""
         puts = self.puts.get((owner, key), [])
-        return next((it for it in self.commits[owner] if len(puts) == 1 and it.call > puts[0].call), None)
+        return next(
+            (it for it in self.commits[owner] if len(puts) == 1 and it.call > puts[0].call), None
+        )
 
-    def only_publish(self, name):
+    def only_publish(self, name: bytes) -> Optional[Event]:
         """The publish of a name that is published exactly once and never unpublished, or None."""
         is_unpublished = any(self.words(it)[0] == b"unpublish" for it in self.on_name[name])
-        return self.publishes[name][0] if len(self.publishes.get(name, [])) == 1 and not is_unpublished else None
+        return (
+            self.publishes[name][0]
+            if len(self.publishes.get(name, [])) == 1 and not is_unpublished
+            else None
+        )
 
-    def sources_elsewhere(self, event):
-        """The sources of an event but the one before it in its rank, or None if the scripts rule the event out."""
+    def sources_elsewhere(self, event: Event) -> Optional[list[Event]]:
+        """The sources of an event but the one before it in its rank, or None if the scripts rule
+        the event out."""
         verb, *words = self.words(event)
         if event.leaves:
             fence = self.fence_of[event._replace(leaves=False)]
-            return list(self.arrivals[fence].values()) if len(self.arrivals[fence]) == len(fence.members) else None
+            return (
+                list(self.arrivals[fence].values())
+                if len(self.arrivals[fence]) == len(fence.members)
+                else None
+            )
         if verb == b"lookup-wait":
             return [it for it in [self.only_publish(words[0])] if it]
         if verb != b"get" or is_reserved(words[1]):
@@ -119,42 +191,56 @@ class Plan:
             return [] if any(it.call < event.call for it in puts) else None
         return [commit] if commit else [] if len(puts) > 1 else None
 
-    def find_events(self):
-        """The events of each rank, and behind them None; the sources of each, or None if the scripts rule it out; and the live ones, each with
-        the bits of all that are before it."""
+    def find_events(self) -> None:
+        """The events of each rank, and behind them None; the sources of each, or None if the
+        scripts rule it out; and the live ones, each with the bits of all that are before it."""
         leaves = [it._replace(leaves=True) for it in self.fence_of]
-        self.events, self.sources, self.past = [[] for _ in self.ranks], {}, {}
+        events: list[list[Event]] = [[] for _ in self.ranks]
+        self.sources: dict[Event, Optional[list[Event]]] = {}
         for event in sorted(self.firsts + leaves):
-            elsewhere = self.sources_elsewhere(event)
-            self.sources[event] = elsewhere if elsewhere is None else elsewhere + self.events[event.rank][-1:]
-            self.events[event.rank].append(event)
-        self.events = [[*it, None] for it in self.events]
-        self.bit, count = {it: 1 << n for n, it in enumerate(self.sources)}, -1
+            elsewhere, before = self.sources_elsewhere(event), events[event.rank][-1:]
+            self.sources[event] = None if elsewhere is None else elsewhere + before
+            events[event.rank].append(event)
+        self.events: list[list[Optional[Event]]] = [[*it, None] for it in events]
+        self.bit = {it: 1 << n for n, it in enumerate(self.sources)}
+        self.past: dict[Event, int] = {}
+        count = -1
         while count < len(self.past):
             count = len(self.past)
-            for event, sources in self.sources.items():
-                if event not in self.past and sources is not None and all(it in self.past for it in sources):
-                    self.past[event] = functools.reduce(lambda bits, it: bits | self.past[it] | self.bit[it], sources, 0)
+            self.find_live()
 
-    def is_before(self, one, other):
+    def find_live(self) -> None:
+        """Finds the events that are live since all their sources are known to be."""
+        for event, sources in self.sources.items():
+            is_known = event in self.past or sources is None
+            if not is_known and all(it in self.past for it in sources or []):
+                bits = [self.past[it] | self.bit[it] for it in sources or []]
+                self.past[event] = functools.reduce(operator.or_, bits, 0)
+
+    def is_before(self, one: Event, other: Event) -> bool:
         return bool(self.past.get(other, 0) & self.bit[one])
 
-    def is_unordered(self, one, other):
+    def is_unordered(self, one: Event, other: Event) -> bool:
         """Whether both are live, and neither is before the other."""
-        return one in self.past and other in self.past and not self.is_before(one, other) and not self.is_before(other, one)
+        return (
+            one in self.past
+            and other in self.past
+            and not self.is_before(one, other)
+            and not self.is_before(other, one)
+        )
 
-    def call_text(self, event):
+    def call_text(self, event: Event) -> bytes:
         return b"%s %d" % (self.spelt[event.rank], event.call + 1)
 
-    def call_named(self, proc, number):
+    def call_named(self, proc: bytes, number: str) -> Event:
         """The first event of a call, by its PROC and its number from 1."""
         return Event(self.rank_of[proc], int(number) - 1, False)
 
     # What `check` and `why` write.
 
-    def races(self):
+    def races(self) -> list[Race]:
         """The races, in the order of their lines."""
-        found = set()
+        found: set[tuple[Event, Event, bytes]] = set()
         for event in self.firsts:
             verb, *words = self.words(event)
             if verb == b"get-now" and not is_reserved(words[1]):
@@ -162,11 +248,14 @@ class Plan:
                 found |= {(event, it, b"key %s %s" % (words[0], words[1])) for it in bringers}
         for name, calls in self.on_name.items():
             changes = [it for it in calls if self.words(it)[0] in (b"publish", b"unpublish")]
-            found |= {(one, other, b"name " + name) for one in changes for other in calls if one.rank != other.rank}
-        return sorted({Race(*sorted(it[:2]), it[2]) for it in found if self.is_unordered(*it[:2])})
+            pairs = [(one, other) for one in changes for other in calls if one.rank != other.rank]
+            found |= {(*pair, b"name " + name) for pair in pairs}
+        unordered = [it for it in found if self.is_unordered(*it[:2])]
+        return sorted({Race(min(x, y), max(x, y), about) for x, y, about in unordered})
 
-    def bringers(self, get, owner, key):
-        """The events on which it may depend whether a `get-now` finds a key; some may be ordered with it."""
+    def bringers(self, get: Event, owner: int, key: bytes) -> list[Event]:
+        """The events on which it may depend whether a `get-now` finds a key; some may be ordered
+        with it."""
         commit = self.commit_of(owner, key)
         if not commit or owner == get.rank:
             return []
@@ -174,42 +263,63 @@ class Plan:
             return [commit]
         if not reaches(self.puts[owner, key][0].scope, False):
             return []
-        fences, gets = self.delivering_fences(get, commit), self.gets[owner, key] if self.keeps else []
-        gets = [it for it in gets if it in self.past and self.nodes[it.rank] == self.nodes[get.rank]]
+        fences, node = self.delivering_fences(get, commit), self.nodes[get.rank]
+        gets = self.gets[owner, key] if self.keeps else []
+        gets = [it for it in gets if it in self.past and self.nodes[it.rank] == node]
         late = [[it for it in arrivals if not self.is_before(it, get)] for arrivals in fences]
         if not all(late) or any(self.is_before(it, get) for it in gets):
             return []
-        return gets + [it[0] for it, arrivals in zip(late, fences) if not any(self.is_before(get, it) for it in arrivals)]
+        for later, arrivals in zip(late, fences):
+            if not any(self.is_before(get, it) for it in arrivals):
+                gets.append(later[0])
+        return gets
 
-    def delivering_fences(self, get, commit):
-        """The arrivals, in rank order, at each fence that delivers to the node of a `get-now` what a commit hands over."""
+    def delivering_fences(self, get: Event, commit: Event) -> list[list[Event]]:
+        """The arrivals, in rank order, at each fence that delivers to the node of a `get-now` what
+        a commit hands over."""
         delivering = []
         for fence, arrivals in self.arrivals.items():
             is_late = commit.rank in arrivals and arrivals[commit.rank].call > commit.call
-            is_whole = len(arrivals) == len(fence.members) and all(it in self.past for it in arrivals.values())
+            is_whole = len(arrivals) == len(fence.members) and all(
+                it in self.past for it in arrivals.values()
+            )
             if is_late and is_whole and self.collects_to(fence, self.nodes[get.rank]):
                 delivering.append(sorted(arrivals.values()))
         return delivering
 
-    def collects_to(self, fence, node):
+    def collects_to(self, fence: Fence, node: bytes) -> bool:
         """Whether every call of a fence says `collect`, and a member is on a node."""
-        return all(len(self.words(it)) == 3 for it in self.arrivals[fence].values()) and any(self.nodes[it] == node for it in fence.members)
+        return all(len(self.words(it)) == 3 for it in self.arrivals[fence].values()) and any(
+            self.nodes[it] == node for it in fence.members
+        )
 
-    def findings(self):
+    def findings(self) -> bytes:
         """What `check` writes."""
-        rewrites = sorted((rank, it.call, puts[0].call, key) for (rank, key), puts in self.puts.items() for it in puts[1:])
-        lines = [b"rewrite %s %d %d %s" % (self.spelt[rank], first + 1, later + 1, key) for rank, later, first, key in rewrites]
-        lines += [b"race %s %s %s" % (self.call_text(it.x), self.call_text(it.y), it.about) for it in self.races()]
+        rewrites = sorted(
+            (rank, it.call, puts[0].call, key)
+            for (rank, key), puts in self.puts.items()
+            for it in puts[1:]
+        )
+        lines = [
+            b"rewrite %s %d %d %s" % (self.spelt[rank], first + 1, later + 1, key)
+            for rank, later, first, key in rewrites
+        ]
+        lines += [
+            b"race %s %s %s" % (self.call_text(it.x), self.call_text(it.y), it.about)
+            for it in self.races()
+        ]
         return b"".join(it + b"\n" for it in [*lines, b"findings %d" % len(lines)])
 
-    def why(self, x, y):
+    def why(self, x: Event, y: Event) -> bytes:
         """What `why` writes about two calls, each given by its first event, without the chain."""
         if self.is_before(x, y) or self.is_before(y, x):
             return b"before\n" if self.is_before(x, y) else b"after\n"
-        return b"unordered\n" + b"".join(b"dead %s\n" % self.call_text(it) for it in dict.fromkeys((x, y)) if it not in self.past)
+        return b"unordered\n" + b"".join(
+            b"dead %s\n" % self.call_text(it) for it in dict.fromkeys((x, y)) if it not in self.past
+        )
 
 
-def value_of(put):
+def value_of(put: Optional[Put]) -> bytes:
     """The reply to a get that sees a pair, or nothing."""
     return SUCCESS + b" " + put.value if put else NOT_FOUND
 
@@ -217,24 +327,33 @@ def value_of(put):
 class Run:
     """A run of a plan, and the state to which it has come."""
 
-    def __init__(self, plan):
-        self.plan, self.order, self.taken = plan, [], {}
-        self.at, self.replies = [0 for _ in plan.ranks], {}
-        # The pairs that each rank has put and those that it has committed, by key, and what it had committed when it arrived at each fence.
-        self.put, self.committed, self.arrived = [{} for _ in plan.ranks], [{} for _ in plan.ranks], {}
+    def __init__(self, plan: Plan) -> None:
+        self.plan, self.at = plan, [0 for _ in plan.ranks]
+        self.order: list[int] = []
+        # When each event was taken, and the replies, by the first event of each call.
+        self.taken: dict[Event, int] = {}
+        self.replies: dict[Event, bytes] = {}
+        # The pairs that each rank has put and those that it has committed, by key, and what it had
+        # committed when it arrived at each fence.
+        self.put: list[dict[bytes, Put]] = [{} for _ in plan.ranks]
+        self.committed: list[dict[bytes, Put]] = [{} for _ in plan.ranks]
+        self.arrived: dict[Event, dict[bytes, Put]] = {}
         # Who published what under each name, and what gets brought, by node, owner and key.
-        self.names, self.kept = {}, {}
+        self.names: dict[bytes, tuple[int, bytes]] = {}
+        self.kept: dict[tuple[bytes, int, bytes], Optional[Put]] = {}
 
-    def next(self, rank):
+    def next(self, rank: int) -> Optional[Event]:
         """The event at which a rank stands, or None."""
         return self.plan.events[rank][self.at[rank]]
 
-    def is_complete(self, fence):
+    def is_complete(self, fence: Fence) -> bool:
         """Whether all members have arrived at a fence."""
         arrivals = self.plan.arrivals[fence]
-        return len(arrivals) == len(fence.members) and all(it in self.arrived for it in arrivals.values())
+        return len(arrivals) == len(fence.members) and all(
+            it in self.arrived for it in arrivals.values()
+        )
 
-    def is_ready(self, rank):
+    def is_ready(self, rank: int) -> bool:
         """Whether a rank can take a step."""
         event = self.next(rank)
         if not event:
@@ -249,9 +368,11 @@ class Run:
             return words[1] in (self.put if owner == rank else self.committed)[owner]
         return True
 
-    def step(self, rank):
+    def step(self, rank: int) -> None:
         """Takes the next step of a rank, which is ready."""
         event = self.next(rank)
+        if event is None:
+            raise ValueError(f"rank {rank} has no step left")
         self.taken[event] = len(self.order)
         self.order.append(rank)
         self.at[rank] += 1
@@ -260,7 +381,7 @@ class Run:
         else:
             self.replies[event._replace(leaves=False)] = self.reply(event, *self.plan.words(event))
 
-    def reply(self, event, verb, *words):
+    def reply(self, event: Event, verb: bytes, *words: bytes) -> bytes:
         """Does what a call does, and answers its reply."""
         if verb in (b"get", b"get-now"):
             return self.take_get(event.rank, verb, *words)
@@ -275,7 +396,7 @@ class Run:
             self.committed[event.rank] = dict(self.put[event.rank])
         return SUCCESS
 
-    def take_get(self, rank, verb, proc, key):
+    def take_get(self, rank: int, verb: bytes, proc: bytes, key: bytes) -> bytes:
         """A `get` that waits no longer, or a `get-now`."""
         owner, node = self.plan.rank_of[proc], self.plan.nodes[rank]
         is_near = self.plan.nodes[owner] == node
@@ -292,69 +413,87 @@ class Run:
             self.kept[node, owner, key] = seen
         return value_of(seen)
 
-    def brought(self, node, owner, key):
-        """The pair of a rank that fences and gets brought to another node: of two, the one that was put later."""
+    def brought(self, node: bytes, owner: int, key: bytes) -> Optional[Put]:
+        """The pair of a rank that fences and gets brought to another node: of two, the one that was
+        put later."""
         by_fence, by_get = None, self.kept.get((node, owner, key))
         for event in sorted(it for it in self.arrived if it.rank == owner):
             fence = self.plan.fence_of[event]
             if self.is_complete(fence) and self.plan.collects_to(fence, node):
                 by_fence = self.arrived[event].get(key)
-        return max((it for it in (by_fence, by_get) if it and reaches(it.scope, False)), default=None)
+        return max(
+            (it for it in (by_fence, by_get) if it and reaches(it.scope, False)), default=None
+        )
 
-    def mapped(self, rank, key):
+    def mapped(self, rank: int, key: bytes) -> bytes:
         """The reply about a reserved key of a rank."""
         proc, procs = self.plan.procs[rank], self.plan.procs
         there = {
             b"PMIX_RANK": b"%d" % proc.rank,
             b"PMIX_JOB_SIZE": b"%d" % sum(it.job == proc.job for it in procs),
-            b"PMIX_LOCAL_RANK": b"%d" % sum((it.job, it.node) == (proc.job, proc.node) for it in procs[:rank]),
+            b"PMIX_LOCAL_RANK": b"%d"
+            % sum((it.job, it.node) == (proc.job, proc.node) for it in procs[:rank]),
             b"PMIX_NODE_RANK": b"%d" % sum(it.node == proc.node for it in procs[:rank]),
             b"PMIX_HOSTNAME": proc.node,
         }
         return SUCCESS + b" " + there[key] if key in there else NOT_FOUND
 
-    def take_name(self, rank, verb, name, value=None):
+    def take_name(self, rank: int, verb: bytes, name: bytes, value: bytes = b"") -> bytes:
         """A call on a name, or on all of them."""
         if [verb, name] == STAR:
             self.names = {name: it for name, it in self.names.items() if it[0] != rank}
             return SUCCESS
         if is_reserved(name):
             return BAD_PARAM
-        publisher, published = self.names.get(name, (None, None))
+        publisher, published = self.names.get(name, (None, b""))
         if verb == b"publish":
             self.names.setdefault(name, (rank, value))
             return SUCCESS if publisher is None else DUPLICATE
         if verb == b"unpublish" and publisher == rank:
             del self.names[name]
             return SUCCESS
-        return NOT_FOUND if publisher is None or verb == b"unpublish" else SUCCESS + b" " + published
+        if publisher is None or verb == b"unpublish":
+            return NOT_FOUND
+        return SUCCESS + b" " + published
 
-    def go(self, held=None, towards=None):
-        """Goes on until nobody can: the lowest rank that can take a step does. The rank of an event that is held back takes it only if no
-        other can go on. If it goes towards an event, only what is before that one is taken."""
+    def go(self, held: Optional[Event] = None, towards: Optional[Event] = None) -> "Run":
+        """Goes on until nobody can: the lowest rank that can take a step does. The rank of an event
+        that is held back takes it only if no other can go on. If it goes towards an event, only
+        what is before that one is taken."""
         while True:
-            able = (it for it in self.plan.ranks if self.is_ready(it) and (not towards or self.plan.is_before(self.next(it), towards)))
+            able = (it for it in self.plan.ranks if self.can_go(it, towards))
             rank = next(able, None)
             if rank is None:
                 return self
             self.step(next(able, rank) if self.next(rank) == held else rank)
 
-    def end(self, event):
+    def can_go(self, rank: int, towards: Optional[Event]) -> bool:
+        """Whether a rank can take a step, and one that is before an event if that is given."""
+        event = self.next(rank)
+        if event is None or not self.is_ready(rank):
+            return False
+        return not towards or self.plan.is_before(event, towards)
+
+    def end(self, event: Event) -> bytes:
         """What became of a call, given by its first event."""
         here = self.next(event.rank)
         if not here or here.call != event.call:
             return self.replies.get(event, b"unreached")
         return b"ready" if self.is_ready(event.rank) else b"waiting"
 
-    def report(self):
+    def report(self) -> bytes:
         """The report."""
-        lines = [b"%s %s %s\n" % (self.plan.call_text(it), self.plan.words(it)[0], self.end(it)) for it in self.plan.firsts]
+        lines = [
+            b"%s %s %s\n" % (self.plan.call_text(it), self.plan.words(it)[0], self.end(it))
+            for it in self.plan.firsts
+        ]
         waiting = sum(bool(self.next(it)) and not self.is_ready(it) for it in self.plan.ranks)
         return b"".join(lines) + b"waiting %d\n" % waiting
 
 
-def followed(plan, steps):
-    """The run of an order, each step a PROC, and None; or the run before the first step that can't be taken, and that step's number."""
+def followed(plan: Plan, steps: Sequence[bytes]) -> tuple[Run, Optional[int]]:
+    """The run of an order, each step a PROC, and None; or the run before the first step that can't
+    be taken, and that step's number."""
     run = Run(plan)
     for number, word in enumerate(steps, 1):
         if not run.is_ready(plan.rank_of[word]):
@@ -366,8 +505,9 @@ def followed(plan, steps):
 # The four runs that may show a race.
 
 
-def needed(plan, x, y):
-    """The run with only what is needed for x, then x, only what is needed for y, then y, and then everything. None if one can't come."""
+def needed(plan: Plan, x: Event, y: Event) -> Optional[Run]:
+    """The run with only what is needed for x, then x, only what is needed for y, then y, and then
+    everything. None if one can't come."""
     run = Run(plan)
     for event in (x, y):
         run.go(towards=event)
@@ -377,29 +517,33 @@ def needed(plan, x, y):
     return run.go()
 
 
-def is_first(run, x, y):
+def is_first(run: Run, x: Event, y: Event) -> bool:
     """Whether x comes in a run, and y doesn't come before it."""
-    return bool(run) and x in run.taken and run.taken[x] < run.taken.get(y, len(run.order))
+    return x in run.taken and run.taken[x] < run.taken.get(y, len(run.order))
 
 
-def witness(plan, x, y):
-    """What shows a race of two calls, each given by its first event, or None if the four runs don't. In which order the runs are laid side by
-    side, and that x is looked at before y, is how the program has it; the documents leave it open."""
-    firsts, seconds = [Run(plan).go(held=y), needed(plan, x, y)], [Run(plan).go(held=x), needed(plan, y, x)]
+def witness(plan: Plan, x: Event, y: Event) -> Optional[Shown]:
+    """What shows a race of two calls, each given by its first event, or None if the four runs
+    don't. In which order the runs are laid side by side, and that x is looked at before y, is how
+    the program has it; the documents leave it open."""
+    firsts = [Run(plan).go(held=y), needed(plan, x, y)]
+    seconds = [Run(plan).go(held=x), needed(plan, y, x)]
     for one, other in ((0, 0), (1, 1), (0, 1), (1, 0)):
         first, second = firsts[one], seconds[other]
-        if is_first(first, x, y) and is_first(second, y, x):
+        if first and second and is_first(first, x, y) and is_first(second, y, x):
             for event in (x, y):
                 if first.end(event) != second.end(event):
                     return Shown(event, first, second)
     return None
 
 
-def witness_text(plan, shown):
+def witness_text(plan: Plan, shown: Shown) -> bytes:
     """What `witness P N Q M` writes of what shows a race."""
     ends = [b"shown %s %s" % (plan.call_text(shown.event), plan.words(shown.event)[0])]
     ends += [b"first " + shown.first.end(shown.event), b"second " + shown.second.end(shown.event)]
-    orders = [[b"order %d" % len(run.order), *(plan.spelt[it] for it in run.order)] for run in shown[1:]]
+    orders = [
+        [b"order %d" % len(run.order), *(plan.spelt[it] for it in run.order)] for run in shown[1:]
+    ]
     return b"".join(it + b"\n" for it in [*ends, *orders[0], *orders[1]])
 
 

@@ -1,8 +1,12 @@
 """What all tests share: where the repository is, and the built program."""
 import os
+import sys
 import unittest
 
 TOP = os.path.dirname(os.path.dirname(os.path.abspath(__file__)))
+# Where the package of the Python programs is: a test that imports this module can import it.
+sys.path.insert(0, os.path.join(TOP, "python"))
+sys.dont_write_bytecode = True
 
 
 def program() -> str:
@@ -14,3 +18,18 @@ def program() -> str:
     if not os.access(path, os.X_OK):
         raise unittest.SkipTest("there is no built wire_up: WIRE_UP_PROGRAM names none")
     return os.path.abspath(path)
+
+
+def parts() -> str:
+    """The program of crates/one_function, which runs functions of the library by themselves.
+
+    A test that calls this is skipped where it isn't built.
+    """
+    path = os.path.join(TOP, "crates", "one_function", "out", "one_function")
+    if not os.access(path, os.X_OK):
+        raise unittest.SkipTest("crates/one_function isn't built: make parts builds it")
+    return path
+
+
+# The build, and what makes the package, can be imported too.
+sys.path[1:1] = [TOP, os.path.join(TOP, "packaging")]

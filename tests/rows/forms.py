@@ -27,7 +27,11 @@ commit
 rank n1
 get app:0 k
 """,
-        b'{"ranks":[{"calls":[{"reply":"PMIX_SUCCESS","verb":"put"},{"reply":"PMIX_SUCCESS","verb":"commit"}],"proc":"app:0"},{"calls":[{"reply":"PMIX_SUCCESS","value":"v","verb":"get"}],"proc":"app:1"}],"waiting":0}\n',
+        (
+            b'{"ranks":[{"calls":[{"reply":"PMIX_SUCCESS","verb":"put"},{"reply":"PMIX_SUCCESS",'
+            b'"verb":"commit"}],"proc":"app:0"},{"calls":[{"reply":"PMIX_SUCCESS","value":"v",'
+            b'"verb":"get"}],"proc":"app:1"}],"waiting":0}\n'
+        ),
         b'{"findings":[]}\n',
     ),
     Formed(
@@ -42,7 +46,11 @@ commit
 rank n0
 get-now app:0 k
 """,
-        b'{"ranks":[{"calls":[{"reply":"PMIX_SUCCESS","verb":"put"},{"reply":"PMIX_SUCCESS","verb":"commit"}],"proc":"app:0"},{"calls":[{"reply":"PMIX_SUCCESS","value":"v","verb":"get-now"}],"proc":"app:1"}],"waiting":0}\n',
+        (
+            b'{"ranks":[{"calls":[{"reply":"PMIX_SUCCESS","verb":"put"},{"reply":"PMIX_SUCCESS",'
+            b'"verb":"commit"}],"proc":"app:0"},{"calls":[{"reply":"PMIX_SUCCESS","value":"v",'
+            b'"verb":"get-now"}],"proc":"app:1"}],"waiting":0}\n'
+        ),
         b'{"findings":["race app:0 2 app:1 1 key app:0 k"]}\n',
         b"app:0\napp:0\napp:1\n",
     ),
@@ -60,9 +68,20 @@ get "a\\:0 PMIX_RANK
 get "a\\:0 none
 commit
 """,
-        b'{"ranks":[{"calls":[{"reply":"PMIX_SUCCESS","verb":"put"},{"reply":"PMIX_SUCCESS","verb":"put"},{"reply":"PMIX_SUCCESS","value":"\\\\v/\\"","verb":"get"},{"reply":"PMIX_SUCCESS","value":"0","verb":"get"},{"reply":"waiting","verb":"get"},{"reply":"unreached","verb":"commit"}],"proc":"\\"a\\\\:0"}],"waiting":1}\n',
+        (
+            b'{"ranks":[{"calls":[{"reply":"PMIX_SUCCESS","verb":"put"},{"reply":"PMIX_SUCCESS",'
+            b'"verb":"put"},{"reply":"PMIX_SUCCESS","value":"\\\\v/\\"","verb":"get"},{"reply":'
+            b'"PMIX_SUCCESS","value":"0","verb":"get"},{"reply":"waiting","verb":"get"},{"reply":'
+            b'"unreached","verb":"commit"}],"proc":"\\"a\\\\:0"}],"waiting":1}\n'
+        ),
         b'{"findings":["rewrite \\"a\\\\:0 1 2 \\"k\\\\"]}\n',
         b'"a\\:0\n"a\\:0\n"a\\:0\n"a\\:0\n',
-        b'{"order":["\\"a\\\\:0","\\"a\\\\:0","\\"a\\\\:0","\\"a\\\\:0"],"ranks":[{"calls":[{"reply":"PMIX_SUCCESS","verb":"put"},{"reply":"PMIX_SUCCESS","verb":"put"},{"reply":"PMIX_SUCCESS","value":"\\\\v/\\"","verb":"get"},{"reply":"PMIX_SUCCESS","value":"0","verb":"get"},{"reply":"waiting","verb":"get"},{"reply":"unreached","verb":"commit"}],"proc":"\\"a\\\\:0"}],"unsettled":true,"waiting":1}\n',
+        (
+            b'{"order":["\\"a\\\\:0","\\"a\\\\:0","\\"a\\\\:0","\\"a\\\\:0"],"ranks":[{"calls":[{'
+            b'"reply":"PMIX_SUCCESS","verb":"put"},{"reply":"PMIX_SUCCESS","verb":"put"},{"reply":'
+            b'"PMIX_SUCCESS","value":"\\\\v/\\"","verb":"get"},{"reply":"PMIX_SUCCESS","value":'
+            b'"0","verb":"get"},{"reply":"waiting","verb":"get"},{"reply":"unreached","verb":'
+            b'"commit"}],"proc":"\\"a\\\\:0"}],"unsettled":true,"waiting":1}\n'
+        ),
     ),
 ]

@@ -1,4 +1,5 @@
-"""Plans of version 2 that keep what gets bring, and the report of each; and where the line `keep` is refused."""
+"""Plans of version 2 that keep what gets bring, and the report of each; and where the line `keep`
+is refused."""
 from . import NOTHING, Refused, Reported
 
 REPORTED = [

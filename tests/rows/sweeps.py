@@ -1,4 +1,5 @@
-"""Plans of version 2 in which calls take away all names of their rank: reports, findings, and where the line is refused."""
+"""Plans of version 2 in which calls take away all names of their rank: reports, findings, and where
+the line is refused."""
 from . import Checked, NOTHING, Refused, Reported
 
 REPORTED = [
@@ -174,7 +175,10 @@ findings 8
 """,
     ),
     Checked(
-        "a name whose publisher has an unpublish * isn't published once, and names of one pair stand by their bytes",
+        (
+            "a name whose publisher has an unpublish * isn't published once, and names of one "
+            "pair stand by their bytes"
+        ),
         b"""\
 rehearsal 2
 node n0

@@ -1,4 +1,5 @@
-"""Plans with two calls that race, and what is written of a witness: ends that differ as they are written."""
+"""Plans with two calls that race, and what is written of a witness: ends that differ as they are
+written."""
 from . import Shown
 
 # Two ranks publish the same value under one name, and a third looks it up.

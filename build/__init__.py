@@ -1,0 +1,1 @@
+"""What `make` calls: proofs, builds, the gate, and the measuring."""

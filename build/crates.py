@@ -1,0 +1,116 @@
+"""The crates of the repository, as the kit has them, each of which remembers what is below it."""
+import contextlib
+import os
+import shutil
+import threading
+from collections.abc import Iterator, Sequence
+from typing import Optional, TypeVar
+
+from build import crate_list, kit
+
+# The path, the times and the size of each file of a crate.
+Looks = list[tuple[str, int, int, int]]
+# What is made in any folder, and isn't copied.
+MADE = shutil.ignore_patterns("out", "*.so", "__pycache__")
+
+
+class Seen(threading.local):
+    """What was seen of the files of each crate, by its folder, while one question is answered."""
+
+    looks: Optional[dict[str, Looks]] = None
+
+
+SEEN = Seen()
+
+
+@contextlib.contextmanager
+def look_once() -> Iterator[dict[str, Looks]]:
+    """Within this, the files of each crate are looked at once, as long as one question is
+    answered."""
+    outer = SEEN.looks
+    SEEN.looks = {} if outer is None else outer
+    try:
+        yield SEEN.looks
+    finally:
+        SEEN.looks = outer
+
+
+def looks_of(folder: str) -> Looks:
+    """The path, the times and the size of each file of a crate."""
+    found = [(path, os.stat(path)) for path in kit.files_of(folder)]
+    return [(path, it.st_mtime_ns, it.st_ctime_ns, it.st_size) for path, it in found]
+
+
+class Crate(kit.KitCrate):
+    """A crate that remembers the libraries below it, and its sum as long as no file that it is made
+    from changes. The kit goes down to a library by every way that leads there, thousands from the
+    program, and reads its files each time."""
+
+    def __init__(self, folder: str, root: str, known: dict[str, "Crate"]) -> None:
+        self.known_below: Optional[list["Crate"]] = None
+        self.known_stamp: tuple[list[Looks], str] = [], ""
+        super().__init__(folder, root, known)
+
+    def below(self) -> list["Crate"]:
+        if self.known_below is None:
+            self.known_below = super().below()
+        return list(self.known_below)
+
+    def stamp(self) -> str:
+        return self.looks_and_stamp()[1]
+
+    def looks_and_stamp(self) -> tuple[list[Looks], str]:
+        """From what the crate is built: the looks of its files and of those of each library below
+        it, and a sum of all their texts."""
+        with look_once() as seen:
+            looks = []
+            for it in [self, *self.below()]:
+                if it.folder not in seen:
+                    seen[it.folder] = looks_of(it.folder)
+                looks.append(seen[it.folder])
+            if self.known_stamp[0] != looks:
+                self.known_stamp = looks, super().stamp()
+        return self.known_stamp
+
+
+AnyCrate = TypeVar("AnyCrate", bound=Crate)
+
+
+def crates_at(top: str, kind: type[AnyCrate]) -> list[AnyCrate]:
+    """The crates of a repository, each after those that it uses."""
+    known: dict[str, Crate] = {}
+    found = []
+    for name in crate_list.names_below(None, top):
+        folder = os.path.join(top, "crates", name)
+        crate = kind(folder, top, known)
+        known[folder] = crate
+        kit.read_words(crate)
+        found.append(crate)
+    return sorted(found, key=lambda it: len(it.below()))
+
+
+def crates_for(name: str, top: str) -> list[Crate]:
+    """The crate of this name and all below it, each after those that it uses."""
+    wanted = crate_list.names_below(name, top)
+    return [it for it in crates_at(top, Crate) if it.name in wanted]
+
+
+def copy_to(room: str, top: str) -> None:
+    """Copies a repository, without what was made in it and without its history."""
+    for name in os.listdir(top):
+        path = os.path.join(top, name)
+        if os.path.isfile(path) and name != "wire_up":
+            shutil.copy(path, room)
+        elif os.path.isdir(path) and name not in (".git", "out"):
+            shutil.copytree(path, os.path.join(room, name), ignore=MADE)
+
+
+@contextlib.contextmanager
+def locked(crates: Sequence[Crate]) -> Iterator[None]:
+    """Keeps every other `rt` out of the folders of crates. Waits until none works there."""
+    held = kit.lock(crates)
+    try:
+        yield
+    finally:
+        for it in held:
+            os.close(it)

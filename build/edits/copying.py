@@ -1,0 +1,77 @@
+"""Copies of a function, each for a further edit of it, with its proof files."""
+import os
+import re
+from collections.abc import Mapping, Sequence
+
+from build import kit
+from build.crates import Crate
+from build.edits.reading import Edit
+from build.edits.sources import Function, attributes_of, is_in_cycle
+
+# A function by its source file.
+Place = tuple[str, Function]
+
+
+def can_be_copied(edit: Edit) -> bool:
+    """Whether the function of an edit can stand a second time under another name: no trait asks for
+    it, its attributes can be read, and it doesn't call itself."""
+    function = edit.body
+    own, attributes = edit.was[function.body:function.end], attributes_of(edit.was, function)
+    if function.is_of_trait or attributes is None or is_in_cycle(attributes):
+        return False
+    return not re.search(rf"\b{function.name}\b", own)
+
+
+def copies_of(edits: Sequence[Edit], has_control: bool) -> dict[str, str]:
+    """Copies of the function of several edits, by name: one for each edit but the first, and one
+    without an edit if it is wanted."""
+    function, was = edits[0].body, edits[0].was
+    name, attributes = function.name, attributes_of(was, function) or ""
+    bodies = {f"{name}_wrong_{n}": it.wrong_text() for n, it in enumerate(edits[1:], 2)}
+    if has_control:
+        bodies[f"{name}_as_it_is"] = was[function.begin:function.end]
+    header = re.compile(rf"\bfn {name}\b")
+    return {
+        new: attributes + header.sub(f"fn {new}", text, count=1) for new, text in bodies.items()
+    }
+
+
+def is_cited(crate: Crate, path: str) -> bool:
+    """Whether a proof file of a crate that isn't the function's own names the proof of the function
+    of a path, or of a closure in it, by the whole name of its module."""
+    *around, own = path.split("::")
+    inner = (around, [*around, "fn"])
+    folders = tuple(os.path.join(crate.folder, "proofs", *it, own, "") for it in inner)
+    modules = [".".join(["proofs", *it, own]) for it in inner]
+    cites = re.compile(rf"\.(?:{'|'.join(map(re.escape, modules))})\.")
+    proofs = [it for it in kit.files_of(crate.folder) if it.endswith(".antt")]
+    others = (it for it in proofs if not it.startswith(folders))
+    return any(cites.search(kit.text_of(it)) for it in others)
+
+
+def copied_as_they_are(by_function: Mapping[Place, Sequence[Edit]]) -> list[Place]:
+    """The functions, of those in a batch by their edits, of which a copy without an edit is made:
+    those of several edits whose proofs other files name, or else the shortest with several
+    edits."""
+    several = [it for it, edits in by_function.items() if len(edits) > 1]
+    cited = [it for it in several if is_cited(by_function[it][0].crate, it[1].path)]
+    return cited or sorted(several, key=lambda it: it[1].end - it[1].body)[:1]
+
+
+def proofs_of_copy(crate: Crate, path: str, name: str) -> dict[str, str]:
+    """The proof files of a function, as those of its copy of another name."""
+    *around, own = path.split("::")
+    found = {}
+    for inner in (around, [*around, "fn"]):
+        folder = os.path.join(crate.folder, "proofs", *inner, own)
+        module = re.compile(rf"(?<=\.proofs\.){re.escape('.'.join([*inner, own]))}(?=\.)")
+        to = ".".join([*inner, name])
+        for file in files_below(folder):
+            place = os.path.join("proofs", *inner, name, os.path.relpath(file, folder))
+            found[place] = module.sub(to, kit.text_of(file))
+    return found
+
+
+def files_below(folder: str) -> list[str]:
+    """The paths of the files below a folder."""
+    return [os.path.join(at, it) for at, _, files in os.walk(folder) for it in files]

@@ -1,0 +1,200 @@
+"""Measures the program, and writes docs/figures.md: one short page of tables, with the machine and
+the date.
+
+Usage: python3 -m build.figures [PROGRAM] [--output FILE] [--small]
+It takes some five minutes, in which nothing else should be at work. Without PROGRAM it takes
+./wire_up. --small takes files of a few calls, each once: it only shows that all of it still works.
+"""
+import argparse
+import datetime
+import os
+import platform
+import re
+import subprocess
+import sys
+import tempfile
+from collections.abc import Iterable, Iterator, Sequence
+from dataclasses import dataclass, replace
+
+from build import costs, crate_list
+from build.bench_plans import KINDS, NO_CALLS
+from build.large_plans import LARGE_PLANS
+from build.minutes import minutes_of
+from build.places import LOGS, TOP, WIRE_UP, shown
+from build.timing import Command, Taken, best_of, findings_in, floor, mebibytes
+
+PAGE = os.path.join(TOP, "docs", "figures.md")
+RUNS, LARGE_RUNS = 5, 2
+SMALL_RANKS, SMALL_ROUNDS = 4, 6
+# How many of the crates are told whose proofs take longest.
+DEAREST = 5
+MODEL = re.compile(r"^model name\s*: (.*)$", re.M)
+MEMORY = re.compile(r"^MemTotal:\s+(\d+) kB$", re.M)
+ROW = re.compile(r"^\| together \| (.*) \|$", re.M)
+WHOLE = re.compile(r"^Together (\d+) minutes of processor time\.$", re.M)
+
+
+@dataclass(frozen=True)
+class Measured:
+    """A plan and what was measured of it."""
+
+    name: str
+    what: str
+    calls: int
+    findings: int
+    check: Taken
+    replay: Taken
+
+
+class Figures:
+    """What is measured, in a folder for plans."""
+
+    def __init__(self, program: str, room: str, is_small: bool) -> None:
+        self.program, self.room, self.is_small = program, room, is_small
+
+    def measure(self, name: str, what: str, pieces: Iterable[str], runs: int) -> Measured:
+        """Measures `check` and `replay` of a plan of this text."""
+        path, calls = os.path.join(self.room, "measured.plan"), 0
+        with open(path, "w", encoding="ascii") as it:
+            for piece in pieces:
+                it.write(piece)
+                calls += sum(not line.startswith(NO_CALLS) for line in piece.splitlines())
+        words = [[self.program, command, "--large", path] for command in ("check", "replay")]
+        check, replay = best_of(1 if self.is_small else runs, [Command(it) for it in words])
+        findings = findings_in([self.program, "check", "--large", path])
+        return Measured(name, what, calls, findings, check, replay)
+
+    def near_the_limits(self) -> Iterator[Measured]:
+        """Plans near the limits of the versions."""
+        for kind in KINDS:
+            ranks, rounds = kind.ranks, kind.rounds
+            if self.is_small:
+                ranks, rounds = min(ranks, SMALL_RANKS), SMALL_ROUNDS
+            yield self.measure(kind.name, kind.what, [kind.text(ranks, rounds)], RUNS)
+
+    def of_machines(self) -> Iterator[Measured]:
+        """Plans of whole machines."""
+        for plan in LARGE_PLANS:
+            ranks = min(plan.ranks, SMALL_RANKS) if self.is_small else plan.ranks
+            what = f"each of {ranks:,} ranks {plan.what}"
+            yield self.measure(plan.name, what, replace(plan, ranks=ranks).pieces(), LARGE_RUNS)
+
+
+def table(heads: Sequence[str], rows: Iterable[Sequence[str]]) -> str:
+    """A table of Markdown."""
+    lines = [" | ".join(it) for it in (heads, ["---"] * len(heads), *rows)]
+    return "".join(f"| {it} |\n" for it in lines)
+
+
+def rows_of(measured: Iterable[Measured], least: int) -> Iterator[list[str]]:
+    """The rows of what was measured, with the size of a program that does nothing."""
+    for it in measured:
+        print(f"{it.name}: check {it.check.seconds:.3f} s", file=sys.stderr, flush=True)
+        yield [
+            f"{it.name}: {it.what}",
+            f"{it.calls:,}",
+            f"{it.findings:,}",
+            seconds(it.check),
+            mebibytes(it.check, least),
+            seconds(it.replay),
+            mebibytes(it.replay, least),
+        ]
+
+
+def seconds(taken: Taken) -> str:
+    return f"{taken.seconds:.3f}" if taken.seconds < 1 else f"{taken.seconds:.1f}"
+
+
+def read(path: str) -> str:
+    """The text of a file; nothing where there is none."""
+    try:
+        with open(path, encoding="utf-8") as it:
+            return it.read()
+    except FileNotFoundError:
+        return ""
+
+
+def machine() -> str:
+    """What the figures were measured on."""
+    model, memory = MODEL.search(read("/proc/cpuinfo")), MEMORY.search(read("/proc/meminfo"))
+    name = model[1] if model else platform.machine()
+    room = f", {int(memory[1]) / (1 << 20):.0f} GiB of memory" if memory else ""
+    return f"{os.cpu_count()} processors ({name}){room}, {platform.system()} {platform.release()}"
+
+
+def commit() -> str:
+    """The commit of the repository; nothing where it has no history."""
+    words = ["git", "rev-parse", "--short", "HEAD"]
+    ran = subprocess.run(words, cwd=TOP, capture_output=True, text=True, check=False)
+    return f", commit {ran.stdout.strip()}" if not ran.returncode else ""
+
+
+def proofs() -> str:
+    """What is known of the proofs: the minutes to expect, and what the last gate took."""
+    minutes = minutes_of()
+    crates = {it: minutes.get(it, 0) for it in crate_list.names_below(None)}
+    of_program = sum(crates[it] for it in crate_list.names_below("program"))
+    dearest = sorted(crates, key=lambda it: -crates[it])[:DEAREST]
+    rows = [["the program and all below it", f"{of_program:.0f}"]]
+    rows += [["all crates", f"{sum(crates.values()):.0f}"]]
+    rows += [[f"`{it}`", f"{crates[it]:.1f}"] for it in dearest]
+    return table(("proof", "minutes of processor time to expect"), rows) + last_gate()
+
+
+def last_gate() -> str:
+    """What the last gate took, where it left that behind."""
+    said = read(os.path.join(LOGS, "gate-costs.md"))
+    sums, whole = ROW.search(said), WHOLE.search(said)
+    if not sums or not whole:
+        return ""
+    parts = [f"{it} {int(spent) / 60:.0f}" for it, spent in zip(costs.KINDS, sums[1].split(" | "))]
+    return f"\nThe last gate took {whole[1]} minutes of processor time: {', '.join(parts)}.\n"
+
+
+def page(figures: Figures) -> str:
+    """The whole page."""
+    heads = "plan", "calls", "findings", "check, s", "MiB", "replay, s", "MiB"
+    least, today = floor(), datetime.date.today().isoformat()
+    near = table(heads, rows_of(figures.near_the_limits(), least))
+    large = table(heads, rows_of(figures.of_machines(), least))
+    return f"""\
+# Figures
+
+`make figures` made this page on {today}{commit()}, on {machine()}. Each time is the least of
+{RUNS} runs ({LARGE_RUNS} for whole machines), with the start of the process in it and the output
+thrown away. MiB is the greatest resident size. With findings `replay` writes these, and runs
+nothing.
+
+## Plans near the limits
+
+{near}
+## Plans of whole machines
+
+{large}
+## Proofs
+
+{proofs()}"""
+
+
+def main() -> int:
+    parser = argparse.ArgumentParser(
+        description=__doc__, formatter_class=argparse.RawDescriptionHelpFormatter
+    )
+    parser.add_argument("program", nargs="?", default=WIRE_UP)
+    parser.add_argument("--output", default=PAGE)
+    parser.add_argument("--small", action="store_true")
+    args = parser.parse_args()
+    program = os.path.abspath(args.program)
+    if not os.access(program, os.X_OK):
+        sys.exit(f"there is no {args.program}: make run builds ./wire_up")
+    with tempfile.TemporaryDirectory(prefix="wire-up-") as room:
+        text = page(Figures(program, room, args.small))
+    with open(f"{args.output}.new", "w", encoding="utf-8") as it:
+        it.write(text)
+    os.replace(f"{args.output}.new", args.output)
+    print(shown(args.output))
+    return 0
+
+
+if __name__ == "__main__":
+    sys.exit(main())

@@ -1,0 +1,209 @@
+"""The gate: `rt ci`, the edits that the prover must refuse, and then all tests, of which most run
+the program that was proved and built as a user would.
+
+Usage: python3 -m build.gate
+It works on a copy of the repository, so nothing that checks kept in it counts, and nothing of it is
+lost. (What an earlier `rt ci` proved of the same files on this machine counts where the version of
+the kit keeps it.) The last line is 'N passed, M failed' for all of it, and the status is 1 where
+anything failed. A line tells how far it is; what `rt ci` prints goes to out/gate.log, and where
+something failed, what the log says of it is printed too. What it cost, crate by crate, is printed
+and goes to out/gate-costs.md.
+
+`rt ci` wants each file as `rt fmt` lays it out, and says so only after the proofs of a crate: so
+that is looked at first, which takes half a minute. So is whether each edit can be applied. Types,
+style and C are checked before the proofs. Just before the last line stands again what each part
+said of what failed, so that the end of a log tells it.
+"""
+import contextlib
+import io
+import os
+import shutil
+import sys
+import tempfile
+import traceback
+from collections.abc import Callable, Sequence
+from typing import TextIO
+
+from build import checkers, ci, costs, crate_list, records, test_files
+from build.counted_runs import LINES, WIDTH
+from build.counts import Counts, counted, summed
+from build.crates import Crate, copy_to, crates_at, locked
+from build.edits.reading import EditFile, edits_of, not_applied
+from build.edits.trying import try_all
+from build.layout import not_laid_out
+from build.logs import log_at
+from build.minutes import minutes_of
+from build.places import BUILT, LOGS, PARTS, TOP, shown
+from build.progress import Progress
+
+# What users and tests run, of what `rt ci` builds in the copy.
+KEPT = (BUILT, PARTS)
+# Minutes of processor time: for the 30 crates that there were when it was set, which are 32 since
+# two of them were cut in two, and for each further one.
+BUDGET, FOR_EACH, WERE = 110, 4, 32
+
+
+class Copied(io.StringIO):
+    """What is written to another stream, kept."""
+
+    def __init__(self, stream: TextIO) -> None:
+        super().__init__()
+        self.stream = stream
+
+    def write(self, text: str) -> int:
+        self.stream.write(text)
+        return super().write(text)
+
+    def flush(self) -> None:
+        self.stream.flush()
+
+    def isatty(self) -> bool:
+        return self.stream.isatty()
+
+
+class Gate:
+    """What the parts of a gate found so far, what they cost, and what they said of failures."""
+
+    def __init__(self, room: str, watch: costs.Costs) -> None:
+        """The copy of the repository, and what watches the processes."""
+        self.room, self.watch = room, watch
+        self.counts: list[Counts] = []
+        # The processor time of what follows the proofs, by name.
+        self.seconds: dict[str, float] = {}
+        self.failures: list[str] = []
+
+    def hear(self, name: str, part: Callable[[], Counts]) -> Counts:
+        """Runs a part. A part that breaks off, such as by a time limit, is one failure, and the
+        others go on."""
+        before = costs.used()
+        with contextlib.redirect_stdout(Copied(sys.stdout)) as it:
+            try:
+                counts = part()
+            except Exception:
+                print(f"{name}: {traceback.format_exc()}", end="")
+                counts = Counts(0, 1)
+        self.seconds[name] = costs.used() - before
+        if counts.failed:
+            lines = it.getvalue().splitlines()[-LINES:]
+            self.failures.append(f"{name}: {counts.failed} failed")
+            self.failures += [f"  {line[:WIDTH]}" for line in lines]
+        self.counts.append(counts)
+        return counts
+
+    def judge(self, files: Sequence[EditFile]) -> None:
+        """Runs all parts."""
+        self.hear("checkers", checkers.run_checkers)
+        proved = self.hear("rt ci", lambda: prove(self.room))
+        is_there = keep_built(self.room)
+        if proved.failed:
+            print("the edits were not tried, as rt ci failed")
+        else:
+            self.watch.phase = "edits"
+            self.hear("edits", lambda: refuse_edits(files))
+            self.watch.phase = None
+        # (their provers have rows of their own)
+        for name in "rt ci", "edits":
+            self.seconds.pop(name, None)
+        if is_there:
+            self.run_tests()
+        else:
+            print("the program was not built, and so no test was run")
+            self.counts.append(Counts(0, 1))
+
+    def run_tests(self) -> None:
+        """Runs each file of tests."""
+        for file in test_files.test_files():
+            before = costs.used()
+            ran = test_files.run_file(file, {"WIRE_UP_PROGRAM": BUILT})
+            self.seconds[file] = costs.used() - before
+            self.counts.append(ran.counts)
+            self.failures += ran.failures()
+            print(ran.whole(), flush=True)
+
+
+def prove(room: str) -> Counts:
+    """Runs `rt ci` in the copy, and answers its counts; where it ends without them, one failure."""
+    log = log_at("gate.log")
+    with Progress("rt ci", minutes_of()["gate"]) as line:
+        course = ci.Course(line, len(crate_list.names_below(None)))
+        status = ci.run(room, log, course.take)
+    counts = course.counts or Counts(0, 1)
+    if status or counts.failed:
+        print(ci.reasons(log), end="")
+        print(f"rt ci failed. The whole output is in {shown(log)}")
+        counts = Counts(counts.passed, counts.failed or 1)
+    print(f"rt ci: {counts}", flush=True)
+    return counts
+
+
+def refuse_edits(files: Sequence[EditFile]) -> Counts:
+    """Tries all edits over the libraries that `rt ci` built in the copy."""
+    with Progress("edits", minutes_of()["edits"]) as line:
+        found = list(try_all(files, line.now).values())
+    with open(os.path.join(LOGS, "gate.log"), "a", encoding="utf-8") as it:
+        it.writelines(f"{outcome.text}\n" for outcome in found)
+        for outcome in found:
+            it.write(f"{outcome.seconds:.1f} seconds: {outcome.text.partition(':')[0]}\n")
+    for outcome in found:
+        if not outcome.is_refused or outcome.is_poor:
+            print(outcome.text)
+    counts = counted(it.is_refused for it in found)
+    print(f"edits: {counts}", flush=True)
+    return counts
+
+
+def keep_built(room: str) -> bool:
+    """Puts what `rt ci` built in the copy where users and tests look for it. Answers whether all of
+    it is there."""
+    programs = [it for it in crates_at(TOP, Crate) if records.made_of(it) in KEPT]
+    with locked(programs):
+        for it in programs:
+            place = records.made_of(it)
+            records.take_away(it)
+            made = os.path.join(room, os.path.relpath(place, TOP))
+            if os.path.exists(made):
+                os.makedirs(os.path.dirname(place), exist_ok=True)
+                shutil.copy(made, place)
+    return all(map(os.path.exists, KEPT))
+
+
+def tell_costs(gate: Gate) -> None:
+    """Prints what the gate cost, and keeps it in a file."""
+    crates = crate_list.names_below(None)
+    told = gate.watch.report(crates, gate.seconds)
+    budget = BUDGET + FOR_EACH * (len(crates) - WERE)
+    with open(os.path.join(LOGS, "gate-costs.md"), "w", encoding="utf-8") as it:
+        it.write(f"{told}\n")
+    print(
+        f"{told} The budget is {budget}: more is a reason to look, and no failure, as machines"
+        " differ (`python3 -m build.speed` says by how much).",
+        flush=True,
+    )
+
+
+def main() -> int:
+    with tempfile.TemporaryDirectory(prefix="wire-up-gate-") as room, costs.Costs() as watch:
+        copy_to(room, TOP)
+        files = edits_of(crates_at(room, Crate))
+        wrong = not_laid_out(room) + not_applied(files)
+        if wrong:
+            print("\n".join(wrong))
+            print(Counts(0, len(wrong)))
+            return 1
+        gate = Gate(room, watch)
+        gate.judge(files)
+        tell_costs(gate)
+    counts = summed(gate.counts)
+    print(*gate.failures, sep="\n", end="\n" * bool(gate.failures))
+    print(counts)
+    return 1 if counts.failed else 0
+
+
+if __name__ == "__main__":
+    try:
+        sys.exit(main())
+    except KeyboardInterrupt:
+        sys.exit("\nstopped")
+    except OSError as why:
+        print(f"{why}\n0 passed, 1 failed")
+        sys.exit(1)

@@ -1,0 +1,65 @@
+"""Logs of what commands print."""
+import os
+import subprocess
+from collections.abc import Callable, Sequence
+
+from build.places import LOGS
+
+# So many last lines of a log are told.
+TAIL = 60
+# How lines begin that only tell that something was proved or loaded.
+ROUTINE = ("statements ", "by-macro: ", "logic /", "empty contracts: 0 ")
+
+
+def log_at(name: str) -> str:
+    """The path of an empty log."""
+    os.makedirs(LOGS, exist_ok=True)
+    path = os.path.join(LOGS, name)
+    open(path, "w", encoding="utf-8").close()
+    return path
+
+
+def keep(
+    words: Sequence[str],
+    folder: str,
+    log: str,
+    take: Callable[[str], None],
+    behind: Sequence[str] = (),
+) -> int:
+    """Runs a command behind some words, adds all that it prints to the log, hands each line on,
+    and answers its status. It is killed where this is broken off."""
+    started = [*behind, *words]
+    with open(log, "a", encoding="utf-8") as to:
+        to.write(f"$ {' '.join(words)}\n")
+        with subprocess.Popen(
+            started,
+            cwd=folder,
+            stdin=subprocess.DEVNULL,
+            stdout=subprocess.PIPE,
+            stderr=subprocess.STDOUT,
+            text=True,
+            errors="replace",
+        ) as it:
+            try:
+                for line in it.stdout or ():
+                    to.write(line)
+                    to.flush()
+                    take(line.rstrip("\n"))
+            except BaseException:
+                it.kill()
+                raise
+        to.write(f"(exit status {it.returncode})\n")
+    return it.returncode
+
+
+def is_routine(line: str) -> bool:
+    """Whether a line only tells that something was proved or loaded."""
+    return line.endswith(": proved\n") or line.startswith(ROUTINE)
+
+
+def tail_of(log: str) -> str:
+    """The last lines that the last command in a log printed, and that aren't routine."""
+    with open(log, encoding="utf-8", errors="replace") as it:
+        lines = it.readlines()
+    begun = max((n for n, line in enumerate(lines) if line.startswith("$ ")), default=0)
+    return "".join([line for line in lines[begun:] if not is_routine(line)][-TAIL:])

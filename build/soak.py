@@ -1,0 +1,193 @@
+"""Runs the program on random files, most of them damaged, and holds it to itself, to a second
+reader and to a model of plans: tests/soaking.py says what it holds for each file.
+
+Usage: make soak [MINUTES=N] [SEED=N]
+       PYTHONPATH=tests python3 -m build.soak [PROGRAM] [--minutes N | --seconds N] [--seed N]
+                                              [--keep FOLDER]
+       PYTHONPATH=tests python3 -m build.soak [PROGRAM] --again FILE     looks at one file once more
+Without PROGRAM it takes ./wire_up. It ends by itself after so many minutes (1 if not told), and at
+the first 20 differences. A file that shows one is made as small as it can be, by lines, and kept in
+FOLDER (out/soak). Prints what it tried each minute and at the end, and last 'N differences'.
+"""
+import argparse
+import os
+import random
+import re
+import shutil
+import sys
+import tempfile
+import time
+from collections import Counter
+
+from soaking import Difference, Runner, difference_of
+
+import random_plans
+from build.places import LOGS, WIRE_UP
+
+MOST_DIFFERENCES = 20
+# How long a file that shows a difference is made smaller, in seconds, and how often each part of it
+# is looked at.
+REDUCE_SECONDS, TRIES = 60, 4
+# Further apart than any number of files, so that two seeds make no file alike.
+FILES_OF_SEED = 1_000_000_007
+KINDS = ("refused", "with findings", "without findings")
+
+
+class Reducer:
+    """Makes a file smaller that shows a difference."""
+
+    def __init__(self, runner: Runner, seed: int, name: str) -> None:
+        self.runner, self.seed, self.name = runner, seed, name
+        self.until = time.monotonic() + REDUCE_SECONDS
+
+    def still_shows(self, lines: list[bytes]) -> bool:
+        """Whether these lines show the same, as long as there is time."""
+        for n in range(TRIES):
+            if time.monotonic() >= self.until:
+                return False
+            found, _ = difference_of(self.runner, b"\n".join(lines), self.seed + n)
+            if found and found.name == self.name:
+                return True
+        return False
+
+    def without_parts(self, lines: list[bytes], size: int) -> list[bytes]:
+        """The lines without those parts of this size that aren't needed."""
+        at = 0
+        while at < len(lines):
+            fewer = lines[:at] + lines[at + size:]
+            if self.still_shows(fewer):
+                lines = fewer
+            else:
+                at += size
+        return lines
+
+    def reduced(self, text: bytes) -> bytes:
+        """A file of fewer lines that shows the same, as small as it gets in the time."""
+        lines = text.split(b"\n")
+        size = 1 << len(lines).bit_length()
+        while size:
+            fewer = self.without_parts(lines, size)
+            size = size // 2 if len(fewer) == len(lines) else size
+            lines = fewer
+        return b"\n".join(lines)
+
+
+class Soak:
+    """A course of random files, its counts, and what it found."""
+
+    def __init__(self, args: argparse.Namespace, room: str) -> None:
+        self.seed: int = args.seed
+        self.keep_in: str = args.keep
+        self.runner = Runner(os.path.abspath(args.program), room)
+        self.kinds: Counter[str] = Counter()
+        self.damaged, self.bytes = 0, 0
+        self.differences: list[str] = []
+        self.began = time.monotonic()
+        self.until, self.next_told = self.began + args.seconds, self.began + 60
+
+    def go(self) -> None:
+        """Tries file after file until the time is over."""
+        count = 0
+        while time.monotonic() < self.until and len(self.differences) < MOST_DIFFERENCES:
+            self.try_file(self.seed * FILES_OF_SEED + count)
+            count += 1
+            if time.monotonic() >= self.next_told:
+                self.next_told += 60
+                print(self.told(), flush=True)
+
+    def try_file(self, seed: int) -> None:
+        """Tries the file of a seed."""
+        text, damages = random_plans.random_file(random.Random(seed))
+        found, kind = difference_of(self.runner, text, seed)
+        self.damaged += bool(damages)
+        self.bytes += len(text)
+        self.kinds[kind] += 1
+        if found:
+            self.keep(found, text, seed)
+
+    def keep(self, found: Difference, text: bytes, seed: int) -> None:
+        """Keeps a file that shows a difference, made small, unless there is one of that name."""
+        print(f"{found.name}: {found.detail} (file {seed})", flush=True)
+        if found.name in self.differences:
+            return
+        self.differences.append(found.name)
+        os.makedirs(self.keep_in, exist_ok=True)
+        path = os.path.join(self.keep_in, re.sub(r"\W+", "-", found.name))
+        small = Reducer(self.runner, seed, found.name).reduced(text)
+        for ending, it in ((".whole", text), (".plan", small)):
+            with open(path + ending, "wb") as to:
+                to.write(it)
+        print(f"kept in {path}.plan", flush=True)
+
+    def told(self) -> str:
+        """How far it is, in a line."""
+        kinds = ", ".join(f"{self.kinds[it]:,} {it}" for it in KINDS)
+        seconds, runs = time.monotonic() - self.began, self.runner.runs.total()
+        different = self.kinds["different"]
+        whole = f"{seconds:.0f} s: {self.kinds.total():,} files ({kinds})"
+        return f"{whole}, {runs:,} runs, {different:,} differences"
+
+    def tell_end(self) -> None:
+        """Prints what it tried."""
+        slowest = self.runner.slowest
+        print(f"seed {self.seed}. {self.told()}")
+        print(f"{self.damaged:,} of the files were damaged; {self.bytes:,} bytes in all")
+        print(f"runs: {listed(self.runner.runs)}")
+        print(f"held to the model: {listed(self.runner.held)}")
+        print(f"faults: {listed(self.runner.faults)}")
+        print(f"slowest run: {slowest.seconds:.2f} s, {slowest.words}")
+        print(f"{self.kinds['different']:,} differences", flush=True)
+
+
+def listed(counts: Counter[str]) -> str:
+    """Counts, by the order of their names."""
+    return ", ".join(f"{count:,} {name}" for name, count in sorted(counts.items()))
+
+
+def look_again(args: argparse.Namespace, room: str) -> int:
+    """Looks at one file, ten times with other questions. Answers whether the last one shows a
+    difference."""
+    with open(args.again, "rb") as it:
+        text = it.read()
+    runner, found = Runner(os.path.abspath(args.program), room), None
+    for n in range(10):
+        found, kind = difference_of(runner, text, args.seed + n)
+        print(f"{found.name}: {found.detail}" if found else f"{kind}, no difference")
+    return 1 if found else 0
+
+
+def arguments() -> argparse.Namespace:
+    """What the command line asks for."""
+    parser = argparse.ArgumentParser(
+        description=__doc__, formatter_class=argparse.RawDescriptionHelpFormatter
+    )
+    parser.add_argument("program", nargs="?", default=WIRE_UP)
+    parser.add_argument("--minutes", type=float, default=1)
+    parser.add_argument("--seconds", type=float)
+    parser.add_argument("--seed", type=int)
+    parser.add_argument("--keep", default=os.path.join(LOGS, "soak"))
+    parser.add_argument("--again")
+    args = parser.parse_args()
+    args.seconds = args.seconds if args.seconds is not None else 60 * args.minutes
+    args.seed = args.seed if args.seed is not None else int(time.time())
+    if not shutil.which(args.program):
+        sys.exit(f"there is no {args.program}: make run builds ./wire_up")
+    return args
+
+
+def main() -> int:
+    args = arguments()
+    with tempfile.TemporaryDirectory(prefix="wire-up-") as room:
+        if args.again:
+            return look_again(args, room)
+        soak = Soak(args, room)
+        try:
+            soak.go()
+        except KeyboardInterrupt:
+            print("stopped")
+        soak.tell_end()
+    return 1 if soak.differences else 0
+
+
+if __name__ == "__main__":
+    sys.exit(main())

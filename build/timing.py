@@ -1,0 +1,94 @@
+"""Times runs of a program, and their greatest resident size."""
+import os
+import subprocess
+import sys
+import tempfile
+import time
+from collections.abc import Sequence
+from dataclasses import dataclass
+
+
+@dataclass(frozen=True)
+class Command:
+    """The words of a command, and the file that it gets on standard input."""
+
+    words: Sequence[str]
+    given: str = os.devnull
+
+
+@dataclass(frozen=True)
+class Taken:
+    """What a run took: its seconds, with the start of the process in them, and its greatest
+    resident size in KiB."""
+
+    seconds: float
+    size: int
+
+
+def run(command: Command) -> Taken:
+    """Runs a command, whose output is thrown away. A run that ends with a fault ends this program,
+    too."""
+    with open(command.given, "rb") as reader:
+        began = time.perf_counter()
+        it = subprocess.Popen(
+            command.words, stdin=reader, stdout=subprocess.DEVNULL, stderr=subprocess.DEVNULL
+        )
+        _, status, used = os.wait4(it.pid, 0)
+        seconds = time.perf_counter() - began
+    it.returncode = os.waitstatus_to_exitcode(status)
+    if it.returncode not in (0, 1):
+        sys.exit(f"{' '.join(command.words)}: exit status {it.returncode}")
+    return Taken(seconds, used.ru_maxrss)
+
+
+def best_of(runs: int, commands: Sequence[Command]) -> list[Taken]:
+    """The least seconds and the greatest size of each command, run by turns."""
+    took = [[run(it) for it in commands] for _ in range(runs)]
+    return [
+        Taken(min(it.seconds for it in each), max(it.size for it in each)) for each in zip(*took)
+    ]
+
+
+def floor() -> int:
+    """The greatest resident size of a program that does nothing, in KiB."""
+    return run(Command(["true"])).size
+
+
+def milliseconds(taken: Taken) -> str:
+    return f"{1000 * taken.seconds:.1f}"
+
+
+def mebibytes(taken: Taken, least: int) -> str:
+    """A resident size. What is no greater than that of a program that does nothing isn't told apart
+    from it."""
+    if taken.size <= least * 1.05:
+        return f"under {least / 1024:.0f}"
+    return f"{taken.size / 1024:.1f}"
+
+
+def findings_in(words: Sequence[str]) -> int:
+    """How many findings a `check` of these words tells."""
+    with tempfile.TemporaryFile() as told:
+        subprocess.run(
+            words,
+            stdin=subprocess.DEVNULL,
+            stdout=told,
+            stderr=subprocess.DEVNULL,
+            check=False,
+        )
+        told.seek(max(0, told.tell() - 40))
+        last = told.read().split(b"\n")[-2]
+    return int(last.split()[1])
+
+
+def has_options(program: str, words: Sequence[str]) -> bool:
+    """Whether a program has the options among these words of a command. (An earlier one has no
+    `--workers`.)"""
+    told = subprocess.run(
+        [program, words[0], "--help"],
+        stdin=subprocess.DEVNULL,
+        capture_output=True,
+        text=True,
+        check=False,
+    ).stdout
+    return all(it in told for it in words if it.startswith("--"))

@@ -1,0 +1,187 @@
+"""Runs the built program as a user would: words, files, standard streams, exit statuses, fault
+lines."""
+import os
+import resource
+import subprocess
+import tempfile
+import unittest
+from collections.abc import Callable, Iterable, Iterator, Sequence
+from typing import IO, NamedTuple, Optional, Union
+
+import support
+
+EXAMPLE, ITS_REPORT = "examples/business-card.plan", "examples/business-card.report"
+NOTHING = b"findings 0\n"
+SECONDS = 60
+FAULTS = (
+    "Memory TooLong BadHeader BadLine UnknownName Twice NotMember TooMany Workers Read Write"
+    " NotReady BadOrder"
+).split()
+USAGE = (b"Usage: wire_up",)
+FULL, READ = b"wire_up: fault 11 Write 0\n", b"wire_up: fault 10 Read\n"
+MEMORY = b"wire_up: fault 1 Memory\n"
+
+# Gets that are ordered by fences, by a publish and by one another.
+CARDS = b"""\
+rehearsal 1
+node n0
+node n1
+job app
+rank n0
+put global k v
+put global m w
+commit
+fence all collect
+publish x 7
+rank n0
+get app:0 m
+get-now app:0 k
+fence all collect
+rank n1
+fence all collect
+get-now app:0 k
+lookup-wait x
+"""
+CARDS_REPORT = b"""\
+app:0 1 put PMIX_SUCCESS
+app:0 2 put PMIX_SUCCESS
+app:0 3 commit PMIX_SUCCESS
+app:0 4 fence PMIX_SUCCESS
+app:0 5 publish PMIX_SUCCESS
+app:1 1 get PMIX_SUCCESS w
+app:1 2 get-now PMIX_SUCCESS v
+app:1 3 fence PMIX_SUCCESS
+app:2 1 fence PMIX_SUCCESS
+app:2 2 get-now PMIX_SUCCESS v
+app:2 3 lookup-wait PMIX_SUCCESS 7
+waiting 0
+"""
+
+# A get that races a commit.
+RACY = b"""\
+rehearsal 1
+node n0
+job app
+rank n0
+put global k v
+commit
+rank n0
+get-now app:0 k
+"""
+RACE = b"race app:0 2 app:1 1 key app:0 k"
+Words = Sequence[Union[str, bytes]]
+# The whole of a text, or in a tuple parts of it.
+Text = Union[bytes, tuple[bytes, ...]]
+
+
+class Run(NamedTuple):
+    """What is run, and what must come of it."""
+
+    name: str
+    words: Words
+    # What standard input gives; by itself it is closed after nothing.
+    given: Optional[bytes] = None
+    status: int = 0
+    wrote: Text = b""
+    said: Text = b""
+    # What is done in the process before the program starts.
+    set_up: Optional[Callable[[], object]] = None
+
+
+def text_of(path: str) -> bytes:
+    """The bytes of a file of the repository."""
+    with open(os.path.join(support.TOP, path), "rb") as it:
+        return it.read()
+
+
+def closed(stream: int) -> Callable[[], None]:
+    """Closes a standard stream."""
+    return lambda: os.close(stream)
+
+
+def onto(path: str, stream: int, how: int = os.O_WRONLY) -> Callable[[], None]:
+    """Opens a file as a standard stream."""
+
+    def set_up() -> None:
+        os.dup2(os.open(path, how), stream)
+
+    return set_up
+
+
+def with_little_memory() -> None:
+    resource.setrlimit(resource.RLIMIT_DATA, (1 << 20, 1 << 20))
+
+
+def examples(ending: str) -> list[str]:
+    """The names of the examples that have a file of this ending, without it."""
+    files = os.listdir(os.path.join(support.TOP, "examples"))
+    return sorted(it.removesuffix(ending) for it in files if it.endswith(ending))
+
+
+def written(room: str, name: str, text: bytes) -> str:
+    """The path of a file of this text."""
+    path = os.path.join(room, name)
+    with open(path, "wb") as it:
+        it.write(text)
+    return path
+
+
+def as_lines(lines: Iterable[str]) -> bytes:
+    """The bytes of lines of text."""
+    return "".join(f"{it}\n" for it in lines).encode()
+
+
+def start(
+    program: str, run: Run, stdout: Union[int, IO[bytes]] = subprocess.PIPE
+) -> "subprocess.CompletedProcess[bytes]":
+    """Runs a program to its end."""
+    return subprocess.run(
+        [program, *run.words],
+        input=run.given,
+        stdout=stdout,
+        stderr=subprocess.PIPE,
+        cwd=support.TOP,
+        preexec_fn=run.set_up,
+        timeout=SECONDS,
+        check=False,
+    )
+
+
+def fits(wanted: Text, got: bytes) -> bool:
+    """Whether a text is as wanted."""
+    return all(part in got for part in wanted) if isinstance(wanted, tuple) else wanted == got
+
+
+class ProgramCase(unittest.TestCase):
+    """Tests of the built program, which have a folder that they may write to."""
+
+    program: str
+    room: str
+
+    @classmethod
+    def setUpClass(cls) -> None:
+        cls.program = support.program()
+        folder = tempfile.TemporaryDirectory(prefix="wire-up-")
+        cls.addClassCleanup(folder.cleanup)
+        cls.room = folder.name
+
+    def hold(self, run: Run) -> None:
+        """Fails where a run doesn't end, write and say what it must."""
+        ran = start(self.program, run)
+        said = ran.stderr[:300]
+        self.assertEqual(run.status, ran.returncode, f"ended so, and said {said!r}")
+        self.assertTrue(fits(run.wrote, ran.stdout), f"wrote {ran.stdout[:300]!r}")
+        self.assertTrue(fits(run.said, ran.stderr), f"said {said!r}")
+
+    def hold_all(self, runs: Iterable[Run]) -> None:
+        """Holds each run, as a subtest of its name."""
+        for run in runs:
+            with self.subTest(run.name):
+                self.hold(run)
+
+    def told_alike(self, wanted: object, got: object) -> None:
+        """Fails where two things aren't the same."""
+        self.assertEqual(wanted, got, f"{str(got)[:600]}")
+
+
+Runs = Iterator[Run]

@@ -1,0 +1,419 @@
+"""Runs the built program with `--explain`."""
+import os
+import unittest
+
+from running import (
+    CARDS,
+    CARDS_REPORT,
+    NOTHING,
+    RACY,
+    ProgramCase,
+    Run,
+    Runs,
+    closed,
+    onto,
+    text_of,
+    written,
+)
+
+
+# Files that are refused, each with the fault and what explains it.
+EXPLAINED = (
+    (
+        "a word misspelt",
+        b"rehearsal 1\nnode n0\njob app\nrank n0\nput global k v\n\n  comit\n",
+        (
+            b"fault 4 BadLine 7\n  7 |   comit\n  expected: a call of this rank, 'rank NODE' or "
+            b"'job NAME'\n  nearest word: commit\n"
+        ),
+    ),
+    (
+        "a word that is near none",
+        b"rehearsal 1\nnode n0\njob app\nbarrier\n",
+        b"fault 4 BadLine 4\n  4 | barrier\n  expected: 'rank NODE' or 'job NAME'\n",
+    ),
+    (
+        "a word before the first job",
+        b"rehearsal 2\nkeep\nnod n0\n",
+        (
+            b"fault 4 BadLine 3\n  3 | nod n0\n  expected: 'node NAME' or 'job NAME', or 'keep' "
+            b"right below 'rehearsal 2'\n  nearest word: node\n"
+        ),
+    ),
+    (
+        "as near as another",
+        b"rehearsal 1\njob app\npet\n",
+        (
+            b"fault 4 BadLine 3\n  3 | pet\n  expected: 'rank NODE' or 'job NAME'\n"
+            b"  nearest word: put\n"
+        ),
+    ),
+    (
+        "a line that is cut",
+        b"rehearsal 1\nnode n0\njob app\nrank n0\nget app:0",
+        (
+            b"fault 4 BadLine 5\n  5 | get app:0\n  expected: 'get JOB:RANK KEY', below a 'rank' "
+            b"line; RANK is 0, or up to nine digits that don't begin with 0; KEY isn't '*'\n"
+        ),
+    ),
+    (
+        "a key that is none",
+        b"rehearsal 1\nnode n0\njob app\nrank n0\nput global * v\n",
+        (
+            b"fault 4 BadLine 5\n  5 | put global * v\n"
+            b"  expected: 'put SCOPE KEY VALUE', below a 'rank' line; SCOPE is local, remote or "
+            b"global, KEY isn't '*'\n"
+        ),
+    ),
+    (
+        "a scope misspelt",
+        b"rehearsal 1\nnode n0\njob app\nrank n0\nput globl k v\n",
+        (
+            b"fault 4 BadLine 5\n  5 | put globl k v\n"
+            b"  expected: 'put SCOPE KEY VALUE', below a 'rank' line; SCOPE is local, remote or "
+            b"global, KEY isn't '*'\n  nearest word: global\n"
+        ),
+    ),
+    (
+        "a scope that is near none",
+        b"rehearsal 1\nnode n0\njob app\nrank n0\nput shared k v\n",
+        (
+            b"fault 4 BadLine 5\n  5 | put shared k v\n"
+            b"  expected: 'put SCOPE KEY VALUE', below a 'rank' line; SCOPE is local, remote or "
+            b"global, KEY isn't '*'\n"
+        ),
+    ),
+    (
+        "a put alone",
+        b"rehearsal 1\nnode n0\njob app\nrank n0\nput\n",
+        (
+            b"fault 4 BadLine 5\n  5 | put\n  expected: 'put SCOPE KEY VALUE', below a 'rank' "
+            b"line; SCOPE is local, remote or global, KEY isn't '*'\n"
+        ),
+    ),
+    (
+        "the last word of a fence misspelt",
+        b"rehearsal 1\nnode n0\njob app\nrank n0\nfence all colect\n",
+        (
+            b"fault 4 BadLine 5\n  5 | fence all colect\n"
+            b"  expected: 'fence all' or 'fence ITEM,ITEM,..', then nothing or 'collect', below a "
+            b"'rank' line; ITEM is JOB:RANK or JOB:*, RANK as for 'get'\n"
+            b"  nearest word: collect\n"
+        ),
+    ),
+    (
+        "a set that is none",
+        b"rehearsal 1\nnode n0\njob app\nrank n0\nfence app\n",
+        (
+            b"fault 4 BadLine 5\n  5 | fence app\n  expected: 'fence all' or 'fence "
+            b"ITEM,ITEM,..', then nothing or 'collect', below a 'rank' line; ITEM is JOB:RANK or "
+            b"JOB:*, RANK as for 'get'\n"
+        ),
+    ),
+    (
+        "a byte that no word has",
+        b"rehearsal 1\nnode n0\njob app\nrank n0\nput global k v\x80\n",
+        b"fault 4 BadLine 5\n  5 | put global k v?\n  expected: only printable ASCII in words\n",
+    ),
+    (
+        "a node after a job",
+        b"rehearsal 1\njob app\nnode n0\n",
+        (
+            b"fault 4 BadLine 3\n  3 | node n0\n  expected: 'node NAME', before the first job; a "
+            b"name is without ':', ',', '#' and '*'\n"
+        ),
+    ),
+    (
+        "an empty file",
+        b"",
+        (
+            b"fault 3 BadHeader 1\n  1 | (the file ends here)\n"
+            b"  expected: 'rehearsal 1' or 'rehearsal 2', before all other lines\n"
+        ),
+    ),
+    (
+        "a header misspelt",
+        b"# mine\nrehersal 1\r\n",
+        (
+            b"fault 3 BadHeader 2\n  2 | rehersal 1\n  expected: 'rehearsal 1' or 'rehearsal 2', "
+            b"before all other lines\n  nearest word: rehearsal\n"
+        ),
+    ),
+    (
+        "bytes of a terminal",
+        b"rehearsal 1\n\x1b[2J\x07\x7f\xc3\xa4\tcommit\n",
+        b"fault 4 BadLine 2\n  2 | ?[2J?????commit\n  expected: only printable ASCII in words\n",
+    ),
+    (
+        "a long line",
+        b"rehearsal 1\n" + b"x" * 121 + b"\n",
+        b"fault 4 BadLine 2\n  2 | "
+        + b"x" * 120
+        + b"..\n  expected: 'node NAME' or 'job NAME', or 'keep' right below 'rehearsal 2'\n",
+    ),
+    (
+        "a line just short enough",
+        b"rehearsal 1\n" + b"x" * 120 + b"\n",
+        b"fault 4 BadLine 2\n  2 | "
+        + b"x" * 120
+        + b"\n  expected: 'node NAME' or 'job NAME', or 'keep' right below 'rehearsal 2'\n",
+    ),
+    (
+        "an unknown node",
+        b"rehearsal 1\nnode n0\njob app\nrank n1\n",
+        (
+            b"fault 5 UnknownName 4\n  4 | rank n1\n  expected: a node, a job or a rank that the "
+            b"file declares\n"
+        ),
+    ),
+    (
+        "a name told twice",
+        b"rehearsal 1\nnode n0\nnode n0\n",
+        (
+            b"fault 6 Twice 3\n  3 | node n0\n  expected: a name that no earlier line of this "
+            b"kind has\n"
+        ),
+    ),
+    (
+        "a fence without its caller",
+        b"rehearsal 1\nnode n0\njob app\nrank n0\nfence app:1\nrank n0\n",
+        (
+            b"fault 7 NotMember 5\n  5 | fence app:1\n"
+            b"  expected: a set with the rank that calls the fence\n"
+        ),
+    ),
+)
+
+
+ORDERED = (
+    b"  expected: one rank of the plan and nothing else, such as app:0, and an order "
+    b"within its size limit\n"
+)
+
+
+# The words of a question, each wrong, with what explains it.
+ASKED = (
+    ("app:\u00e4", b"  word 1 | app:??\n  expected: a rank of the plan, such as app:0\n"),
+    ("99", b"  word 2 | 99\n  expected: the number of a call of this rank, from 1\n"),
+    ("app", b"  word 3 | app\n  expected: a rank of the plan, such as app:0\n"),
+    ("0", b"  word 4 | 0\n  expected: the number of a call of this rank, from 1\n"),
+)
+
+
+# Plans, each with an order of which a step can't be taken, and with what explains that.
+FENCED = (
+    b"rehearsal 1\nnode n0\njob app\nrank n0\n"
+    b"fence all\nget app:0 k\nrank n0\nfence all\n"
+    b"lookup-wait svc\n"
+)
+
+
+WIDE = b"rehearsal 1\nnode n0\njob app\n" + b"rank n0\nfence all\n" * 12
+
+
+STOPPED = (
+    (
+        "a get before a commit",
+        text_of("examples/standstill.plan"),
+        b"app:0\n",
+        (
+            b"fault 12 NotReady 1\n  1 | app:0\n  stands at: app:0 1 get\n"
+            b"  waits for: app:1 to commit the key b\n"
+        ),
+    ),
+    (
+        "a fence that one hasn't come to",
+        FENCED,
+        b"app:0\n# skipped\n\n\tapp:0 \r\n",
+        (
+            b"fault 12 NotReady 2\n  4 | ?app:0 \n  stands at: app:0 1 fence\n"
+            b"  waits for: app:1 to arrive\n"
+        ),
+    ),
+    (
+        "a fence that many haven't come to",
+        WIDE,
+        b"app:3\napp:3\n",
+        (
+            b"fault 12 NotReady 2\n  2 | app:3\n  stands at: app:3 1 fence\n"
+            b"  waits for: app:0 app:1 app:2 app:4 app:5 app:6 app:7 app:8 and 3 more to arrive\n"
+        ),
+    ),
+    (
+        "a fence that eight haven't come to",
+        WIDE,
+        b"app:3\napp:9\napp:10\napp:11\napp:9\n",
+        (
+            b"fault 12 NotReady 5\n  5 | app:9\n  stands at: app:9 1 fence\n"
+            b"  waits for: app:0 app:1 app:2 app:4 app:5 app:6 app:7 app:8 to arrive\n"
+        ),
+    ),
+    (
+        "an own key",
+        FENCED,
+        b"app:0\napp:1\napp:0\napp:0\n",
+        (
+            b"fault 12 NotReady 4\n  4 | app:0\n  stands at: app:0 2 get\n"
+            b"  waits for: its own key k, which it hasn't put\n"
+        ),
+    ),
+    (
+        "a name",
+        FENCED,
+        b"app:1\napp:0\napp:1\napp:1\n",
+        (
+            b"fault 12 NotReady 4\n  4 | app:1\n  stands at: app:1 2 lookup-wait\n"
+            b"  waits for: the name svc to be published\n"
+        ),
+    ),
+    (
+        "a rank at its end",
+        RACY,
+        b"app:1\napp:1\n",
+        b"fault 12 NotReady 2\n  2 | app:1\n  stands at: its end, with no call left\n",
+    ),
+)
+
+
+def explanations(room: str) -> Runs:
+    """The runs with `--explain`."""
+    racy, cards = written(room, "explained.plan", RACY), written(
+        room, "explained-cards.plan", CARDS
+    )
+    for name, plan, said in EXPLAINED:
+        first = b"wire_up: " + said.split(b"\n")[0] + b"\n"
+        for words in (
+            ["check"],
+            ["replay", "--workers", "2"],
+            ["migrate"],
+            ["witness"],
+            ["why", "app:0", "1", "app:0", "1", "/dev/stdin"],
+        ):
+            yield Run(
+                f"{name}, explained by {words[0]}",
+                [*words, "--explain"],
+                given=plan,
+                status=2,
+                said=b"wire_up: " + said,
+            )
+            yield Run(f"{name}, by {words[0]}", words, given=plan, status=2, said=first)
+        path = written(room, f"{name}.plan", plan)
+        yield Run(
+            f"{name}, explained by follow",
+            ["follow", "--explain", os.devnull, path],
+            status=2,
+            said=b"wire_up: " + said,
+        )
+        yield Run(
+            f"{name}, explained, and standard error closed",
+            ["check", "--explain", path],
+            status=2,
+            set_up=closed(2),
+        )
+    order = written(room, "explained.order", b"# first\napp:0\n  app:7 \n")
+    yield Run(
+        "an order explained",
+        ["follow", "--explain", order, racy],
+        status=2,
+        said=b"wire_up: fault 13 BadOrder 3\n  3 |   app:7 \n" + ORDERED,
+    )
+    yield Run(
+        "an order not explained",
+        ["follow", order, racy],
+        status=2,
+        said=b"wire_up: fault 13 BadOrder 3\n",
+    )
+    yield Run(
+        "a plan refused before its order is",
+        ["follow", "--explain", order],
+        given=b"rehersal 1\n",
+        status=2,
+        said=(
+            b"wire_up: fault 3 BadHeader 1\n  1 | rehersal 1\n"
+            b"  expected: 'rehearsal 1' or 'rehearsal 2', before all other lines\n"
+            b"  nearest word: rehearsal\n"
+        ),
+    )
+    for n, (word, told) in enumerate(ASKED, 1):
+        asked = ["app:0", "1", "app:1", "1"]
+        asked[n - 1] = word
+        for words in (["why"], ["witness"], ["witness", "--first"]):
+            said = b"wire_up: fault 13 BadOrder %d\n" % n
+            yield Run(
+                f"the wrong word {n}, explained by {' '.join(words)}",
+                [*words, "--explain", *asked, racy],
+                status=2,
+                said=said + told,
+            )
+            yield Run(
+                f"the wrong word {n}, by {' '.join(words)}",
+                [*words, *asked, racy],
+                status=2,
+                said=said,
+            )
+    for name, plan, steps, said in STOPPED:
+        order, first = (
+            written(room, f"{name}.order", steps),
+            b"wire_up: " + said.split(b"\n")[0] + b"\n",
+        )
+        yield Run(
+            f"{name}, which stops an order, explained",
+            ["follow", "--explain", order],
+            given=plan,
+            status=2,
+            said=b"wire_up: " + said,
+        )
+        yield Run(
+            f"{name}, which stops an order, explained, large, as JSON",
+            ["follow", "--explain", "--large", "--json", order],
+            given=plan,
+            status=2,
+            said=b"wire_up: " + said,
+        )
+        yield Run(
+            f"{name}, which stops an order", ["follow", order], given=plan, status=2, said=first
+        )
+    yield Run("nothing to explain", ["check", "--explain", cards], wrote=NOTHING)
+    yield Run("a report and nothing to explain", ["replay", "--explain", cards], wrote=CARDS_REPORT)
+    yield Run(
+        "a race and nothing to explain",
+        ["check", "--explain", racy],
+        status=1,
+        wrote=(b"findings 1\n",),
+    )
+    yield Run(
+        "no such file, explained",
+        ["check", "--explain", os.path.join(room, "none")],
+        status=4,
+        said=b"wire_up: fault 10 Read\n  expected: a file that can be opened and read\n",
+    )
+    yield Run(
+        "no worker, explained",
+        ["replay", "--explain", "--workers", "0", cards],
+        status=2,
+        said=b"wire_up: fault 9 Workers\n  expected: 1 to 64 workers\n",
+    )
+    yield Run(
+        "a full device, explained",
+        ["check", "--explain", cards],
+        status=4,
+        said=b"wire_up: fault 11 Write 0\n  expected: an output that can be written\n",
+        set_up=onto("/dev/full", 1),
+    )
+    yield Run(
+        "explained twice",
+        ["check", "--explain", "--explain", cards],
+        status=5,
+        said=(b"Usage: wire_up",),
+    )
+
+
+class Explain(ProgramCase):
+    """Runs with `--explain`."""
+
+    def test_explanations(self) -> None:
+        self.hold_all(explanations(self.room))
+
+
+if __name__ == "__main__":
+    unittest.main()

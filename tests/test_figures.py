@@ -1,0 +1,62 @@
+"""Whether the program that makes the page of figures still works, and its page is short."""
+import os
+import re
+import subprocess
+import sys
+import tempfile
+import unittest
+
+import support
+from build import bench_plans, large_plans
+from build.figures import proofs
+from build.large_plans import LARGE_PLANS
+from grammar import read
+
+MOST_WORDS = 300
+
+
+class Page(unittest.TestCase):
+    """The page that `make figures` writes."""
+
+    def test_small_files(self) -> None:
+        """It has a row for each plan, and few words beside its tables."""
+        with tempfile.TemporaryDirectory(prefix="wire-up-") as room:
+            path = os.path.join(room, "figures.md")
+            words = [sys.executable, "-m", "build.figures", support.program(), "--small"]
+            ran = subprocess.run(
+                [*words, "--output", path],
+                cwd=support.TOP,
+                stdin=subprocess.DEVNULL,
+                capture_output=True,
+                text=True,
+                check=False,
+            )
+            self.assertEqual(0, ran.returncode, ran.stderr)
+            with open(path, encoding="utf-8") as it:
+                text = it.read()
+        for name in [it.name for it in bench_plans.KINDS] + [it.name for it in LARGE_PLANS]:
+            with self.subTest(name):
+                self.assertIn(f"\n| {name}: ", text)
+        prose = re.sub(r"(?m)^\|.*\n", "", text)
+        self.assertLessEqual(len(prose.split()), MOST_WORDS)
+
+    def test_proofs(self) -> None:
+        """The proofs of the program are told, and those that take longest."""
+        self.assertIn("| the program and all below it | ", proofs())
+
+
+class LargePlans(unittest.TestCase):
+    """The plans of whole machines, made small."""
+
+    def test_read(self) -> None:
+        """The second reader reads each of them."""
+        for plan in LARGE_PLANS:
+            with self.subTest(plan.name):
+                small = large_plans.LargePlan(plan.name, plan.what, 32, plan.of_node, plan.script)
+                scripts = read("".join(small.pieces()).encode())
+                self.assertEqual(32, len(scripts.procs))
+                self.assertTrue(all(it.calls for it in scripts.procs))
+
+
+if __name__ == "__main__":
+    unittest.main()

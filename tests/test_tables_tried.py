@@ -1,0 +1,85 @@
+"""Runs plans of the tables in rows/ by a build without proofs, which has run-time checks in their
+place, and compares what comes of it with what stands there.
+
+WIRE_UP_TRIED names the tables, such as `fences names`, or is `all`:
+
+    WIRE_UP_TRIED=fences python3 -m unittest tests.test_tables_tried
+
+It runs `check`, `replay`, `why`, `witness` and `migrate` of the plans that are no larger than a few
+lines. Their statuses and what they write are compared, and not their lines of fault. All tables
+take ten minutes.
+"""
+import os
+import re
+import tempfile
+import unittest
+
+import support
+from build.trying import run_cases
+from row_runs import NAMES, Ended, RowRun, RowRuns, rows_of
+from rows import Large, Row
+from running import written
+
+COMMANDS = {"check", "replay", "why", "witness", "migrate"}
+# How a case ended, and with which status.
+CASE = re.compile(r"^case=(\S+) run=(\S+) (?:status=(\d+))?(.*)$", re.M)
+DIFFERS = "output=differs"
+
+
+class Tried(RowRuns):
+    """The runs of rows that read one small file."""
+
+    def run(self, words: list[str], plan: bytes) -> Ended:
+        """Nothing can be run before all is known."""
+        return Ended()
+
+    def runs_of(self, row: Row) -> list[RowRun]:
+        if isinstance(row, Large):
+            return []
+        return [it for it in super().runs_of(row) if it.words[0] in COMMANDS and it.plan]
+
+
+def tables() -> list[str]:
+    """The tables that are asked for."""
+    names = os.environ.get("WIRE_UP_TRIED", "").split()
+    if not names:
+        raise unittest.SkipTest("it takes long: WIRE_UP_TRIED names the tables to run")
+    return NAMES if names == ["all"] else names
+
+
+class TriedTables(unittest.TestCase):
+    """The tables that are asked for."""
+
+    def runs(self, room: str) -> dict[str, RowRun]:
+        """All runs, by what they are called."""
+        found = {}
+        for table in tables():
+            for row in rows_of(table):
+                for number, run in enumerate(Tried(room).runs_of(row)):
+                    words = " ".join(run.words)
+                    found[f"{table}: {row.name}: {words}, {number}"] = run
+        return found
+
+    def test_rows(self) -> None:
+        with tempfile.TemporaryDirectory() as other, tempfile.TemporaryDirectory() as room:
+            runs = self.runs(other)
+            for number, run in enumerate(runs.values()):
+                written(room, f"run{number}", run.plan)
+                words = "".join(f"{it}\n" for it in run.words)
+                written(room, f"run{number}.args", words.encode())
+                written(room, f"run{number}.stdout", run.ended.wrote)
+            ran = run_cases(room, support.TOP)
+        ends = {it[1]: it for it in CASE.finditer(ran.stdout + ran.stderr)}
+        self.assertTrue(ends, f"{ran.stdout}{ran.stderr}")
+        for number, (name, run) in enumerate(runs.items()):
+            with self.subTest(name):
+                end = ends.get(f"run{number}")
+                self.assertIsNotNone(end, "did not run")
+                if end:
+                    wanted = "ended", str(run.ended.status)
+                    self.assertEqual(wanted, (end[2], end[3]), end[4])
+                    self.assertNotIn(DIFFERS, end[4])
+
+
+if __name__ == "__main__":
+    unittest.main()
