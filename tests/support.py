@@ -1,8 +1,12 @@
 """What all tests share: where the repository is, and the built program."""
 import os
+import sys
 import unittest
 
 TOP = os.path.dirname(os.path.dirname(os.path.abspath(__file__)))
+# Where the package of the Python programs is: a test that imports this module can import it.
+sys.path.insert(0, os.path.join(TOP, "python"))
+sys.dont_write_bytecode = True
 
 
 def program() -> str:
