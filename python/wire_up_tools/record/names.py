@@ -3,7 +3,7 @@ from collections import Counter
 from collections.abc import Iterable
 from dataclasses import dataclass
 
-from wire_up_tools.record.calls import Action, Get, Lookup, Publish, Put, Unpublish
+from wire_up_tools.record.calls import MPI_CALLS, Action, Get, Lookup, Publish, Put, Unpublish
 from wire_up_tools.record.processes import Process, Processes
 from wire_up_tools.words import Words, is_plain
 
@@ -59,8 +59,9 @@ def find_names(processes: Processes) -> Names:
     names: set[bytes] = set()
     for process in processes.all:
         for call in process.recording.calls:
-            keys.update(keys_of(call.action))
-            names.update(names_of(call.action))
+            if not isinstance(call.action, MPI_CALLS):
+                keys.update(keys_of(call.action))
+                names.update(names_of(call.action))
     words = find_words(names)
     return Names(find_words(keys), words, find_mark(MPI, words), find_mark(FENCE, words))
 
