@@ -74,24 +74,24 @@ def in_world(rank: int, size: int) -> Tape:
     return Tape(rank).say(f"world {rank} {size}").say(f"comm 1 0 w0 0-{size - 1}")
 
 
-def world_of(size: int) -> list[Tape]:
+def make_world(size: int) -> list[Tape]:
     """The tapes of all processes of such a world."""
     return [in_world(rank, size) for rank in range(size)]
 
 
-def plan_of(tapes: Recordings, choices: Choices = Choices()) -> Plan:
+def plan_tapes(tapes: Recordings, choices: Choices = Choices()) -> Plan:
     """The plan of recordings."""
     texts = [it if isinstance(it, bytes) else it.text() for it in tapes]
     read = [read_recording(f"{n}.recording", text) for n, text in enumerate(texts)]
     return make_plan(read, choices)
 
 
-def text_of(tapes: Recordings, choices: Choices = Choices()) -> str:
+def write_plan_of(tapes: Recordings, choices: Choices = Choices()) -> str:
     """The text of the plan of recordings."""
-    return write_plan(plan_of(tapes, choices))
+    return write_plan(plan_tapes(tapes, choices))
 
 
-def scripts_of(plan: str) -> list[list[str]]:
+def read_scripts(plan: str) -> list[list[str]]:
     """The lines of each process of a plan, without comments."""
     found: list[list[str]] = []
     for line in plan.splitlines():

@@ -14,7 +14,7 @@ TOO_LONG, TOO_MANY, BAD_ORDER = "TooLong", "TooMany", "BadOrder"
 VERSIONS = ((1, VERSION_1), (2, VERSION_2))
 
 
-def plan_of(
+def make_plan(
     version: int = 1, nodes: int = 1, jobs: int = 1, ranks: int = 1, calls: str = ""
 ) -> bytes:
     """A plan with so many of each; the last rank makes the calls."""
@@ -31,13 +31,13 @@ def pad(plan: bytes, count: int) -> bytes:
 
 # Plans with so much of what a field of the limits says, and little else: by a version and a count.
 PLANS: dict[str, Callable[[int, int], bytes]] = {
-    "nodes": lambda version, count: plan_of(version, nodes=count),
-    "jobs": lambda version, count: plan_of(version, jobs=count),
-    "processes": lambda version, count: plan_of(version, ranks=count),
-    "calls": lambda version, count: plan_of(version, calls="commit\n" * count),
-    "plan_bytes": lambda version, count: pad(plan_of(version), count),
-    "name_bytes": lambda version, count: plan_of(version, calls=f"get j0:0 {'k' * count}\n"),
-    "value_bytes": lambda version, count: plan_of(version, calls=f"put local k {'v' * count}\n"),
+    "nodes": lambda version, count: make_plan(version, nodes=count),
+    "jobs": lambda version, count: make_plan(version, jobs=count),
+    "processes": lambda version, count: make_plan(version, ranks=count),
+    "calls": lambda version, count: make_plan(version, calls="commit\n" * count),
+    "plan_bytes": lambda version, count: pad(make_plan(version), count),
+    "name_bytes": lambda version, count: make_plan(version, calls=f"get j0:0 {'k' * count}\n"),
+    "value_bytes": lambda version, count: make_plan(version, calls=f"put local k {'v' * count}\n"),
 }
 
 
@@ -87,7 +87,7 @@ class LimitsTest(unittest.TestCase):
         with tempfile.NamedTemporaryFile() as to:
             to.write(b"#" * count)
             to.flush()
-            return self.checker.ask("follow", to.name, plan=plan_of(version))
+            return self.checker.ask("follow", to.name, plan=make_plan(version))
 
     def test_orders(self) -> None:
         for version, of in VERSIONS:

@@ -4,7 +4,7 @@ from collections.abc import Sequence
 from dataclasses import dataclass
 from typing import Optional
 
-from tapes import Recorded, Tape, scripts_of, text_of
+from tapes import Recorded, Tape, read_scripts, write_plan_of
 
 PUT, COMMIT, FENCE = ("put global k text:v", "0"), ("commit", "0"), ("fence blocks all -", "0")
 COLLECTS = ("fence nb job:* pmix.collect=number:1:1", "0")
@@ -49,8 +49,8 @@ class CallsTest(unittest.TestCase):
                 for tape, calls in zip(tapes, (case.calls, case.more_calls)):
                     for what, end in calls:
                         tape.call(what, end)
-                plan = text_of(tapes)
-                self.assertEqual(scripts_of(plan), [[*case.lines], [*case.more_lines]])
+                plan = write_plan_of(tapes)
+                self.assertEqual(read_scripts(plan), [[*case.lines], [*case.more_lines]])
                 self.assertIn(case.comment or "", plan)
 
     def test_values(self) -> None:

@@ -14,10 +14,10 @@ from tapes import (
     ask_program,
     read_file,
     run_recorder,
-    scripts_of,
+    read_scripts,
     write_file,
 )
-from wire_up_tools.record.command_line import Parser, say_option
+from wire_up_tools.record.command_line import OPTIONS
 
 
 class RoomTest(unittest.TestCase):
@@ -48,8 +48,8 @@ class CommandLineTest(RoomTest):
         ran = run_recorder("--help")
         self.assertEqual((ran.returncode, ran.stderr), (0, ""))
         self.assertEqual(ran.stdout, run_recorder("-h").stdout)
-        for option in Parser().options:
-            self.assertIn(f"\n  {say_option(option)}  ", ran.stdout)
+        for option in OPTIONS:
+            self.assertIn(f"\n  {option.written}  ", ran.stdout)
         self.assertNotRegex(ran.stdout, r"(?m) $")
 
     def test_what_is_missing(self) -> None:
@@ -155,7 +155,7 @@ class WhereTest(RoomTest):
         ran = run_recorder("-o", self.plan, "--from", os.path.join(SHIPPED, "wild1"))
         self.assertEqual(ran.returncode, 0)
         source = read_file(os.path.join(PROGRAMS, "cases.c")).splitlines()
-        scripts = scripts_of(read_file(self.plan))
+        scripts = read_scripts(read_file(self.plan))
         calls = (
             ("app:0", "lookup first", "look_up", "MPI_Lookup_name"),
             ("app:1", "publish first port", "publish", "MPI_Publish_name"),
@@ -169,7 +169,7 @@ class WhereTest(RoomTest):
     def test_a_program_of_python(self) -> None:
         """A call of mpi4py comes from its line of Python."""
         run_recorder("-o", self.plan, "--from", os.path.join(SHIPPED, "mpi4py"))
-        number = scripts_of(read_file(self.plan))[0].index("publish told port") + 1
+        number = read_scripts(read_file(self.plan))[0].index("publish told port") + 1
         source = read_file(os.path.join(PROGRAMS, "cases.py")).splitlines()
         line = 1 + next(n for n, text in enumerate(source) if 'Publish_name("told"' in text)
         self.assertEqual(self.find("app:0", number), f"<module> (cases.py:{line})\n")
@@ -192,7 +192,7 @@ class WhereTest(RoomTest):
     def test_the_finding_names_these_calls(self) -> None:
         program = support.program()
         run_recorder("-o", self.plan, "--from", os.path.join(SHIPPED, "wild1"))
-        first, second = scripts_of(read_file(self.plan))[:2]
+        first, second = read_scripts(read_file(self.plan))[:2]
         calls = first.index("lookup first") + 1, second.index("publish first port") + 1
         said = f"race app:0 {calls[0]} app:1 {calls[1]} name first"
         self.assertEqual(ask_program(program, "check", self.plan).stdout.splitlines()[0], said)

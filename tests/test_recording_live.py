@@ -18,7 +18,7 @@ from typing import Optional, Union
 
 from live import ENVIRONMENT, LiveTest, mpirun
 from recorded import CASES, OTHERS, Program, why_other_findings, why_wrong
-from tapes import COMMAND, PATIENCE, PROGRAMS, ask_program, read_file, run_recorder, scripts_of
+from tapes import COMMAND, PATIENCE, PROGRAMS, ask_program, read_file, run_recorder, read_scripts
 from wire_up_tools.limits import VERSION_1
 from wire_up_tools.record.calls import Collective, CollectiveEnd, Sources
 from wire_up_tools.record.recordings import read_recordings
@@ -131,7 +131,7 @@ class ProgramsTest(LiveTest):
         self.assertEqual(ran.returncode, 0, ran.stderr[:300])
         if self.program:
             self.assertIsNone(why_wrong(self.program, self.plan, self.answers, 0))
-        number = scripts_of(read_file(self.plan))[0].index("publish told port") + 1
+        number = read_scripts(read_file(self.plan))[0].index("publish told port") + 1
         source = read_file(path).splitlines()
         line = 1 + next(n for n, text in enumerate(source) if 'Publish_name("told"' in text)
         found = run_recorder("--where", "app:0", str(number), self.plan).stdout
@@ -160,7 +160,7 @@ class CallsTest(LiveTest):
         self.assertNotIn(ran.returncode, (0, 125))
         self.assertIn("the command ended", ran.stderr)
         plan = read_file(self.plan)
-        scripts = scripts_of(plan)
+        scripts = read_scripts(plan)
         self.assertIn("PMIx_Finalize", plan)
         self.assertEqual(len(scripts), 2)
         self.assertEqual((scripts[1][-1], scripts[1].count("commit")), ("fence all", 2))
@@ -192,7 +192,7 @@ class CasesTest(LiveTest):
             self.skipTest("there is no addr2line")
         self.hold("wild1", CASES["wild1"])
         source = read_file(os.path.join(PROGRAMS, "cases.c")).splitlines()
-        number = scripts_of(read_file(self.plan))[0].index("lookup first") + 1
+        number = read_scripts(read_file(self.plan))[0].index("lookup first") + 1
         found = run_recorder("--where", "app:0", str(number), self.plan).stdout
         read = re.fullmatch(r"look_up \(cases\.c:(\d+)\)\n", found)
         assert read, found

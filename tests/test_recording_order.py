@@ -3,7 +3,16 @@ import unittest
 from collections.abc import Sequence
 from typing import Optional
 
-from tapes import Recorded, Recordings, Scripts, Tape, in_world, scripts_of, text_of, world_of
+from tapes import (
+    Recorded,
+    Recordings,
+    Scripts,
+    Tape,
+    in_world,
+    make_world,
+    read_scripts,
+    write_plan_of,
+)
 from wire_up_tools.record.planning import Choices
 
 MARK = "publish blocks m=text:x -"
@@ -18,8 +27,8 @@ class OrderTest(unittest.TestCase):
 
     def become(self, tapes: Recordings, scripts: Scripts, comment: Optional[str] = None) -> None:
         """Tests that tapes become the scripts of a plan, with a comment."""
-        plan = text_of(tapes)
-        self.assertEqual(scripts_of(plan), [[*it] for it in scripts])
+        plan = write_plan_of(tapes)
+        self.assertEqual(read_scripts(plan), [[*it] for it in scripts])
         self.assertIn(comment or "", plan)
 
 
@@ -88,7 +97,7 @@ class CollectivesTest(OrderTest):
 
     def test_a_barrier_among_fences(self) -> None:
         """A barrier beside a fence over the same processes, in the same order."""
-        tapes = world_of(2)
+        tapes = make_world(2)
         for tape in tapes:
             tape.call(f"fence blocks all {COLLECTS}").call(*BARRIER).call("fence nb all -")
         scripts = [["fence all collect", "fence all", "fence all"]] * 2
@@ -96,7 +105,7 @@ class CollectivesTest(OrderTest):
 
     def test_a_barrier_and_a_fence_in_two_orders(self) -> None:
         """By a fence that doesn't block: it is names."""
-        tapes = world_of(2)
+        tapes = make_world(2)
         fence = tapes[0].begin("fence nb all -")
         tapes[0].call(*BARRIER).end(fence)
         tapes[1].call(*BARRIER).call("fence blocks all -")
@@ -106,7 +115,7 @@ class CollectivesTest(OrderTest):
 
     def test_a_call_in_a_barrier(self) -> None:
         """It isn't before the barrier, nor after."""
-        tapes = world_of(2)
+        tapes = make_world(2)
         barrier = tapes[0].begin("collective barrier 1")
         tapes[0].call(MARK).end(barrier, "0 all")
         tapes[1].call(*BARRIER)
@@ -116,7 +125,7 @@ class CollectivesTest(OrderTest):
 
     def test_a_get_in_a_barrier(self) -> None:
         """A get that waits is no such call: the barrier is a fence before it."""
-        tapes = world_of(2)
+        tapes = make_world(2)
         barrier = tapes[0].begin("collective barrier 1")
         tapes[0].call("get blocks job:1 :k -", "0 text:v").end(barrier, "0 all")
         tapes[1].call("put global k text:v").call("commit").call(*BARRIER)
@@ -125,7 +134,7 @@ class CollectivesTest(OrderTest):
 
     def test_a_broadcast(self) -> None:
         """An allreduce of nothing orders nothing, and a broadcast only the root."""
-        tapes = world_of(2)
+        tapes = make_world(2)
         for rank, tape in enumerate(tapes):
             tape.call("collective allreduce 1", "0 none")
             tape.call("collective bcast 1", f"0 {'none' if rank == 0 else 0}")
@@ -134,7 +143,7 @@ class CollectivesTest(OrderTest):
     def test_a_barrier_beside_a_publish(self) -> None:
         """A publish that doesn't block, and a barrier before its end: the plan says that the
         barrier waited for it, and tells so."""
-        tapes = world_of(2)
+        tapes = make_world(2)
         publish = tapes[0].begin("publish nb m=text:x -")
         tapes[0].call(*BARRIER).end(publish)
         tapes[1].call(*BARRIER)
@@ -142,14 +151,14 @@ class CollectivesTest(OrderTest):
         self.become(tapes, scripts, "1 calls made while one")
 
     def test_collectives_of_two_kinds(self) -> None:
-        tapes = world_of(2)
+        tapes = make_world(2)
         tapes[0].call(*BARRIER).call(*BARRIER)
         tapes[1].call(*BARRIER).call("collective bcast 1", "0 none")
         self.become(tapes, [["fence all"], ["fence all"]], "2 collectives that can't be matched")
 
     def test_a_barrier_of_some(self) -> None:
         """A barrier of a communicator of some, and one in which not all came."""
-        tapes = world_of(3)
+        tapes = make_world(3)
         for rank in (0, 2):
             tapes[rank].say("comm 2 1 c1 2,0").call("collective barrier 2", "0 all")
         tapes[0].begin("collective barrier 1")
@@ -173,7 +182,7 @@ class MessagesTest(OrderTest):
 
     def test_two_tags(self) -> None:
         """A message overtakes nothing, but messages of two tags do."""
-        tapes = world_of(2)
+        tapes = make_world(2)
         tapes[0].begin("send 1 1 5 4")
         tapes[0].call(MARK)
         tapes[0].begin("send 1 1 6 4")
@@ -183,7 +192,7 @@ class MessagesTest(OrderTest):
 
     def test_a_synchronous_send(self) -> None:
         """It ends after its receive has begun."""
-        tapes = world_of(2)
+        tapes = make_world(2)
         tapes[0].call("send 1 1 0 4")
         tapes[1].call("receive 1", "0 0 0 4")
         begun = "mpi.0.1.1.begun"
@@ -192,32 +201,32 @@ class MessagesTest(OrderTest):
 
     def test_a_synchronous_send_to_a_receive_that_is_not_recorded(self) -> None:
         """The one that is there may be of the next message, and had perhaps not begun."""
-        tapes = world_of(2)
+        tapes = make_world(2)
         tapes[0].call("send 1 1 0 4").begin("send 1 1 0 4")
         tapes[1].say("other MPI_Mrecv").call("receive 1 0 0", "0 0 0 4")
         self.become(tapes, [[SENT.format(1)], [WAITS.format(1)]], "1 calls of MPI_Mrecv")
 
     def test_a_synchronous_send_and_a_receive_that_was_cancelled(self) -> None:
         """That one had perhaps got the message in its place, and had begun before."""
-        tapes = world_of(2)
+        tapes = make_world(2)
         tapes[0].call("send 1 1 0 4")
         tapes[1].call("receive 1 any 0", "1").call("receive 1 0 0", "0 0 0 4 wait")
         self.become(tapes, [[SENT.format(1)], [WAITS.format(1)]])
 
     def test_a_message_of_another_size(self) -> None:
-        tapes = world_of(2)
+        tapes = make_world(2)
         tapes[0].begin("send 1 1 0 4")
         tapes[1].call("receive 1", "0 0 0 8")
         self.become(tapes, [[], []], "1 messages that can't be matched")
 
     def test_more_receives_than_sends(self) -> None:
-        tapes = world_of(2)
+        tapes = make_world(2)
         tapes[0].begin("send 1 1 0 4")
         tapes[1].call("receive 1", "0 0 0 4").call("receive 1", "0 0 0 4")
         self.become(tapes, [[], []], "2 messages that can't be matched")
 
     def test_sends_of_two_threads(self) -> None:
-        tapes = world_of(2)
+        tapes = make_world(2)
         for thread in (1, 2):
             tapes[0].thread = thread
             tapes[0].begin("send 1 1 0 4")
@@ -225,7 +234,7 @@ class MessagesTest(OrderTest):
         self.become(tapes, [[], []], "1 messages that can't be matched")
 
     def test_a_name_that_looks_like_ours(self) -> None:
-        tapes = world_of(2)
+        tapes = make_world(2)
         tapes[0].call("publish blocks mpi.0.1.1=text:x -").begin("send 1 1 0 4")
         tapes[1].call("receive 1", "0 0 0 4")
         first = ["publish mpi.0.1.1 x", "publish mpi_.0.1.1 sent"]
@@ -237,7 +246,7 @@ class MessagesTest(OrderTest):
 
     def test_a_poll(self) -> None:
         """The order of a poll that succeeded is taken, and counted."""
-        tapes = world_of(2)
+        tapes = make_world(2)
         tapes[0].begin("send 1 1 0 4")
         tapes[1].call("receive 1 0 0", "0 0 0 4 poll")
         comment = "# 1 ends of requests that another run may have found open"
@@ -248,13 +257,13 @@ class MessagesTest(OrderTest):
         ordered = [[SENT.format(1), "fence all"], [WAITS.format(1), "fence all"]]
         for how, scripts in (("poll", [[], []]), ("some", [[], []]), ("wait", ordered)):
             with self.subTest(how):
-                tapes = world_of(2)
+                tapes = make_world(2)
                 tapes[0].begin("send 1 1 0 4")
                 tapes[1].call("receive 1 0 0", f"0 0 0 4 {how}")
                 for tape in tapes:
                     tape.call("collective ibarrier 1", f"0 all {how}")
-                plan = text_of(tapes, Choices(is_strict=True))
-                self.assertEqual(scripts_of(plan), scripts)
+                plan = write_plan_of(tapes, Choices(is_strict=True))
+                self.assertEqual(read_scripts(plan), scripts)
 
 
 class FreeReceivesTest(OrderTest):
@@ -268,7 +277,7 @@ class FreeReceivesTest(OrderTest):
 
     def send_two(self, calls: Sequence[Recorded]) -> list[Tape]:
         """The tapes of ranks 1 and 2 that send to 0, which makes some calls."""
-        tapes = world_of(3)
+        tapes = make_world(3)
         for tape in tapes[1:]:
             tape.begin("send 1 0 0 4")
         for what, end in calls:
@@ -321,7 +330,7 @@ class ShorteningTest(unittest.TestCase):
 
     def test_many_messages(self) -> None:
         """Those that order nothing go, and the rest stays in order."""
-        tapes = world_of(2)
+        tapes = make_world(2)
         tapes[0].call("publish blocks m0=text:x -")
         for _ in range(10000):
             tapes[0].begin("send 1 1 0 4")
@@ -329,15 +338,15 @@ class ShorteningTest(unittest.TestCase):
         tapes[1].call("lookup blocks :m0 -", "0 m0=text:x")
         for tape in tapes:
             tape.call(*BARRIER)
-        plan = text_of(tapes)
+        plan = write_plan_of(tapes)
         first, second = ["publish m0 x", SENT.format(1)], [WAITS.format(1), "lookup m0"]
-        self.assertEqual(scripts_of(plan), [first, second])
+        self.assertEqual(read_scripts(plan), [first, second])
         self.assertIn("lines of MPI's order", plan)
 
     def test_many_gets(self) -> None:
         """Those of what is surely there go, and those alone: not one that waits for something, one
         that doesn't wait, or one of a key that is put twice and races with nothing."""
-        tapes = world_of(3)
+        tapes = make_world(3)
         for tape in tapes:
             tape.call("put global k text:v").call("commit").call(f"fence blocks all {COLLECTS}")
         tapes[0].call("put global late text:v").call("commit")
@@ -345,10 +354,10 @@ class ShorteningTest(unittest.TestCase):
             tapes[1].call("get blocks job:0 :late -", "0 text:v")
             tapes[1].call("get blocks job:2 :k -", "0 text:v")
         tapes[2].call("get blocks job:0 :late pmix.immediate=number:1:1", "-46")
-        plan = text_of(tapes)
+        plan = write_plan_of(tapes)
         begins = ["put global k v", "commit", "fence all collect"]
         wanted = [["put global late v", "commit"], ["get app:0 late"], ["get-now app:0 late"]]
-        self.assertEqual(scripts_of(plan), [begins + it for it in wanted])
+        self.assertEqual(read_scripts(plan), [begins + it for it in wanted])
         self.assertIn("17999 gets, since they can't change a finding", plan)
 
 

@@ -6,7 +6,7 @@ from collections.abc import Callable, Iterator, Mapping, Sequence
 from dataclasses import replace
 from typing import NamedTuple, Optional, Union
 
-from tapes import Scripts, Tape, plan_of, scripts_of, text_of, world_of
+from tapes import Scripts, Tape, plan_tapes, read_scripts, write_plan_of, make_world
 from wire_up_tools.record.shortening import shorten
 from wire_up_tools.record.writing import write_plan
 
@@ -26,7 +26,7 @@ Before = Mapping[Event, set[Event]]
 Fence = tuple[frozenset[int], int]
 
 
-def members_of(word: str, count: int) -> frozenset[int]:
+def read_members(word: str, count: int) -> frozenset[int]:
     """The ranks of a set, in a job of so many."""
     if word == "all":
         return frozenset(range(count))
@@ -57,7 +57,7 @@ class Sources:
                 assert word not in self.published, word
                 self.published[word] = Event(process, n)
             elif verb == "fence":
-                members = members_of(word, len(self.scripts))
+                members = read_members(word, len(self.scripts))
                 count[members] = count.get(members, 0) + 1
                 fence = members, count[members]
                 self.fences[Event(process, n)] = fence
@@ -102,7 +102,7 @@ def find_marks(scripts: Scripts) -> dict[str, Event]:
     }
 
 
-def marks_before(scripts: Scripts) -> dict[str, set[str]]:
+def find_marks_before(scripts: Scripts) -> dict[str, set[str]]:
     """For each mark of scripts the marks that come before it."""
     marks, before = find_marks(scripts), find_before(scripts)
     return {
@@ -137,7 +137,7 @@ class World:
     def __init__(self, seed: int) -> None:
         self.random = random.Random(seed)
         self.size = self.random.randint(2, 4)
-        self.tapes = world_of(self.size)
+        self.tapes = make_world(self.size)
         self.known: list[set[str]] = [set() for _ in range(self.size)]
         self.marks: dict[str, set[str]] = {}
         self.communicators = self.make_communicators()
@@ -422,7 +422,7 @@ class Free:
 
     def tapes(self) -> list[Tape]:
         """The recordings of one of its runs."""
-        found = world_of(self.size)
+        found = make_world(self.size)
         for step in self.random.choice(self.complete):
             self.record(found, step)
         return found
@@ -449,20 +449,20 @@ class RandomRunsTest(unittest.TestCase):
 
     def hold(self, world: World, plan: str) -> None:
         """Tests that a plan orders the marks of a run just as the messages did."""
-        self.assertEqual(marks_before(scripts_of(plan)), world.marks)
+        self.assertEqual(find_marks_before(read_scripts(plan)), world.marks)
 
     def test_random_runs(self) -> None:
         for seed in range(RANDOM_PROGRAMS):
             with self.subTest(seed=seed):
                 world = World(seed)
-                self.hold(world, text_of(world.tapes))
+                self.hold(world, write_plan_of(world.tapes))
 
     def test_random_runs_that_are_shortened(self) -> None:
         """Lines that are left out order nothing."""
         for seed in range(RANDOM_PROGRAMS):
             with self.subTest(seed=seed):
                 world = World(seed)
-                plan = plan_of(world.tapes)
+                plan = plan_tapes(world.tapes)
                 self.hold(world, write_plan(replace(plan, draft=shorten(plan.draft).draft)))
 
     def test_free_programs(self) -> None:
@@ -475,7 +475,7 @@ class RandomRunsTest(unittest.TestCase):
                 continue
             count += 1
             with self.subTest(seed=seed):
-                found = marks_before(scripts_of(text_of(world.tapes())))
+                found = find_marks_before(read_scripts(write_plan_of(world.tapes())))
                 more = {name: them - world.always[name] for name, them in found.items()}
                 self.assertEqual({name: them for name, them in more.items() if them}, {})
         self.assertGreater(count, FREE_PROGRAMS // 3, "too few programs have a run that ends")

@@ -4,7 +4,7 @@ import tempfile
 import unittest
 from collections.abc import Mapping, Sequence
 
-from tapes import Tape, run_recorder, world_of, write_file
+from tapes import Tape, run_recorder, make_world, write_file
 
 FINE = Tape(0).call("put global k text:v").text()
 RANKS = Tape(0).text(), Tape(1).text()
@@ -32,7 +32,7 @@ def crossed_by_a_get() -> dict[str, bytes]:
 
 def crossed_by_a_barrier() -> dict[str, bytes]:
     """Recordings of a fence that doesn't block, and of a barrier in another order."""
-    first, second = world_of(2)
+    first, second = make_world(2)
     fence = first.begin(f"fence nb all {COLLECTS}")
     first.call("collective barrier 1", "0 all").end(fence)
     second.call("collective barrier 1", "0 all").call(f"fence blocks all {COLLECTS}")
@@ -91,7 +91,7 @@ class RefusedRecordingsTest(unittest.TestCase):
         first, second = RANKS
         self.refuse({"a": first, "b": first}, "is rank 0 of job once more")
         self.refuse_one(second, "job has 2 ranks, and there is no recording of 1 of them: 0")
-        world = world_of(4)[0].text()
+        world = make_world(4)[0].text()
         self.refuse_one(world, "no recording of 3 of them: 1, 2, 3")
         fence = Tape(0).call("fence blocks job:0,job:2 -").text()
         self.refuse_one(fence, "no recording of 2 of them: 1, 2")

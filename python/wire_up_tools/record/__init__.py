@@ -3,18 +3,19 @@ called as a plan.
 
 The way of the data, each step a function from a value to a value:
 
-    recordings.py      files                -> recordings, with the calls of calls.py
-    processes.py       recordings           -> jobs, nodes and processes in the order of the plan
-    names.py           their calls          -> words for keys and names
-    pmix_calls.py      calls of PMIx        -> lines of the plan
-    pmix_fences.py     fences of PMIx       -> lines that meet
-    mpi_order.py       calls of MPI         -> lines that order processes as MPI does
-      communicators.py, messages.py, open_groups.py, collectives.py
-    draft.py           lines                -> a draft, and one run of it
-    shortening.py      a draft              -> a draft without what can't change a finding
-    planning.py        all of that, in this order
-    writing.py         a draft              -> the text of the plan, and how the calls ended
+    recordings.py, forms.py       files -> recordings, with the calls of calls.py
+    processes.py                  recordings -> jobs, nodes and processes in the plan's order
+    names.py                      their calls -> words for keys and names
+    pmix_calls.py, pmix_fences.py calls of PMIx -> lines of the plan
+    mpi_order.py                  calls of MPI -> the lines by which MPI orders processes
+    draft.py                      lines -> a draft of the plan, which can be run
+    shortening.py                 a draft -> a draft without what can't change a finding
+    writing.py                    a draft -> the text of the plan, and how its calls ended
 
-Around it: places.py finds the lines in the source, running.py runs a command, verdicts.py asks
-the checker, and command_line.py is what users call.
+planning.py calls them in this order, from recordings to the draft. What MPI's order is stands in
+mpi_order.py. It has messages matched by messages.py, collectives by collectives.py, and messages
+that could have come otherwise ordered by open_groups.py.
+
+command_line.py is what users call, and tasks.py what is done then: running.py runs a command,
+places.py finds lines in the source, and verdicts.py asks the checker.
 """

@@ -4,7 +4,7 @@ from dataclasses import dataclass
 
 from wire_up_tools.record.calls import Call, Collective, CollectiveEnd, Sources
 from wire_up_tools.record.communicators import Communicator, Communicators
-from wire_up_tools.record.draft import Notes
+from wire_up_tools.record.notes import Notes
 from wire_up_tools.record.meetings import JointCalls, Members, join_calls
 from wire_up_tools.record.processes import Process, Processes
 
@@ -19,7 +19,7 @@ class Collectives:
     notes: Notes
 
 
-def name_of(call: Call) -> str:
+def find_name(call: Call) -> str:
     """The name of a collective, such as `barrier`."""
     return call.action.name if isinstance(call.action, Collective) else ""
 
@@ -66,7 +66,7 @@ def join_alike(of: CallsByCommunicator, notes: Notes) -> list[JointCalls]:
     different ones."""
     found: list[JointCalls] = []
     for meeting in join_calls(of.members, of.calls):
-        if len({name_of(call) for call in meeting.calls.values()}) > 1:
+        if len({find_name(call) for call in meeting.calls.values()}) > 1:
             rest = sum(max(len(them) - len(found), 0) for them in of.calls.values())
             notes.left_out["collectives that can't be matched"] += rest
             break

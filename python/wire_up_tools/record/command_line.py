@@ -4,12 +4,21 @@ import re
 import signal
 import sys
 from collections.abc import Sequence
+from dataclasses import dataclass
 from types import FrameType
 from typing import NoReturn, Optional, Union
 
 from wire_up_tools.record.failures import NotRun, Refused, Stopped, Unusable
 from wire_up_tools.record.running import BY_SIGNAL, HANDED_ON
-from wire_up_tools.record.tasks import CallPlace, FromCommand, FromFiles, Output, Request, do, say
+from wire_up_tools.record.tasks import (
+    CommandRequest,
+    FilesRequest,
+    Output,
+    Request,
+    WhereRequest,
+    do,
+    say,
+)
 
 FAILED = 125
 
@@ -40,6 +49,47 @@ BELOW = (
 )
 
 
+@dataclass(frozen=True)
+class Option:
+    """An option: its name, the kind of word that it takes, if any, and what it means."""
+
+    name: str
+    word: str
+    meaning: str
+
+    @property
+    def written(self) -> str:
+        """The option with its word, as it is written."""
+        return f"{self.name} {self.word}".strip()
+
+
+OPTIONS = (
+    Option("-o", "PLAN", "where the plan goes; - is standard output"),
+    Option(
+        "--keep", "FOLDER", "keeps the recordings in this folder, which must be empty or new"
+    ),
+    Option(
+        "--answers",
+        "FILE",
+        "writes also how the calls ended, in the form of the report that `wire_up replay` writes",
+    ),
+    Option("--no-mpi", "", "leaves out what orders the processes by MPI"),
+    Option(
+        "--strict",
+        "",
+        "takes no order from a poll that succeeded, nor from MPI_Waitany and MPI_Waitsome: "
+        "another run may find otherwise",
+    ),
+    Option(
+        "--checker",
+        "FILE",
+        "the program `wire_up`, to say the verdicts with and without --strict where they differ; "
+        "else the one beside this\n"
+        "                   command or on the path is taken, if there is one",
+    ),
+)
+
+
 class Once(argparse.Action):
     """An option that takes a word, and stands once."""
 
@@ -62,71 +112,25 @@ class Parser(argparse.ArgumentParser):
         super().__init__(
             prog="wire_up-record", add_help=False, allow_abbrev=False, exit_on_error=False
         )
-        add = self.add_argument
-        self.options = [
-            add(
-                "-o",
-                dest="plan",
-                metavar="PLAN",
-                action=Once,
-                help="where the plan goes; - is standard output",
-            ),
-            add(
-                "--keep",
-                metavar="FOLDER",
-                action=Once,
-                help="keeps the recordings in this folder, which must be empty or new",
-            ),
-            add(
-                "--answers",
-                metavar="FILE",
-                action=Once,
-                help="writes also how the calls ended, in the form of the report that "
-                "`wire_up replay` writes",
-            ),
-            add(
-                "--no-mpi",
-                dest="with_mpi",
-                action="store_false",
-                help="leaves out what orders the processes by MPI",
-            ),
-            add(
-                "--strict",
-                action="store_true",
-                help="takes no order from a poll that succeeded, nor from MPI_Waitany and "
-                "MPI_Waitsome: another run may find otherwise",
-            ),
-            add(
-                "--checker",
-                metavar="FILE",
-                action=Once,
-                help="the program `wire_up`, to say the verdicts with and without --strict where "
-                "they differ; else the one beside this\n"
-                "command or on the path is taken, if there is one",
-            ),
-        ]
-        add("--from", dest="files", nargs=argparse.REMAINDER)
-        add("--where", nargs=argparse.REMAINDER)
-        add("command", nargs=argparse.REMAINDER)
+        for it in OPTIONS:
+            if it.word:
+                self.add_argument(it.name, metavar=it.word, action=Once, help=it.meaning)
+            else:
+                self.add_argument(it.name, action="store_true", help=it.meaning)
+        self.add_argument("--from", dest="files", nargs=argparse.REMAINDER)
+        self.add_argument("--where", nargs=argparse.REMAINDER)
+        self.add_argument("command", nargs=argparse.REMAINDER)
 
     def error(self, message: str) -> NoReturn:
+        """Raises Unusable in place of ending the program."""
         raise Unusable(message)
 
     def format_help(self) -> str:
         """All that the recorder says of itself."""
-        uses = (f"    wire_up-record {use:<32} {meaning}\n" for use, meaning in USES)
-        rows = [(say_option(it), str(it.help)) for it in self.options]
-        options = (
-            f"  {option:<16} {meaning.replace(chr(10), chr(10) + 19 * ' ')}\n"
-            for option, meaning in [*rows, ("-h, --help", "shows this")]
-        )
-        return f"{ABOUT}\n\n{''.join(uses)}\n{''.join(options)}\n{BELOW}"
-
-
-def say_option(option: argparse.Action) -> str:
-    """An option as the help says it."""
-    word = f" {option.metavar}" if isinstance(option.metavar, str) else ""
-    return f"{option.option_strings[0]}{word}"
+        uses = "".join(f"    wire_up-record {use:<32} {meaning}\n" for use, meaning in USES)
+        rows = [*((it.written, it.meaning) for it in OPTIONS), ("-h, --help", "shows this")]
+        options = "".join(f"  {option:<16} {meaning}\n" for option, meaning in rows)
+        return f"{ABOUT}\n\n{uses}\n{options}\n{BELOW}"
 
 
 def parse(words: Sequence[str]) -> argparse.Namespace:
@@ -144,37 +148,37 @@ def parse(words: Sequence[str]) -> argparse.Namespace:
     return found
 
 
-def read_call_place(words: Sequence[str]) -> CallPlace:
+def read_where_request(words: Sequence[str]) -> WhereRequest:
     """What `--where` asks for. Raises Unusable."""
     if len(words) != 3 or not re.fullmatch(r"[1-9]\d{0,8}", words[1]):
         raise Unusable("--where needs a process, the number of a call, and a plan")
-    return CallPlace(words[0], int(words[1]), words[2])
+    return WhereRequest(words[0], int(words[1]), words[2])
 
 
 def read_request(words: Sequence[str]) -> Request:
     """What a command line asks for. Raises Unusable."""
     found = parse(words)
     if found.where is not None:
-        return read_call_place(found.where)
+        return read_where_request(found.where)
     # What two hyphens end are the options.
     command = found.command[1:] if found.command[:1] == ["--"] else found.command
-    if found.plan is None:
+    if found.o is None:
         raise Unusable("-o PLAN says where the plan goes")
     output = Output(
-        plan=found.plan,
+        plan=found.o,
         answers=found.answers,
         kept=found.keep,
         checker=found.checker,
-        with_mpi=found.with_mpi,
+        with_mpi=not found.no_mpi,
         is_strict=found.strict,
     )
     if found.files is None:
         if not command:
             raise Unusable("which command?")
-        return FromCommand(output, command)
+        return CommandRequest(output, command)
     if not found.files or output.kept:
         raise Unusable("--keep goes with a command" if found.files else "which recordings?")
-    return FromFiles(output, found.files)
+    return FilesRequest(output, found.files)
 
 
 def stop(number: int, _: Optional[FrameType]) -> None:

@@ -6,7 +6,8 @@ from dataclasses import dataclass
 from wire_up_tools.record.processes import Process, Processes
 from wire_up_tools.record.recordings import RecordedCommunicator
 
-Members = tuple[Process, ...]
+# The processes of one side of a communicator, by their ranks.
+Side = tuple[Process, ...]
 # The processes by their ranks in MPI_COMM_WORLD.
 World = Mapping[int, Process]
 
@@ -22,8 +23,8 @@ class Communicator:
 
     identity: int
     rank: int
-    members: Members
-    peers: Members
+    members: Side
+    peers: Side
 
     @property
     def has_two_sides(self) -> bool:
@@ -63,12 +64,12 @@ def describe(
     process: Process,
     recorded: RecordedCommunicator,
     found: Mapping[int, Communicator],
-    sides: Sequence[Members],
+    sides: Sequence[Side],
 ) -> Hashable:
     """What is the same of a communicator in all its processes, but for which one it is of those
     that are alike: where it comes from and its members, or its two sides."""
     if len(sides) > 1:
-        return ("inter", *sorted(sides, key=lambda them: [it.place for it in them]))
+        return ("inter", *sorted(sides, key=lambda them: [it.index for it in them]))
     parent = found.get(recorded.parent)
     return (parent.identity if parent else process.namespace, recorded.which, *sides)
 

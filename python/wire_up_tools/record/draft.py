@@ -1,6 +1,6 @@
 """A draft of a plan: its lines, and which of them wait for which. And one run of it."""
 import enum
-from collections import Counter, deque
+from collections import deque
 from collections.abc import Iterator, Mapping, Sequence
 from dataclasses import dataclass, field
 from typing import Optional, Union
@@ -57,23 +57,6 @@ class Meeting:
     """Lines of different processes that are passed when all of them are reached."""
 
     lines: Sequence[Line]
-
-
-@dataclass(frozen=True)
-class Notes:
-    """What a plan can't say of the program, each with how often that was: what was left out;
-    what is more ordered than the program, so that a race can be missed; and what is written
-    otherwise."""
-
-    left_out: Counter[str] = field(default_factory=Counter)
-    more_ordered: Counter[str] = field(default_factory=Counter)
-    otherwise: Counter[str] = field(default_factory=Counter)
-
-    def add(self, others: "Notes") -> None:
-        """Takes other notes too, also those that say that something was never so."""
-        self.left_out.update(others.left_out)
-        self.more_ordered.update(others.more_ordered)
-        self.otherwise.update(others.otherwise)
 
 
 @dataclass(frozen=True)
@@ -136,7 +119,7 @@ class Draft:
 
 
 def make_draft(processes: Processes, parts: Sequence[Part]) -> Draft:
-    """The draft of parts. Lines at one place stand in the order of the parts."""
+    """The draft of parts. Lines with the same `at` stand in the order of the parts."""
     lines: dict[Process, list[Line]] = {it: [] for it in processes.all}
     awaited: dict[Line, Line] = {}
     meetings: dict[Line, Meeting] = {}
@@ -186,12 +169,12 @@ class Run:
 
     def steps(self) -> Iterator[tuple[Step, Line]]:
         """Each line as it is reached, and as it is passed."""
-        place = dict.fromkeys(self.draft.lines, 0)
+        done = dict.fromkeys(self.draft.lines, 0)
         while self.ready:
             process = self.ready.popleft()
             lines = self.draft.lines[process]
-            while place[process] < len(lines):
-                line = lines[place[process]]
+            while done[process] < len(lines):
+                line = lines[done[process]]
                 meeting = self.draft.meetings.get(line)
                 if line not in self.reached:
                     self.reach(line, meeting)
@@ -200,7 +183,7 @@ class Run:
                 if lacks:
                     self.waiting.setdefault(lacks, []).append(process)
                     break
-                place[process] += 1
+                done[process] += 1
                 yield Step.PASSED, line
 
 

@@ -5,7 +5,7 @@ from dataclasses import dataclass
 from wire_up_tools.record.draft import Draft, Line, Meeting
 from wire_up_tools.record.processes import Process
 
-# For each process a number that grows, such as a place in its recording.
+# For each process a number that grows, such as a line of its recording.
 Latest = Mapping[Process, int]
 
 

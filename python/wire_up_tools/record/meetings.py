@@ -37,10 +37,11 @@ def join_calls(
         yield JointCalls(members, {it: them[n] for it, them in calls.items() if n < len(them)})
 
 
-def is_any_inside(places: Sequence[int], call: Call) -> bool:
-    """Whether one of the places, which are in order, is between the two of a call."""
+def is_any_inside(bounds: Sequence[int], call: Call) -> bool:
+    """Whether one of the lines of a recording, which are in order, is between the two at which a
+    call begins and ends."""
     ends = call.ends or sys.maxsize
-    return bisect.bisect(places, call.begins) < bisect.bisect_left(places, ends)
+    return bisect.bisect(bounds, call.begins) < bisect.bisect_left(bounds, ends)
 
 
 @dataclass
@@ -53,15 +54,15 @@ class Sets:
     )
     words: dict[tuple[bytes, Members], str] = field(default_factory=dict)
 
-    def members_of(self, caller: Process, names: tuple[ProcessName, ...]) -> Optional[Members]:
+    def find_members(self, caller: Process, names: tuple[ProcessName, ...]) -> Optional[Members]:
         """The members of a fence; None where one isn't recorded, or the caller isn't one."""
         at = caller.namespace, names
         if at not in self.found:
-            self.found[at] = self.find_members(caller, names)
+            self.found[at] = self.read_names(caller, names)
         members = self.found[at]
         return members if members and caller in members else None
 
-    def find_members(self, caller: Process, names: Iterable[ProcessName]) -> Optional[Members]:
+    def read_names(self, caller: Process, names: Iterable[ProcessName]) -> Optional[Members]:
         """The processes that a fence names; None where one isn't recorded."""
         found: set[Process] = set()
         for name in names:
@@ -77,7 +78,7 @@ class Sets:
                 found.add(process)
         return frozenset(found)
 
-    def word_of(self, caller: Process, members: Members) -> str:
+    def find_word(self, caller: Process, members: Members) -> str:
         """A set as a word, as the caller of a fence says it."""
         at = caller.namespace, members
         if at not in self.words:

@@ -9,8 +9,8 @@ from dataclasses import dataclass, field
 from typing import NamedTuple, Optional, Union
 
 from wire_up_tools.record.calls import Call, MessageEnd, Probe, Receive, Send
-from wire_up_tools.record.communicators import Communicator, Communicators, Members
-from wire_up_tools.record.draft import Notes
+from wire_up_tools.record.communicators import Communicator, Communicators, Side
+from wire_up_tools.record.notes import Notes
 from wire_up_tools.record.processes import Process, Processes
 
 
@@ -143,7 +143,7 @@ class Joined:
 
     above: dict[Stream, Stream]
 
-    def first_of(self, stream: Stream) -> Stream:
+    def find_first(self, stream: Stream) -> Stream:
         """The stream that stands for the group of one."""
         above = self.above
         while above[stream] != stream:
@@ -153,7 +153,7 @@ class Joined:
     def join(self, streams: Sequence[Stream]) -> None:
         """Makes the groups of streams one."""
         for one, other in zip(streams, streams[1:]):
-            self.above[self.first_of(other)] = self.first_of(one)
+            self.above[self.find_first(other)] = self.find_first(one)
 
 
 @dataclass
@@ -161,7 +161,7 @@ class Inbox:
     """What one process is sent in one communicator, by streams, and what it asked for there, in
     the order in which that was posted. `peers` are the processes that its ranks are."""
 
-    peers: Members
+    peers: Side
     streams: dict[Stream, list[Call]] = field(default_factory=dict)
     asked: list[Union[Got, Missed]] = field(default_factory=list)
     probed: dict[Stream, Ask] = field(default_factory=dict)
@@ -203,7 +203,7 @@ class Inbox:
         for streams in fitting.values():
             joined.join(streams)
         key_of: dict[Ask, Union[Stream, Ask]] = {
-            ask: joined.first_of(streams[0]) if streams else ask
+            ask: joined.find_first(streams[0]) if streams else ask
             for ask, streams in fitting.items()
         }
         asked: dict[Union[Stream, Ask], list[Got]] = {}
@@ -213,7 +213,7 @@ class Inbox:
         lacking = {key_of[it.ask] for it in self.asked if isinstance(it, Missed)}
         sent: dict[Union[Stream, Ask], dict[Stream, list[Call]]] = {}
         for stream, sends in self.streams.items():
-            sent.setdefault(joined.first_of(stream), {})[stream] = sends
+            sent.setdefault(joined.find_first(stream), {})[stream] = sends
         return [Group(sent.get(key, {}), them, key in lacking) for key, them in asked.items()]
 
 
@@ -225,7 +225,7 @@ class Inboxes:
     found: dict[tuple[int, Process], Inbox] = field(default_factory=dict)
     notes: Notes = field(default_factory=Notes)
 
-    def find(self, communicator: int, target: Process, peers: Members) -> Inbox:
+    def find(self, communicator: int, target: Process, peers: Side) -> Inbox:
         """The inbox of a process in a communicator, whose ranks are these processes there."""
         inbox = self.found.get((communicator, target))
         if not inbox:

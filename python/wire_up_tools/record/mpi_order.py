@@ -24,13 +24,14 @@ from wire_up_tools.record.collectives import (
     find_awaited,
     find_collectives,
     find_communicator,
-    name_of,
+    find_name,
 )
 from wire_up_tools.record.communicators import Communicators, find_communicators
-from wire_up_tools.record.draft import Line, Notes, Part
+from wire_up_tools.record.draft import Line, Part
+from wire_up_tools.record.notes import Notes
 from wire_up_tools.record.meetings import MOST_NAMED, JointCalls, Sets, is_any_inside
 from wire_up_tools.record.messages import Group, Inbox, find_inboxes
-from wire_up_tools.record.names import MessageNames, Names
+from wire_up_tools.record.names import MessageNames, Spelling
 from wire_up_tools.record.open_groups import OpenGroup
 from wire_up_tools.record.pmix_fences import PmixFences
 from wire_up_tools.record.processes import Process, Processes
@@ -111,9 +112,9 @@ def order_group(
 # --- collectives ---
 
 
-class PlacesInside:
-    """Where in the recording of each process a call begins or ends that can race, or that orders
-    others: not a get that waits."""
+class Bounds:
+    """At which lines of the recording of each process calls begin and end that can race, or that
+    order others: not gets that wait."""
 
     def __init__(self, lines: Sequence[Line]) -> None:
         self.of_pmix: dict[Process, list[int]] = {}
@@ -123,12 +124,12 @@ class PlacesInside:
                 self.of_pmix.setdefault(line.process, []).append(line.at)
 
     def find(self, process: Process) -> Sequence[int]:
-        """The places of one process, in order."""
+        """The lines of the recording of one process, in order."""
         if process not in self.found:
             calls = process.recording.calls
             of_mpi = [it for it in calls if isinstance(it.action, MPI_CALLS)]
-            places = [it.begins for it in of_mpi] + [it.ends for it in of_mpi if it.ends]
-            self.found[process] = sorted(places + self.of_pmix.get(process, []))
+            bounds = [it.begins for it in of_mpi] + [it.ends for it in of_mpi if it.ends]
+            self.found[process] = sorted(bounds + self.of_pmix.get(process, []))
         return self.found[process]
 
     def has_any(self, meeting: JointCalls) -> bool:
@@ -162,7 +163,7 @@ class Waiting:
         owns = ((find_communicator(self.communicators, it, call), call) for it, call in ended)
         if any(count_awaited(own, call) != len(meeting.members) - 1 for own, call in owns):
             return False
-        return bool(ended) or name_of(next(iter(meeting.calls.values()))) in BARRIERS
+        return bool(ended) or find_name(next(iter(meeting.calls.values()))) in BARRIERS
 
 
 def sort_fences(process: Process, fences: Sequence[JointCalls]) -> Sequence[JointCalls]:
@@ -180,14 +181,14 @@ def is_one_order(members: Iterable[Process], fences: Sequence[JointCalls]) -> bo
 
 
 def choose_fences(
-    meetings: Sequence[JointCalls], waiting: Waiting, fences: PmixFences, places: PlacesInside
+    meetings: Sequence[JointCalls], waiting: Waiting, fences: PmixFences, bounds: Bounds
 ) -> set[JointCalls]:
     """Which collectives are fences: all their processes are there and wait for all, and call
     nothing in them that could race. Over each set the fences must come in the same order in all
     processes, those of PMIx among them; else none over this set is."""
     by_set: dict[frozenset[Process], list[JointCalls]] = {}
     for meeting in meetings:
-        if waiting.is_for_all(meeting) and not places.has_any(meeting):
+        if waiting.is_for_all(meeting) and not bounds.has_any(meeting):
             by_set.setdefault(meeting.members, []).append(meeting)
     return {
         it
@@ -204,11 +205,11 @@ def make_fence(meeting: JointCalls, sets: Sets) -> Part:
         Line(
             process=process,
             at=call.begins,
-            words=f"fence {sets.word_of(process, meeting.members)}",
+            words=f"fence {sets.find_word(process, meeting.members)}",
             call=call,
             value=None,
             order=None,
-            remark=f"# MPI: {name_of(call)}",
+            remark=f"# MPI: {find_name(call)}",
         )
         for process, call in meeting.calls.items()
     ])
@@ -250,16 +251,16 @@ def order_collectives(
 
 
 def order_by_mpi(
-    sets: Sets, names: Names, program: Sequence[Line], fences: PmixFences, is_strict: bool
+    sets: Sets, spelling: Spelling, program: Sequence[Line], fences: PmixFences, is_strict: bool
 ) -> MpiOrder:
     """The order that MPI gives to the processes whose calls of PMIx are the lines of `program`,
     fences among them."""
     processes = sets.processes
-    order = MpiOrder(MessageNames(names.mpi_mark))
+    order = MpiOrder(MessageNames(spelling.mpi_mark))
     communicators = find_communicators(processes)
     order_messages(processes, communicators, order, is_strict)
     collectives = find_collectives(processes, communicators)
     waiting = Waiting(communicators, is_strict)
-    chosen = choose_fences(collectives.meetings, waiting, fences, PlacesInside(program))
+    chosen = choose_fences(collectives.meetings, waiting, fences, Bounds(program))
     order_collectives(collectives, waiting, chosen, sets, order)
     return order

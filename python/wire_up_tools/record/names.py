@@ -12,7 +12,7 @@ MPI, FENCE = "mpi", "fence"
 
 
 @dataclass(frozen=True)
-class Names:
+class Spelling:
     """Words for the keys that are put and for the names that are published; and how the names
     begin that stand for an order of MPI or of a fence, which no name of the program has."""
 
@@ -27,14 +27,14 @@ def is_reserved_by_pmix(key: bytes) -> bool:
     return key.startswith(b"pmix")
 
 
-def keys_of(action: Action) -> Iterable[bytes]:
+def find_keys(action: Action) -> Iterable[bytes]:
     """The keys of a call that puts or gets."""
     if isinstance(action, Put):
         return (action.key,)
     return action.keys or () if isinstance(action, Get) else ()
 
 
-def names_of(action: Action) -> Iterable[bytes]:
+def find_published(action: Action) -> Iterable[bytes]:
     """The names that a call publishes, looks up or takes away."""
     if isinstance(action, Publish):
         return [pair.key for pair in action.pairs]
@@ -53,17 +53,17 @@ def find_mark(word: str, names: Words) -> str:
     return f"{word}."
 
 
-def find_names(processes: Processes) -> Names:
+def find_spelling(processes: Processes) -> Spelling:
     """Words for all keys and names in the calls of processes."""
     keys: set[bytes] = set()
     names: set[bytes] = set()
     for process in processes.all:
         for call in process.recording.calls:
             if not isinstance(call.action, MPI_CALLS):
-                keys.update(keys_of(call.action))
-                names.update(names_of(call.action))
+                keys.update(find_keys(call.action))
+                names.update(find_published(call.action))
     words = find_words(names)
-    return Names(find_words(keys), words, find_mark(MPI, words), find_mark(FENCE, words))
+    return Spelling(find_words(keys), words, find_mark(MPI, words), find_mark(FENCE, words))
 
 
 class MessageNames:

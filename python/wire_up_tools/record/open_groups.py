@@ -6,17 +6,9 @@ from dataclasses import dataclass, field
 from typing import Optional
 
 from wire_up_tools.record.calls import Call
-from wire_up_tools.record.communicators import Members
-from wire_up_tools.record.draft import (
-    Draft,
-    Line,
-    Notes,
-    Part,
-    Step,
-    make_draft,
-    make_publish,
-    walk,
-)
+from wire_up_tools.record.communicators import Side
+from wire_up_tools.record.draft import Draft, Line, Part, Step, make_draft, make_publish, walk
+from wire_up_tools.record.notes import Notes
 from wire_up_tools.record.knowledge import Latest, find_heard, merge
 from wire_up_tools.record.messages import Ask, Got, Group, Stream
 from wire_up_tools.record.names import MessageNames
@@ -24,7 +16,7 @@ from wire_up_tools.record.processes import Process, Processes
 
 # How often the order of messages that could have come otherwise is looked at again.
 MOST_ROUNDS = 8
-# Where a message stands among the places of its receiver if it comes after none of them.
+# Up to which line of its receiver's recording a message comes after it, if after none.
 AFTER_NOTHING = -1
 
 
@@ -35,7 +27,7 @@ class OpenGroup:
 
     group: Group
     target: Process
-    peers: Members
+    peers: Side
 
 
 @dataclass(frozen=True)
@@ -54,7 +46,7 @@ class Taken:
 
     def __init__(self, asked: Sequence[Got]) -> None:
         self.count = 0
-        self.place_of = {it: n for n, it in enumerate(asked)}
+        self.index_of = {it: n for n, it in enumerate(asked)}
         self.waiting: dict[Ask, deque[int]] = {}
         for n, it in enumerate(asked):
             if it.is_receive:
@@ -66,7 +58,7 @@ class Taken:
         asks = (got.ask, Ask(source, None), Ask(None, tag), Ask(None, None))
         for ask in dict.fromkeys(asks):
             waiting = self.waiting.get(ask)
-            while waiting and waiting[0] <= self.place_of[got]:
+            while waiting and waiting[0] <= self.index_of[got]:
                 waiting.popleft()
                 new.append(ask)
         self.count += len(new)
@@ -76,8 +68,8 @@ class Taken:
 class Counted:
     """How many messages of each stream could have come by now, and how many surely have.
 
-    `after` says of each message up to which place of the receiver it comes after. `spread` is the
-    most messages of one stream that could have come, but haven't surely.
+    `after` says of each message up to which line of the receiver's recording it comes after.
+    `spread` is the most messages of one stream that could have come, but haven't surely.
     """
 
     def __init__(
@@ -93,9 +85,9 @@ class Counted:
         self.open: set[Stream] = set()
         self.spread = 0
 
-    def come_to(self, place: int) -> None:
-        """Counts the messages that could have come by a place of the receiver."""
-        while self.coming and self.coming[0][0] < place:
+    def come_to(self, at: int) -> None:
+        """Counts the messages that could have come by a line of the receiver's recording."""
+        while self.coming and self.coming[0][0] < at:
             _, stream = self.coming.popleft()
             self.could[stream] += 1
             self.total += 1
@@ -152,11 +144,11 @@ def find_orders(
             yield message, got.call
 
 
-def find_places_before(
+def find_lines_before(
     draft: Draft, groups: Sequence[OpenGroup], sent: Mapping[Call, Line]
 ) -> dict[Call, int]:
-    """For each message of open groups up to which place of its receiver it comes after, by what
-    a draft has so far."""
+    """For each message of open groups up to which line of its receiver's recording it comes after,
+    by what a draft has so far."""
     receivers = {it.target for it in groups}
     message_of = {
         sent[send]: (send, it.target)
@@ -217,7 +209,7 @@ class Waits:
 
     def add_all(self, groups: Sequence[OpenGroup], draft: Draft, is_strict: bool) -> None:
         """Adds all that holds in every run by what a draft has so far."""
-        after = find_places_before(draft, groups, self.sent)
+        after = find_lines_before(draft, groups, self.sent)
         for it in groups:
             for message, ended in find_orders(it.group, after, is_strict):
                 self.add(it.target, message, ended)

@@ -104,7 +104,7 @@ def name_address(address: Address) -> str:
     return f"{make_printable(os.path.basename(address.module))}+0x{address.offset:x}"
 
 
-def addresses_of(process: Process, lines: Iterable[Line]) -> Iterator[Address]:
+def find_addresses(process: Process, lines: Iterable[Line]) -> Iterator[Address]:
     """Where the calls of some lines of a process come from, each address once."""
     places = process.recording.places
     for number in dict.fromkeys(line.call.place for line in lines):
@@ -115,7 +115,7 @@ def addresses_of(process: Process, lines: Iterable[Line]) -> Iterator[Address]:
 
 def find_places(draft: Draft, kept: Mapping[Address, str]) -> Places:
     """Finds where the calls of a draft come from; what is kept stays so."""
-    wanted = (it for process, lines in draft.lines.items() for it in addresses_of(process, lines))
+    wanted = (it for process, lines in draft.lines.items() for it in find_addresses(process, lines))
     new = [it for it in dict.fromkeys(wanted) if it not in kept]
     by_module: dict[str, list[Address]] = {}
     for it in new:

@@ -3,16 +3,17 @@ from collections.abc import Sequence
 from dataclasses import dataclass
 
 from wire_up_tools.limits import VERSION_1, Limits
-from wire_up_tools.record.draft import Draft, Notes, Part, Step, make_draft, walk
+from wire_up_tools.record.draft import Draft, Part, Step, make_draft, walk
+from wire_up_tools.record.notes import Notes
 from wire_up_tools.record.failures import Refused
 from wire_up_tools.record.meetings import Sets
 from wire_up_tools.record.mpi_order import order_by_mpi
-from wire_up_tools.record.names import Names, find_names
+from wire_up_tools.record.names import Spelling, find_spelling
 from wire_up_tools.record.open_groups import order_open_groups
 from wire_up_tools.record.pmix_calls import make_lines
 from wire_up_tools.record.pmix_fences import PmixFences, make_fences
 from wire_up_tools.record.pmix_waits import find_waits
-from wire_up_tools.record.processes import Processes, place_processes
+from wire_up_tools.record.processes import Processes, arrange_processes
 from wire_up_tools.record.recordings import Recording, refuse_past
 from wire_up_tools.record.shortening import shorten
 
@@ -43,7 +44,7 @@ class Plan:
 
     choices: Choices
     processes: Processes
-    names: Names
+    spelling: Spelling
     draft: Draft
     notes: Notes
     mpi: MpiSummary
@@ -79,11 +80,11 @@ class Ordered:
 
 
 def order_program(
-    sets: Sets, names: Names, program: Sequence[Part], fences: PmixFences, is_strict: bool
+    sets: Sets, spelling: Spelling, program: Sequence[Part], fences: PmixFences, is_strict: bool
 ) -> Ordered:
     """The order that MPI gives to the lines of a program."""
     lines = [line for part in program for line in part.lines]
-    order = order_by_mpi(sets, names, lines, fences, is_strict)
+    order = order_by_mpi(sets, spelling, lines, fences, is_strict)
     messages, left_to_luck, parts = order.message_count, order.left_to_luck, [order.part]
     if order.open_groups:
         groups, message_names = order.open_groups, order.message_names
@@ -98,16 +99,16 @@ def order_program(
 
 def make_plan(recordings: Sequence[Recording], choices: Choices) -> Plan:
     """Makes a plan of recordings. Raises Refused for recordings that make none."""
-    processes = place_processes(recordings, choices.most)
-    names, sets = find_names(processes), Sets(processes)
-    calls = make_lines(processes, names, choices.with_mpi)
-    fences = make_fences(sets, names)
+    processes = arrange_processes(recordings, choices.most)
+    spelling, sets = find_spelling(processes), Sets(processes)
+    calls = make_lines(processes, spelling, choices.with_mpi)
+    fences = make_fences(sets, spelling)
     calls.notes.add(fences.notes)
     parts, notes, mpi = [calls.part, fences.part], calls.notes, MpiSummary()
     refuse_too_many(parts, choices.most)
     parts.append(find_waits(make_draft(processes, parts)))
     if choices.with_mpi:
-        ordered = order_program(sets, names, parts, fences, choices.is_strict)
+        ordered = order_program(sets, spelling, parts, fences, choices.is_strict)
         parts += ordered.parts
         notes.add(ordered.notes)
         mpi = ordered.mpi
@@ -117,4 +118,4 @@ def make_plan(recordings: Sequence[Recording], choices: Choices) -> Plan:
         shortened = shorten(draft)
         draft = shortened.draft
         notes.add(shortened.notes)
-    return Plan(choices, processes, names, draft, notes, mpi)
+    return Plan(choices, processes, spelling, draft, notes, mpi)

@@ -1,19 +1,16 @@
 """Makes lines of the calls of PMIx of each process, but for fences."""
 import re
 import sys
-from collections.abc import Mapping, Sequence
+from collections.abc import Sequence
 from dataclasses import dataclass, field
 from typing import Optional, Union
 
 from wire_up_tools.record.calls import (
     MPI_CALLS,
     NO,
-    Action,
     AnyRank,
     Call,
     Commit,
-    Directives,
-    Fence,
     Get,
     GetEnd,
     Lookup,
@@ -24,82 +21,16 @@ from wire_up_tools.record.calls import (
     Value,
     ValueKind,
 )
-from wire_up_tools.record.draft import Line, Notes, Part
-from wire_up_tools.record.names import Names, is_reserved_by_pmix
+from wire_up_tools.record.directives import AT_ONCE, WAIT, has_directive
+from wire_up_tools.record.draft import Line, Part
+from wire_up_tools.record.names import Spelling, is_reserved_by_pmix
+from wire_up_tools.record.notes import Notes, note_directives, note_overlaps, note_recording
 from wire_up_tools.record.processes import Process, Processes
-from wire_up_tools.record.recordings import Recording
-from wire_up_tools.words import show
+from wire_up_tools.record.puts import OTHER_SCOPE, PutsByProcess
 
 NOT_FOUND, DUPLICATE_KEY = -46, -53
-COLLECT, WAIT = b"pmix.collect", b"pmix.wait"
-# Directives of a get that doesn't wait.
-AT_ONCE = (b"pmix.immediate", b"pmix.optional")
-KNOWN_DIRECTIVES = (COLLECT, WAIT, *AT_ONCE)
-OTHER_SCOPE = "other"
 # Where a line stands whose call hasn't ended.
 AT_THE_END = sys.maxsize
-
-
-def has_directive(directives: Directives, *keys: bytes) -> bool:
-    """Whether a call has one of the directives, and not as false."""
-    return any(it.key in keys and it.value != NO for it in directives)
-
-
-@dataclass(frozen=True)
-class Puts:
-    """What a process puts: for each key where its first put begins, which keys it commits, and
-    in which scopes it puts each, failed puts among them."""
-
-    first: Mapping[bytes, int]
-    committed: frozenset[bytes]
-    scopes: Mapping[bytes, set[str]]
-
-
-def find_puts(recording: Recording) -> Puts:
-    """What a process puts."""
-    first: dict[bytes, int] = {}
-    waiting: set[bytes] = set()
-    committed: set[bytes] = set()
-    scopes: dict[bytes, set[str]] = {}
-    for call in recording.calls:
-        action = call.action
-        if isinstance(action, Put):
-            scopes.setdefault(action.key, set()).add(action.scope)
-            if action.scope != OTHER_SCOPE and not call.has_failed:
-                first.setdefault(action.key, call.begins)
-                waiting.add(action.key)
-        elif isinstance(action, Commit) and not call.has_failed:
-            committed |= waiting
-            waiting.clear()
-    return Puts(first, frozenset(committed), scopes)
-
-
-@dataclass
-class PutsByProcess:
-    """What each process puts, found out where it is asked for."""
-
-    found: dict[Process, Puts] = field(default_factory=dict)
-
-    def puts_of(self, process: Process) -> Puts:
-        """What a process puts."""
-        if process not in self.found:
-            self.found[process] = find_puts(process.recording)
-        return self.found[process]
-
-    def can_see(self, reader: Process, call: Call, owner: Process, key: bytes) -> bool:
-        """Whether the owner's recording has what a get of the key could see: an own put before
-        it, or another's and its commit."""
-        puts = self.puts_of(owner)
-        return puts.first.get(key, AT_THE_END) < call.begins if reader is owner else (
-            key in puts.committed
-        )
-
-    def is_out_of_scope(self, reader: Process, owner: Process, key: bytes) -> bool:
-        """Whether the owner puts the key, always in a scope that the reader's node isn't in."""
-        is_here = reader.recording.host == owner.recording.host
-        scopes = self.puts_of(owner).scopes.get(key, set())
-        foreign = {"remote"} if is_here else {"local"}
-        return reader is not owner and bool(scopes) and scopes <= foreign
 
 
 @dataclass
@@ -109,7 +40,7 @@ class ProcessLines:
 
     process: Process
     processes: Processes
-    names: Names
+    spelling: Spelling
     puts: PutsByProcess
     part: Part
     notes: Notes
@@ -119,8 +50,8 @@ class ProcessLines:
         self, call: Call, words: str, value: Optional[Value] = None, at: Optional[int] = None
     ) -> None:
         """Adds a line; it stands where its call begins, if not elsewhere."""
-        place = call.begins if at is None else at
-        self.part.lines.append(Line(self.process, place, words, call, value, None, None))
+        begins = call.begins if at is None else at
+        self.part.lines.append(Line(self.process, begins, words, call, value, None, None))
 
     def leave_out(self, what: str) -> None:
         """Notes that a call has no line."""
@@ -174,7 +105,7 @@ class ProcessLines:
         elif call.has_failed:
             self.leave_out("puts that failed")
         else:
-            key, value = self.names.keys[put.key], self.say_value(put.value)
+            key, value = self.spelling.keys[put.key], self.say_value(put.value)
             self.add(call, f"put {put.scope} {key} {value}")
 
     def take_commit(self, call: Call) -> None:
@@ -223,7 +154,7 @@ class ProcessLines:
         if call.status == 0 and not self.puts.can_see(self.process, call, owner, key):
             self.leave_out("gets of keys whose put isn't recorded")
             return
-        words = f"{'get-now' if is_at_once else 'get'} {owner.name} {self.names.keys[key]}"
+        words = f"{'get-now' if is_at_once else 'get'} {owner.name} {self.spelling.keys[key]}"
         at = call.begins if is_at_once else call.ends or AT_THE_END
         value = call.end.value if isinstance(call.end, GetEnd) and call.status == 0 else None
         self.add(call, words, value, at)
@@ -237,7 +168,7 @@ class ProcessLines:
             elif call.has_failed and call.status != DUPLICATE_KEY:
                 self.leave_out("publishes that failed")
             else:
-                name, value = self.names.names[pair.key], self.say_value(pair.value)
+                name, value = self.spelling.names[pair.key], self.say_value(pair.value)
                 self.add(call, f"publish {name} {value}")
                 self.published.append(pair.key)
         if not publish.pairs:
@@ -276,7 +207,7 @@ class ProcessLines:
             else:
                 value = found.get(key)
                 is_known = value is not None and value.kind is not ValueKind.NONE
-                self.add(call, f"{verb} {self.names.names[key]}", value if is_known else None)
+                self.add(call, f"{verb} {self.spelling.names[key]}", value if is_known else None)
 
     def take_unpublish(self, call: Call, unpublish: Unpublish) -> None:
         """Makes the lines of an unpublish: one for each name."""
@@ -296,58 +227,8 @@ class ProcessLines:
             elif call.has_failed and call.status != NOT_FOUND:
                 self.leave_out("unpublishes that failed")
             else:
-                self.add(call, f"unpublish {self.names.names[key]}")
+                self.add(call, f"unpublish {self.spelling.names[key]}")
                 self.published = [it for it in self.published if it != key]
-
-
-def note_recording(recording: Recording, notes: Notes) -> None:
-    """Notes what a recording lacks, and what of it has no line."""
-    if recording.is_cut:
-        notes.left_out["last lines of recordings, which were cut"] += 1
-    if not recording.has_finalized:
-        notes.otherwise[
-            "processes whose recordings end before PMIx_Finalize: how they went on isn't known"
-        ] += 1
-    for name, count in recording.others.items():
-        notes.left_out[f"calls of {name}"] += count
-    if len({call.thread for call in recording.calls}) > 1:
-        notes.more_ordered[
-            "processes that called from several threads: "
-            "their calls stand in the order in which they began"
-        ] += 1
-
-
-def note_directives(action: Action, notes: Notes) -> None:
-    """Notes the directives of a call that a plan can't have."""
-    if isinstance(action, (Fence, Get, Publish, Lookup, Unpublish)):
-        for it in action.directives:
-            if it.key not in KNOWN_DIRECTIVES:
-                notes.left_out[f"directives {show(it.key)}"] += 1
-
-
-def is_placed_early(action: Action) -> bool:
-    """Whether a call that doesn't block stands where it was made, so that all that follows comes
-    after it in the plan. A get that waits stands where it ended, and a fence that doesn't collect
-    can be names."""
-    if isinstance(action, Fence):
-        return not action.blocks and has_directive(action.directives, COLLECT)
-    if isinstance(action, Get):
-        return not action.blocks and has_directive(action.directives, *AT_ONCE)
-    return isinstance(action, (Publish, Lookup, Unpublish)) and not action.blocks
-
-
-def note_overlaps(calls: Sequence[Call], notes: Notes) -> None:
-    """Notes the calls that were made while one was open that the plan puts before them."""
-    open_until: list[int] = []
-    for call in calls:
-        if open_until:
-            open_until = [it for it in open_until if it > call.begins]
-        if open_until:
-            notes.more_ordered[
-                "calls made while one that doesn't block was open: in the plan they come after it"
-            ] += 1
-        if is_placed_early(call.action):
-            open_until.append(call.ends or AT_THE_END)
 
 
 @dataclass(frozen=True)
@@ -358,7 +239,7 @@ class PmixLines:
     notes: Notes
 
 
-def make_lines(processes: Processes, names: Names, with_mpi: bool) -> PmixLines:
+def make_lines(processes: Processes, spelling: Spelling, with_mpi: bool) -> PmixLines:
     """The lines of all calls of PMIx but fences, each process by itself."""
     part, notes, puts = Part(), Notes(), PutsByProcess()
     for process in processes.all:
@@ -366,7 +247,7 @@ def make_lines(processes: Processes, names: Names, with_mpi: bool) -> PmixLines:
         note_recording(recording, notes)
         of_pmix = [it for it in recording.calls if not isinstance(it.action, MPI_CALLS)]
         note_overlaps(recording.calls if with_mpi else of_pmix, notes)
-        lines = ProcessLines(process, processes, names, puts, part, notes)
+        lines = ProcessLines(process, processes, spelling, puts, part, notes)
         for call in of_pmix:
             lines.take(call)
             note_directives(call.action, notes)

@@ -4,7 +4,8 @@ from dataclasses import dataclass, field
 from typing import Optional
 
 from wire_up_tools.record.calls import Call, Fence
-from wire_up_tools.record.draft import Line, Notes, Part
+from wire_up_tools.record.draft import Line, Part
+from wire_up_tools.record.notes import Notes
 from wire_up_tools.record.meetings import (
     MOST_NAMED,
     JointCalls,
@@ -13,8 +14,8 @@ from wire_up_tools.record.meetings import (
     is_any_inside,
     join_calls,
 )
-from wire_up_tools.record.names import Names
-from wire_up_tools.record.pmix_calls import COLLECT, has_directive
+from wire_up_tools.record.names import Spelling
+from wire_up_tools.record.directives import COLLECT, has_directive
 from wire_up_tools.record.processes import NEVER_BEGAN, Process
 
 
@@ -41,7 +42,7 @@ def find_fences(sets: Sets, notes: Notes) -> dict[Members, dict[Process, list[Ca
         for call in process.recording.calls:
             if not isinstance(call.action, Fence):
                 continue
-            members = sets.members_of(process, call.action.names)
+            members = sets.find_members(process, call.action.names)
             if members is None:
                 notes.left_out[
                     "fences with processes that aren't recorded, or without the caller"
@@ -64,9 +65,9 @@ def why_left_out(meeting: JointCalls) -> Optional[str]:
 
 
 @dataclass
-class CallPlaces:
-    """Where in the recording of each process a call begins or ends, found out where it is asked
-    for."""
+class CallBounds:
+    """At which lines of the recording of each process calls begin and end, found out where that is
+    asked for."""
 
     found: dict[Process, list[int]] = field(default_factory=dict)
 
@@ -74,18 +75,18 @@ class CallPlaces:
         """Whether a call of the process begins or ends while another one is open."""
         if process not in self.found:
             calls = process.recording.calls
-            places = [it.begins for it in calls] + [it.ends for it in calls if it.ends]
-            self.found[process] = sorted(places)
+            bounds = [it.begins for it in calls] + [it.ends for it in calls if it.ends]
+            self.found[process] = sorted(bounds)
         return is_any_inside(self.found[process], call)
 
 
-def is_split(meeting: JointCalls, places: CallPlaces) -> bool:
+def is_split(meeting: JointCalls, bounds: CallBounds) -> bool:
     """Whether a fence that doesn't collect has other calls of its process between its beginning
     and its end: then arriving and leaving must stand apart."""
     calls = meeting.calls
     if len(calls) > MOST_NAMED or any(map(is_collecting, calls.values())):
         return False
-    return any(places.has_inside(process, call) for process, call in calls.items())
+    return any(bounds.has_inside(process, call) for process, call in calls.items())
 
 
 def split(meeting: JointCalls, mark: str, number: int) -> Part:
@@ -105,7 +106,7 @@ def make_meeting(meeting: JointCalls, sets: Sets) -> Part:
     lines = []
     for process, call in meeting.calls.items():
         collect = " collect" if is_collecting(call) else ""
-        words = f"fence {sets.word_of(process, meeting.members)}{collect}"
+        words = f"fence {sets.find_word(process, meeting.members)}{collect}"
         lines.append(Line(process, call.begins, words, call, None, None, None))
     if meeting.is_whole:
         part.add_meeting(lines)
@@ -114,22 +115,22 @@ def make_meeting(meeting: JointCalls, sets: Sets) -> Part:
     return part
 
 
-def make_fences(sets: Sets, names: Names) -> PmixFences:
+def make_fences(sets: Sets, spelling: Spelling) -> PmixFences:
     """The lines of all fences of PMIx."""
     part, notes, splits = Part(), Notes(), 0
-    places = CallPlaces()
+    bounds = CallBounds()
     by_set: dict[Members, list[JointCalls]] = {}
     found = find_fences(sets, notes).items()
     for meeting in (it for members, calls in found for it in join_calls(members, calls)):
         why, count = why_left_out(meeting), len(meeting.calls)
         if why:
             notes.left_out[why] += count
-        elif is_split(meeting, places):
+        elif is_split(meeting, bounds):
             splits += 1
-            part.add(split(meeting, names.fence_mark, splits))
+            part.add(split(meeting, spelling.fence_mark, splits))
             notes.otherwise[
                 "calls of fences among which the process called more: "
-                f"names that begin with {names.fence_mark} stand for them"
+                f"names that begin with {spelling.fence_mark} stand for them"
             ] += count
         else:
             part.add(make_meeting(meeting, sets))

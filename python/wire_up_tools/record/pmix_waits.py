@@ -6,7 +6,7 @@ from wire_up_tools.record.draft import Draft, Line, Part
 
 
 @dataclass
-class Sources:
+class Offered:
     """The lines that gets and lookups could wait for: commits by the process and key that they
     bring, publishes by their names; and the names that are taken away."""
 
@@ -42,12 +42,12 @@ class Sources:
 
 def find_waits(draft: Draft) -> Part:
     """What the gets and lookups of a draft wait for, where that can be one line alone."""
-    sources = Sources()
+    offered = Offered()
     for lines in draft.lines.values():
-        sources.take(lines)
+        offered.take(lines)
     awaited: dict[Line, Line] = {}
     for line in (it for lines in draft.lines.values() for it in lines):
-        found = sources.find(line)
+        found = offered.find(line)
         if len(found) == 1:
             awaited[line] = found[0]
     return Part(awaited=awaited)

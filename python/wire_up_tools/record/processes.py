@@ -32,14 +32,14 @@ NAMED = 5
 @dataclass(frozen=True, eq=False)
 class Process:
     """A process: its name in the plan, such as `app:0`, a shorter one for the names of messages,
-    its node in the plan, its place in the order of all processes, and its recording."""
+    its node in the plan, its index in the order of all processes, and its recording."""
 
     namespace: bytes
     rank: int
     name: str
     short_name: str
     node: str
-    place: int
+    index: int
     recording: Recording
 
 
@@ -86,7 +86,7 @@ def group_by_job(recordings: Sequence[Recording]) -> dict[bytes, Ranks]:
     return {**jobs}
 
 
-def ranks_in_fence(call: Call, fence: Fence, namespace: bytes) -> Iterator[int]:
+def find_ranks_in_fence(call: Call, fence: Fence, namespace: bytes) -> Iterator[int]:
     """The ranks of a job that a fence names, if it began."""
     if call.status not in NEVER_BEGAN:
         for name in fence.names:
@@ -94,7 +94,7 @@ def ranks_in_fence(call: Call, fence: Fence, namespace: bytes) -> Iterator[int]:
                 yield name.rank
 
 
-def last_rank_by_size(call: Call, get: Get, namespace: bytes) -> Iterator[int]:
+def find_last_rank(call: Call, get: Get, namespace: bytes) -> Iterator[int]:
     """The last rank of the job of a caller, if the call is a get of that job's size."""
     whole_job = (None, ProcessName(namespace, AnyRank.ALL))
     if get.keys != (JOB_SIZE,) or get.owner not in whole_job or call.status != 0:
@@ -106,7 +106,7 @@ def last_rank_by_size(call: Call, get: Get, namespace: bytes) -> Iterator[int]:
             yield int(read[1]) - 1
 
 
-def ranks_told(namespace: bytes, recordings: Sequence[Recording]) -> Iterator[int]:
+def find_told_ranks(namespace: bytes, recordings: Sequence[Recording]) -> Iterator[int]:
     """The ranks of a job that recordings tell of: by the size of MPI_COMM_WORLD, by the job's
     size that the library told, and by sets of fences."""
     for it in recordings:
@@ -114,16 +114,16 @@ def ranks_told(namespace: bytes, recordings: Sequence[Recording]) -> Iterator[in
             yield it.world.size - 1
         for call in it.calls:
             if isinstance(call.action, Fence):
-                yield from ranks_in_fence(call, call.action, namespace)
+                yield from find_ranks_in_fence(call, call.action, namespace)
             elif isinstance(call.action, Get) and it.namespace == namespace:
-                yield from last_rank_by_size(call, call.action, namespace)
+                yield from find_last_rank(call, call.action, namespace)
 
 
 def refuse_missing(
     namespace: bytes, ranks: Ranks, recordings: Sequence[Recording], most: Limits
 ) -> None:
     """Refuses a job of which a rank has no recording."""
-    count = max([*ranks, *ranks_told(namespace, recordings)]) + 1
+    count = max([*ranks, *find_told_ranks(namespace, recordings)]) + 1
     missing = [it for it in range(min(count, 10 * most.processes)) if it not in ranks]
     if missing:
         some = ", ".join(map(str, missing[:NAMED])) + (", .." if len(missing) > NAMED else "")
@@ -141,7 +141,7 @@ def name_nodes(jobs: Sequence[Ranks]) -> dict[bytes, str]:
 
 
 def make_job(name: str, ranks: Ranks, nodes: Mapping[bytes, str], first: int) -> Job:
-    """A job of recordings by their ranks; its first process has the place `first`."""
+    """A job of recordings by their ranks; its first process has the index `first`."""
     prefix = "" if name == ONLY_JOB else f"{name}."
     processes = tuple(
         Process(
@@ -150,7 +150,7 @@ def make_job(name: str, ranks: Ranks, nodes: Mapping[bytes, str], first: int) ->
             name=f"{name}:{rank}",
             short_name=f"{prefix}{rank}",
             node=nodes[ranks[rank].host],
-            place=first + rank,
+            index=first + rank,
             recording=ranks[rank],
         )
         for rank in sorted(ranks)
@@ -163,7 +163,7 @@ def is_past(most: Limits, jobs: int, processes: int, nodes: int) -> bool:
     return jobs > most.jobs or processes > most.processes or nodes > most.nodes
 
 
-def place_processes(recordings: Sequence[Recording], most: Limits) -> Processes:
+def arrange_processes(recordings: Sequence[Recording], most: Limits) -> Processes:
     """Puts recordings in order: jobs by when they began, ranks from 0.
 
     Raises Refused for recordings that aren't those of whole jobs, or are past the limits.

@@ -129,7 +129,7 @@ def refuse(path: str, number: int, why: str) -> NoReturn:
 
 @dataclass
 class Opened:
-    """A call that has begun: its place among the calls of its recording, and what is known."""
+    """A call that has begun: its index among the calls of its recording, and what is known."""
 
     __slots__ = ("index", "action", "begins", "thread", "place")
 

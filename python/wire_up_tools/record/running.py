@@ -29,8 +29,8 @@ TO_OTHER_NODES = "OMPI_MCA_mca_base_env_list"
 
 def find_library(folder: str, name: str) -> Optional[str]:
     """The path of a built library, by the folder of the command; None where it isn't built."""
-    for place in LIBRARIES:
-        path = os.path.realpath(os.path.join(folder, place, name))
+    for beside in LIBRARIES:
+        path = os.path.realpath(os.path.join(folder, beside, name))
         if os.path.exists(path):
             return path
     return None

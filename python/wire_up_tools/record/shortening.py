@@ -2,12 +2,13 @@
 from collections.abc import Iterable
 from dataclasses import dataclass
 
-from wire_up_tools.record.draft import Draft, Line, Meeting, Notes, Step, walk
+from wire_up_tools.record.draft import Draft, Line, Meeting, Step, walk
+from wire_up_tools.record.notes import Notes
 from wire_up_tools.record.knowledge import Knowledge
 
 
 @dataclass(frozen=True)
-class Passed:
+class Candidate:
     """A line that could go: the how many-th line it was that was passed, and whether it told its
     process nothing new."""
 
@@ -37,7 +38,7 @@ def can_go(draft: Draft, line: Line) -> bool:
     )
 
 
-def run(draft: Draft) -> tuple[list[Passed], int]:
+def find_candidates(draft: Draft) -> tuple[list[Candidate], int]:
     """The lines that could go, as one run passes them; and how many were passed up to the last
     that can race, or bring what races."""
     knowledge, found, count, last = Knowledge(draft), [], 0, 0
@@ -50,7 +51,7 @@ def run(draft: Draft) -> tuple[list[Passed], int]:
         if line.is_relevant:
             last = count
         elif can_go(draft, line):
-            found.append(Passed(line, count, adds_nothing))
+            found.append(Candidate(line, count, adds_nothing))
     return found, last
 
 
@@ -81,7 +82,7 @@ def shorten(draft: Draft) -> Shortened:
     """Takes out lines that can't change a finding, since they add no order between calls that can
     race: gets that wait for what is surely there, messages whose receiver knows already all that
     its sender knows, and all of MPI's order after the last such call."""
-    passed, last = run(draft)
+    passed, last = find_candidates(draft)
     gets = {it.line for it in passed if it.line.is_of_program and it.adds_nothing}
     of_mpi = [it for it in passed if not it.line.is_of_program]
     useless = [it.line for it in of_mpi if it.adds_nothing or it.count > last]

@@ -21,7 +21,7 @@ from wire_up_tools.record.writing import write_answers, write_plan
 
 
 @dataclass(frozen=True)
-class CallPlace:
+class WhereRequest:
     """Asks where in the program a call of a plan comes from."""
 
     process: str
@@ -43,7 +43,7 @@ class Output:
 
 
 @dataclass(frozen=True)
-class FromFiles:
+class FilesRequest:
     """Asks for the plan of recordings that are there, in files or folders."""
 
     output: Output
@@ -51,14 +51,14 @@ class FromFiles:
 
 
 @dataclass(frozen=True)
-class FromCommand:
+class CommandRequest:
     """Asks for the plan of a command that is run."""
 
     output: Output
     command: Sequence[str]
 
 
-Request = Union[CallPlace, FromFiles, FromCommand]
+Request = Union[WhereRequest, FilesRequest, CommandRequest]
 
 
 def say(what: str) -> None:
@@ -66,7 +66,7 @@ def say(what: str) -> None:
     print(f"wire_up-record: {what}", file=sys.stderr)
 
 
-def say_call_place(asked: CallPlace) -> int:
+def say_where(asked: WhereRequest) -> int:
     """Writes where a call of a plan comes from. Raises Refused, OSError."""
     with open(asked.plan, encoding="ascii", errors="replace") as it:
         found = find_call_place(asked.process, asked.number, it.read())
@@ -130,7 +130,7 @@ def make_folder(output: Output) -> str:
     return os.path.abspath(output.kept)
 
 
-def record(asked: FromCommand, folder: str) -> int:
+def record(asked: CommandRequest, folder: str) -> int:
     """Runs a command, makes the plan, and answers the command's status. `folder` is that of the
     recorder. Recordings that make no plan are left. Raises Refused, NotRun, OSError."""
     output = asked.output
@@ -153,9 +153,9 @@ def record(asked: FromCommand, folder: str) -> int:
 
 def do(asked: Request, folder: str) -> int:
     """Does what is asked for, and answers the status. `folder` is that of the command."""
-    if isinstance(asked, CallPlace):
-        return say_call_place(asked)
-    if isinstance(asked, FromCommand):
+    if isinstance(asked, WhereRequest):
+        return say_where(asked)
+    if isinstance(asked, CommandRequest):
         return record(asked, folder)
     make(asked.output, asked.files, folder)
     return 0

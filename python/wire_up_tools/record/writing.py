@@ -61,7 +61,7 @@ def say_recordings(plan: Plan) -> Iterator[str]:
 
 def say_words(plan: Plan) -> Iterator[str]:
     """Which words stand for which keys and names, where they aren't the same."""
-    for what, words in (("key", plan.names.keys), ("name", plan.names.names)):
+    for what, words in (("key", plan.spelling.keys), ("name", plan.spelling.names)):
         for text in words.renamed:
             yield f"# The {what} {words[text]} is {show(text)}."
 
@@ -75,7 +75,7 @@ def say_mpi(plan: Plan) -> Iterator[str]:
             f"# MPI's order: {counts}. "
             "No call of PMIx made the lines of names that begin with"
         )
-        yield f"# `{plan.names.mpi_mark}`, and the fences below a line `# MPI: ..`."
+        yield f"# `{plan.spelling.mpi_mark}`, and the fences below a line `# MPI: ..`."
     if mpi.left_to_luck:
         taken = "their order is taken all the same, and --strict takes nothing from them"
         what = "nothing is taken from them" if choices.is_strict else taken
