@@ -1,0 +1,37 @@
+"""Writes files whole or not at all."""
+import os
+import sys
+
+STANDARD_OUTPUT = "-"
+
+
+def write_whole(path: str, text: str) -> None:
+    """Writes a text, as UTF-8, to a file or to standard output.
+
+    A file that is there stays as it was until the new one is complete. What isn't a regular
+    file, such as a pipe or a device, is written to as it is. Raises OSError.
+    """
+    data = text.encode()
+    if path == STANDARD_OUTPUT:
+        sys.stdout.buffer.write(data)
+        sys.stdout.flush()
+    elif os.path.exists(path) and not os.path.isfile(path):
+        with open(path, "wb") as to:
+            to.write(data)
+    else:
+        replace_file(path, data)
+
+
+def replace_file(path: str, data: bytes) -> None:
+    """Puts a new file in the place of one, in one step. Raises OSError."""
+    new_path = f"{path}.{os.getpid()}.{os.urandom(4).hex()}.new"
+    # Where something has that name already, a link perhaps, the file isn't made.
+    flags = os.O_WRONLY | os.O_CREAT | os.O_EXCL | os.O_NOFOLLOW | os.O_CLOEXEC
+    opened = os.open(new_path, flags, 0o666)
+    try:
+        with open(opened, "wb") as to:
+            to.write(data)
+        os.replace(new_path, path)
+    finally:
+        if os.path.lexists(new_path):
+            os.remove(new_path)

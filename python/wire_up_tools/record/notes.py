@@ -1,0 +1,66 @@
+"""Notes what a plan can't say of the program: the head of the plan tells it."""
+import sys
+from collections import Counter
+from collections.abc import Sequence
+from dataclasses import dataclass, field
+
+from wire_up_tools.record.calls import Action, Call, Fence, Get, Lookup, Publish, Unpublish
+from wire_up_tools.record.directives import KNOWN, stands_early
+from wire_up_tools.record.recordings import Recording
+from wire_up_tools.words import show
+
+
+@dataclass(frozen=True)
+class Notes:
+    """What a plan can't say of the program, each with how often that was: what was left out;
+    what is more ordered than the program, so that a race can be missed; and what is written
+    otherwise."""
+
+    left_out: Counter[str] = field(default_factory=Counter)
+    more_ordered: Counter[str] = field(default_factory=Counter)
+    otherwise: Counter[str] = field(default_factory=Counter)
+
+    def add(self, others: "Notes") -> None:
+        """Takes other notes too, also those that say that something was never so."""
+        self.left_out.update(others.left_out)
+        self.more_ordered.update(others.more_ordered)
+        self.otherwise.update(others.otherwise)
+
+
+def note_recording(recording: Recording, notes: Notes) -> None:
+    """Notes what a recording lacks, and what of it has no line."""
+    if recording.is_cut:
+        notes.left_out["last lines of recordings, which were cut"] += 1
+    if not recording.has_finalized:
+        notes.otherwise[
+            "processes whose recordings end before PMIx_Finalize: how they went on isn't known"
+        ] += 1
+    for name, count in recording.others.items():
+        notes.left_out[f"calls of {name}"] += count
+    if len({call.thread for call in recording.calls}) > 1:
+        notes.more_ordered[
+            "processes that called from several threads: "
+            "their calls stand in the order in which they began"
+        ] += 1
+
+
+def note_directives(action: Action, notes: Notes) -> None:
+    """Notes the directives of a call that a plan can't have."""
+    if isinstance(action, (Fence, Get, Publish, Lookup, Unpublish)):
+        for it in action.directives:
+            if it.key not in KNOWN:
+                notes.left_out[f"directives {show(it.key)}"] += 1
+
+
+def note_overlaps(calls: Sequence[Call], notes: Notes) -> None:
+    """Notes the calls that were made while one was open that the plan puts before them."""
+    open_until: list[int] = []
+    for call in calls:
+        if open_until:
+            open_until = [it for it in open_until if it > call.begins]
+        if open_until:
+            notes.more_ordered[
+                "calls made while one that doesn't block was open: in the plan they come after it"
+            ] += 1
+        if stands_early(call.action):
+            open_until.append(call.ends or sys.maxsize)

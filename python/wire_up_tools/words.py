@@ -1,0 +1,93 @@
+"""How a plan is spelled: its names, keys and values, and the comments that programs read."""
+from collections.abc import Callable, Iterable
+
+from wire_up_tools import limits
+
+NAME_BYTES, VALUE_BYTES = limits.VERSION_1.name_bytes, limits.VERSION_1.value_bytes
+# A plan answers keys that begin so by itself.
+RESERVED = ("pmix", "PMIX_")
+# Stands for every name in `unpublish *`.
+EVERY_NAME = "*"
+
+# The comment before a call that says where in the program it comes from, and the place of a
+# call for which that isn't known.
+PLACE_COMMENT = "# at "
+UNKNOWN_PLACE = "an unknown place"
+# How the head of a recorded plan begins, and the titles of the lists in it.
+RECORDED_BY = "Recorded by wire_up-record"
+LEFT_OUT = "Left out:"
+MORE_ORDERED = "More ordered than the program, so that a race can be missed:"
+WRITTEN_OTHERWISE = "Written otherwise:"
+
+
+def is_reserved(word: str) -> bool:
+    """Whether a plan answers a key of this word by itself."""
+    return word.startswith(RESERVED)
+
+
+def is_plain(text: bytes) -> bool:
+    """Whether a plan takes a word of this text for a key or name of its own."""
+    word = text.decode("latin-1")
+    return not is_reserved(word) and word != EVERY_NAME
+
+
+def is_word(text: bytes, most: int, without: bytes = b"") -> bool:
+    """Whether a text can be a word of at most so many bytes, without some of them."""
+    return 0 < len(text) <= most and all(32 < it < 127 and it not in without for it in text)
+
+
+def escape(text: bytes, without: bytes = b"") -> str:
+    """A text with %XX for each byte that a word can't have, and for % and those of `without`."""
+    return "".join(
+        chr(it) if 32 < it < 127 and it not in b"%" + without else f"%{it:02X}" for it in text
+    )
+
+
+def show(text: bytes) -> str:
+    """A text as a comment shows it: in words, with the rest as %XX."""
+    return escape(text, b" ").replace("%20", " ") if text else "(empty)"
+
+
+def make_printable(text: str) -> str:
+    """A text with `?` for each character that isn't printable ASCII."""
+    return "".join(it if " " <= it <= "~" else "?" for it in text)
+
+
+class Words:
+    """Words for texts, a different one for each: a text that is a word stands for itself.
+
+    `without` are bytes that a word can't have, and `is_fit` says of a text whether it can be a
+    word besides. `renamed` are the texts that stand as another word, in their order.
+    """
+
+    def __init__(
+        self,
+        texts: Iterable[bytes],
+        without: bytes = b"",
+        is_fit: Callable[[bytes], bool] = lambda text: True,
+    ) -> None:
+        in_order = sorted(set(texts))
+        fit = (it for it in in_order if is_word(it, NAME_BYTES, without) and is_fit(it))
+        self.words = {it: it.decode() for it in fit}
+        self.renamed = [it for it in in_order if it not in self.words]
+        taken = set(self.words.values())
+        for text in self.renamed:
+            self.words[text] = find_free_word(text, taken, without, is_fit)
+            taken.add(self.words[text])
+
+    def __getitem__(self, text: bytes) -> str:
+        return self.words[text]
+
+
+def find_free_word(
+    text: bytes, taken: set[str], without: bytes, is_fit: Callable[[bytes], bool]
+) -> str:
+    """The word of a text that can't stand for itself: none that is taken."""
+    escaped = escape(text, without) or "%"
+    if not is_fit(escaped.encode()):
+        escaped = f"%{ord(escaped[0]):02X}{escaped[1:]}"
+    word, number = escaped[:NAME_BYTES], 1
+    while word in taken or not is_fit(word.encode()):
+        number += 1
+        word = f"{escaped[: NAME_BYTES - 1 - len(str(number))]}~{number}"
+    return word

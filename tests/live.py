@@ -1,0 +1,118 @@
+"""Programs that tests run and record: what that needs, and how it is done."""
+import os
+import re
+import shutil
+import subprocess
+import tempfile
+import unittest
+from typing import Optional
+
+import support
+from support import TOP
+from tapes import PATIENCE, PROGRAMS, run_recorder
+
+# Open MPI as root must be told that this is meant.
+ENVIRONMENT = {**os.environ, "OMPI_ALLOW_RUN_AS_ROOT": "1", "OMPI_ALLOW_RUN_AS_ROOT_CONFIRM": "1"}
+NEEDED = ("mpicc", "mpirun", "make", "cc", "pkg-config")
+# `mpirun` may mix the lines of two processes where one is long, in about one run of six.
+TRIES = 10
+
+Ran = subprocess.CompletedProcess[str]
+
+
+def mpirun(processes: int, *words: str) -> list[str]:
+    """The words that start processes."""
+    return ["mpirun", "--oversubscribe", "-n", str(processes), *words]
+
+
+def run_plainly(words: list[str]) -> Ran:
+    """Runs a command without the recorder. Raises subprocess.TimeoutExpired."""
+    return subprocess.run(
+        words, capture_output=True, text=True, timeout=PATIENCE, env=ENVIRONMENT, check=False
+    )
+
+
+def can_launch() -> bool:
+    """Whether there is an Open MPI whose launcher can start two processes here."""
+    try:
+        version, ran = run_plainly(["mpirun", "--version"]), run_plainly(mpirun(2, "true"))
+    except subprocess.TimeoutExpired:
+        return False
+    return "Open MPI" in version.stdout and not ran.returncode
+
+
+def what_lacks() -> list[str]:
+    """What is missing for live tests."""
+    lacking = [it for it in NEEDED if not shutil.which(it)]
+    if re.search(r"[\s:;]", TOP):
+        lacking.append(
+            "recorder that could be preloaded from a path with spaces, colons or semicolons"
+        )
+    if shutil.which("mpirun") and not can_launch():
+        lacking.append("mpirun of Open MPI that can run")
+    has_tool = shutil.which("pkg-config") is not None
+    if has_tool and run_plainly(["pkg-config", "--exists", "pmix"]).returncode:
+        lacking.append("the headers of PMIx")
+    return lacking
+
+
+class LiveTest(unittest.TestCase):
+    """Tests in a folder of their own, with the recorders built, and programs compiled."""
+
+    folder: tempfile.TemporaryDirectory[str]
+    program: Optional[str]
+
+    @classmethod
+    def setUpClass(cls) -> None:
+        lacking = what_lacks()
+        if lacking:
+            raise unittest.SkipTest(
+                f"programs are not recorded live: there is no {', no '.join(lacking)}"
+            )
+        built = subprocess.run(
+            ["make", "-s", "record", "record-mpi"],
+            cwd=TOP,
+            capture_output=True,
+            text=True,
+            check=False,
+        )
+        assert not built.returncode, built.stderr
+        try:
+            cls.program = support.program()
+        except unittest.SkipTest:
+            cls.program = None
+        cls.folder = tempfile.TemporaryDirectory(prefix="wire-up-")
+        cls.addClassCleanup(cls.folder.cleanup)
+
+    def setUp(self) -> None:
+        self.room = tempfile.mkdtemp(dir=self.folder.name)
+        self.plan, self.answers = (os.path.join(self.room, it) for it in ("plan", "answers"))
+
+    def compile(self, name: str) -> str:
+        """Compiles a program, if it isn't yet; answers its path."""
+        path = os.path.join(self.folder.name, name)
+        source = os.path.join(PROGRAMS, f"{name}.c")
+        if os.path.exists(path):
+            return path
+        words = ["mpicc", "-g", "-o", path, source]
+        if name == "calls":
+            asked = ["pkg-config", "--cflags", "--libs", "pmix"]
+            flags = run_plainly(asked).stdout.split()
+            words = ["cc", "-o", path, source, *flags, "-pthread"]
+        subprocess.run(words, check=True, capture_output=True)
+        return path
+
+    def record(self, *words: str) -> Ran:
+        """Runs the recorder, which writes the plan."""
+        return run_recorder("-o", self.plan, *words, environment=ENVIRONMENT)
+
+    def record_alike(self, run: list[str], *options: str) -> Ran:
+        """Runs a program without the recorder and with it: both must end alike, and write the same
+        lines. Answers the second run."""
+        for _ in range(TRIES):
+            plain, ran = run_plainly(run), self.record(*options, *run)
+            both = [(it.returncode, sorted(it.stdout.split("\n"))) for it in (plain, ran)]
+            if both[0] == both[1]:
+                break
+        self.assertEqual(both[0], both[1], ran.stderr[:300])
+        return ran

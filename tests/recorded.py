@@ -1,0 +1,91 @@
+"""What the recordings of the repository are, and what the checker finds in plans of them."""
+import re
+from dataclasses import dataclass
+from typing import Optional
+
+from tapes import ask_program, read_file
+
+RACE = re.compile(r"race app:\d+ \d+ app:\d+ \d+ name \w+\n")
+# What the recorder says of two plans of one recording, where a poll succeeded.
+BOTH_VERDICTS = (
+    "wire_up-record: findings 0, and findings 1 with --strict, "
+    "which takes nothing from 1 ends of requests\n"
+)
+
+
+@dataclass(frozen=True)
+class Program:
+    """A program that was recorded: on how many processes, how many findings its plan has, and how
+    many where MPI's order is left out. `said` is what the recorder says where it runs."""
+
+    processes: int
+    findings: int
+    without_mpi: int
+    said: str = ""
+
+
+# The small programs of `cases`, by their names.
+CASES = {
+    "wild1": Program(3, 1, 2),
+    "wild2": Program(3, 1, 2),
+    "poll": Program(2, 0, 1, BOTH_VERDICTS),
+    "probe": Program(2, 0, 1),
+    "matched": Program(2, 0, 1),
+    "later": Program(2, 0, 1),
+    "split": Program(2, 0, 1),
+    "window": Program(2, 0, 2),
+    "inter": Program(4, 0, 1),
+    "merged": Program(4, 0, 1),
+    "jump": Program(2, 0, 1),
+    "limit": Program(2, 0, 0, "no room"),
+    "many": Program(2, 0, 0),
+}
+# Programs of their own.
+OTHERS = {
+    "collectives": Program(4, 0, 0),
+    "early": Program(2, 1, 1),
+    "names": Program(4, 0, 2),
+    "ring": Program(4, 0, 0),
+    "spawn": Program(2, 0, 0),
+    "told": Program(2, 0, 1),
+    "mpi4py": Program(3, 0, 3),
+    "sleep": Program(2, 0, 0),
+}
+SHIPPED = {**CASES, **OTHERS}
+
+
+def why_other_findings(program: str, plan: str, count: int) -> Optional[str]:
+    """What is wrong with the findings of a plan, which must be so many races on names."""
+    ran = ask_program(program, "check", plan)
+    is_well = ran.returncode == int(count > 0) and ran.stdout.count("\n") == count + 1
+    if is_well and RACE.sub("", ran.stdout) == f"findings {count}\n":
+        return None
+    return f"check ended with {ran.returncode} and wrote {ran.stdout}"
+
+
+def is_alike(real: str, replayed: str) -> bool:
+    """Whether a call ended as in the replay: with success or not, and with the same value."""
+    (*call, how), (*same, reply) = (it.split(" ", 3) for it in (real, replayed))
+    if call != same or how == reply:
+        return call == same
+    must_be_equal = how.startswith(("PMIX_SUCCESS", "wait", "un"))
+    return not must_be_equal and reply.startswith("PMIX_ERR")
+
+
+def why_other_replay(program: str, plan: str, answers: str) -> Optional[str]:
+    """Where the replay of a plan and the real ends of its calls differ, if they do."""
+    ran, real = ask_program(program, "replay", plan), read_file(answers).splitlines()
+    replayed = ran.stdout.splitlines()
+    if ran.returncode or len(real) != len(replayed):
+        return f"replay ended with {ran.returncode}: {len(replayed)} lines, not {len(real)}"
+    for one, other in zip(real, replayed):
+        if not is_alike(one, other):
+            return f"the real call ended '{one}', and replay writes '{other}'"
+    return None
+
+
+def why_wrong(program: str, plan: str, answers: str, count: int) -> Optional[str]:
+    """What is wrong with a plan that must have so many findings. One without must be replayed as
+    it was."""
+    found = why_other_findings(program, plan, count)
+    return found if found or count else why_other_replay(program, plan, answers)

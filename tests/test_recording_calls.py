@@ -1,0 +1,237 @@
+"""Tests what calls of PMIx become in a plan."""
+import unittest
+from collections.abc import Sequence
+from dataclasses import dataclass
+from typing import Optional
+
+from tapes import Recorded, Tape, read_scripts, write_plan_of
+
+PUT, COMMIT, FENCE = ("put global k text:v", "0"), ("commit", "0"), ("fence blocks all -", "0")
+COLLECTS = ("fence nb job:* pmix.collect=number:1:1", "0")
+LISTED = ("fence blocks job:1,job:0 pmix.collect=number:1:0", "0")
+BLOCKS_AND_COLLECTS = ("fence blocks all pmix.collect=number:1:1", "0")
+WAITS = "pmix.wait=number:4:0"
+
+
+@dataclass(frozen=True)
+class Case:
+    """The recorded calls of ranks 0 and 1, the lines that they become, and a comment that the
+    plan has."""
+
+    calls: Sequence[Recorded]
+    lines: Sequence[str]
+    comment: Optional[str] = None
+    more_calls: Sequence[Recorded] = ()
+    more_lines: Sequence[str] = ()
+
+
+def one(call: str, line: str, comment: Optional[str] = None, end: str = "0") -> Case:
+    """A case of one call, which becomes a line, or none."""
+    return Case([(call, end)], [line] if line else [], comment)
+
+
+def get_of_put(
+    call: str, line: str, end: str = "0 text:v", put: Sequence[Recorded] = (PUT, COMMIT)
+) -> Case:
+    """A case in which rank 1 gets what rank 0 has put."""
+    lines = ["put global k v", "commit"][:len(put)]
+    return Case(put, lines, None, [(call, end)], [line])
+
+
+class CallsTest(unittest.TestCase):
+    """Each call becomes its line, or the head says why not."""
+
+    def hold(self, cases: dict[str, Case]) -> None:
+        """Tests cases by their names."""
+        for name, case in cases.items():
+            with self.subTest(name):
+                tapes = Tape(0), Tape(1)
+                for tape, calls in zip(tapes, (case.calls, case.more_calls)):
+                    for what, end in calls:
+                        tape.call(what, end)
+                plan = write_plan_of(tapes)
+                self.assertEqual(read_scripts(plan), [[*case.lines], [*case.more_lines]])
+                self.assertIn(case.comment or "", plan)
+
+    def test_values(self) -> None:
+        no_word, no_text = "1 texts that no word", "1 values that aren't text"
+        x255 = "x" * 255
+        self.hold({
+            "a text": one("put global k text:v", "put global k v"),
+            "bytes": one("put local k bytes:24", "put local k bytes:24", no_text),
+            "a number": one("put remote k number:4:7", "put remote k number:4", no_text),
+            "spaces": one("put global k text:a%20b", "put global k text:3", no_word),
+            "an empty text": one("put global k text:", "put global k text:0", no_word),
+            "a long text": one("put global k long:5000", "put global k text:5000", no_word),
+            "past the limit": one(f"put global k text:{x255}x", "put global k text:256", no_word),
+            "at the limit": one(f"put global k text:{x255}", f"put global k {x255}"),
+            "not ASCII": one("put global k text:%C3%A4", "put global k text:2", no_word),
+        })
+
+    def test_keys(self) -> None:
+        k63 = "k" * 63
+        both = [("put global a%20b text:v", "0"), ("put global a%2520b text:v", "0")]
+        self.hold({
+            "a space": one(
+                "put global a%20b text:v", "put global a%20b v", "The key a%20b is a b."
+            ),
+            "two keys that would be one": Case(
+                both, ["put global a%20b~2 v", "put global a%20b v"], "The key a%20b~2 is a b."
+            ),
+            "a star": one("put global * text:v", "put global %2A v", "The key %2A is *."),
+            "an empty key": one("put global % text:v", "put global % v", "The key % is (empty)."),
+            "a long key": one(f"put global {k63}k text:v", f"put global {k63} v", f"is {k63}k."),
+            "one that a plan would take for reserved": one(
+                "put global PMIX_x text:v", "put global %50MIX_x v", "The key %50MIX_x is"
+            ),
+        })
+
+    def test_puts_and_commits(self) -> None:
+        self.hold({
+            "a reserved key": one("put global pmix.hname text:n0", "", "1 puts of reserved keys"),
+            "another scope": one("put other k text:v", "", "1 puts of a scope"),
+            "a put that failed": one("put global k text:v", "", "1 puts that failed", "-27"),
+            "a commit": one("commit", "commit"),
+            "a commit that failed": one("commit", "", "1 commits that failed", "-25"),
+        })
+
+    def test_gets(self) -> None:
+        at_once = "pmix.immediate=number:1:1"
+        self.hold({
+            "a get": get_of_put("get blocks job:0 :k -", "get app:0 k"),
+            "of its own job": get_of_put("get nb %:0 :k -", "get app:0 k"),
+            "at once": get_of_put(
+                f"get blocks job:0 :k {at_once}", "get-now app:0 k", "-46", [PUT]
+            ),
+            "optional": get_of_put(
+                "get blocks job:0 :k pmix.optional=number:1:1", "get-now app:0 k", "-46", [PUT]
+            ),
+            "no directive at all": get_of_put(
+                "get blocks job:0 :k pmix.optional=number:1:0", "get app:0 k"
+            ),
+            "an own get": Case(
+                [PUT, ("get blocks job:0 :k -", "0 text:v")], ["put global k v", "get app:0 k"]
+            ),
+        })
+
+    def test_gets_that_failed(self) -> None:
+        failed = [("get blocks job:0 :k -", "-46")]
+        timeout = [("get blocks job:0 :k pmix.timeout=number:4:2", "-24")]
+        self.hold({
+            "a get that failed": Case(
+                [PUT], ["put global k v"], "1 gets that were answered", failed, ["get-now app:0 k"]
+            ),
+            "out of scope": Case(
+                [("put remote k text:v", "0")], ["put remote k v"], None, failed, ["get app:0 k"]
+            ),
+            "with a timeout": Case(
+                [PUT],
+                ["put global k v"],
+                "1 directives pmix.timeout",
+                timeout,
+                ["get-now app:0 k"],
+            ),
+        })
+
+    def test_gets_that_are_left_out(self) -> None:
+        not_there, failed = "1 gets of keys whose put isn't recorded", "-27"
+        got = [("get blocks job:0 :k -", "0 text:v")]
+        self.hold({
+            "a wildcard rank": one(
+                "get blocks job:* :k -", "", "1 gets of a wildcard rank", "0 number:4:2"
+            ),
+            "an undefined rank": one(
+                "get blocks job:undefined :k -", "", "1 gets of an undefined rank", "-46"
+            ),
+            "a reserved key": one(
+                "get blocks job:0 :pmix.lrank -", "", "1 gets of reserved keys", "0 number:2:0"
+            ),
+            "every key": one("get blocks job:0 every -", "", "1 gets of every key", failed),
+            "no process": one("get blocks none :k -", "", "1 gets that name no process", failed),
+            "another job": one(
+                "get blocks other:0 :k -", "", "1 gets of processes that aren't recorded", "-46"
+            ),
+            "what isn't put": Case([], [], not_there, got),
+            "what isn't committed": Case([PUT], ["put global k v"], not_there, got),
+            "an own get of what isn't put": Case(got, [], not_there),
+        })
+
+    def test_fences(self) -> None:
+        failed = [("fence blocks all -", "-24"), BLOCKS_AND_COLLECTS]
+        fine = [FENCE, BLOCKS_AND_COLLECTS]
+        refused = [("fence blocks all -", "-27"), FENCE]
+        collect = ["fence all collect"]
+        self.hold({
+            "a fence": Case([FENCE], ["fence all"], None, [FENCE], ["fence all"]),
+            "that collects": Case([COLLECTS], collect, None, [COLLECTS], collect),
+            "of a list": Case([LISTED], ["fence all"], None, [LISTED], ["fence all"]),
+            "of one": one("fence blocks job:0 -", "fence app:0"),
+            "that failed at one": Case(
+                failed, collect, "2 fences that failed at one", fine, collect
+            ),
+            "that never began": Case(
+                refused, ["fence all"], "1 fences that failed", [FENCE], ["fence all"]
+            ),
+            "of another job": one(
+                "fence blocks other:* -", "", "1 fences with processes that aren't recorded"
+            ),
+            "without the caller": one(
+                "fence blocks job:1 -", "", "1 fences with processes that aren't recorded", "-27"
+            ),
+        })
+
+    def test_publishes(self) -> None:
+        self.hold({
+            "a publish": one("publish blocks n=text:v -", "publish n v"),
+            "of two": Case(
+                [("publish nb n=text:v,m=bytes:3 pmix.range=type:33", "0")],
+                ["publish n v", "publish m bytes:3"],
+                "1 calls of publish with several keys",
+            ),
+            "twice": one("publish blocks n=text:v -", "publish n v", None, "-53"),
+            "that failed": one("publish blocks n=text:v -", "", "1 publishes that failed", "-47"),
+            "of nothing": one("publish blocks - -", "", "1 publishes of no key", "-27"),
+            "of a reserved key": one("publish blocks pmix.n=text:v -", "", "1 publishes of no key"),
+        })
+
+    def test_lookups(self) -> None:
+        self.hold({
+            "a lookup": one("lookup blocks :n -", "lookup n", None, "0 n=text:v"),
+            "that waits": one(f"lookup nb :n {WAITS}", "lookup-wait n", None, "0 n=text:v"),
+            "of two that waits for both": Case(
+                [(f"lookup blocks :n,:m {WAITS}", "0 n=text:v,m=text:w")],
+                ["lookup-wait n", "lookup-wait m"],
+                "1 calls of lookup with several keys",
+            ),
+            "of two that waits for one": Case(
+                [("lookup blocks :n,:m pmix.wait=number:4:1", "0 n=text:v")],
+                ["lookup n", "lookup m"],
+                "1 lookups that wait for some of their keys",
+            ),
+            "that was to wait and failed": one(
+                f"lookup blocks :n {WAITS}", "lookup n", "1 lookups that were to wait", "-24 -"
+            ),
+            "of a reserved key": one(
+                "lookup blocks :pmix.n -", "", "1 lookups of reserved keys", "-46 -"
+            ),
+            "of no key": one("lookup nb every -", "", "1 lookups that name no key", "-27 -"),
+        })
+
+    def test_unpublishes(self) -> None:
+        everything = [("publish blocks n=text:v -", "0"), ("unpublish blocks every -", "0")]
+        self.hold({
+            "an unpublish": one("unpublish blocks :n -", "unpublish n"),
+            "of two": Case(
+                [("unpublish nb :n,:m -", "0")],
+                ["unpublish n", "unpublish m"],
+                "1 calls of unpublish with several",
+            ),
+            "of everything": Case(
+                everything, ["publish n v", "unpublish n"], "1 unpublishes of every name"
+            ),
+            "that failed": one("unpublish blocks :n -", "", "1 unpublishes that failed", "-47"),
+        })
+
+
+if __name__ == "__main__":
+    unittest.main()

@@ -1,0 +1,202 @@
+"""Tests the command line of the recorder, for which it needn't be built."""
+import os
+import re
+import stat
+import tempfile
+import unittest
+
+import support
+from tapes import (
+    COMMAND,
+    PROGRAMS,
+    SHIPPED,
+    Tape,
+    ask_program,
+    read_file,
+    run_recorder,
+    read_scripts,
+    write_file,
+)
+from wire_up_tools.record.command_line import OPTIONS
+
+
+class RoomTest(unittest.TestCase):
+    """Tests in a folder of their own, with a recording in it."""
+
+    def setUp(self) -> None:
+        room = tempfile.TemporaryDirectory(prefix="wire-up-")
+        self.addCleanup(room.cleanup)
+        self.room = room.name
+        self.plan = os.path.join(self.room, "plan")
+        self.good = write_file(os.path.join(self.room, "good.recording"), Tape(0).text())
+
+
+class CommandLineTest(RoomTest):
+    """What a command line ends with, and says."""
+
+    def use(self, words: list[str], status: int, said: str = "") -> None:
+        """Tests the status and a part of what is said."""
+        with self.subTest(words):
+            ran = run_recorder(*words)
+            self.assertEqual(ran.returncode, status, ran.stderr[:300])
+            self.assertIn(said, ran.stderr)
+            self.assertNotIn("Traceback", ran.stderr)
+            if not status:
+                self.assertEqual(ran.stderr, "")
+
+    def test_help(self) -> None:
+        ran = run_recorder("--help")
+        self.assertEqual((ran.returncode, ran.stderr), (0, ""))
+        self.assertEqual(ran.stdout, run_recorder("-h").stdout)
+        for option in OPTIONS:
+            self.assertIn(f"\n  {option.written}  ", ran.stdout)
+        self.assertNotRegex(ran.stdout, r"(?m) $")
+
+    def test_what_is_missing(self) -> None:
+        self.use([], 125, "-o PLAN says where the plan goes")
+        self.use(["-o", self.plan], 125, "which command?")
+        self.use(["-o", self.plan, "--"], 125, "which command?")
+        self.use(["true"], 125, "-o PLAN")
+        self.use(["-o", self.plan, "--from"], 125, "which recordings?")
+
+    def test_options(self) -> None:
+        self.use(["-o", self.plan, "--loud", "true"], 125, "wire_up-record: --loud is no option\n")
+        self.use(["-o", self.plan, "--str", "true"], 125, "--str is no option")
+        self.use(["-o", self.plan, "-o", self.plan, "true"], 125, "-o stands twice")
+        self.use(["-o"], 125, "-o needs a file")
+        self.use(["--keep"], 125, "--keep needs a folder")
+        kept = ["--keep", os.path.join(self.room, "kept")]
+        self.use(["-o", self.plan, *kept, "--from", self.good], 125, "--keep goes with a command")
+
+    def test_an_error_comes_with_the_help(self) -> None:
+        ran = run_recorder("-o")
+        self.assertEqual(ran.stderr.partition("\n\n")[2], run_recorder("--help").stdout)
+
+    def test_recordings(self) -> None:
+        self.use(["-o", self.plan, "--from", self.good], 0)
+        self.use(["-o", "-", "--from", self.good], 0)
+        self.use(["-o", self.plan, "--from", self.room], 0)
+        none = os.path.join(self.room, "none")
+        self.use(["-o", self.plan, "--from", none], 125, "none: No such file")
+
+    def test_where_the_plan_goes(self) -> None:
+        no_place = os.path.join(self.room, "no", "plan")
+        self.use(["-o", no_place, "--from", self.good], 125, "No such file")
+        self.use(["-o", "/dev/full", "--from", self.good], 125, "No space left")
+        self.use(["-o", self.room, "--from", self.good], 125, "Is a directory")
+
+    def test_a_link_is_replaced(self) -> None:
+        link = os.path.join(self.room, "link")
+        os.symlink(os.path.join(self.room, "elsewhere"), link)
+        self.use(["-o", link, "--from", self.good], 0)
+        self.assertFalse(os.path.islink(link))
+
+    def test_the_command_by_a_link(self) -> None:
+        link = os.path.join(self.room, "recorder")
+        os.symlink(COMMAND, link)
+        ran = ask_program(link, "-o", "-", "--from", self.good)
+        self.assertEqual((ran.returncode, ran.stderr), (0, ""))
+        self.assertTrue(ran.stdout.startswith("# Recorded by wire_up-record on 2023-11-14"))
+
+
+class LargeTest(RoomTest):
+    """Plans past the plain limits."""
+
+    def test_large(self) -> None:
+        """They are written where the checker has --large, and say so at their head."""
+        words = b"#!/bin/sh\necho '      --large  lifts the limits'\n"
+        checker = write_file(os.path.join(self.room, "checker"), words)
+        os.chmod(checker, stat.S_IRWXU)
+        tape = Tape()
+        for _ in range(16385):
+            tape.call("commit")
+        large = write_file(os.path.join(self.room, "large.0"), tape.text())
+        ran = run_recorder("-o", "-", "--checker", checker, "--from", large)
+        said = "# Larger than the plain limits: `wire_up check --large` reads it.\n"
+        self.assertIn(said, ran.stdout)
+        self.assertEqual((ran.returncode, ran.stdout.count("\ncommit")), (0, 16385))
+        ran = run_recorder("-o", "-", "--checker", "/bin/false", "--from", large)
+        self.assertEqual(ran.returncode, 125)
+
+
+class InPartTest(RoomTest):
+    """Plans that are more ordered than the program."""
+
+    def test_in_part(self) -> None:
+        """That is said beside the head of the plan too."""
+        tapes = Tape(0), Tape(1)
+        fence = tapes[0].begin("fence nb all pmix.collect=number:1:1")
+        tapes[0].call("publish blocks m=text:x -").end(fence)
+        tapes[1].call("fence blocks all pmix.collect=number:1:1")
+        files = [
+            write_file(os.path.join(self.room, f"part.{n}"), tape.text())
+            for n, tape in enumerate(tapes)
+        ]
+        ran = run_recorder("-o", self.plan, "--from", *files)
+        said = (
+            "a verdict over this plan holds only in part: "
+            "1 calls made while one that doesn't block was open"
+        )
+        self.assertEqual(ran.returncode, 0)
+        self.assertIn(said, ran.stderr)
+
+
+class WhereTest(RoomTest):
+    """Where in the program the calls of a plan come from."""
+
+    def find(self, process: str, number: int) -> str:
+        """Where a call of the plan comes from."""
+        ran = run_recorder("--where", process, str(number), self.plan)
+        self.assertEqual((ran.returncode, ran.stderr), (0, ""))
+        return ran.stdout
+
+    def test_a_race(self) -> None:
+        """The calls of a finding lead to the lines of the program that made them."""
+        ran = run_recorder("-o", self.plan, "--from", os.path.join(SHIPPED, "wild1"))
+        self.assertEqual(ran.returncode, 0)
+        source = read_file(os.path.join(PROGRAMS, "cases.c")).splitlines()
+        scripts = read_scripts(read_file(self.plan))
+        calls = (
+            ("app:0", "lookup first", "look_up", "MPI_Lookup_name"),
+            ("app:1", "publish first port", "publish", "MPI_Publish_name"),
+        )
+        for process, words, function, called in calls:
+            number = scripts[int(process[-1])].index(words) + 1
+            read = re.fullmatch(rf"{function} \(cases\.c:(\d+)\)\n", self.find(process, number))
+            assert read, process
+            self.assertIn(called, source[int(read[1]) - 1])
+
+    def test_a_program_of_python(self) -> None:
+        """A call of mpi4py comes from its line of Python."""
+        run_recorder("-o", self.plan, "--from", os.path.join(SHIPPED, "mpi4py"))
+        number = read_scripts(read_file(self.plan))[0].index("publish told port") + 1
+        source = read_file(os.path.join(PROGRAMS, "cases.py")).splitlines()
+        line = 1 + next(n for n, text in enumerate(source) if 'Publish_name("told"' in text)
+        self.assertEqual(self.find("app:0", number), f"<module> (cases.py:{line})\n")
+
+    def test_a_call_that_is_not_there(self) -> None:
+        run_recorder("-o", self.plan, "--from", os.path.join(SHIPPED, "wild1"))
+        for process, number in (("app:0", "99"), ("app:9", "1"), ("other:0", "1")):
+            ran = run_recorder("--where", process, number, self.plan)
+            said = f"wire_up-record: {self.plan}: has no call {number} of {process}\n"
+            self.assertEqual((ran.returncode, ran.stderr), (125, said))
+
+    def test_words_that_are_wrong(self) -> None:
+        few: list[str] = []
+        for words in (few, ["app:0", "1"], ["app:0", "0", self.plan], ["app:0", "x", self.plan]):
+            with self.subTest(words):
+                ran = run_recorder("--where", *words)
+                self.assertEqual(ran.returncode, 125)
+                self.assertIn("--where needs a process, the number of a call", ran.stderr)
+
+    def test_the_finding_names_these_calls(self) -> None:
+        program = support.program()
+        run_recorder("-o", self.plan, "--from", os.path.join(SHIPPED, "wild1"))
+        first, second = read_scripts(read_file(self.plan))[:2]
+        calls = first.index("lookup first") + 1, second.index("publish first port") + 1
+        said = f"race app:0 {calls[0]} app:1 {calls[1]} name first"
+        self.assertEqual(ask_program(program, "check", self.plan).stdout.splitlines()[0], said)
+
+
+if __name__ == "__main__":
+    unittest.main()

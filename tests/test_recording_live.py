@@ -1,0 +1,332 @@
+"""Tests what is recorded of programs that run, where MPI and PMIx are there.
+
+Where they aren't, all of this is skipped, and says what lacks. Without a built `wire_up` plans are
+made, and not checked.
+"""
+import glob
+import os
+import re
+import shutil
+import signal
+import subprocess
+import sys
+import tempfile
+import time
+import unittest
+from collections.abc import Iterator, Mapping, Sequence
+from typing import Optional, Union
+
+from live import ENVIRONMENT, LiveTest, mpirun
+from recorded import CASES, OTHERS, Program, why_other_findings, why_wrong
+from tapes import COMMAND, PATIENCE, PROGRAMS, ask_program, read_file, run_recorder, read_scripts
+from wire_up_tools.limits import VERSION_1
+from wire_up_tools.record.calls import Collective, CollectiveEnd, Sources
+from wire_up_tools.record.recordings import read_recordings
+
+# What the test of 128 processes needs: cores, and bytes of memory.
+CORES, MEMORY = 4, 8 << 30
+# How long a signal may take to end a program that sleeps, in seconds.
+SOON = 5.5
+
+# Whose data each of the four processes waits for in the collectives of `messages`.
+ALL, NONE, BELOW = Sources.ALL, Sources.NONE, Sources.BELOW
+SOURCES: Mapping[str, Sequence[Union[Sources, tuple[int, ...]]]] = {
+    "barrier": [ALL] * 4,
+    "bcast": [NONE, (3,), (3,), (3,)],
+    "gather": [NONE, NONE, ALL, NONE],
+    "scatter": [(1,), NONE, (1,), (1,)],
+    "reduce": [NONE, NONE, ALL, NONE],
+    "scan": [BELOW] * 4,
+    "exscan": [BELOW] * 4,
+    "allgather": [ALL] * 4,
+    "allgatherv": [(1, 3)] * 4,
+    "alltoall": [ALL] * 4,
+    "alltoallv": [NONE, (0,), (0, 1), ALL],
+    "alltoallw": [NONE, (0,), (0, 1), ALL],
+    "reduce_scatter": [ALL] * 4,
+    "reduce_scatter_block": [ALL] * 4,
+    "allreduce": [ALL] * 4,
+    "comm_split": [ALL] * 4,
+    "ibarrier": [ALL] * 4,
+}
+# How many steps `messages` has.
+STEPS = 20
+
+
+def find_python() -> Optional[str]:
+    """A Python that has mpi4py; None where there is none."""
+    for it in (sys.executable, shutil.which("python3", path=os.defpath)):
+        asked = [it or "false", "-c", "import mpi4py"]
+        if it and not subprocess.run(asked, capture_output=True, check=False).returncode:
+            return it
+    return None
+
+
+def wait_for_recordings(folder: str, count: int) -> None:
+    """Waits until so many recordings have the world of MPI in them: not for long, but on a slow
+    machine."""
+    for _ in range(2000):
+        time.sleep(0.02)
+        files = glob.glob(os.path.join(folder, "wire_up-record-*", "*.recording"))
+        if len(files) == count and all(" world " in read_file(it) for it in files):
+            return
+
+
+def find_faults(log: str) -> Iterator[str]:
+    """The blocks of a log of memcheck whose first frame outside of the C library and Valgrind is
+    the recorder's."""
+    foreign = r"vgpreload|\(in [^)]*/libc\.so|\((?:strdup|clone|pthread_\w+)\.[cS]:"
+    for block in re.split(r"==\d+== \n", log):
+        frames = re.findall(r"(?:at|by) 0x[0-9A-F]+: .*", block)
+        own = [it for it in frames if not re.search(foreign, it)]
+        if own and "/record" in own[0]:
+            yield block
+
+
+class ProgramsTest(LiveTest):
+    """Programs that run as without the recorder, and whose plans are checked and replayed as it
+    was."""
+
+    def hold(self, name: str, *options: str) -> None:
+        """Tests a program."""
+        of = OTHERS[name]
+        run = ["mpirun", *options, *mpirun(of.processes, self.compile(name))[1:]]
+        self.record_alike(run, "--answers", self.answers)
+        if self.program:
+            self.assertIsNone(why_wrong(self.program, self.plan, self.answers, of.findings))
+
+    def test_names(self) -> None:
+        self.hold("names")
+
+    def test_ring(self) -> None:
+        self.hold("ring")
+
+    def test_collectives(self) -> None:
+        self.hold("collectives")
+
+    def test_told(self) -> None:
+        """With a variable that the launcher hands on by its option."""
+        self.hold("told", "-x", "NAME=value")
+
+    def test_spawn(self) -> None:
+        self.hold("spawn")
+
+    def test_many_processes(self) -> None:
+        """128 processes, where the machine isn't too small."""
+        pages = os.sysconf("SC_PHYS_PAGES") * os.sysconf("SC_PAGE_SIZE")
+        if len(os.sched_getaffinity(0)) < CORES or pages < MEMORY:
+            self.skipTest("128 processes take 4 cores and 8 GiB of memory")
+        ran = self.record(*mpirun(128, self.compile("collectives")))
+        self.assertEqual(ran.returncode, 0, ran.stderr[:300])
+        if self.program:
+            self.assertIsNone(why_other_findings(self.program, self.plan, 0))
+
+    def test_a_program_of_python(self) -> None:
+        """A program of mpi4py has no false findings, and its calls come from its lines."""
+        python = find_python()
+        if not python:
+            self.skipTest("there is no mpi4py")
+        path = os.path.join(PROGRAMS, "cases.py")
+        ran = self.record("--answers", self.answers, *mpirun(3, python, path))
+        self.assertEqual(ran.returncode, 0, ran.stderr[:300])
+        if self.program:
+            self.assertIsNone(why_wrong(self.program, self.plan, self.answers, 0))
+        number = read_scripts(read_file(self.plan))[0].index("publish told port") + 1
+        source = read_file(path).splitlines()
+        line = 1 + next(n for n, text in enumerate(source) if 'Publish_name("told"' in text)
+        found = run_recorder("--where", "app:0", str(number), self.plan).stdout
+        self.assertEqual(found, f"<module> (cases.py:{line})\n")
+
+
+class CallsTest(LiveTest):
+    """A program that calls PMIx in many ways."""
+
+    def hold(self, puts: int, *options: str) -> None:
+        """Tests that it is told the same with the recorder as without."""
+        ran = self.record_alike(mpirun(2, self.compile("calls"), *options))
+        self.assertEqual(ran.returncode, 0, ran.stderr[:300])
+        self.assertEqual(read_file(self.plan).count("\nput "), puts)
+        self.assertGreater(ran.stdout.count("\n"), 60)
+
+    def test_calls(self) -> None:
+        self.hold(14)
+
+    def test_threads(self) -> None:
+        self.hold(414, "threads")
+
+    def test_a_process_that_is_killed(self) -> None:
+        """Its recording is there up to its end."""
+        ran = self.record(*mpirun(2, self.compile("calls"), "threads", "killed"))
+        self.assertNotIn(ran.returncode, (0, 125))
+        self.assertIn("the command ended", ran.stderr)
+        plan = read_file(self.plan)
+        scripts = read_scripts(plan)
+        self.assertIn("PMIx_Finalize", plan)
+        self.assertEqual(len(scripts), 2)
+        self.assertEqual((scripts[1][-1], scripts[1].count("commit")), ("fence all", 2))
+
+
+class CasesTest(LiveTest):
+    """The small programs of `cases`."""
+
+    def hold(self, name: str, of: Program) -> None:
+        """Tests one of them."""
+        words = ["--checker", self.program or "/dev/null", "--answers", self.answers]
+        ran = self.record(*words, *mpirun(of.processes, self.compile("cases"), name))
+        self.assertEqual((ran.returncode, ran.stdout), (0, f"{name} done\n"), ran.stderr[:300])
+        said = "" if name == "poll" and not self.program else of.said
+        self.assertIn(said, ran.stderr)
+        self.assertTrue(said or not ran.stderr, ran.stderr[:300])
+        if self.program:
+            wrong = why_wrong(self.program, self.plan, self.answers, of.findings)
+            self.assertIsNone(wrong)
+
+    def test_cases(self) -> None:
+        for name, of in CASES.items():
+            with self.subTest(name):
+                self.hold(name, of)
+
+    def test_where(self) -> None:
+        """The calls of a race lead to their lines."""
+        if not shutil.which("addr2line"):
+            self.skipTest("there is no addr2line")
+        self.hold("wild1", CASES["wild1"])
+        source = read_file(os.path.join(PROGRAMS, "cases.c")).splitlines()
+        number = read_scripts(read_file(self.plan))[0].index("lookup first") + 1
+        found = run_recorder("--where", "app:0", str(number), self.plan).stdout
+        read = re.fullmatch(r"look_up \(cases\.c:(\d+)\)\n", found)
+        assert read, found
+        self.assertIn("MPI_Lookup_name", source[int(read[1]) - 1])
+
+    def test_strict(self) -> None:
+        self.record("--strict", *mpirun(2, self.compile("cases"), "poll"))
+        if self.program:
+            self.assertIsNone(why_other_findings(self.program, self.plan, 1))
+
+    def test_too_many_calls(self) -> None:
+        """A program with more calls than a plan may have is told so, and its recordings stay."""
+        kept = os.path.join(self.room, "kept")
+        words = ["--checker", "/bin/false", "--keep", kept]
+        ran = self.record(*words, *mpirun(2, self.compile("cases"), "toomany"))
+        self.assertEqual((ran.returncode, ran.stdout), (125, "toomany done\n"))
+        said = r"a plan has at most 16,384 calls, and this one would have 20,0\d\d\n"
+        self.assertRegex(ran.stderr, said)
+        self.assertEqual(len(glob.glob(os.path.join(kept, "*.recording"))), 2)
+
+    def test_a_script(self) -> None:
+        """A script that holds `mpirun -x` is recorded, and its status is passed on."""
+        run = " ".join(mpirun(2, self.compile("cases"), "split")[1:])
+        ran = self.record("sh", "-c", f"WORD=1 mpirun -x WORD {run}; exit 3")
+        self.assertEqual(ran.returncode, 3, ran.stderr[:300])
+        if self.program:
+            self.assertIsNone(why_other_findings(self.program, self.plan, 0))
+
+
+class MessagesTest(LiveTest):
+    """Messages and collectives of all kinds."""
+
+    def setUp(self) -> None:
+        super().setUp()
+        self.kept = os.path.join(self.room, "kept")
+        ran = self.record("--keep", self.kept, *mpirun(4, self.compile("messages")))
+        self.assertEqual(ran.returncode, 0, ran.stderr[:300])
+        self.assertEqual(ran.stdout.count(f": {STEPS} steps, 0 wrong"), 4)
+
+    def test_whom_processes_waited_for(self) -> None:
+        for recording in read_recordings([self.kept], VERSION_1):
+            for call in recording.calls:
+                if isinstance(call.action, Collective):
+                    name = call.action.name
+                    assert isinstance(call.end, CollectiveEnd), name
+                    wanted = SOURCES[name][recording.rank]
+                    self.assertEqual(call.end.sources, wanted, f"{name} of {recording.rank}")
+
+    def test_they_order_what_they_must(self) -> None:
+        if not self.program:
+            self.skipTest("there is no built wire_up: WIRE_UP_PROGRAM names none")
+        self.assertEqual(self.last_line(), "findings 0")
+        run_recorder("--no-mpi", "-o", self.plan, "--from", self.kept)
+        self.assertEqual(self.last_line(), f"findings {STEPS}")
+
+    def last_line(self) -> str:
+        """The last line that the checker writes about the plan."""
+        return ask_program(self.program or "", "check", self.plan).stdout.splitlines()[-1]
+
+
+class StatusesTest(LiveTest):
+    """Statuses of commands, and signals."""
+
+    def hold(self, words: Sequence[str], status: int, said: str) -> None:
+        """Tests what a command ends with."""
+        ran = self.record(*words)
+        self.assertEqual(ran.returncode, status)
+        self.assertIn(said, ran.stderr)
+        self.assertNotIn("Traceback", ran.stderr)
+
+    def test_a_status(self) -> None:
+        self.hold(["sh", "-c", "exit 7"], 125, "there is no recording")
+
+    def test_a_command_that_is_not_there(self) -> None:
+        self.hold(["./no-such-command"], 127, "No such file")
+
+    def test_a_command_that_cannot_be_run(self) -> None:
+        self.hold([self.room], 126, "Permission denied")
+
+    def test_a_folder_that_is_not_empty(self) -> None:
+        kept = self.folder.name
+        self.hold(["--keep", kept, "true"], 125, f"wire_up-record: {kept}: isn't empty\n")
+
+    def test_signals(self) -> None:
+        """They reach the program, and what was recorded becomes a plan; nothing else is left."""
+        for number in (signal.SIGTERM, signal.SIGINT, signal.SIGHUP):
+            with self.subTest(number.name):
+                self.hand_on(number)
+
+    def hand_on(self, number: signal.Signals) -> None:
+        """Tests a signal."""
+        run = mpirun(2, self.compile("cases"), "sleep")
+        with tempfile.TemporaryDirectory(prefix="wire-up-") as here:
+            words = [sys.executable, COMMAND, "-o", os.path.join(here, "plan"), *run]
+            with subprocess.Popen(
+                words,
+                stdout=subprocess.DEVNULL,
+                stderr=subprocess.PIPE,
+                text=True,
+                env=ENVIRONMENT,
+            ) as ran:
+                wait_for_recordings(here, 2)
+                began = time.monotonic()
+                ran.send_signal(number)
+                said = ran.communicate(timeout=PATIENCE)[1]
+            self.assertLess(time.monotonic() - began, SOON)
+            self.assertNotIn(ran.returncode, (0, 125))
+            self.assertEqual(os.listdir(here), ["plan"])
+            self.assertIn("the command ended", said)
+
+
+class MemoryTest(LiveTest):
+    """Valgrind's memcheck finds no fault of the recorder."""
+
+    def hold(self, name: str, *options: str) -> None:
+        """Tests a program of two processes."""
+        if not shutil.which("valgrind"):
+            self.skipTest("there is no valgrind")
+        log = os.path.join(self.room, "memcheck.%p")
+        words = ["valgrind", "-q", "--leak-check=full", f"--log-file={log}", self.compile(name)]
+        ran = self.record(*mpirun(2, *words, *options))
+        self.assertEqual(ran.returncode, 0, ran.stderr[:300])
+        logs = glob.glob(os.path.join(self.room, "memcheck.*"))
+        self.assertEqual(len(logs), 2)
+        for path in logs:
+            with open(path, encoding="utf-8", errors="replace") as it:
+                self.assertEqual(list(find_faults(it.read())), [])
+
+    def test_threads_and_callbacks(self) -> None:
+        self.hold("calls", "threads")
+
+    def test_messages(self) -> None:
+        self.hold("told")
+
+
+if __name__ == "__main__":
+    unittest.main()

@@ -1,0 +1,61 @@
+"""Tests the recordings that the repository has: their plans have the findings that they must have,
+and are replayed as the programs ran."""
+import os
+import tempfile
+import unittest
+from typing import Optional
+
+import support
+import tapes
+from recorded import BOTH_VERDICTS, SHIPPED, why_wrong
+from tapes import run_recorder
+
+
+def find_program() -> Optional[str]:
+    """The built program; None where there is none."""
+    try:
+        return support.program()
+    except unittest.SkipTest:
+        return None
+
+
+class ShippedTest(unittest.TestCase):
+    """Plans of recordings of the repository."""
+
+    def setUp(self) -> None:
+        room = tempfile.TemporaryDirectory(prefix="wire-up-")
+        self.addCleanup(room.cleanup)
+        self.plan, self.answers = (os.path.join(room.name, it) for it in ("plan", "answers"))
+        self.program = find_program()
+
+    def hold(self, name: str, with_mpi: bool, count: int) -> None:
+        """Tests the plan of a recording, with or without MPI's order."""
+        words = ["-o", self.plan, "--answers", self.answers]
+        words += ["--checker", self.program or "/dev/null", *([] if with_mpi else ["--no-mpi"])]
+        ran = run_recorder(*words, "--from", os.path.join(tapes.SHIPPED, name))
+        says_both = name == "poll" and with_mpi and self.program
+        self.assertEqual((ran.returncode, ran.stderr), (0, BOTH_VERDICTS if says_both else ""))
+        if self.program:
+            self.assertIsNone(why_wrong(self.program, self.plan, self.answers, count))
+
+    def test_all_are_known(self) -> None:
+        found = [it.name for it in os.scandir(tapes.SHIPPED) if it.is_dir()]
+        self.assertEqual(sorted(found), sorted(SHIPPED))
+
+    def test_with_mpi(self) -> None:
+        for name, program in SHIPPED.items():
+            with self.subTest(name):
+                self.hold(name, True, program.findings)
+
+    def test_without_mpi(self) -> None:
+        for name, program in SHIPPED.items():
+            with self.subTest(name):
+                self.hold(name, False, program.without_mpi)
+
+    def test_the_plans_are_checked(self) -> None:
+        """Says so where the others only make them."""
+        support.program()
+
+
+if __name__ == "__main__":
+    unittest.main()
