@@ -176,12 +176,12 @@ def leave_out_implied(diagram: Diagram) -> Diagram:
     kept = [
         it
         for it in diagram.arrows
-        if it.target.style is Style.WAITING or not any(orders(bar, it) for bar in diagram.bars)
+        if it.target.style is Style.WAITING or not any(is_said(bar, it) for bar in diagram.bars)
     ]
     return dataclasses.replace(diagram, arrows=kept)
 
 
-def orders(bar: Bar, link: Link) -> bool:
+def is_said(bar: Bar, link: Link) -> bool:
     """Whether the source of a link comes before a fence in its lane, and the target after it."""
     before, after = bar.marks.get(link.source.lane), bar.marks.get(link.target.lane)
     if before is None or after is None:

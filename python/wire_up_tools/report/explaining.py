@@ -1,6 +1,6 @@
 """What a finding is called, what it means, and how it is mended: as docs/races.md has it."""
 from wire_up_tools.report.findings import Finding, Kind
-from wire_up_tools.report.orders import Uses
+from wire_up_tools.report.uses import Uses
 
 LOOKUPS = ("lookup", "lookup-wait")
 

@@ -44,7 +44,7 @@ def write_page(report: Report) -> str:
     parts = [write_header(report)]
     parts += [write_detail(report, number, it) for number, it in enumerate(report.details, 1)]
     parts += [write_others(report)] if report.others else []
-    parts += [write_wire_up(report, report.wire_up)] if report.wire_up else []
+    parts += [write_wire_up(report.wire_up)] if report.wire_up else []
     parts.append(write_plan(report))
     return HEAD.format(title=title, style=STYLE) + "\n".join(parts) + FOOT
 
@@ -122,7 +122,7 @@ def write_detail(report: Report, number: int, detail: Detail) -> str:
         f'<p class="fix"><strong>Fix:</strong> {fix}</p>',
         f'<div class="both">{figure}{write_runs(report, one, detail.runs)}</div>',
     ]
-    parts += [write_pairs(report, group)] if group.count > 1 else []
+    parts += [write_pairs(group)] if group.count > 1 else []
     return "\n".join([*parts, "</section>"])
 
 
@@ -194,7 +194,7 @@ def write_steps(report: Report, finding: Finding, which: str, run: Run) -> str:
     return f"<details><summary>{title}</summary><pre>{steps}</pre></details>"
 
 
-def write_pairs(report: Report, group: Group) -> str:
+def write_pairs(group: Group) -> str:
     """The pairs of a group after the first."""
     pairs = [" and ".join(map(link_with_place, it.calls)) for it in group.others]
     rest = group.count - 1 - len(pairs)
@@ -224,7 +224,7 @@ def write_other(group: Group) -> str:
 # --- a plan without findings ---
 
 
-def write_wire_up(report: Report, wire_up: WireUp) -> str:
+def write_wire_up(wire_up: WireUp) -> str:
     """The diagram of a wire-up, and who waits for ever."""
     parts = []
     if wire_up.diagram.rows:

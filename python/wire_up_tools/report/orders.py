@@ -3,65 +3,12 @@
 A call is one event, and a fence is two: to arrive and to leave. What all that leave a fence wait
 for is one event more. The depth of an event is the length of the longest chain that leads to it.
 """
-import collections
 from collections.abc import Mapping, Sequence
 from dataclasses import dataclass, field
 from typing import Optional
 
 from wire_up_tools.plan import Call, Meeting, Plan, Rank
-from wire_up_tools.words import EVERY_NAME, is_reserved
-
-
-@dataclass(frozen=True, eq=False)
-class Uses:
-    """Who puts which key and publishes which name; those that are answered by themselves aside.
-
-    `puts` are by the rank and the key, `commits` by the rank, and `publishes` by the name.
-    `unpublished` are the names that some call may take away.
-    """
-
-    puts: Mapping[tuple[str, str], Sequence[Call]]
-    commits: Mapping[str, Sequence[Call]]
-    publishes: Mapping[str, Sequence[Call]]
-    unpublished: frozenset[str]
-
-    def find_commit(self, put: Call) -> Optional[Call]:
-        """The first commit of a rank after a put of it."""
-        commits = self.commits.get(put.rank.name, ())
-        return next((it for it in commits if it.number > put.number), None)
-
-    def find_awaited(self, call: Call) -> Optional[Call]:
-        """The call of another rank for which a call waits in every run, by the scripts."""
-        if call.verb == "get" and call.target != call.rank.name:
-            puts = self.puts.get((call.target, call.about), ())
-            return self.find_commit(puts[0]) if len(puts) == 1 else None
-        if call.verb == "lookup-wait" and call.about not in self.unpublished:
-            publishes = self.publishes.get(call.about, ())
-            return publishes[0] if len(publishes) == 1 else None
-        return None
-
-
-def find_uses(plan: Plan) -> Uses:
-    """Who puts which key and publishes which name."""
-    puts, commits, publishes = (collections.defaultdict(list) for _ in range(3))
-    for call in plan.calls:
-        if call.verb == "put" and not is_reserved(call.about):
-            puts[call.rank.name, call.about].append(call)
-        elif call.verb == "commit":
-            commits[call.rank.name].append(call)
-        elif call.verb == "publish" and not is_reserved(call.about):
-            publishes[call.about].append(call)
-    return Uses(puts, commits, publishes, find_unpublished(plan, publishes))
-
-
-def find_unpublished(plan: Plan, publishes: Mapping[str, Sequence[Call]]) -> frozenset[str]:
-    """The names that some call may take away."""
-    calls = [it for it in plan.calls if it.verb == "unpublish"]
-    sweepers = {it.rank.name for it in calls if it.about == EVERY_NAME}
-    swept = (
-        name for name, of_it in publishes.items() if any(it.rank.name in sweepers for it in of_it)
-    )
-    return frozenset(it.about for it in calls if it.about != EVERY_NAME).union(swept)
+from wire_up_tools.report.uses import Uses, find_uses
 
 
 @dataclass(frozen=True, eq=False)
@@ -177,7 +124,7 @@ class EventsDraft:
 
 def measure_depths(events: Events) -> list[int]:
     """The depth of each event. In a circle, what comes before an event in its rank counts alone."""
-    sweep = Sweep(events)
+    sweep = begin_sweep(events)
     while sweep.ready or sweep.rest:
         if not sweep.ready:
             sweep.break_circle()
@@ -185,23 +132,20 @@ def measure_depths(events: Events) -> list[int]:
     return sweep.depths
 
 
+@dataclass
 class Sweep:
     """Goes through the events, each after its sources.
 
-    `rest` are those that are still to come, of which `ready` wait for nothing any more. `depths`
-    are final for the others.
+    `rest` are those that are still to come, of which `ready` wait for nothing any more. `waits`
+    says for how many each still waits, and `depths` are final for those that have come.
     """
 
-    def __init__(self, events: Events) -> None:
-        self.before = events.before
-        self.waits = [len(it) for it in events.sources]
-        self.followers: list[list[int]] = [[] for _ in events.sources]
-        for event, sources in enumerate(events.sources):
-            for it in sources:
-                self.followers[it].append(event)
-        self.depths = [0] * len(self.waits)
-        self.ready = [event for event, count in enumerate(self.waits) if not count]
-        self.rest = set(range(len(self.waits)))
+    before: Mapping[int, Optional[int]]
+    followers: Sequence[Sequence[int]]
+    waits: list[int]
+    depths: list[int]
+    ready: list[int]
+    rest: set[int]
 
     def pass_event(self, event: int) -> None:
         """Passes an event: what waits for it stands below it, and may be ready."""
@@ -218,3 +162,20 @@ class Sweep:
         heads = [it for it in self.rest if self.before.get(it) not in self.rest]
         self.ready = heads or [min(self.rest)]
         self.rest -= set(self.ready)
+
+
+def begin_sweep(events: Events) -> Sweep:
+    """Begins with the events that wait for nothing."""
+    waits = [len(it) for it in events.sources]
+    ready = [event for event, count in enumerate(waits) if not count]
+    depths, rest = [0] * len(waits), set(range(len(waits)))
+    return Sweep(events.before, find_followers(events), waits, depths, ready, rest)
+
+
+def find_followers(events: Events) -> list[list[int]]:
+    """The events that wait for each event."""
+    followers: list[list[int]] = [[] for _ in events.sources]
+    for event, sources in enumerate(events.sources):
+        for it in sources:
+            followers[it].append(event)
+    return followers
