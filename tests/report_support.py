@@ -1,12 +1,15 @@
 """What the tests of `wire_up-report` share: how it is run, and plans of every kind."""
+import atexit
 import functools
 import glob
 import os
+import shutil
 import subprocess
 import sys
 import tempfile
 import unittest
 from collections.abc import Callable
+from dataclasses import dataclass
 from typing import Optional, TypeVar
 
 import support
@@ -139,9 +142,11 @@ NAMES_OF_PLANS = (*SHIPPED, *RECORDED, *WRITTEN)
 
 
 @functools.cache
-def make_room() -> "tempfile.TemporaryDirectory[str]":
-    """The folder of the plans that are made: it goes when the tests end."""
-    return tempfile.TemporaryDirectory(prefix="wire-up-report-plans-")
+def make_room() -> str:
+    """The folder of the plans and pages that are made: it goes when the tests end."""
+    room = tempfile.mkdtemp(prefix="wire-up-report-")
+    atexit.register(shutil.rmtree, room, ignore_errors=True)
+    return room
 
 
 @functools.cache
@@ -149,7 +154,7 @@ def find_plan(name: str) -> str:
     """The path of a plan, which is made if need be."""
     if name in SHIPPED:
         return SHIPPED[name]
-    path = os.path.join(make_room().name, f"{name}.plan")
+    path = os.path.join(make_room(), f"{name}.plan")
     if name in WRITTEN:
         return write(path, WRITTEN[name]())
     command = [sys.executable, RECORDER, "--checker", support.program(), "-o", path]
@@ -161,6 +166,24 @@ def find_plan(name: str) -> str:
 def list_options(name: str) -> list[str]:
     """The options that a plan needs."""
     return ["--large"] if name.startswith("large") else []
+
+
+@dataclass(frozen=True)
+class Made:
+    """How the command ended that made a page, and the paths of the page and of its SARIF."""
+
+    ran: "subprocess.CompletedProcess[str]"
+    page: str
+    sarif: str
+
+
+@functools.cache
+def make_page(name: str) -> Made:
+    """The page of a plan, which is made once, and its SARIF."""
+    path = find_plan(name)
+    page, sarif = (os.path.join(make_room(), f"{name}.{it}") for it in ("html", "sarif"))
+    words = [*list_options(name), "-o", page, "--sarif", sarif, "--source", support.TOP]
+    return Made(run_report(*words, path), page, sarif)
 
 
 def for_each_plan(case: type[Case]) -> type[Case]:

@@ -3,9 +3,7 @@
 They are whole, and nothing of a plan stands in one as other than text.
 """
 import html.parser
-import os
 import re
-import tempfile
 import unittest
 from typing import Optional
 
@@ -86,17 +84,12 @@ def clean(line: str) -> str:
 class PagesTest(report_support.PlanCase):
     """The page of each plan."""
 
-    def setUp(self) -> None:
-        room = tempfile.TemporaryDirectory(prefix="wire-up-report-")
-        self.addCleanup(room.cleanup)
-        self.page = os.path.join(room.name, "page.html")
-
     def check(self, name: str) -> None:
-        path, options = report_support.find_plan(name), report_support.list_options(name)
-        ran = report_support.run_report(*options, "-o", self.page, path)
-        checked = report_support.run_checker("check", *options, path)
-        self.assertEqual((ran.returncode, ran.stdout, ran.stderr), (checked.returncode, "", ""))
-        text = report_support.read(self.page)
+        made, path = report_support.make_page(name), report_support.find_plan(name)
+        checked = report_support.run_checker("check", *report_support.list_options(name), path)
+        said = (made.ran.returncode, made.ran.stdout, made.ran.stderr)
+        self.assertEqual(said, (checked.returncode, "", ""))
+        text = report_support.read(made.page)
         self.assertLess(len(text), MOST)
         self.check_elements(PageReader(text), path)
         self.check_count(text, checked.stdout.count("\n") - 1)

@@ -220,8 +220,7 @@ def draw_item(layout: Layout, item: Item) -> str:
 
 
 def choose_side(layout: Layout, item: Item) -> int:
-    """How far below the middle of an item its label stands: where a line leads to the right, above
-    or below that line."""
+    """How far below the middle of an item its label stands: aside of a line to the right."""
     links = layout.diagram.links
     others = [it.target for it in links if it.source is item]
     others += [it.source for it in links if it.target is item]

@@ -36,8 +36,10 @@ class End:
 
 @dataclass(frozen=True)
 class Run:
-    """One of two runs: the call of the race that comes first in it, the name of the rank that takes
-    each step, and the ends of the calls that end otherwise in the other run."""
+    """One of two runs: which call of the race comes first in it, and which rank takes each step.
+
+    `ends` are those of the calls that end otherwise in the other run.
+    """
 
     starts_with: Call
     order: Sequence[str]
@@ -70,7 +72,10 @@ def begin_search(asker: Asker) -> Search:
 
 
 def find_runs(search: Search, finding: Finding) -> Runs:
-    """Asks for two runs that show a finding."""
+    """Asks for two runs that show a finding.
+
+    Raises Refused if the checker can't be run, or writes runs of another form.
+    """
     if finding.kind is Kind.REWRITE:
         return Runs(Outcome.REWRITE)
     if not search.has_witness:
@@ -84,7 +89,10 @@ def find_runs(search: Search, finding: Finding) -> Runs:
     said = read_json(answer)
     if not said.get("shown"):
         return Runs(Outcome.NOT_SHOWN)
-    return Runs(Outcome.SHOWN, read_runs(asker, finding, said))
+    try:
+        return Runs(Outcome.SHOWN, read_runs(asker, finding, said))
+    except (LookupError, TypeError):
+        raise asker.refuse("run") from None
 
 
 def read_runs(asker: Asker, finding: Finding, said: Any) -> list[Run]:

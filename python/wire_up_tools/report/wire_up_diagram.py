@@ -66,9 +66,7 @@ def make_wire_up_diagram(order: Order, waiting_at: WaitingAt) -> Diagram:
     if len(shapes) > LANES:
         return make_node_diagram(order)
     lanes = {ranks[0].name: lane for lane, ranks in enumerate(shapes)}
-    bundles = [
-        it for ranks in shapes for it in find_bundles(order.plan, ranks[0], waiting_at)
-    ]
+    bundles = [it for ranks in shapes for it in find_bundles(order.plan, ranks[0], waiting_at)]
     items = {it.last: make_item(order, it, lanes) for it in bundles if is_item(it)}
     meetings = find_reached(order.plan, lanes, waiting_at)
     diagram = Diagram(
@@ -108,8 +106,7 @@ class Step:
 
 
 def find_shape(plan: Plan, rank: Rank) -> Sequence[Step]:
-    """The calls of a rank but for the ranks, numbers and values in them. Those that are repeated
-    count once."""
+    """The calls of a rank but for the ranks, numbers and values in them, each once in a row."""
     shape: list[Step] = []
     for call in plan.calls_of[rank.name]:
         step = find_step(plan, call)
@@ -190,9 +187,7 @@ def make_item(order: Order, bundle: Bundle, lanes: Mapping[str, int]) -> Item:
     )
 
 
-def find_reached(
-    plan: Plan, lanes: Mapping[str, int], waiting_at: WaitingAt
-) -> set[Meeting]:
+def find_reached(plan: Plan, lanes: Mapping[str, int], waiting_at: WaitingAt) -> set[Meeting]:
     """The fences that ranks of the lanes leave."""
     calls = (call for name in lanes for call in plan.calls_of[name] if call in plan.meeting_of)
     styles = ((call, choose_style(call, waiting_at[call.rank.name])) for call in calls)
