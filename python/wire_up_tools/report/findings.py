@@ -3,6 +3,7 @@
 They are taken from `wire_up check --lines --json`. That has of each group its first finding and
 how many there are: the others of a group are the findings of the same mistake.
 """
+import collections
 import contextlib
 import enum
 import itertools
@@ -30,13 +31,7 @@ class Kind(enum.Enum):
     NAME = "name"
 
 
-@dataclass(frozen=True)
-class Mistake:
-    """What the findings of one group have alike. The verbs are in the order of the alphabet."""
-
-    kind: Kind
-    about: str
-    verbs: Sequence[str]
+KINDS = {it.value: it for it in Kind}
 
 
 @dataclass(frozen=True, eq=False)
@@ -57,12 +52,13 @@ class Finding:
     @property
     def verbs(self) -> Sequence[str]:
         """The verbs of its calls, in the order of the alphabet."""
-        return tuple(sorted((self.first.verb, self.second.verb)))
+        one, other = self.first.verb, self.second.verb
+        return (one, other) if one <= other else (other, one)
 
     @property
-    def mistake(self) -> Mistake:
-        """Findings with the same of this are one group."""
-        return Mistake(self.kind, self.about, self.verbs)
+    def mistake(self) -> str:
+        """What the findings of a group have alike: a kind, a key or name, and two verbs."""
+        return " ".join((self.kind.value, self.about, *self.verbs))
 
     @property
     def bringer(self) -> str:
@@ -95,7 +91,8 @@ class Tally:
     def add(self, finding: Finding) -> None:
         """Counts a finding, and keeps it if there is room."""
         self.count += 1
-        self.ranks.update((finding.first.rank.name, finding.second.rank.name))
+        self.ranks.add(finding.first.rank.name)
+        self.ranks.add(finding.second.rank.name)
         if len(self.shown) <= PAIRS:
             self.shown.append(finding)
 
@@ -138,15 +135,15 @@ def add_subject(line: str, first: Call, second: Call) -> Finding:
     words = line.split(" ")
     if words[0] == "rewrite":
         return Finding(Kind.REWRITE, words[-1], words[1], first, second)
-    kind = Kind(words[5])
+    kind = KINDS[words[5]]
     return Finding(kind, words[-1], words[6] if kind is Kind.KEY else None, first, second)
 
 
-def tally_up(findings: Iterable[Finding]) -> dict[Mistake, Tally]:
+def tally_up(findings: Iterable[Finding]) -> dict[str, Tally]:
     """The findings by their mistakes."""
-    tallies: dict[Mistake, Tally] = {}
+    tallies: dict[str, Tally] = collections.defaultdict(Tally)
     for finding in findings:
-        tallies.setdefault(finding.mistake, Tally()).add(finding)
+        tallies[finding.mistake].add(finding)
     return tallies
 
 

@@ -79,7 +79,7 @@ def make_result(report: Report, group: Group, paths: Paths) -> dict[str, Any]:
         "message": {"text": f"{title} {explaining.explain(one)} Fix: {fix}"},
         "locations": [make_location(locate(report, it, paths), names[it]) for it in one.calls],
         "relatedLocations": in_plan,
-        "partialFingerprints": {"group/v1": " ".join([one.kind.value, one.about, *one.verbs])},
+        "partialFingerprints": {"group/v1": one.mistake},
     }
 
 
