@@ -1,0 +1,282 @@
+"""What a recording says of calls: each kind with the parts that it has, and how a call ended."""
+import enum
+from dataclasses import dataclass
+from typing import ClassVar, Optional, Union
+
+from wire_up_tools.words import VALUE_BYTES, is_word
+
+
+class AnyRank(enum.Enum):
+    """What stands in the place of a rank."""
+
+    ALL = "*"
+    UNDEFINED = "undefined"
+
+
+@dataclass(frozen=True)
+class ProcessName:
+    """A process as a call names it. An empty namespace is that of the caller."""
+
+    namespace: bytes
+    rank: Union[int, AnyRank]
+
+
+class ValueKind(enum.Enum):
+    """What a recording keeps of a value: a short text whole, of others their size or type."""
+
+    TEXT = "text"
+    LONG_TEXT = "long"
+    BYTES = "bytes"
+    NUMBER = "number"
+    TYPE = "type"
+    OTHER = "other"
+    NONE = "none"
+
+
+@dataclass(frozen=True)
+class Value:
+    """A value. `text` is that of a TEXT; `detail` is what a recording says of any other kind."""
+
+    kind: ValueKind
+    detail: str = ""
+    text: bytes = b""
+
+    @property
+    def is_text(self) -> bool:
+        """Whether it is a text, of any length."""
+        return self.kind in (ValueKind.TEXT, ValueKind.LONG_TEXT)
+
+    @property
+    def is_said(self) -> bool:
+        """Whether a word of a plan can be this value, rather than stand for it."""
+        return self.kind is ValueKind.TEXT and is_word(self.text, VALUE_BYTES)
+
+    @property
+    def word(self) -> str:
+        """The value as a word. What isn't text, and text that no word can be, is its size."""
+        if self.kind is ValueKind.TEXT:
+            return self.text.decode() if self.is_said else f"text:{len(self.text)}"
+        if self.kind is ValueKind.LONG_TEXT:
+            return f"text:{self.detail}"
+        kind: str = self.kind.value
+        return f"{kind}:{self.detail.partition(':')[0]}" if self.detail else kind
+
+
+# A directive that says no: a number of the type `bool`, which is zero.
+NO = Value(ValueKind.NUMBER, "1:0")
+
+
+@dataclass(frozen=True)
+class Pair:
+    """A key and its value: of a directive, or what is published or found."""
+
+    key: bytes
+    value: Value
+
+
+Directives = tuple[Pair, ...]
+
+
+@dataclass(frozen=True)
+class Put:
+    """A put; a scope that plans don't have is `other`."""
+
+    verb: ClassVar[str] = "put"
+    scope: str
+    key: bytes
+    value: Value
+
+
+@dataclass(frozen=True)
+class Commit:
+    """A commit."""
+
+    verb: ClassVar[str] = "commit"
+
+
+@dataclass(frozen=True)
+class Fence:
+    """A fence over processes: over none, if the call named none."""
+
+    verb: ClassVar[str] = "fence"
+    blocks: bool
+    names: tuple[ProcessName, ...]
+    directives: Directives
+
+
+@dataclass(frozen=True)
+class Get:
+    """A get of keys of a process; of every key, or of no process, where that is None."""
+
+    verb: ClassVar[str] = "get"
+    blocks: bool
+    owner: Optional[ProcessName]
+    keys: Optional[tuple[bytes, ...]]
+    directives: Directives
+
+
+@dataclass(frozen=True)
+class Publish:
+    """A publish of names with their values."""
+
+    verb: ClassVar[str] = "publish"
+    blocks: bool
+    pairs: tuple[Pair, ...]
+    directives: Directives
+
+
+@dataclass(frozen=True)
+class Lookup:
+    """A lookup of names; of every name, where that is None."""
+
+    verb: ClassVar[str] = "lookup"
+    blocks: bool
+    keys: Optional[tuple[bytes, ...]]
+    directives: Directives
+
+
+@dataclass(frozen=True)
+class Unpublish:
+    """An unpublish of names; of every name, where that is None."""
+
+    verb: ClassVar[str] = "unpublish"
+    blocks: bool
+    keys: Optional[tuple[bytes, ...]]
+    directives: Directives
+
+
+@dataclass(frozen=True)
+class Send:
+    """A message that is sent. `size` is in bytes, and ranks are those of the communicator."""
+
+    verb: ClassVar[str] = "send"
+    communicator: int
+    target: int
+    tag: int
+    size: int
+
+
+@dataclass(frozen=True)
+class Receive:
+    """A receive of a message, from any source or with any tag where that is None."""
+
+    verb: ClassVar[str] = "receive"
+    communicator: int
+    source: Optional[int]
+    tag: Optional[int]
+
+
+@dataclass(frozen=True)
+class Probe:
+    """A probe for a message, from any source or with any tag where that is None."""
+
+    verb: ClassVar[str] = "probe"
+    communicator: int
+    source: Optional[int]
+    tag: Optional[int]
+
+
+@dataclass(frozen=True)
+class Collective:
+    """A collective of MPI, such as `barrier`."""
+
+    verb: ClassVar[str] = "collective"
+    name: str
+    communicator: int
+
+
+PmixCall = Union[Put, Commit, Fence, Get, Publish, Lookup, Unpublish]
+MpiCall = Union[Send, Receive, Probe, Collective]
+Action = Union[PmixCall, MpiCall]
+MPI_CALLS = (Send, Receive, Probe, Collective)
+
+
+class FoundBy(enum.Enum):
+    """How a process found that a request was over: it waited for it, it asked, or it waited for
+    any of several."""
+
+    WAIT = "wait"
+    POLL = "poll"
+    SOME = "some"
+
+
+LEFT_TO_LUCK = (FoundBy.POLL, FoundBy.SOME)
+
+
+@dataclass(frozen=True)
+class End:
+    """How a call ended: the status that it answered. 0 is success."""
+
+    status: int
+
+
+@dataclass(frozen=True)
+class GetEnd(End):
+    """The end of a get, with what it got."""
+
+    value: Optional[Value]
+
+
+@dataclass(frozen=True)
+class LookupEnd(End):
+    """The end of a lookup, with the names that it found."""
+
+    found: tuple[Pair, ...]
+
+
+@dataclass(frozen=True)
+class MessageEnd(End):
+    """The end of a receive or a probe that got a message. `size` is -1 if it isn't known."""
+
+    source: int
+    tag: int
+    size: int
+    found_by: Optional[FoundBy]
+
+
+class Sources(enum.Enum):
+    """Whose data a process waited for in a collective, where it isn't a list of ranks."""
+
+    ALL = "all"
+    NONE = "none"
+    BELOW = "below"
+
+
+@dataclass(frozen=True)
+class CollectiveEnd(End):
+    """The end of a collective, with those whose data the process waited for."""
+
+    sources: Union[Sources, tuple[int, ...]]
+    found_by: Optional[FoundBy]
+
+
+@dataclass(frozen=True, eq=False)
+class Call:
+    """A call: what it does, the lines of its recording at which it began and ended, its thread,
+    the number of its place in the program, and how it ended. What isn't recorded is None."""
+
+    __slots__ = ("action", "begins", "thread", "place", "ends", "end")
+
+    action: Action
+    begins: int
+    thread: str
+    place: Optional[str]
+    ends: Optional[int]
+    end: Optional[End]
+
+    @property
+    def status(self) -> Optional[int]:
+        """The status with which it ended; None where its end isn't there."""
+        return None if self.end is None else self.end.status
+
+    @property
+    def has_failed(self) -> bool:
+        """Whether it ended with another status than success."""
+        return self.end is not None and self.end.status != 0
+
+    @property
+    def is_left_to_luck(self) -> bool:
+        """Whether another run may have found it open at this place: a poll succeeded, or it was
+        one of several that were waited for."""
+        end = self.end
+        return isinstance(end, (MessageEnd, CollectiveEnd)) and end.found_by in LEFT_TO_LUCK

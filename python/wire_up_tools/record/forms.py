@@ -1,0 +1,262 @@
+"""The forms of the records of calls: how each is written, and what is read of it.
+
+What has no form here isn't a record. All functions raise ValueError for a text that they can't
+read.
+"""
+import functools
+import re
+from collections.abc import Callable, Mapping, Sequence
+from dataclasses import dataclass
+from typing import Optional, Union
+
+from wire_up_tools.limits import LARGE
+from wire_up_tools.record import calls
+from wire_up_tools.record.calls import (
+    Action,
+    AnyRank,
+    End,
+    FoundBy,
+    Pair,
+    ProcessName,
+    Sources,
+    Value,
+    ValueKind,
+)
+
+WORD = r"[!-~]+"
+VALUE = r"(?:none|text:[!-~]*|long:\d+|bytes:\d+|number:\d+:-?\d+|other:\d+|type:\d+)"
+FOUND_BY = r"(wait|poll|some)"
+# Most records of a large recording are like others, but for their numbers and times.
+KEPT_RECORDS = 1 << 17
+
+Groups = Sequence[str]
+
+
+# --- words of recordings ---
+
+
+def decode(word: str) -> bytes:
+    """The bytes of a word, in which %XX is a byte and % alone none."""
+    if "%" not in word:
+        return word.encode()
+    if word == "%":
+        return b""
+    parts = re.split(r"%([0-9A-F]{2})", word)
+    if any("%" in part for part in parts[::2]):
+        raise ValueError(word)
+    return b"".join(bytes([int(it, 16)]) if n % 2 else it.encode() for n, it in enumerate(parts))
+
+
+def decode_text(word: str) -> str:
+    """The text of a word."""
+    return decode(word).decode("utf-8", "replace")
+
+
+def read_value(text: str) -> Value:
+    """A value such as `text:v` or `number:4:7`."""
+    if not re.fullmatch(VALUE, text):
+        raise ValueError(text)
+    kind, _, detail = text.partition(":")
+    if kind == "text":
+        return Value(ValueKind.TEXT, text=decode(detail) if detail else b"")
+    return Value(ValueKind(kind), detail)
+
+
+def read_pairs(text: str) -> tuple[Pair, ...]:
+    """The keys and values of KEY=VALUE,.."""
+    if text == "-":
+        return ()
+    parts = [part.partition("=") for part in text.split(",")]
+    return tuple(Pair(decode(key), read_value(value)) for key, _, value in parts)
+
+
+def read_keys(text: str) -> Optional[tuple[bytes, ...]]:
+    """The keys of :KEY,:KEY; None for every key."""
+    if text in ("every", "-"):
+        return None if text == "every" else ()
+    parts = text.split(",")
+    if not all(part.startswith(":") for part in parts):
+        raise ValueError(text)
+    return tuple(decode(part[1:]) for part in parts)
+
+
+def read_process_name(text: str) -> ProcessName:
+    """A process such as `job:0`, `job:*` or `job:undefined`."""
+    namespace, colon, rank = text.rpartition(":")
+    if colon and rank in ("*", "undefined"):
+        return ProcessName(decode(namespace), AnyRank(rank))
+    if not colon or not re.fullmatch(r"\d{1,10}", rank):
+        raise ValueError(text)
+    return ProcessName(decode(namespace), int(rank))
+
+
+def read_process_names(text: str) -> tuple[ProcessName, ...]:
+    """The processes of a list."""
+    return () if text == "none" else tuple(read_process_name(it) for it in text.split(","))
+
+
+def read_ranks(text: str) -> Sequence[int]:
+    """The ranks of ranges such as 0-3,7."""
+    found: list[int] = []
+    for part in text.split(","):
+        first, _, last = part.partition("-")
+        if int(last or first) - int(first) > 2 * LARGE.processes:
+            raise ValueError(text)
+        found += range(int(first), int(last or first) + 1)
+    return found
+
+
+def read_wanted(text: Optional[str]) -> Optional[int]:
+    """The source or tag that a receive or a probe asks for; None for any."""
+    return None if text in ("any", None) else int(text or "")
+
+
+# --- calls ---
+
+
+def read_fence(groups: Groups) -> Action:
+    """A fence; `all` are the processes of the caller's job."""
+    all_of_job = (ProcessName(b"", AnyRank.ALL),)
+    names = all_of_job if groups[1] == "all" else read_process_names(groups[1])
+    return calls.Fence(groups[0] == "blocks", names, read_pairs(groups[2]))
+
+
+def read_get(groups: Groups) -> Action:
+    """A get, of the first process that it names."""
+    names = read_process_names(groups[1])
+    owner = names[0] if names else None
+    return calls.Get(groups[0] == "blocks", owner, read_keys(groups[2]), read_pairs(groups[3]))
+
+
+@dataclass(frozen=True)
+class Form:
+    """How a record is written, and what is made of the groups of its pattern."""
+
+    pattern: re.Pattern[str]
+    read: Callable[[Groups], Action]
+
+    def read_text(self, text: str) -> Action:
+        """What a text of this form says."""
+        return self.read(match(self.pattern, text))
+
+
+# What a record of a call that begins says after its number, thread and time.
+BEGINS = {
+    "put": Form(
+        re.compile(rf"put (local|remote|global|other) ({WORD}) ({VALUE})"),
+        lambda it: calls.Put(it[0], decode(it[1]), read_value(it[2])),
+    ),
+    "commit": Form(re.compile(r"commit"), lambda it: calls.Commit()),
+    "fence": Form(re.compile(rf"fence (blocks|nb) ({WORD}) ({WORD})"), read_fence),
+    "get": Form(
+        re.compile(rf"get (blocks|nb) ({WORD}) (every|:{WORD}) ({WORD})"), read_get
+    ),
+    "publish": Form(
+        re.compile(rf"publish (blocks|nb) ({WORD}) ({WORD})"),
+        lambda it: calls.Publish(it[0] == "blocks", read_pairs(it[1]), read_pairs(it[2])),
+    ),
+    "lookup": Form(
+        re.compile(rf"lookup (blocks|nb) (-|every|:{WORD}) ({WORD})"),
+        lambda it: calls.Lookup(it[0] == "blocks", read_keys(it[1]), read_pairs(it[2])),
+    ),
+    "unpublish": Form(
+        re.compile(rf"unpublish (blocks|nb) (-|every|:{WORD}) ({WORD})"),
+        lambda it: calls.Unpublish(it[0] == "blocks", read_keys(it[1]), read_pairs(it[2])),
+    ),
+    "send": Form(
+        re.compile(r"send (\d{1,9}) (-?\d{1,9}) (-?\d{1,18}) (-?\d{1,18})"),
+        lambda it: calls.Send(int(it[0]), int(it[1]), int(it[2]), int(it[3])),
+    ),
+    "receive": Form(
+        re.compile(r"receive (\d{1,9})(?: (any|-?\d{1,9}) (any|-?\d{1,18}))?"),
+        lambda it: calls.Receive(int(it[0]), read_wanted(it[1]), read_wanted(it[2])),
+    ),
+    "probe": Form(
+        re.compile(r"probe (\d{1,9}) (any|-?\d{1,9}) (any|-?\d{1,18})"),
+        lambda it: calls.Probe(int(it[0]), read_wanted(it[1]), read_wanted(it[2])),
+    ),
+    "collective": Form(
+        re.compile(r"collective (\w+) (\d{1,9})"),
+        lambda it: calls.Collective(it[0], int(it[1])),
+    ),
+}
+
+
+# --- ends of calls ---
+
+STATUS = re.compile(r"(-?\d{1,10})")
+GET_END = re.compile(rf"(-?\d{{1,10}})(?: ({VALUE}))?")
+LOOKUP_END = re.compile(rf"(-?\d{{1,10}}) ({WORD})")
+MESSAGE_END = re.compile(rf"0 (-?\d{{1,9}}) (-?\d{{1,18}}) (-?\d{{1,18}})(?: {FOUND_BY})?")
+FAILED_MESSAGE_END = "1"
+COLLECTIVE_END = re.compile(rf"([01]) (all|none|below|\d+(?:,\d+)*)(?: {FOUND_BY})?")
+
+
+def read_status_end(text: str) -> End:
+    """The end of a call that answers a status alone."""
+    return End(int(match(STATUS, text)[0]))
+
+
+def read_get_end(text: str) -> End:
+    """The end of a get."""
+    status, value = match(GET_END, text)
+    return calls.GetEnd(int(status), read_value(value) if value else None)
+
+
+def read_lookup_end(text: str) -> End:
+    """The end of a lookup."""
+    status, found = match(LOOKUP_END, text)
+    return calls.LookupEnd(int(status), read_pairs(found))
+
+
+def read_found_by(text: Optional[str]) -> Optional[FoundBy]:
+    """How a request was found to be over, if that is said."""
+    return FoundBy(text) if text else None
+
+
+def read_message_end(text: str) -> End:
+    """The end of a receive or a probe."""
+    if text == FAILED_MESSAGE_END:
+        return End(int(text))
+    source, tag, size, found_by = match(MESSAGE_END, text)
+    return calls.MessageEnd(0, int(source), int(tag), int(size), read_found_by(found_by))
+
+
+def read_sources(text: str) -> Union[Sources, tuple[int, ...]]:
+    """Those whose data a process waited for in a collective."""
+    return tuple(map(int, text.split(","))) if text[0].isdigit() else Sources(text)
+
+
+def read_collective_end(text: str) -> End:
+    """The end of a collective."""
+    status, said, found_by = match(COLLECTIVE_END, text)
+    return calls.CollectiveEnd(int(status), read_sources(said), read_found_by(found_by))
+
+
+ENDS: Mapping[str, Callable[[str], End]] = {
+    "get": read_get_end,
+    "lookup": read_lookup_end,
+    "receive": read_message_end,
+    "probe": read_message_end,
+    "collective": read_collective_end,
+}
+
+
+def match(pattern: re.Pattern[str], text: str) -> Groups:
+    """The groups of a text of a pattern."""
+    read = pattern.fullmatch(text)
+    if not read:
+        raise ValueError(text)
+    return read.groups()
+
+
+@functools.lru_cache(KEPT_RECORDS)
+def read_begin(text: str) -> Action:
+    """What a call that begins does. Raises KeyError too."""
+    return BEGINS[text.split(" ", 1)[0]].read_text(text)
+
+
+@functools.lru_cache(KEPT_RECORDS)
+def read_end(verb: str, text: str) -> End:
+    """How a call ended."""
+    return ENDS.get(verb, read_status_end)(text)

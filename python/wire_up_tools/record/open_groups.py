@@ -1,0 +1,257 @@
+"""Orders messages of which a receive could get those of several processes, by what holds in every
+run, whichever it got."""
+from collections import Counter, deque
+from collections.abc import Iterator, Mapping, Sequence
+from dataclasses import dataclass, field
+from typing import Optional
+
+from wire_up_tools.record.calls import Call
+from wire_up_tools.record.communicators import Members
+from wire_up_tools.record.draft import (
+    Draft,
+    Line,
+    Notes,
+    Part,
+    Step,
+    make_draft,
+    make_publish,
+    walk,
+)
+from wire_up_tools.record.knowledge import Latest, find_heard, merge
+from wire_up_tools.record.messages import Ask, Got, Group, Stream
+from wire_up_tools.record.names import MessageNames
+from wire_up_tools.record.processes import Process, Processes
+
+# How often the order of messages that could have come otherwise is looked at again.
+MOST_ROUNDS = 8
+# Where a message stands among the places of its receiver if it comes after none of them.
+AFTER_NOTHING = -1
+
+
+@dataclass(frozen=True, eq=False)
+class OpenGroup:
+    """A group of messages to a process that could have come otherwise, and the processes that
+    its ranks are."""
+
+    group: Group
+    target: Process
+    peers: Members
+
+
+@dataclass(frozen=True)
+class OpenOrder:
+    """The lines that order open groups, for how many messages, and what is noted of them."""
+
+    part: Part
+    message_count: int
+    left_to_luck: int
+    notes: Notes
+
+
+class Taken:
+    """The receives that have surely got a message: those that ended, and those posted before one
+    of them, or before a probe that found something, that would have got its message first."""
+
+    def __init__(self, asked: Sequence[Got]) -> None:
+        self.count = 0
+        self.place_of = {it: n for n, it in enumerate(asked)}
+        self.waiting: dict[Ask, deque[int]] = {}
+        for n, it in enumerate(asked):
+            if it.is_receive:
+                self.waiting.setdefault(it.ask, deque()).append(n)
+
+    def take(self, got: Got) -> list[Ask]:
+        """Adds a receive that ended, and those before it. Answers what the new ones asked for."""
+        (source, tag), new = got.ask, []
+        asks = (got.ask, Ask(source, None), Ask(None, tag), Ask(None, None))
+        for ask in dict.fromkeys(asks):
+            waiting = self.waiting.get(ask)
+            while waiting and waiting[0] <= self.place_of[got]:
+                waiting.popleft()
+                new.append(ask)
+        self.count += len(new)
+        return new
+
+
+class Counted:
+    """How many messages of each stream could have come by now, and how many surely have.
+
+    `after` says of each message up to which place of the receiver it comes after. `spread` is the
+    most messages of one stream that could have come, but haven't surely.
+    """
+
+    def __init__(
+        self, streams: Mapping[Stream, Sequence[Call]], after: Mapping[Call, int]
+    ) -> None:
+        self.streams = streams
+        self.could: Counter[Stream] = Counter()
+        self.have: Counter[Stream] = Counter()
+        self.own: Counter[Ask] = Counter()
+        self.total = 0
+        coming = [(after[send], stream) for stream, sends in streams.items() for send in sends]
+        self.coming = deque(sorted(coming, key=lambda it: it[0]))
+        self.open: set[Stream] = set()
+        self.spread = 0
+
+    def come_to(self, place: int) -> None:
+        """Counts the messages that could have come by a place of the receiver."""
+        while self.coming and self.coming[0][0] < place:
+            _, stream = self.coming.popleft()
+            self.could[stream] += 1
+            self.total += 1
+            self.open.add(stream)
+            self.spread = max(self.spread, self.could[stream] - self.have[stream])
+
+    def count_own(self, asks: Sequence[Ask], probe: Optional[Ask]) -> dict[Stream, int]:
+        """How many messages of a stream were got by those who asked for it alone: of the new ones
+        that asked so, and of a probe."""
+        self.own.update(asks)
+        alone = ((it.stream, self.own[it]) for it in asks)
+        found = {stream: count for stream, count in alone if stream in self.streams and stream}
+        stream = probe.stream if probe else None
+        if probe and stream and stream in self.streams:
+            found[stream] = self.own[probe] + 1
+        return found
+
+    def find_new(self, count: int, asks: Sequence[Ask], probe: Optional[Ask]) -> Iterator[Call]:
+        """The messages that have surely been sent when `count` receives have got one, of which
+        the new ones asked for `asks`, and when a probe found one more: for each stream the last
+        that is new.
+
+        Each has a message of its own. Of one stream they have at least as many as there are more
+        receives than other messages that could have come by then, and those are its first ones.
+        """
+        surely = self.count_own(asks, probe)
+        spare = self.total - count - (probe is not None)
+        is_scarce = spare < self.spread
+        for stream in sorted(self.open) if is_scarce else ():
+            surely[stream] = max(surely.get(stream, 0), self.could[stream] - max(spare, 0))
+        for stream, sure in surely.items():
+            if self.have[stream] < sure <= len(self.streams[stream]):
+                self.have[stream] = sure
+                yield self.streams[stream][sure - 1]
+        if is_scarce:
+            self.open = {it for it in self.open if self.could[it] > self.have[it]}
+            spreads = (self.could[it] - self.have[it] for it in self.open)
+            self.spread = max(spreads, default=0)
+
+
+def find_orders(
+    group: Group, after: Mapping[Call, int], is_strict: bool
+) -> Iterator[tuple[Call, Call]]:
+    """What comes before what in every run, where one receive could get messages of several
+    processes: each message with the receive or probe that ends after it was sent."""
+    taken, counted = Taken(group.asked), Counted(group.streams, after)
+    for got in sorted(group.asked, key=lambda it: it.call.ends or 0):
+        if is_strict and got.call.is_left_to_luck:
+            continue
+        asks = taken.take(got)
+        counted.come_to(got.call.ends or 0)
+        probe = None if got.is_receive else got.ask
+        for message in counted.find_new(taken.count, asks, probe):
+            yield message, got.call
+
+
+def find_places_before(
+    draft: Draft, groups: Sequence[OpenGroup], sent: Mapping[Call, Line]
+) -> dict[Call, int]:
+    """For each message of open groups up to which place of its receiver it comes after, by what
+    a draft has so far."""
+    receivers = {it.target for it in groups}
+    message_of = {
+        sent[send]: (send, it.target)
+        for it in groups
+        for sends in it.group.streams.values()
+        for send in sends
+    }
+    found = {send: AFTER_NOTHING for send, _ in message_of.values()}
+    heard = find_heard(draft) | message_of.keys()
+    told: dict[Line, Latest] = {}
+    known: dict[Process, Latest] = {it: {} for it in draft.lines}
+    for step, line in walk(draft):
+        process = line.process
+        if step is Step.REACHED and line in heard:
+            own = {process: line.at}
+            told[line] = {**known[process], **own} if process in receivers else known[process]
+            if line in message_of:
+                send, target = message_of[line]
+                found[send] = told[line].get(target, AFTER_NOTHING)
+        elif step is Step.PASSED:
+            sources = find_sources(draft, line)
+            if sources:
+                known[process] = merge([known[process], *(told[it] for it in sources)])
+    return found
+
+
+def find_sources(draft: Draft, line: Line) -> Sequence[Line]:
+    """The lines that must be reached before one is passed."""
+    meeting, source = draft.meetings.get(line), draft.awaited.get(line)
+    return meeting.lines if meeting else [source] if source else ()
+
+
+def publish_messages(groups: Sequence[OpenGroup], names: MessageNames) -> dict[Call, Line]:
+    """A line for each message of open groups."""
+    found: dict[Call, Line] = {}
+    for it in groups:
+        for stream, sends in it.group.streams.items():
+            source = it.peers[stream.source]
+            for send in sends:
+                found[send] = make_publish(names.next(source, it.target), source, send)
+    return found
+
+
+@dataclass
+class Waits:
+    """The lines that wait for messages, which are sent by the lines of `sent`."""
+
+    sent: Mapping[Call, Line]
+    part: Part = field(default_factory=Part)
+    known: set[tuple[Line, Call]] = field(default_factory=set)
+
+    def add(self, target: Process, message: Call, ended: Call) -> None:
+        """Adds a line that waits for a message at the end of a call, if it isn't there yet."""
+        line = self.sent[message]
+        if (line, ended) not in self.known and line.process is not target:
+            self.known.add((line, ended))
+            self.part.add_wait(line, target, ended)
+
+    def add_all(self, groups: Sequence[OpenGroup], draft: Draft, is_strict: bool) -> None:
+        """Adds all that holds in every run by what a draft has so far."""
+        after = find_places_before(draft, groups, self.sent)
+        for it in groups:
+            for message, ended in find_orders(it.group, after, is_strict):
+                self.add(it.target, message, ended)
+
+    def finish(self) -> Part:
+        """The lines that wait, and those that send what is waited for."""
+        heard = set(self.part.awaited.values())
+        lines = [it for it in self.sent.values() if it in heard]
+        return Part([*lines, *self.part.lines], self.part.awaited)
+
+
+def order_open_groups(
+    processes: Processes,
+    parts: Sequence[Part],
+    groups: Sequence[OpenGroup],
+    names: MessageNames,
+    is_strict: bool,
+) -> OpenOrder:
+    """Orders messages that could have come otherwise, by what holds in every run.
+
+    What is ordered already, by `parts`, rules messages out: one that is sent after a receive has
+    ended can't be the one that it got. So it begins again as long as that brings more.
+    """
+    waits, before, rounds = Waits(publish_messages(groups, names)), -1, 0
+    published = Part([*waits.sent.values()])
+    while len(waits.known) != before and rounds < MOST_ROUNDS:
+        before, rounds = len(waits.known), rounds + 1
+        draft = make_draft(processes, [*parts, published, waits.part])
+        waits.add_all(groups, draft, is_strict)
+    notes = Notes()
+    notes.otherwise[
+        "receives that could have got messages of several processes: "
+        "they order what holds whichever they got"
+    ] += sum(it.group.receive_count for it in groups)
+    asked = (got for it in groups for got in it.group.asked)
+    left_to_luck = sum(it.call.is_left_to_luck for it in asked)
+    return OpenOrder(waits.finish(), len(waits.known), left_to_luck, notes)

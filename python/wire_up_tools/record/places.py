@@ -1,0 +1,153 @@
+"""Finds where in the program calls come from: `function (file.c:42)` where a module has that, else
+`module+0x1234`."""
+import os
+import re
+import shutil
+import subprocess
+from collections import Counter
+from collections.abc import Iterable, Iterator, Mapping, Sequence
+from dataclasses import dataclass
+from typing import Optional
+
+from wire_up_tools.record.draft import Draft, Line
+from wire_up_tools.record.failures import Refused
+from wire_up_tools.record.forms import decode_text
+from wire_up_tools.record.processes import Process
+from wire_up_tools.record.recordings import Address, Place
+from wire_up_tools.words import PLACE_COMMENT, UNKNOWN_PLACE, escape, make_printable
+
+# The file beside recordings that keeps what was found out when the program was recorded.
+FILE = "places"
+# How a line of a plan begins that isn't a call, nor a job or a rank.
+COMMENT, DECLARATIONS = "#", ("rehearsal", "node")
+
+
+@dataclass(frozen=True)
+class Places:
+    """The texts of addresses."""
+
+    texts: Mapping[Address, str]
+
+    def find(self, place: Place) -> Optional[str]:
+        """The text of a place; None where that isn't known."""
+        return self.texts.get(place) if isinstance(place, Address) else place
+
+
+# --- what is kept beside recordings ---
+
+
+def read_entries(path: str, lines: Iterable[str]) -> Iterator[tuple[Address, str]]:
+    """Addresses and their texts, as a file keeps them. Raises Refused for any other line."""
+    for number, line in enumerate(lines, 1):
+        if line.count(" ") < 2:
+            continue
+        module, offset, text = line.split(" ", 2)
+        try:
+            yield Address(decode_text(module), int(offset, 16)), make_printable(text)
+        except ValueError:
+            raise Refused(f"{path}: line {number} isn't a place") from None
+
+
+def read_places(folders: Iterable[str]) -> dict[Address, str]:
+    """What is kept in folders of recordings. Raises OSError, Refused."""
+    found: dict[Address, str] = {}
+    for folder in folders:
+        path = os.path.join(folder, FILE)
+        if os.path.isfile(path):
+            with open(path, encoding="ascii", errors="replace") as it:
+                found.update(read_entries(path, it.read().splitlines()))
+    return found
+
+
+def write_places(places: Places, folder: str) -> None:
+    """Keeps what is known in a folder of recordings. Raises OSError."""
+    with open(os.path.join(folder, FILE), "x", encoding="ascii", errors="replace") as to:
+        for it in sorted(places.texts, key=lambda it: (it.module, it.offset)):
+            to.write(f"{escape(it.module.encode()) or '%'} {it.offset:x} {places.texts[it]}\n")
+
+
+# --- what modules say ---
+
+
+def name_line(function: str, line: str) -> Optional[str]:
+    """`function (file.c:42)` by what `addr2line` writes; None where it doesn't know."""
+    file, _, number = re.sub(r" \(discriminator \d+\)", "", line).rpartition(":")
+    if not number.isdigit() or number == "0" or file.startswith("?"):
+        return None
+    return f"{make_printable(function)} ({make_printable(os.path.basename(file))}:{number})"
+
+
+def ask_module(module: str, offsets: Sequence[int]) -> Sequence[str]:
+    """The lines that `addr2line` writes about offsets in a module; none if it can't."""
+    program = shutil.which("addr2line")
+    if not program or not os.path.isfile(module):
+        return ()
+    asked = "".join(f"0x{it:x}\n" for it in offsets).encode()
+    words = [program, "-f", "-C", "-e", module]
+    try:
+        ran = subprocess.run(words, input=asked, capture_output=True, check=False)
+    except OSError:
+        return ()
+    return ran.stdout.decode("utf-8", "replace").splitlines()
+
+
+def find_lines(module: str, offsets: Sequence[int]) -> Sequence[Optional[str]]:
+    """The functions and lines of offsets in a module; None for those that it doesn't know."""
+    wrote = ask_module(module, offsets)
+    if len(wrote) != 2 * len(offsets):
+        return [None] * len(offsets)
+    return [name_line(function, line) for function, line in zip(wrote[::2], wrote[1::2])]
+
+
+def name_address(address: Address) -> str:
+    """An address without its line in the source."""
+    return f"{make_printable(os.path.basename(address.module))}+0x{address.offset:x}"
+
+
+def addresses_of(process: Process, lines: Iterable[Line]) -> Iterator[Address]:
+    """Where the calls of some lines of a process come from, each address once."""
+    places = process.recording.places
+    for number in dict.fromkeys(line.call.place for line in lines):
+        place = places.get(number) if number else None
+        if isinstance(place, Address):
+            yield place
+
+
+def find_places(draft: Draft, kept: Mapping[Address, str]) -> Places:
+    """Finds where the calls of a draft come from; what is kept stays so."""
+    wanted = (it for process, lines in draft.lines.items() for it in addresses_of(process, lines))
+    new = [it for it in dict.fromkeys(wanted) if it not in kept]
+    by_module: dict[str, list[Address]] = {}
+    for it in new:
+        by_module.setdefault(it.module, []).append(it)
+    texts = {**kept, **{it: name_address(it) for it in new}}
+    for module, addresses in by_module.items():
+        found = find_lines(module, [it.offset for it in addresses])
+        texts.update((it, text) for it, text in zip(addresses, found) if text)
+    return Places(texts)
+
+
+# --- calls of plans ---
+
+
+def find_call_place(process: str, number: int, plan: str) -> Optional[str]:
+    """Where a call of a plan comes from, by its comments; None where there is no such call.
+
+    Calls of a process such as `app:0` are counted from 1.
+    """
+    job, ranks, calls = "", Counter[str](), Counter[str]()
+    here, found = "", UNKNOWN_PLACE
+    for line in plan.splitlines():
+        verb, *words = line.split() or [COMMENT]
+        if line.startswith(PLACE_COMMENT):
+            found = line[len(PLACE_COMMENT):]
+        if verb == "job":
+            job = "".join(words)
+        elif verb == "rank":
+            here, found = f"{job}:{ranks[job]}", UNKNOWN_PLACE
+            ranks[job] += 1
+        elif here and verb not in DECLARATIONS and not verb.startswith(COMMENT):
+            calls[here] += 1
+            if (here, calls[here]) == (process, number):
+                return found
+    return None

@@ -1,0 +1,120 @@
+"""Makes the draft of a plan from recordings: all stages, one after another."""
+from collections.abc import Sequence
+from dataclasses import dataclass
+
+from wire_up_tools.limits import VERSION_1, Limits
+from wire_up_tools.record.draft import Draft, Notes, Part, Step, make_draft, walk
+from wire_up_tools.record.failures import Refused
+from wire_up_tools.record.meetings import Sets
+from wire_up_tools.record.mpi_order import order_by_mpi
+from wire_up_tools.record.names import Names, find_names
+from wire_up_tools.record.open_groups import order_open_groups
+from wire_up_tools.record.pmix_calls import make_lines
+from wire_up_tools.record.pmix_fences import PmixFences, make_fences
+from wire_up_tools.record.pmix_waits import find_waits
+from wire_up_tools.record.processes import Processes, place_processes
+from wire_up_tools.record.recordings import Recording, refuse_past
+from wire_up_tools.record.shortening import shorten
+
+
+@dataclass(frozen=True)
+class Choices:
+    """What is taken from recordings: the order of MPI, unless `with_mpi` is false; and with
+    `is_strict` none from ends that another run may have found open. `most` are the limits."""
+
+    with_mpi: bool = True
+    is_strict: bool = False
+    most: Limits = VERSION_1
+
+
+@dataclass(frozen=True)
+class MpiSummary:
+    """How many messages and collectives MPI orders, and how many ends of requests another run may
+    have found open."""
+
+    message_count: int = 0
+    collective_count: int = 0
+    left_to_luck: int = 0
+
+
+@dataclass(frozen=True)
+class Plan:
+    """All that the text of a plan says."""
+
+    choices: Choices
+    processes: Processes
+    names: Names
+    draft: Draft
+    notes: Notes
+    mpi: MpiSummary
+
+
+def refuse_too_many(parts: Sequence[Part], most: Limits) -> None:
+    """Refuses lines that no plan has room for, without gets that may still go."""
+    lines = (line for part in parts for line in part.lines)
+    refuse_past(most.calls, "calls", sum(line.verb != "get" for line in lines))
+
+
+def refuse_waiting(draft: Draft) -> None:
+    """Refuses a plan in which a call waits for ever that ended: then all that follows it would be
+    ruled out."""
+    passed = {line for step, line in walk(draft) if step is Step.PASSED}
+    for process, lines in draft.lines.items():
+        for number, line in enumerate(lines, 1):
+            if line.call.end and line not in passed:
+                raise Refused(
+                    f"call {number} of {process.name}, `{line.words}`, ended, "
+                    "but in a plan of these recordings it would wait for ever, "
+                    "or stand after a call that does"
+                )
+
+
+@dataclass(frozen=True)
+class Ordered:
+    """The lines that order processes as MPI does, and what the head of the plan says of them."""
+
+    parts: Sequence[Part]
+    notes: Notes
+    mpi: MpiSummary
+
+
+def order_program(
+    sets: Sets, names: Names, program: Sequence[Part], fences: PmixFences, is_strict: bool
+) -> Ordered:
+    """The order that MPI gives to the lines of a program."""
+    lines = [line for part in program for line in part.lines]
+    order = order_by_mpi(sets, names, lines, fences, is_strict)
+    messages, left_to_luck, parts = order.message_count, order.left_to_luck, [order.part]
+    if order.open_groups:
+        groups, message_names = order.open_groups, order.message_names
+        known = [*program, order.part]
+        more = order_open_groups(sets.processes, known, groups, message_names, is_strict)
+        messages += more.message_count
+        left_to_luck += more.left_to_luck
+        order.notes.add(more.notes)
+        parts.append(more.part)
+    return Ordered(parts, order.notes, MpiSummary(messages, order.collective_count, left_to_luck))
+
+
+def make_plan(recordings: Sequence[Recording], choices: Choices) -> Plan:
+    """Makes a plan of recordings. Raises Refused for recordings that make none."""
+    processes = place_processes(recordings, choices.most)
+    names, sets = find_names(processes), Sets(processes)
+    calls = make_lines(processes, names, choices.with_mpi)
+    fences = make_fences(sets, names)
+    calls.notes.add(fences.notes)
+    parts, notes, mpi = [calls.part, fences.part], calls.notes, MpiSummary()
+    refuse_too_many(parts, choices.most)
+    parts.append(find_waits(make_draft(processes, parts)))
+    if choices.with_mpi:
+        ordered = order_program(sets, names, parts, fences, choices.is_strict)
+        parts += ordered.parts
+        notes.add(ordered.notes)
+        mpi = ordered.mpi
+    draft = make_draft(processes, parts)
+    refuse_waiting(draft)
+    if draft.count > VERSION_1.calls:
+        shortened = shorten(draft)
+        draft = shortened.draft
+        notes.add(shortened.notes)
+    return Plan(choices, processes, names, draft, notes, mpi)

@@ -1,0 +1,373 @@
+"""Makes lines of the calls of PMIx of each process, but for fences."""
+import re
+import sys
+from collections.abc import Mapping, Sequence
+from dataclasses import dataclass, field
+from typing import Optional, Union
+
+from wire_up_tools.record.calls import (
+    MPI_CALLS,
+    NO,
+    Action,
+    AnyRank,
+    Call,
+    Commit,
+    Directives,
+    Fence,
+    Get,
+    GetEnd,
+    Lookup,
+    LookupEnd,
+    Publish,
+    Put,
+    Unpublish,
+    Value,
+    ValueKind,
+)
+from wire_up_tools.record.draft import Line, Notes, Part
+from wire_up_tools.record.names import Names, is_reserved_by_pmix
+from wire_up_tools.record.processes import Process, Processes
+from wire_up_tools.record.recordings import Recording
+from wire_up_tools.words import show
+
+NOT_FOUND, DUPLICATE_KEY = -46, -53
+COLLECT, WAIT = b"pmix.collect", b"pmix.wait"
+# Directives of a get that doesn't wait.
+AT_ONCE = (b"pmix.immediate", b"pmix.optional")
+KNOWN_DIRECTIVES = (COLLECT, WAIT, *AT_ONCE)
+OTHER_SCOPE = "other"
+# Where a line stands whose call hasn't ended.
+AT_THE_END = sys.maxsize
+
+
+def has_directive(directives: Directives, *keys: bytes) -> bool:
+    """Whether a call has one of the directives, and not as false."""
+    return any(it.key in keys and it.value != NO for it in directives)
+
+
+@dataclass(frozen=True)
+class Puts:
+    """What a process puts: for each key where its first put begins, which keys it commits, and
+    in which scopes it puts each, failed puts among them."""
+
+    first: Mapping[bytes, int]
+    committed: frozenset[bytes]
+    scopes: Mapping[bytes, set[str]]
+
+
+def find_puts(recording: Recording) -> Puts:
+    """What a process puts."""
+    first: dict[bytes, int] = {}
+    waiting: set[bytes] = set()
+    committed: set[bytes] = set()
+    scopes: dict[bytes, set[str]] = {}
+    for call in recording.calls:
+        action = call.action
+        if isinstance(action, Put):
+            scopes.setdefault(action.key, set()).add(action.scope)
+            if action.scope != OTHER_SCOPE and not call.has_failed:
+                first.setdefault(action.key, call.begins)
+                waiting.add(action.key)
+        elif isinstance(action, Commit) and not call.has_failed:
+            committed |= waiting
+            waiting.clear()
+    return Puts(first, frozenset(committed), scopes)
+
+
+@dataclass
+class PutsByProcess:
+    """What each process puts, found out where it is asked for."""
+
+    found: dict[Process, Puts] = field(default_factory=dict)
+
+    def puts_of(self, process: Process) -> Puts:
+        """What a process puts."""
+        if process not in self.found:
+            self.found[process] = find_puts(process.recording)
+        return self.found[process]
+
+    def can_see(self, reader: Process, call: Call, owner: Process, key: bytes) -> bool:
+        """Whether the owner's recording has what a get of the key could see: an own put before
+        it, or another's and its commit."""
+        puts = self.puts_of(owner)
+        return puts.first.get(key, AT_THE_END) < call.begins if reader is owner else (
+            key in puts.committed
+        )
+
+    def is_out_of_scope(self, reader: Process, owner: Process, key: bytes) -> bool:
+        """Whether the owner puts the key, always in a scope that the reader's node isn't in."""
+        is_here = reader.recording.host == owner.recording.host
+        scopes = self.puts_of(owner).scopes.get(key, set())
+        foreign = {"remote"} if is_here else {"local"}
+        return reader is not owner and bool(scopes) and scopes <= foreign
+
+
+@dataclass
+class ProcessLines:
+    """The lines of the calls of one process, as far as they are made, and the names that it has
+    published so far. `part` and `notes` are those of all processes."""
+
+    process: Process
+    processes: Processes
+    names: Names
+    puts: PutsByProcess
+    part: Part
+    notes: Notes
+    published: list[bytes] = field(default_factory=list)
+
+    def add(
+        self, call: Call, words: str, value: Optional[Value] = None, at: Optional[int] = None
+    ) -> None:
+        """Adds a line; it stands where its call begins, if not elsewhere."""
+        place = call.begins if at is None else at
+        self.part.lines.append(Line(self.process, place, words, call, value, None, None))
+
+    def leave_out(self, what: str) -> None:
+        """Notes that a call has no line."""
+        self.notes.left_out[what] += 1
+
+    def write_otherwise(self, what: str) -> None:
+        """Notes that a line says something else than its call."""
+        self.notes.otherwise[what] += 1
+
+    def say_value(self, value: Value) -> str:
+        """The word of a value that is put or published."""
+        if not value.is_text:
+            self.write_otherwise(
+                "values that aren't text: their size in bytes stands for them, where it is known"
+            )
+        elif not value.is_said:
+            self.write_otherwise(
+                "texts that no word of a plan can be: their size stands for them"
+            )
+        return value.word
+
+    def note_several(self, action: Union[Publish, Lookup, Unpublish], count: int) -> None:
+        """Notes that one call has several lines."""
+        if count > 1:
+            self.write_otherwise(
+                f"calls of {action.verb} with several keys: each key has a line of its own"
+            )
+
+    def take(self, call: Call) -> None:
+        """Makes the lines of a call. Fences are made elsewhere."""
+        action = call.action
+        if isinstance(action, Put):
+            self.take_put(call, action)
+        elif isinstance(action, Commit):
+            self.take_commit(call)
+        elif isinstance(action, Get):
+            self.take_get(call, action)
+        elif isinstance(action, Publish):
+            self.take_publish(call, action)
+        elif isinstance(action, Lookup):
+            self.take_lookup(call, action)
+        elif isinstance(action, Unpublish):
+            self.take_unpublish(call, action)
+
+    def take_put(self, call: Call, put: Put) -> None:
+        """Makes the line of a put."""
+        if put.scope == OTHER_SCOPE:
+            self.leave_out("puts of a scope other than local, remote and global")
+        elif is_reserved_by_pmix(put.key):
+            self.leave_out("puts of reserved keys")
+        elif call.has_failed:
+            self.leave_out("puts that failed")
+        else:
+            key, value = self.names.keys[put.key], self.say_value(put.value)
+            self.add(call, f"put {put.scope} {key} {value}")
+
+    def take_commit(self, call: Call) -> None:
+        """Makes the line of a commit."""
+        if call.has_failed:
+            self.leave_out("commits that failed")
+        else:
+            self.add(call, "commit")
+
+    def why_no_get(self, get: Get) -> Optional[str]:
+        """What a get is that a plan can't have; None where it can."""
+        if get.owner is None:
+            return "gets that name no process"
+        if get.keys is None:
+            return "gets of every key"
+        if get.owner.rank is AnyRank.ALL:
+            return "gets of a wildcard rank"
+        if get.owner.rank is AnyRank.UNDEFINED:
+            return "gets of an undefined rank"
+        if is_reserved_by_pmix(get.keys[0]):
+            return "gets of reserved keys"
+        return None
+
+    def find_owner(self, get: Get) -> Optional[Process]:
+        """The process whose key is asked for; None where it isn't recorded."""
+        if get.owner is None or not isinstance(get.owner.rank, int):
+            return None
+        namespace = get.owner.namespace or self.process.namespace
+        return self.processes.find(namespace, get.owner.rank)
+
+    def take_get(self, call: Call, get: Get) -> None:
+        """Makes the line of a get. One that waits stands where it ended."""
+        why, owner = self.why_no_get(get), self.find_owner(get)
+        if why or not owner or not get.keys:
+            self.leave_out(why or "gets of processes that aren't recorded")
+            return
+        key, is_at_once = get.keys[0], has_directive(get.directives, *AT_ONCE)
+        if not is_at_once and call.has_failed and not self.puts.is_out_of_scope(
+            self.process, owner, key
+        ):
+            self.write_otherwise(
+                "gets that were answered with an error in place of waiting: they are written "
+                "get-now"
+            )
+            is_at_once = True
+        if call.status == 0 and not self.puts.can_see(self.process, call, owner, key):
+            self.leave_out("gets of keys whose put isn't recorded")
+            return
+        words = f"{'get-now' if is_at_once else 'get'} {owner.name} {self.names.keys[key]}"
+        at = call.begins if is_at_once else call.ends or AT_THE_END
+        value = call.end.value if isinstance(call.end, GetEnd) and call.status == 0 else None
+        self.add(call, words, value, at)
+
+    def take_publish(self, call: Call, publish: Publish) -> None:
+        """Makes the lines of a publish: one for each name."""
+        self.note_several(publish, len(publish.pairs))
+        for pair in publish.pairs:
+            if is_reserved_by_pmix(pair.key):
+                self.leave_out("publishes of no key, or of reserved keys")
+            elif call.has_failed and call.status != DUPLICATE_KEY:
+                self.leave_out("publishes that failed")
+            else:
+                name, value = self.names.names[pair.key], self.say_value(pair.value)
+                self.add(call, f"publish {name} {value}")
+                self.published.append(pair.key)
+        if not publish.pairs:
+            self.leave_out("publishes of no key, or of reserved keys")
+
+    def is_waiting(self, call: Call, lookup: Lookup, count: int) -> bool:
+        """Whether a lookup of so many names is written as one that waits."""
+        waits = [it.value for it in lookup.directives if it.key == WAIT and it.value != NO]
+        if not waits:
+            return False
+        is_number = waits[0].kind is ValueKind.NUMBER
+        read = re.fullmatch(r"[2-8]:(\d+)", waits[0].detail) if is_number else None
+        if read and 0 < int(read[1]) < count:
+            self.write_otherwise(
+                "lookups that wait for some of their keys: they are written without waiting"
+            )
+            return False
+        if call.has_failed:
+            self.write_otherwise(
+                "lookups that were to wait and failed: they are written without waiting"
+            )
+        return not call.has_failed
+
+    def take_lookup(self, call: Call, lookup: Lookup) -> None:
+        """Makes the lines of a lookup: one for each name."""
+        if lookup.keys is None:
+            self.leave_out("lookups that name no key")
+            return
+        end = call.end
+        found = {it.key: it.value for it in end.found} if isinstance(end, LookupEnd) else {}
+        self.note_several(lookup, len(lookup.keys))
+        verb = "lookup-wait" if self.is_waiting(call, lookup, len(lookup.keys)) else "lookup"
+        for key in lookup.keys:
+            if is_reserved_by_pmix(key):
+                self.leave_out("lookups of reserved keys")
+            else:
+                value = found.get(key)
+                is_known = value is not None and value.kind is not ValueKind.NONE
+                self.add(call, f"{verb} {self.names.names[key]}", value if is_known else None)
+
+    def take_unpublish(self, call: Call, unpublish: Unpublish) -> None:
+        """Makes the lines of an unpublish: one for each name."""
+        keys: Sequence[bytes]
+        if unpublish.keys is None:
+            self.write_otherwise(
+                "unpublishes of every name: they are written for each name that the process "
+                "has published"
+            )
+            keys = list(dict.fromkeys(self.published))
+        else:
+            keys = unpublish.keys
+            self.note_several(unpublish, len(keys))
+        for key in keys:
+            if is_reserved_by_pmix(key):
+                self.leave_out("unpublishes of reserved keys")
+            elif call.has_failed and call.status != NOT_FOUND:
+                self.leave_out("unpublishes that failed")
+            else:
+                self.add(call, f"unpublish {self.names.names[key]}")
+                self.published = [it for it in self.published if it != key]
+
+
+def note_recording(recording: Recording, notes: Notes) -> None:
+    """Notes what a recording lacks, and what of it has no line."""
+    if recording.is_cut:
+        notes.left_out["last lines of recordings, which were cut"] += 1
+    if not recording.has_finalized:
+        notes.otherwise[
+            "processes whose recordings end before PMIx_Finalize: how they went on isn't known"
+        ] += 1
+    for name, count in recording.others.items():
+        notes.left_out[f"calls of {name}"] += count
+    if len({call.thread for call in recording.calls}) > 1:
+        notes.more_ordered[
+            "processes that called from several threads: "
+            "their calls stand in the order in which they began"
+        ] += 1
+
+
+def note_directives(action: Action, notes: Notes) -> None:
+    """Notes the directives of a call that a plan can't have."""
+    if isinstance(action, (Fence, Get, Publish, Lookup, Unpublish)):
+        for it in action.directives:
+            if it.key not in KNOWN_DIRECTIVES:
+                notes.left_out[f"directives {show(it.key)}"] += 1
+
+
+def is_placed_early(action: Action) -> bool:
+    """Whether a call that doesn't block stands where it was made, so that all that follows comes
+    after it in the plan. A get that waits stands where it ended, and a fence that doesn't collect
+    can be names."""
+    if isinstance(action, Fence):
+        return not action.blocks and has_directive(action.directives, COLLECT)
+    if isinstance(action, Get):
+        return not action.blocks and has_directive(action.directives, *AT_ONCE)
+    return isinstance(action, (Publish, Lookup, Unpublish)) and not action.blocks
+
+
+def note_overlaps(calls: Sequence[Call], notes: Notes) -> None:
+    """Notes the calls that were made while one was open that the plan puts before them."""
+    open_until: list[int] = []
+    for call in calls:
+        if open_until:
+            open_until = [it for it in open_until if it > call.begins]
+        if open_until:
+            notes.more_ordered[
+                "calls made while one that doesn't block was open: in the plan they come after it"
+            ] += 1
+        if is_placed_early(call.action):
+            open_until.append(call.ends or AT_THE_END)
+
+
+@dataclass(frozen=True)
+class PmixLines:
+    """The lines of calls, and what is noted of them."""
+
+    part: Part
+    notes: Notes
+
+
+def make_lines(processes: Processes, names: Names, with_mpi: bool) -> PmixLines:
+    """The lines of all calls of PMIx but fences, each process by itself."""
+    part, notes, puts = Part(), Notes(), PutsByProcess()
+    for process in processes.all:
+        recording = process.recording
+        note_recording(recording, notes)
+        of_pmix = [it for it in recording.calls if not isinstance(it.action, MPI_CALLS)]
+        note_overlaps(recording.calls if with_mpi else of_pmix, notes)
+        lines = ProcessLines(process, processes, names, puts, part, notes)
+        for call in of_pmix:
+            lines.take(call)
+            note_directives(call.action, notes)
+    return PmixLines(part, notes)

@@ -1,0 +1,137 @@
+"""Makes lines of the fences of PMIx: the n-th of each member over one set meet."""
+from collections.abc import Mapping, Sequence
+from dataclasses import dataclass, field
+from typing import Optional
+
+from wire_up_tools.record.calls import Call, Fence
+from wire_up_tools.record.draft import Line, Notes, Part
+from wire_up_tools.record.meetings import (
+    MOST_NAMED,
+    JointCalls,
+    Members,
+    Sets,
+    is_any_inside,
+    join_calls,
+)
+from wire_up_tools.record.names import Names
+from wire_up_tools.record.pmix_calls import COLLECT, has_directive
+from wire_up_tools.record.processes import NEVER_BEGAN, Process
+
+
+@dataclass(frozen=True)
+class PmixFences:
+    """The lines of fences, and the calls of those fences over each set that are fences in the
+    plan too."""
+
+    part: Part
+    notes: Notes
+    by_set: Mapping[Members, Sequence[JointCalls]]
+
+
+def is_collecting(call: Call) -> bool:
+    """Whether a call is a fence that collects."""
+    action = call.action
+    return isinstance(action, Fence) and has_directive(action.directives, COLLECT)
+
+
+def find_fences(sets: Sets, notes: Notes) -> dict[Members, dict[Process, list[Call]]]:
+    """The fences over each set, by their processes and in their order."""
+    found: dict[Members, dict[Process, list[Call]]] = {}
+    for process in sets.processes.all:
+        for call in process.recording.calls:
+            if not isinstance(call.action, Fence):
+                continue
+            members = sets.members_of(process, call.action.names)
+            if members is None:
+                notes.left_out[
+                    "fences with processes that aren't recorded, or without the caller"
+                ] += 1
+            elif call.status in NEVER_BEGAN:
+                notes.left_out["fences that failed"] += 1
+            else:
+                found.setdefault(members, {}).setdefault(process, []).append(call)
+    return found
+
+
+def why_left_out(meeting: JointCalls) -> Optional[str]:
+    """Why fences that meet have no lines; None where they have. One that failed at a process is
+    left out at all its processes: it ordered nothing for certain."""
+    if any(call.has_failed for call in meeting.calls.values()):
+        return "fences that failed at one of their processes"
+    if not meeting.is_whole and any(call.status == 0 for call in meeting.calls.values()):
+        return "fences that ended although a member's call isn't recorded"
+    return None
+
+
+@dataclass
+class CallPlaces:
+    """Where in the recording of each process a call begins or ends, found out where it is asked
+    for."""
+
+    found: dict[Process, list[int]] = field(default_factory=dict)
+
+    def has_inside(self, process: Process, call: Call) -> bool:
+        """Whether a call of the process begins or ends while another one is open."""
+        if process not in self.found:
+            calls = process.recording.calls
+            places = [it.begins for it in calls] + [it.ends for it in calls if it.ends]
+            self.found[process] = sorted(places)
+        return is_any_inside(self.found[process], call)
+
+
+def is_split(meeting: JointCalls, places: CallPlaces) -> bool:
+    """Whether a fence that doesn't collect has other calls of its process between its beginning
+    and its end: then arriving and leaving must stand apart."""
+    calls = meeting.calls
+    if len(calls) > MOST_NAMED or any(map(is_collecting, calls.values())):
+        return False
+    return any(places.has_inside(process, call) for process, call in calls.items())
+
+
+def split(meeting: JointCalls, mark: str, number: int) -> Part:
+    """A fence as names: each process publishes one where it arrives, and waits for those of the
+    others where it leaves."""
+    part = Part()
+    for source, call in meeting.calls.items():
+        others = meeting.calls.items()
+        targets = {it: other for it, other in others if it is not source and other.end}
+        part.add_order(f"{mark}{source.short_name}.{number}", source, call, targets)
+    return part
+
+
+def make_meeting(meeting: JointCalls, sets: Sets) -> Part:
+    """The lines of a fence, which meet if all members called it."""
+    part = Part()
+    lines = []
+    for process, call in meeting.calls.items():
+        collect = " collect" if is_collecting(call) else ""
+        words = f"fence {sets.word_of(process, meeting.members)}{collect}"
+        lines.append(Line(process, call.begins, words, call, None, None, None))
+    if meeting.is_whole:
+        part.add_meeting(lines)
+    else:
+        part.lines.extend(lines)
+    return part
+
+
+def make_fences(sets: Sets, names: Names) -> PmixFences:
+    """The lines of all fences of PMIx."""
+    part, notes, splits = Part(), Notes(), 0
+    places = CallPlaces()
+    by_set: dict[Members, list[JointCalls]] = {}
+    found = find_fences(sets, notes).items()
+    for meeting in (it for members, calls in found for it in join_calls(members, calls)):
+        why, count = why_left_out(meeting), len(meeting.calls)
+        if why:
+            notes.left_out[why] += count
+        elif is_split(meeting, places):
+            splits += 1
+            part.add(split(meeting, names.fence_mark, splits))
+            notes.otherwise[
+                "calls of fences among which the process called more: "
+                f"names that begin with {names.fence_mark} stand for them"
+            ] += count
+        else:
+            part.add(make_meeting(meeting, sets))
+            by_set.setdefault(meeting.members, []).append(meeting)
+    return PmixFences(part, notes, by_set)

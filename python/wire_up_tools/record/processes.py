@@ -1,0 +1,188 @@
+"""Puts recordings in the order of a plan: its nodes, its jobs, and their processes."""
+import re
+from collections.abc import Iterator, Mapping, Sequence
+from dataclasses import dataclass
+from typing import Optional
+
+from wire_up_tools.limits import VERSION_1, Limits
+from wire_up_tools.record.calls import (
+    AnyRank,
+    Call,
+    Fence,
+    Get,
+    GetEnd,
+    ProcessName,
+    ValueKind,
+)
+from wire_up_tools.record.failures import Refused
+from wire_up_tools.record.recordings import Recording, refuse_past
+from wire_up_tools.words import Words, show
+
+# With these statuses a call never began: the library refused it.
+NEVER_BEGAN = (-25, -27, -29, -31, -32, -47)
+JOB_SIZE = b"pmix.job.size"
+# What the name of a node can't have.
+NOT_IN_NODES = b":,#*"
+# The name of the job of a plan that has one. Of several, each has its number besides.
+ONLY_JOB = "app"
+# How many missing ranks a refusal names.
+NAMED = 5
+
+
+@dataclass(frozen=True, eq=False)
+class Process:
+    """A process: its name in the plan, such as `app:0`, a shorter one for the names of messages,
+    its node in the plan, its place in the order of all processes, and its recording."""
+
+    namespace: bytes
+    rank: int
+    name: str
+    short_name: str
+    node: str
+    place: int
+    recording: Recording
+
+
+@dataclass(frozen=True)
+class Job:
+    """A job: its namespace, its name in the plan, and its processes by their ranks."""
+
+    namespace: bytes
+    name: str
+    processes: tuple[Process, ...]
+
+
+@dataclass(frozen=True)
+class Processes:
+    """The jobs by their namespaces in the order of the plan, all processes, and the words for
+    nodes by the names of their hosts. `is_large` says that there are more of any than the plain
+    limits allow."""
+
+    jobs: Mapping[bytes, Job]
+    all: tuple[Process, ...]
+    nodes: Mapping[bytes, str]
+    is_large: bool
+
+    def find(self, namespace: bytes, rank: int) -> Optional[Process]:
+        """The process of a rank; None where it isn't recorded."""
+        job = self.jobs.get(namespace)
+        return job.processes[rank] if job and 0 <= rank < len(job.processes) else None
+
+
+Ranks = Mapping[int, Recording]
+
+
+def group_by_job(recordings: Sequence[Recording]) -> dict[bytes, Ranks]:
+    """The recordings by their namespaces and ranks. Refuses one rank twice."""
+    jobs: dict[bytes, dict[int, Recording]] = {}
+    for it in recordings:
+        ranks = jobs.setdefault(it.namespace, {})
+        if it.rank in ranks:
+            before = ranks[it.rank].path
+            raise Refused(
+                f"{it.path}: is rank {it.rank} of {show(it.namespace)} once more, after {before}"
+            )
+        ranks[it.rank] = it
+    return {**jobs}
+
+
+def ranks_in_fence(call: Call, fence: Fence, namespace: bytes) -> Iterator[int]:
+    """The ranks of a job that a fence names, if it began."""
+    if call.status not in NEVER_BEGAN:
+        for name in fence.names:
+            if name.namespace == namespace and isinstance(name.rank, int):
+                yield name.rank
+
+
+def last_rank_by_size(call: Call, get: Get, namespace: bytes) -> Iterator[int]:
+    """The last rank of the job of a caller, if the call is a get of that job's size."""
+    whole_job = (None, ProcessName(namespace, AnyRank.ALL))
+    if get.keys != (JOB_SIZE,) or get.owner not in whole_job or call.status != 0:
+        return
+    value = call.end.value if isinstance(call.end, GetEnd) else None
+    if value and value.kind is ValueKind.NUMBER:
+        read = re.fullmatch(r"\d+:(\d{1,7})", value.detail)
+        if read:
+            yield int(read[1]) - 1
+
+
+def ranks_told(namespace: bytes, recordings: Sequence[Recording]) -> Iterator[int]:
+    """The ranks of a job that recordings tell of: by the size of MPI_COMM_WORLD, by the job's
+    size that the library told, and by sets of fences."""
+    for it in recordings:
+        if it.world and it.namespace == namespace:
+            yield it.world.size - 1
+        for call in it.calls:
+            if isinstance(call.action, Fence):
+                yield from ranks_in_fence(call, call.action, namespace)
+            elif isinstance(call.action, Get) and it.namespace == namespace:
+                yield from last_rank_by_size(call, call.action, namespace)
+
+
+def refuse_missing(
+    namespace: bytes, ranks: Ranks, recordings: Sequence[Recording], most: Limits
+) -> None:
+    """Refuses a job of which a rank has no recording."""
+    count = max([*ranks, *ranks_told(namespace, recordings)]) + 1
+    missing = [it for it in range(min(count, 10 * most.processes)) if it not in ranks]
+    if missing:
+        some = ", ".join(map(str, missing[:NAMED])) + (", .." if len(missing) > NAMED else "")
+        raise Refused(
+            f"{show(namespace)} has {count} ranks, "
+            f"and there is no recording of {count - len(ranks)} of them: {some}"
+        )
+
+
+def name_nodes(jobs: Sequence[Ranks]) -> dict[bytes, str]:
+    """Words for the hosts, in the order in which the processes name them."""
+    hosts = dict.fromkeys(ranks[rank].host for ranks in jobs for rank in sorted(ranks))
+    words = Words(hosts, NOT_IN_NODES)
+    return {it: words[it] for it in hosts}
+
+
+def make_job(name: str, ranks: Ranks, nodes: Mapping[bytes, str], first: int) -> Job:
+    """A job of recordings by their ranks; its first process has the place `first`."""
+    prefix = "" if name == ONLY_JOB else f"{name}."
+    processes = tuple(
+        Process(
+            namespace=ranks[rank].namespace,
+            rank=rank,
+            name=f"{name}:{rank}",
+            short_name=f"{prefix}{rank}",
+            node=nodes[ranks[rank].host],
+            place=first + rank,
+            recording=ranks[rank],
+        )
+        for rank in sorted(ranks)
+    )
+    return Job(processes[0].namespace, name, processes)
+
+
+def is_past(most: Limits, jobs: int, processes: int, nodes: int) -> bool:
+    """Whether so many are more than some limits."""
+    return jobs > most.jobs or processes > most.processes or nodes > most.nodes
+
+
+def place_processes(recordings: Sequence[Recording], most: Limits) -> Processes:
+    """Puts recordings in order: jobs by when they began, ranks from 0.
+
+    Raises Refused for recordings that aren't those of whole jobs, or are past the limits.
+    """
+    by_job = group_by_job(recordings)
+    for namespace, ranks in by_job.items():
+        refuse_missing(namespace, ranks, recordings, most)
+    begun = {of: min(it.began for it in ranks.values()) for of, ranks in by_job.items()}
+    order = sorted(by_job, key=lambda it: (begun[it], it))
+    nodes = name_nodes([by_job[it] for it in order])
+    jobs: dict[bytes, Job] = {}
+    processes: list[Process] = []
+    for number, namespace in enumerate(order):
+        name = ONLY_JOB if len(order) == 1 else f"{ONLY_JOB}{number}"
+        job = make_job(name, by_job[namespace], nodes, len(processes))
+        jobs[namespace] = job
+        processes += job.processes
+    refuse_past(most.jobs, "jobs", len(jobs))
+    refuse_past(most.processes, "processes", len(processes))
+    refuse_past(most.nodes, "nodes", len(nodes))
+    is_large = is_past(VERSION_1, len(jobs), len(processes), len(nodes))
+    return Processes(jobs, tuple(processes), nodes, is_large)

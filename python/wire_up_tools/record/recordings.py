@@ -1,0 +1,311 @@
+"""Reads recordings: files that say what one process called, one for each process."""
+import os
+import re
+from collections import Counter
+from collections.abc import Mapping, Sequence
+from dataclasses import dataclass, field
+from typing import NoReturn, Optional, Union
+
+from wire_up_tools.limits import Limits
+from wire_up_tools.record.calls import Action, Call, End
+from wire_up_tools.record.failures import Refused
+from wire_up_tools.record.forms import (
+    WORD,
+    Groups,
+    decode,
+    decode_text,
+    match,
+    read_begin,
+    read_end,
+    read_ranks,
+)
+from wire_up_tools.words import make_printable
+
+ENDING = ".recording"
+LAST_DATE = 253402300799
+
+NUMBER = r"\d{1,18}"
+# The lines at the head, and what is said where one is another.
+HEAD = (
+    (r"wire_up-recording 1", "isn't the first line of a recording"),
+    (rf"process ({WORD}) (\d{{1,10}}) ({WORD}) {NUMBER}", "doesn't say which process it is"),
+    (r"began (\d{1,18})\.(\d{6})", "doesn't say when it began"),
+    (rf"library ({WORD})", "doesn't say which library it was"),
+)
+# A record: its sign (+ a call begins, - it ends, = all else), the number of the call, the thread,
+# the time, the number of its place in the program, and what it says.
+RECORD = re.compile(rf"([-+=]) ({NUMBER}) ({NUMBER}) \d{{1,18}}\.\d{{6}} (?:@(\d{{1,9}}) )?(.+)")
+LOST = "lost"
+NO_RECORD = "isn't a record"
+
+
+@dataclass(frozen=True)
+class Address:
+    """A place in the code of a program: a module and an offset in it."""
+
+    module: str
+    offset: int
+
+
+# Where in the program a call comes from: an address, or `function (file.c:42)`.
+Place = Union[Address, str]
+
+
+@dataclass(frozen=True)
+class World:
+    """The rank of a process in MPI_COMM_WORLD, and how many it has."""
+
+    rank: int
+    size: int
+
+
+@dataclass(frozen=True)
+class RecordedCommunicator:
+    """A communicator: the number of its parent, what it is of that, the ranks in MPI_COMM_WORLD
+    of its processes, and those of the other side, if it has two."""
+
+    parent: int
+    which: str
+    ranks: Sequence[int]
+    remote_ranks: Optional[Sequence[int]]
+
+
+@dataclass(frozen=True)
+class Recording:
+    """What one process did, from the file at `path`; `began` is in seconds since 1970.
+
+    `others` counts the calls that are only counted, by their names. A process that
+    `has_finalized` has called nothing after PMIx_Finalize; the last line of a recording that
+    `is_cut` was dropped.
+    """
+
+    path: str
+    namespace: bytes
+    rank: int
+    host: bytes
+    library: str
+    began: float
+    calls: Sequence[Call]
+    others: Mapping[str, int]
+    world: Optional[World]
+    communicators: Mapping[int, RecordedCommunicator]
+    places: Mapping[str, Place]
+    has_finalized: bool
+    is_cut: bool
+
+
+# --- what isn't a call ---
+
+PLAIN = {
+    "finalize": re.compile(r"finalize"),
+    "other": re.compile(r"other (.+)"),
+    "world": re.compile(r"world (\d{1,9}) (\d{1,9})"),
+    "comm": re.compile(r"comm (\d{1,9}) (\d{1,9}) ([wcgv]-?\d{1,18}) ([\d,-]+)"),
+    "inter": re.compile(r"inter (\d{1,9}) (\d{1,9}) (c-?\d{1,18}) ([\d,-]+) ([\d,-]+)"),
+    "place": re.compile(rf"place (\d{{1,9}}) ({WORD}) ([0-9a-f]{{1,16}})"),
+    "line": re.compile(rf"line (\d{{1,9}}) ({WORD}) (\d{{1,9}}) ({WORD})"),
+}
+
+
+def read_communicator(groups: Groups) -> RecordedCommunicator:
+    """A communicator, without its own number. Raises ValueError."""
+    remote = read_ranks(groups[4]) if len(groups) > 4 else None
+    return RecordedCommunicator(int(groups[1]), groups[2], read_ranks(groups[3]), remote)
+
+
+def read_line(groups: Groups) -> Place:
+    """A place that says its line by itself, without its number. Raises ValueError."""
+    file, function = (make_printable(decode_text(it)) for it in (groups[1], groups[3]))
+    return f"{function} ({os.path.basename(file)}:{groups[2]})"
+
+
+# --- files ---
+
+
+def refuse(path: str, number: int, why: str) -> NoReturn:
+    """Refuses a recording for one of its lines."""
+    raise Refused(f"{path}: line {number} {why}")
+
+
+@dataclass
+class Opened:
+    """A call that has begun: its place among the calls of its recording, and what is known."""
+
+    __slots__ = ("index", "action", "begins", "thread", "place")
+
+    index: int
+    action: Action
+    begins: int
+    thread: str
+    place: Optional[str]
+
+    def finish(self, ends: Optional[int], end: Optional[End]) -> Call:
+        """The call with its end, if it has one."""
+        return Call(self.action, self.begins, self.thread, self.place, ends, end)
+
+
+@dataclass
+class Records:
+    """The records of a file, as far as they are read: what has ended, what is open, and the
+    rest. `calls` are in the order in which they began, and None while they are open."""
+
+    path: str
+    calls: list[Optional[Call]] = field(default_factory=list)
+    opened: dict[str, Opened] = field(default_factory=dict)
+    others: Counter[str] = field(default_factory=Counter)
+    world: Optional[World] = None
+    communicators: dict[int, RecordedCommunicator] = field(default_factory=dict)
+    places: dict[str, Place] = field(default_factory=dict)
+    has_finalized: bool = False
+
+    def read(self, number: int, line: str) -> None:
+        """Takes the record of a line. Raises Refused."""
+        if line == LOST:
+            refuse(self.path, number, "says that a record was lost for want of memory")
+        record = RECORD.fullmatch(line)
+        if not record:
+            refuse(self.path, number, NO_RECORD)
+        sign, call, thread, place, text = record.groups()
+        try:
+            if sign == "+":
+                self.begin(call, Opened(len(self.calls), read_begin(text), number, thread, place))
+            elif sign == "-":
+                self.end(call, number, text)
+            else:
+                self.note(text)
+        except (ValueError, KeyError):
+            refuse(self.path, number, NO_RECORD)
+
+    def begin(self, call: str, opened: Opened) -> None:
+        """Takes a call that begins. Raises Refused."""
+        if call in self.opened:
+            refuse(self.path, opened.begins, "begins a call that is open")
+        self.opened[call] = opened
+        self.calls.append(None)
+        self.has_finalized = False
+
+    def end(self, call: str, number: int, text: str) -> None:
+        """Takes the end of a call. Raises Refused or ValueError."""
+        opened = self.opened.pop(call, None)
+        if not opened:
+            refuse(self.path, number, "ends a call that isn't open")
+        end = read_end(opened.action.verb, text)
+        self.calls[opened.index] = opened.finish(number, end)
+
+    def note(self, text: str) -> None:
+        """Takes what isn't a call. Raises ValueError or KeyError."""
+        verb = text.split(" ", 1)[0]
+        groups = match(PLAIN[verb], text)
+        self.has_finalized = verb == "finalize"
+        if verb == "other":
+            self.others[groups[0]] += 1
+        elif verb == "world":
+            self.world = World(int(groups[0]), int(groups[1]))
+        elif verb in ("comm", "inter"):
+            self.communicators[int(groups[0])] = read_communicator(groups)
+        elif verb == "place":
+            self.places[groups[0]] = Address(decode_text(groups[1]), int(groups[2], 16))
+        elif verb == "line":
+            self.places[groups[0]] = read_line(groups)
+
+    def finish(self) -> list[Call]:
+        """All calls; those that are still open have no end."""
+        for opened in self.opened.values():
+            self.calls[opened.index] = opened.finish(None, None)
+        return [it for it in self.calls if it]
+
+
+@dataclass(frozen=True)
+class Head:
+    """The head of a recording: the parts of Recording with these names."""
+
+    namespace: bytes
+    rank: int
+    host: bytes
+    library: str
+    began: float
+
+
+def read_head(path: str, lines: Sequence[str]) -> Head:
+    """The head of a recording by its lines. Raises Refused."""
+    found: list[str] = []
+    for number, (form, why) in enumerate(HEAD, 1):
+        read = re.fullmatch(form, lines[number - 1]) if number <= len(lines) else None
+        if not read:
+            refuse(path, number, why)
+        found += read.groups()
+    namespace, rank, host, seconds, microseconds, library = found
+    began = int(seconds) + int(microseconds) / 1e6
+    try:
+        head = Head(decode(namespace), int(rank), decode(host), decode_text(library), began)
+    except ValueError:
+        refuse(path, 2, "has a word that can't be read")
+    if began > LAST_DATE:
+        refuse(path, 3, "says a time after the year 9999")
+    return head
+
+
+def read_recording(path: str, data: bytes) -> Recording:
+    """The recording in the bytes of a file. A last line that was cut is dropped.
+
+    Raises Refused for what is no recording.
+    """
+    if not data:
+        raise Refused(f"{path}: is empty, and no recording")
+    whole, line_feed, last = data.rpartition(b"\n")
+    foreign = re.search(rb"[^ -~\n]", whole)
+    if foreign:
+        number = whole.count(b"\n", 0, foreign.start()) + 1
+        refuse(path, number, "has a byte that no recording has")
+    lines = whole.decode("ascii").split("\n") if line_feed else []
+    head, records = read_head(path, lines), Records(path)
+    for number, line in enumerate(lines[len(HEAD):], len(HEAD) + 1):
+        records.read(number, line)
+    return Recording(
+        path=path,
+        namespace=head.namespace,
+        rank=head.rank,
+        host=head.host,
+        library=head.library,
+        began=head.began,
+        calls=records.finish(),
+        others=records.others,
+        world=records.world,
+        communicators=records.communicators,
+        places=records.places,
+        has_finalized=records.has_finalized,
+        is_cut=bool(last),
+    )
+
+
+def find_files(paths: Sequence[str]) -> list[str]:
+    """The files that are named, and the recordings in the folders that are. Raises OSError."""
+    found: list[str] = []
+    for path in paths:
+        if os.path.isdir(path):
+            names = [it for it in os.listdir(path) if it.endswith(ENDING)]
+            found += sorted(os.path.join(path, it) for it in names)
+        else:
+            found.append(path)
+    return found
+
+
+def refuse_past(most: int, what: str, count: int) -> None:
+    """Refuses a plan that would have more than the most of something."""
+    if count > most:
+        raise Refused(f"a plan has at most {most:,} {what}, and this one would have {count:,}")
+
+
+def read_recordings(paths: Sequence[str], most: Limits) -> list[Recording]:
+    """Reads recordings, at most as many as a plan may have processes. Raises Refused, OSError."""
+    files = find_files(paths)
+    refuse_past(most.processes, "processes", len(files))
+    found = []
+    for path in files:
+        with open(path, "rb") as it:
+            found.append(read_recording(path, it.read()))
+    if not found:
+        raise Refused(
+            "there is no recording: no process called PMIx_Init with the recorder in it"
+        )
+    return found

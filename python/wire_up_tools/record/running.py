@@ -1,0 +1,106 @@
+"""Runs a command with the recorder in each of its processes."""
+import os
+import re
+import signal
+import subprocess
+from collections.abc import Mapping, Sequence
+from typing import Optional
+
+from wire_up_tools.record.failures import NotRun, Refused
+
+# The signals that are handed on to the command.
+HANDED_ON = (signal.SIGINT, signal.SIGTERM, signal.SIGHUP, signal.SIGQUIT)
+# How a signal's code says that the terminal sent it, to all processes in the foreground.
+BY_TERMINAL = 0x80
+# Statuses, as `env` and `timeout` have them.
+NOT_RUN, NOT_THERE, BY_SIGNAL = 126, 127, 128
+# How long a signal is waited for before the command is looked at again, in seconds.
+PATIENCE = 1
+
+OF_PMIX, OF_MPI = "record.so", "record-mpi.so"
+# Where the libraries are, seen from the folder of the command: in the repository, and where
+# `make install` puts them.
+LIBRARIES = ("record", os.path.join("..", "lib", "wire_up"))
+PRELOAD, TO_FOLDER = "LD_PRELOAD", "WIRE_UP_RECORD"
+# Names the variables that the launcher of Open MPI hands on to other nodes. Where it has the option
+# -x, which doesn't go with this variable, the recorder in it adds them to the options.
+TO_OTHER_NODES = "OMPI_MCA_mca_base_env_list"
+
+
+def find_library(folder: str, name: str) -> Optional[str]:
+    """The path of a built library, by the folder of the command; None where it isn't built."""
+    for place in LIBRARIES:
+        path = os.path.realpath(os.path.join(folder, place, name))
+        if os.path.exists(path):
+            return path
+    return None
+
+
+def find_libraries(folder: str, with_mpi: bool) -> list[str]:
+    """The libraries that are preloaded. Raises Refused if there is no recorder, or if one can't be
+    preloaded."""
+    recorder = find_library(folder, OF_PMIX)
+    if not recorder:
+        raise Refused("there is no recorder: `make record` builds it")
+    of_mpi = find_library(folder, OF_MPI) if with_mpi else None
+    found = [recorder, of_mpi] if of_mpi else [recorder]
+    for it in found:
+        if re.search(r"[\s:;]", it):
+            raise Refused(
+                f"{it}: no library can be preloaded from a path with spaces, colons or semicolons"
+            )
+    return found
+
+
+def is_made_by_python(name: str) -> bool:
+    """Whether Python itself set a variable, as it does with LC_CTYPE where no locale is chosen.
+    The program is not to see it."""
+    try:
+        with open("/proc/self/environ", "rb") as it:
+            given = it.read().split(b"\0")
+    except OSError:
+        return False
+    return name in os.environ and not any(it.startswith(f"{name}=".encode()) for it in given)
+
+
+def make_environment(libraries: Sequence[str], folder: str) -> dict[str, str]:
+    """The environment in which a command runs with libraries in each process, which write their
+    recordings to a folder."""
+    found = dict(os.environ)
+    if is_made_by_python("LC_CTYPE"):
+        del found["LC_CTYPE"]
+    before = found.get(PRELOAD)
+    found[PRELOAD] = ":".join([*([before] if before else []), *libraries])
+    found[TO_FOLDER] = folder
+    handed_on = found.get(TO_OTHER_NODES)
+    found[TO_OTHER_NODES] = ";".join([*([handed_on] if handed_on else []), PRELOAD, TO_FOLDER])
+    return found
+
+
+def wait_and_hand_on(process: "subprocess.Popen[bytes]") -> int:
+    """Waits for a process and hands signals on to it, which must be blocked. Answers its
+    status."""
+    while process.poll() is None:
+        came = signal.sigtimedwait((*HANDED_ON, signal.SIGCHLD), PATIENCE)
+        if came and came.si_signo != signal.SIGCHLD and came.si_code != BY_TERMINAL:
+            process.send_signal(came.si_signo)
+    return process.returncode
+
+
+def run(command: Sequence[str], environment: Mapping[str, str]) -> int:
+    """Runs a command, hands signals on to it, and answers its status: below 0 for the signal that
+    ended it. Raises NotRun if it can't be run."""
+    before = signal.pthread_sigmask(signal.SIG_BLOCK, (*HANDED_ON, signal.SIGCHLD))
+
+    def unblock() -> None:
+        signal.pthread_sigmask(signal.SIG_SETMASK, before)
+
+    try:
+        with subprocess.Popen(command, env=environment, preexec_fn=unblock) as process:
+            return wait_and_hand_on(process)
+    except FileNotFoundError as why:
+        raise NotRun(f"{command[0]}: {why.strerror}", NOT_THERE) from None
+    except OSError as why:
+        raise NotRun(f"{command[0]}: {why.strerror}", NOT_RUN) from None
+    finally:
+        unblock()

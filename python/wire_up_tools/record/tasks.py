@@ -1,0 +1,161 @@
+"""The tasks of the recorder: what users can ask it for, and what it does then."""
+import gc
+import os
+import shutil
+import sys
+import tempfile
+from collections.abc import Mapping, Sequence
+from dataclasses import dataclass, replace
+from typing import Optional, Union
+
+from wire_up_tools.checker import Checker, find_checker
+from wire_up_tools.files import STANDARD_OUTPUT, write_whole
+from wire_up_tools.limits import LARGE, VERSION_1
+from wire_up_tools.record.failures import Refused
+from wire_up_tools.record.places import find_call_place, find_places, read_places, write_places
+from wire_up_tools.record.planning import Choices, Plan, make_plan
+from wire_up_tools.record.recordings import Recording, read_recordings
+from wire_up_tools.record.running import BY_SIGNAL, find_libraries, make_environment, run
+from wire_up_tools.record.verdicts import say_verdicts
+from wire_up_tools.record.writing import write_answers, write_plan
+
+
+@dataclass(frozen=True)
+class CallPlace:
+    """Asks where in the program a call of a plan comes from."""
+
+    process: str
+    number: int
+    plan: str
+
+
+@dataclass(frozen=True)
+class Output:
+    """Where a plan goes and what is written besides, what is taken from recordings, and which
+    checker is asked; where that is None, the one that is found."""
+
+    plan: str
+    answers: Optional[str] = None
+    kept: Optional[str] = None
+    checker: Optional[str] = None
+    with_mpi: bool = True
+    is_strict: bool = False
+
+
+@dataclass(frozen=True)
+class FromFiles:
+    """Asks for the plan of recordings that are there, in files or folders."""
+
+    output: Output
+    files: Sequence[str]
+
+
+@dataclass(frozen=True)
+class FromCommand:
+    """Asks for the plan of a command that is run."""
+
+    output: Output
+    command: Sequence[str]
+
+
+Request = Union[CallPlace, FromFiles, FromCommand]
+
+
+def say(what: str) -> None:
+    """Writes a line on standard error."""
+    print(f"wire_up-record: {what}", file=sys.stderr)
+
+
+def say_call_place(asked: CallPlace) -> int:
+    """Writes where a call of a plan comes from. Raises Refused, OSError."""
+    with open(asked.plan, encoding="ascii", errors="replace") as it:
+        found = find_call_place(asked.process, asked.number, it.read())
+    if found is None:
+        raise Refused(f"{asked.plan}: has no call {asked.number} of {asked.process}")
+    print(found)
+    return 0
+
+
+def count_notes(notes: Mapping[str, int]) -> str:
+    """Notes in a row, each with how often that was."""
+    return ", ".join(f"{count} {what}" for what, count in sorted(notes.items()))
+
+
+def write_output(plan: Plan, recordings: Sequence[Recording], output: Output) -> str:
+    """Writes a plan, and what is asked for besides. Answers the text of the plan. Raises Refused,
+    OSError."""
+    folders = dict.fromkeys(os.path.dirname(it.path) for it in recordings)
+    places = find_places(plan.draft, read_places(folders))
+    if output.kept:
+        write_places(places, output.kept)
+    text, answers = write_plan(plan, places), write_answers(plan)
+    write_whole(output.plan, text)
+    if output.answers:
+        write_whole(output.answers, answers)
+    if plan.notes.more_ordered:
+        say(
+            "a verdict over this plan holds only in part: "
+            f"{count_notes(plan.notes.more_ordered)}"
+        )
+    return text
+
+
+def make(output: Output, paths: Sequence[str], folder: str) -> None:
+    """Makes and writes the plan of recordings, in files or folders. `folder` is that of the
+    command. Raises Refused, OSError."""
+    # There is no garbage worth the looks of the collector over millions of records.
+    gc.disable()
+    path = output.checker or find_checker(folder)
+    is_large = path is not None and Checker(path).takes_large()
+    choices = Choices(output.with_mpi, output.is_strict, LARGE if is_large else VERSION_1)
+    recordings = read_recordings(paths, choices.most)
+    plan = make_plan(recordings, choices)
+    text = write_output(plan, recordings, output)
+    if plan.mpi.left_to_luck:
+        other = write_plan(make_plan(recordings, replace(choices, is_strict=not output.is_strict)))
+        plain, strict = (other, text) if output.is_strict else (text, other)
+        if path is not None:
+            say_verdicts(Checker(path, is_large), plain, strict, plan.mpi.left_to_luck)
+
+
+def make_folder(output: Output) -> str:
+    """The folder for the recordings of a command, made or found empty. Raises Refused, OSError."""
+    if not output.kept:
+        is_file = output.plan != STANDARD_OUTPUT
+        beside = os.path.dirname(os.path.abspath(output.plan)) if is_file else os.getcwd()
+        return tempfile.mkdtemp(prefix="wire_up-record-", dir=beside)
+    os.makedirs(output.kept, exist_ok=True)
+    if os.listdir(output.kept):
+        raise Refused(f"{output.kept}: isn't empty")
+    return os.path.abspath(output.kept)
+
+
+def record(asked: FromCommand, folder: str) -> int:
+    """Runs a command, makes the plan, and answers the command's status. `folder` is that of the
+    recorder. Recordings that make no plan are left. Raises Refused, NotRun, OSError."""
+    output = asked.output
+    libraries = find_libraries(folder, output.with_mpi)
+    recordings, is_made = make_folder(output), False
+    try:
+        status = run(asked.command, make_environment(libraries, recordings))
+        if status:
+            how = f"with status {status}" if status > 0 else f"by signal {-status}"
+            say(f"the command ended {how}")
+        make(output, [recordings], folder)
+        is_made = True
+        return status if status >= 0 else BY_SIGNAL - status
+    finally:
+        if not output.kept and (is_made or not os.listdir(recordings)):
+            shutil.rmtree(recordings, ignore_errors=True)
+        elif not is_made and os.path.isdir(recordings) and os.listdir(recordings):
+            say(f"the recordings are in {recordings}")
+
+
+def do(asked: Request, folder: str) -> int:
+    """Does what is asked for, and answers the status. `folder` is that of the command."""
+    if isinstance(asked, CallPlace):
+        return say_call_place(asked)
+    if isinstance(asked, FromCommand):
+        return record(asked, folder)
+    make(asked.output, asked.files, folder)
+    return 0

@@ -1,0 +1,196 @@
+"""Writes the text of a plan, with comments at its head about all that it can't say; and how its
+calls ended, in the form of a report."""
+from collections.abc import Iterable, Iterator, Sequence
+from datetime import datetime, timezone
+from typing import Optional
+
+from wire_up_tools.limits import VERSION_1
+from wire_up_tools.record.draft import Line
+from wire_up_tools.record.places import Places
+from wire_up_tools.record.planning import Plan
+from wire_up_tools.record.processes import Process
+from wire_up_tools.record.recordings import refuse_past
+from wire_up_tools.words import (
+    LEFT_OUT,
+    MORE_ORDERED,
+    PLACE_COMMENT,
+    RECORDED_BY,
+    UNKNOWN_PLACE,
+    WRITTEN_OTHERWISE,
+    make_printable,
+    show,
+)
+
+STATUSES = {
+    0: "PMIX_SUCCESS",
+    -1: "PMIX_ERROR",
+    -15: "PMIX_ERR_WOULD_BLOCK",
+    -24: "PMIX_ERR_TIMEOUT",
+    -25: "PMIX_ERR_UNREACH",
+    -27: "PMIX_ERR_BAD_PARAM",
+    -29: "PMIX_ERR_OUT_OF_RESOURCE",
+    -31: "PMIX_ERR_INIT",
+    -32: "PMIX_ERR_NOMEM",
+    -46: "PMIX_ERR_NOT_FOUND",
+    -47: "PMIX_ERR_NOT_SUPPORTED",
+    -49: "PMIX_ERR_COMM_FAILURE",
+    -52: "PMIX_ERR_PARTIAL_SUCCESS",
+    -53: "PMIX_ERR_DUPLICATE_KEY",
+    -60: "PMIX_ERR_EMPTY",
+    -61: "PMIX_ERR_LOST_CONNECTION",
+    -62: "PMIX_ERR_EXISTS_OUTSIDE_SCOPE",
+}
+SUCCESS, WAITING, UNREACHED = STATUSES[0], "waiting", "unreached"
+
+
+# --- the head ---
+
+
+def say_recordings(plan: Plan) -> Iterator[str]:
+    """When was recorded, and what the jobs and nodes are."""
+    recordings = [it.recording for it in plan.processes.all]
+    when = datetime.fromtimestamp(min(it.began for it in recordings), timezone.utc)
+    libraries = ", ".join(sorted({make_printable(it.library) for it in recordings}))
+    yield f"# {RECORDED_BY} on {when:%Y-%m-%d}: {len(recordings)} processes, {libraries}"
+    for job in plan.processes.jobs.values():
+        yield f"# The job {job.name} is the namespace {show(job.namespace)}."
+    for host, name in plan.processes.nodes.items():
+        if host != name.encode():
+            yield f"# The node {name} is the host {show(host)}."
+
+
+def say_words(plan: Plan) -> Iterator[str]:
+    """Which words stand for which keys and names, where they aren't the same."""
+    for what, words in (("key", plan.names.keys), ("name", plan.names.names)):
+        for text in words.renamed:
+            yield f"# The {what} {words[text]} is {show(text)}."
+
+
+def say_mpi(plan: Plan) -> Iterator[str]:
+    """What of MPI's order the plan has."""
+    mpi, choices = plan.mpi, plan.choices
+    if mpi.message_count or mpi.collective_count:
+        counts = f"{mpi.message_count} messages and {mpi.collective_count} collectives"
+        yield (
+            f"# MPI's order: {counts}. "
+            "No call of PMIx made the lines of names that begin with"
+        )
+        yield f"# `{plan.names.mpi_mark}`, and the fences below a line `# MPI: ..`."
+    if mpi.left_to_luck:
+        taken = "their order is taken all the same, and --strict takes nothing from them"
+        what = "nothing is taken from them" if choices.is_strict else taken
+        yield (
+            f"# {mpi.left_to_luck} ends of requests that another run may have found open "
+            f"(a poll that succeeded, one of several): {what}."
+        )
+    if not choices.with_mpi or not any(it.recording.world for it in plan.processes.all):
+        yield (
+            "# MPI's order isn't recorded: if MPI orders the calls of a race, it is reported "
+            "all the same."
+        )
+
+
+def say_notes(plan: Plan) -> Iterator[str]:
+    """What the plan can't say, in lists."""
+    notes = plan.notes
+    lists = (
+        (LEFT_OUT, notes.left_out),
+        (MORE_ORDERED, notes.more_ordered),
+        (WRITTEN_OTHERWISE, notes.otherwise),
+    )
+    for title, counted in lists:
+        if counted:
+            yield f"# {title}"
+            yield from (f"#   {count} {what}" for what, count in sorted(counted.items()) if count)
+
+
+def say_head(plan: Plan) -> list[str]:
+    """The comments at the head of the plan."""
+    return [*say_recordings(plan), *say_words(plan), *say_mpi(plan), *say_notes(plan)]
+
+
+# --- the plan ---
+
+
+def find_texts(process: Process, places: Optional[Places]) -> dict[Optional[str], str]:
+    """The texts of the places of a process, by their numbers, as far as they are known."""
+    if not places:
+        return {}
+    found = ((number, places.find(it)) for number, it in process.recording.places.items())
+    return {number: text for number, text in found if text}
+
+
+def write_script(lines: Iterable[Line], texts: dict[Optional[str], str]) -> Iterator[str]:
+    """The lines of one process. Where another place of the program begins, a comment says so."""
+    place = UNKNOWN_PLACE
+    for line in lines:
+        here = texts.get(line.call.place, UNKNOWN_PLACE)
+        if here != place:
+            yield f"{PLACE_COMMENT}{here}"
+            place = here
+        if line.remark:
+            yield line.remark
+        yield line.words
+
+
+def write_body(plan: Plan, places: Optional[Places]) -> list[str]:
+    """The lines of the plan below its head."""
+    lines = ["rehearsal 1", *(f"node {it}" for it in plan.processes.nodes.values())]
+    for job in plan.processes.jobs.values():
+        lines.append(f"job {job.name}")
+        for process in job.processes:
+            lines.append(f"rank {process.node}")
+            texts = find_texts(process, places)
+            lines += write_script(plan.draft.lines[process], texts)
+    return lines
+
+
+def join_lines(head: Sequence[str], body: Sequence[str], is_large: bool) -> str:
+    """The text of head and body, which says where only --large reads it."""
+    size = sum(map(len, head)) + sum(map(len, body)) + len(head) + len(body)
+    more = ["# Larger than the plain limits: `wire_up check --large` reads it."]
+    is_past = is_large or size > VERSION_1.plan_bytes
+    return "".join(f"{it}\n" for it in [*head, *(more if is_past else []), *body])
+
+
+def write_plan(plan: Plan, places: Optional[Places] = None) -> str:
+    """The text of a plan, with where its calls come from if there is room for that.
+
+    Raises Refused for a plan that is past the limits.
+    """
+    most, count = plan.choices.most, plan.draft.count
+    refuse_past(most.calls, "calls", count)
+    is_large = plan.processes.is_large or count > VERSION_1.calls
+    head, body = say_head(plan), write_body(plan, places)
+    text = join_lines(head, body, is_large)
+    if len(text) > (most if is_large else VERSION_1).plan_bytes:
+        body = [it for it in body if not it.startswith(PLACE_COMMENT)]
+        text = join_lines(head, body, is_large)
+    refuse_past(most.plan_bytes, "bytes", len(text))
+    return text
+
+
+# --- how the calls ended ---
+
+
+def say_end(line: Line) -> str:
+    """How the call of a line ended."""
+    end = line.call.end
+    if line.is_of_program or not (end or line.verb == "publish"):
+        status = end.status if end else 0
+        return STATUSES.get(status, f"PMIX_STATUS_{status}") if end else WAITING
+    return SUCCESS
+
+
+def write_answers(plan: Plan) -> str:
+    """How the calls of a plan ended, in the form of a report."""
+    answers, waiting = [], 0
+    for process in plan.processes.all:
+        is_over = False
+        for number, line in enumerate(plan.draft.lines[process], 1):
+            said = UNREACHED if is_over else say_end(line)
+            is_over = is_over or said == WAITING
+            value = f" {line.value.word}" if said == SUCCESS and line.value else ""
+            answers.append(f"{process.name} {number} {line.verb} {said}{value}")
+        waiting += is_over
+    return "".join(f"{it}\n" for it in [*answers, f"waiting {waiting}"])
