@@ -103,7 +103,7 @@ class RefusalsTest(CommandCase):
         self.refuse_line("--source needs a folder", "--source")
 
     def test_an_option_with_a_word_too_many(self) -> None:
-        self.refuse_line("--text takes no word", "--text=yes", EARLY)
+        self.refuse_line("--text=yes is no option", "--text=yes", EARLY)
 
     def test_what_looks_like_a_number(self) -> None:
         self.refuse_line("-1 is no option", "-1")

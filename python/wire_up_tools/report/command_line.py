@@ -91,9 +91,7 @@ def read_options(words: Sequence[str]) -> Options:
     try:
         said, unknown = make_parser().parse_known_args(words)
     except argparse.ArgumentError as why:
-        name = why.argument_name or ""
-        needs = f"needs a {WORDS[name]}" if name in WORDS else "takes no word"
-        raise Unusable(f"{name} {needs}") from None
+        raise Unusable(explain_wrong(words, why.argument_name or "")) from None
     # The parser takes what looks like a negative number, or has a space, for a plan.
     unknown += [it for it in said.plans[:1] if it.startswith("-") and it not in ("-", "--")]
     if unknown:
@@ -103,6 +101,14 @@ def read_options(words: Sequence[str]) -> Options:
         raise Unusable("one plan at a time" if plans else "which plan?")
     output = said.o or (STANDARD_OUTPUT if said.text else PAGE)
     return Options(plans[0], output, said.text, said.large, said.sarif, said.source, said.checker)
+
+
+def explain_wrong(words: Sequence[str], option: str) -> str:
+    """What is wrong with an option: it needs a word and has none, or has one and takes none."""
+    if option in WORDS:
+        return f"{option} needs a {WORDS[option]}"
+    written = next((it for it in words if it.startswith(f"{option}=")), option)
+    return f"{written} is no option"
 
 
 def choose_checker(asked: Optional[str], folder: str) -> str:
