@@ -3,21 +3,27 @@ names that the table gives them. What they call is in record/pmix."""
 from frame import Shape
 
 
-def begin(note: str) -> str:
-    """C that notes that a call begins."""
-    return f"unsigned long number = is_noted(caller) ? {note} : 0;\n"
+def begin(form: str, note: str) -> str:
+    """C that notes that a call of a form begins."""
+    return f"""\
+unsigned long number = 0;
+if (is_noted(caller)) {{
+    struct call call = {{.form = {form}, .place = find_place_in_program()}};
+    number = {note};
+}}
+"""
 
 
 def blocking(note: str, end: str = "note_end(number, result);\n") -> Shape:
     """A call that blocks: it is noted before and after."""
-    return Shape(begin(note), end)
+    return Shape(begin("BLOCKS", note), end)
 
 
 def calling_back(note: str, ends: str) -> Shape:
     """A call that doesn't block: the recorder's callback for calls that end so stands in place of
     the program's."""
     keep = f"struct pending *pending = await_{ends}(number, then, data);\n"
-    return Shape(begin(note) + keep, """\
+    return Shape(begin("CALLS_BACK", note) + keep, """\
 note_begun(number, result, pending);
 """, {"then": f"pending ? end_{ends} : then", "data": "pending ? pending : data"})
 
@@ -27,29 +33,30 @@ SHAPES = {
 pmix_proc_t own;
 memset(&own, 0, sizeof own);
 pmix_proc_t *me = process ? process : &own;
+bool is_inner = find_owner(caller) == OF_PMIX;
 """, """\
-if (result == PMIX_SUCCESS)
+if (result == PMIX_SUCCESS && !is_inner)
     enter_session(me, caller);
 """, {"process": "me"}),
     "finalize": Shape("""\
 if (is_noted(caller))
     leave_session();
 """),
-    "put": blocking("note_put(scope, key, value)"),
-    "commit": blocking("note_commit()"),
-    "fence": blocking("note_fence(BLOCKS, processes, count, info, infos)"),
-    "fence-nb": calling_back("note_fence(CALLS_BACK, processes, count, info, infos)", "operation"),
-    "get": blocking("note_get(BLOCKS, process, key, info, infos)", """\
+    "put": blocking("note_put(&call, scope, key, value)"),
+    "commit": blocking("note_commit(&call)"),
+    "fence": blocking("note_fence(&call, processes, count, info, infos)"),
+    "fence-nb": calling_back("note_fence(&call, processes, count, info, infos)", "operation"),
+    "get": blocking("note_get(&call, process, key, info, infos)", """\
 note_value(number, result, result == PMIX_SUCCESS && value ? *value : NULL);
 """),
-    "get-nb": calling_back("note_get(CALLS_BACK, process, key, info, infos)", "value"),
-    "publish": blocking("note_publish(BLOCKS, info, infos)"),
-    "publish-nb": calling_back("note_publish(CALLS_BACK, info, infos)", "operation"),
-    "lookup": blocking("note_lookup(found, count, info, infos)", """\
+    "get-nb": calling_back("note_get(&call, process, key, info, infos)", "value"),
+    "publish": blocking("note_publish(&call, info, infos)"),
+    "publish-nb": calling_back("note_publish(&call, info, infos)", "operation"),
+    "lookup": blocking("note_lookup(&call, found, count, info, infos)", """\
 bool is_found = result == PMIX_SUCCESS || result == PMIX_ERR_PARTIAL_SUCCESS;
 note_found(number, result, found, is_found ? count : 0);
 """),
-    "lookup-nb": calling_back("note_lookup_of_keys(keys, info, infos)", "lookup"),
-    "unpublish": blocking("note_unpublish(BLOCKS, keys, info, infos)"),
-    "unpublish-nb": calling_back("note_unpublish(CALLS_BACK, keys, info, infos)", "operation"),
+    "lookup-nb": calling_back("note_lookup_of_keys(&call, keys, info, infos)", "lookup"),
+    "unpublish": blocking("note_unpublish(&call, keys, info, infos)"),
+    "unpublish-nb": calling_back("note_unpublish(&call, keys, info, infos)", "operation"),
 }

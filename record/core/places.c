@@ -10,7 +10,6 @@
 #include <stdint.h>
 #include <stdlib.h>
 #include <string.h>
-#include <unwind.h>
 
 #define BUCKETS 1024
 static struct place *places[BUCKETS];
@@ -109,19 +108,11 @@ enum owner find_owner(const void *address)
     return it ? it->owner : OF_PROGRAM;
 }
 
-/* Keeps the place of a frame in `found` and ends, if it is the program's. */
-static _Unwind_Reason_Code keep_frame(struct _Unwind_Context *frame, void *found)
+_Unwind_Reason_Code keep_frame(struct _Unwind_Context *frame, void *found)
 {
     struct place *it = wire_up_place((const void *)_Unwind_GetIP(frame));
     if (!it || it->owner != OF_PROGRAM)
         return _URC_NO_REASON;
     *(struct place **)found = it;
     return _URC_END_OF_STACK;
-}
-
-struct place *find_place_in_program(void)
-{
-    struct place *found = NULL;
-    _Unwind_Backtrace(keep_frame, &found);
-    return wire_up_in_python(found);
 }

@@ -1,6 +1,5 @@
 /* Notes of PMIx calls. */
 #include "pmix/calls.h"
-#include "core/places.h"
 #include "core/text.h"
 #include "pmix/words.h"
 
@@ -9,10 +8,10 @@
 /* --- that they begin --- */
 
 /* Writes that a call begins, and answers its number. */
-static unsigned long write_begin(struct text *what)
+static unsigned long write_begin(const struct call *call, struct text *what)
 {
     unsigned long number = wire_up_number();
-    wire_up_write('+', number, find_place_in_program(), what);
+    wire_up_write('+', number, call->place, what);
     wire_up_text_close(what);
     return number;
 }
@@ -27,7 +26,8 @@ static const char *name_scope(pmix_scope_t scope)
     }
 }
 
-unsigned long note_put(pmix_scope_t scope, const char *key, const pmix_value_t *value)
+unsigned long note_put(const struct call *call, pmix_scope_t scope, const char *key,
+                       const pmix_value_t *value)
 {
     struct text what;
     wire_up_text_open(&what);
@@ -38,86 +38,88 @@ unsigned long note_put(pmix_scope_t scope, const char *key, const pmix_value_t *
         wire_up_text_add(&what, "none");
     wire_up_text_add(&what, " ");
     add_value(&what, value);
-    return write_begin(&what);
+    return write_begin(call, &what);
 }
 
-unsigned long note_commit(void)
+unsigned long note_commit(const struct call *call)
 {
     struct text what;
     wire_up_text_open(&what);
     wire_up_text_add(&what, "commit");
-    return write_begin(&what);
+    return write_begin(call, &what);
 }
 
-unsigned long note_fence(const char *form, const pmix_proc_t processes[], size_t count,
+unsigned long note_fence(const struct call *call, const pmix_proc_t processes[], size_t count,
                          const pmix_info_t info[], size_t infos)
 {
     struct text what;
     wire_up_text_open(&what);
-    wire_up_text_add(&what, "fence %s ", form);
+    wire_up_text_add(&what, "fence %s ", call->form);
     add_processes(&what, processes, count);
     add_directives(&what, info, infos);
-    return write_begin(&what);
+    return write_begin(call, &what);
 }
 
-unsigned long note_get(const char *form, const pmix_proc_t *process, const char *key,
+unsigned long note_get(const struct call *call, const pmix_proc_t *process, const char *key,
                        const pmix_info_t info[], size_t infos)
 {
     struct text what;
     wire_up_text_open(&what);
-    wire_up_text_add(&what, "get %s ", form);
+    wire_up_text_add(&what, "get %s ", call->form);
     add_process(&what, process);
     wire_up_text_add(&what, key ? " :" : " every");
     if (key)
         add_word(&what, key, strlen(key));
     add_directives(&what, info, infos);
-    return write_begin(&what);
+    return write_begin(call, &what);
 }
 
-unsigned long note_publish(const char *form, const pmix_info_t info[], size_t infos)
+unsigned long note_publish(const struct call *call, const pmix_info_t info[], size_t infos)
 {
     struct text what;
     wire_up_text_open(&what);
-    wire_up_text_add(&what, "publish %s ", form);
+    wire_up_text_add(&what, "publish %s ", call->form);
     add_published(&what, info, infos);
-    return write_begin(&what);
+    return write_begin(call, &what);
 }
 
-unsigned long note_lookup(const pmix_pdata_t wanted[], size_t count, const pmix_info_t info[],
-                          size_t infos)
+unsigned long note_lookup(const struct call *call, const pmix_pdata_t wanted[], size_t count,
+                          const pmix_info_t info[], size_t infos)
 {
     struct text what;
     wire_up_text_open(&what);
-    wire_up_text_add(&what, "lookup " BLOCKS " ");
+    wire_up_text_add(&what, "lookup %s ", call->form);
     for (size_t n = 0; wanted && n < count; n++) {
         wire_up_text_add(&what, n ? ",:" : ":");
         add_key(&what, wanted[n].key);
     }
     wire_up_text_add(&what, wanted && count ? "" : "-");
     add_directives(&what, info, infos);
-    return write_begin(&what);
+    return write_begin(call, &what);
 }
 
 /* Notes a call on keys alone. */
-static unsigned long note_keys(const char *verb, const char *form, char **keys,
+static unsigned long note_keys(const struct call *call, const char *verb, char **keys,
                                const pmix_info_t info[], size_t infos)
 {
     struct text what;
     wire_up_text_open(&what);
-    wire_up_text_add(&what, "%s %s ", verb, form);
+    wire_up_text_add(&what, "%s %s ", verb, call->form);
     add_keys(&what, keys);
     add_directives(&what, info, infos);
-    return write_begin(&what);
+    return write_begin(call, &what);
 }
 
-unsigned long note_lookup_of_keys(char **keys, const pmix_info_t info[], size_t infos)
+unsigned long note_lookup_of_keys(const struct call *call, char **keys, const pmix_info_t info[],
+                                  size_t infos)
 {
-    return note_keys("lookup", CALLS_BACK, keys, info, infos);
+    return note_keys(call, "lookup", keys, info, infos);
 }
 
-unsigned long note_unpublish(const char *form, char **keys, const pmix_info_t info[], size_t infos)
+unsigned long note_unpublish(const struct call *call, char **keys, const pmix_info_t info[],
+                             size_t infos)
 {
-    return note_keys("unpublish", form, keys, info, infos);
+    return note_keys(call, "unpublish", keys, info, infos);
 }
 
 /* --- that they ended --- */

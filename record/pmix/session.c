@@ -1,6 +1,5 @@
 /* From PMIx_Init to PMIx_Finalize. */
 #include "pmix/session.h"
-#include "core/places.h"
 #include "core/recording.h"
 
 #include <pthread.h>
@@ -20,8 +19,6 @@ static const char *find_version(void *caller)
 
 void enter_session(const pmix_proc_t *me, void *caller)
 {
-    if (find_owner(caller) == OF_PMIX)
-        return;
     pthread_mutex_lock(&counting);
     inits++;
     if (!has_recording()) {

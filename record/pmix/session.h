@@ -6,7 +6,7 @@
 
 #include <pmix.h>
 
-/* Begins the recording of this process where the code at `caller` isn't PMIx' own. */
+/* Begins the recording of this process, of which the code at `caller` is. */
 void enter_session(const pmix_proc_t *me, void *caller);
 
 /* Notes the last PMIx_Finalize of as many as PMIx_Init was called. */
