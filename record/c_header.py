@@ -69,6 +69,8 @@ def read_functions(header: str, prefix: str) -> dict[str, Function]:
     functions = {}
     for found in re.finditer(rf"([\w ]+?[ *]+)\b({prefix}_\w+) ?\(", text):
         answer = "*" if "*" in found[1] else found[1].split()[-1]
+        if answer == "typedef":
+            continue
         parameters = text[found.end():find_end(text, found.end())].strip()
         functions[found[2]] = Function(answer, found[2], parameters)
     return functions
