@@ -41,18 +41,28 @@ static bool widen(struct text *to, size_t more)
     return true;
 }
 
+/* Prints behind the text as much as there is room for. Answers the length of all, as vsnprintf. */
+__attribute__((format(printf, 2, 0))) static int print(struct text *to, const char *format,
+                                                       va_list words)
+{
+    return vsnprintf(to->at + to->length, to->room - to->length, format, words);
+}
+
 void wire_up_text_add(struct text *to, const char *format, ...)
 {
     va_list words;
-    va_start(words, format);
-    int length = vsnprintf(NULL, 0, format, words);
-    va_end(words);
-    if (length < 0 || !widen(to, (size_t)length))
+    if (to->is_lost)
         return;
     va_start(words, format);
-    vsnprintf(to->at + to->length, (size_t)length + 1, format, words);
+    int length = print(to, format, words);
     va_end(words);
-    to->length += (size_t)length;
+    if (length >= 0 && (size_t)length >= to->room - to->length && widen(to, (size_t)length)) {
+        va_start(words, format);
+        length = print(to, format, words);
+        va_end(words);
+    }
+    if (length > 0 && !to->is_lost)
+        to->length += (size_t)length;
 }
 
 static bool stands_plainly(unsigned char byte)
