@@ -76,7 +76,7 @@ note_received(number, result, told, WAITED);
 }
 
 
-def poll(note: str) -> Shape:
+def shape_poll(note: str) -> Shape:
     """A probe that doesn't wait. One that found nothing isn't noted."""
     return Shape(CALL + """\
 bool is_watched = call.is_noted;
@@ -86,7 +86,7 @@ if (call.is_noted && result == MPI_SUCCESS && *flag)
 """, TOLD)
 
 
-POLLS = {"poll-probe": poll("note_probe"), "poll-receive": poll("note_receive")}
+POLLS = {"poll-probe": shape_poll("note_probe"), "poll-receive": shape_poll("note_receive")}
 
 WATCH_REQUEST = CALL + """\
 bool is_watched = call.is_noted && request;
@@ -128,7 +128,7 @@ MPI_Status *told = choose_status(watch.is_on, status, &own);
 """
 
 
-def some(how: str) -> Shape:
+def shape_some(how: str) -> Shape:
     """A call that completes some of several requests."""
     return Shape(WATCH_ALL, f"""\
 int some = note_some_complete(&watch, result, ended, indices, told, {how});
@@ -146,8 +146,8 @@ if (watch.is_on && (result == MPI_ERR_IN_STATUS || (result == MPI_SUCCESS && *fl
     note_all_complete(&watch, result, told, POLLED);
 result = end_watch(&watch, result, count);
 """, TOLD_ALL),
-    "wait-some": some("name_wait(&watch)"),
-    "test-some": some("POLLED"),
+    "wait-some": shape_some("name_wait(&watch)"),
+    "test-some": shape_some("POLLED"),
     "wait-any": Shape(WATCH_ANY, """\
 note_one_complete(&watch, result, which, told, name_wait(&watch));
 result = end_watch(&watch, result, 0);
@@ -176,30 +176,30 @@ SOURCES = {
 }
 
 
-def with_room(sources: str, text: str) -> str:
+def add_room(sources: str, text: str) -> str:
     """C that names ranks, with room for them where it needs some."""
     if "&room" not in sources:
         return text
     return f"struct text room;\nwire_up_text_open(&room);\n{text}wire_up_text_close(&room);\n"
 
 
-def collective(sources: str) -> Shape:
+def shape_collective(sources: str) -> Shape:
     """A collective that blocks."""
-    return Shape(BEGIN, with_room(sources, f"""\
+    return Shape(BEGIN, add_room(sources, f"""\
 end_collective(&it, result, is_told(&it, result) ? {sources} : "none");
 """))
 
 
-def nonblocking(sources: str) -> Shape:
+def shape_nonblocking(sources: str) -> Shape:
     """A collective that doesn't block: it ends with its request."""
-    return Shape(BEGIN, with_room(sources, f"""\
+    return Shape(BEGIN, add_room(sources, f"""\
 keep_begun(&it, result, request, is_told(&it, result) ? {sources} : "none");
 """))
 
 
 COLLECTIVES = {
-    **{f"collective/{name}": collective(it) for name, it in SOURCES.items()},
-    **{f"nonblocking/{name}": nonblocking(it) for name, it in SOURCES.items()},
+    **{f"collective/{name}": shape_collective(it) for name, it in SOURCES.items()},
+    **{f"nonblocking/{name}": shape_nonblocking(it) for name, it in SOURCES.items()},
 }
 
 COUNT_CHILD = """\

@@ -80,7 +80,7 @@ def is_local(name: str, prefix: str) -> bool:
     return name not in NOT_LOCAL and any(re.fullmatch(it, short) for it in LOCAL[prefix])
 
 
-def forget(parameter: Parameter) -> str:
+def write_forgetting(parameter: Parameter) -> str:
     """The C that forgets what had the handle that a call puts where a parameter points, if it puts
     one there."""
     found = re.fullmatch(r"\s*(\w+) ?\* ?", parameter.start)
@@ -93,7 +93,7 @@ def forget(parameter: Parameter) -> str:
 def write_counted(library: Library, function: Function) -> str:
     """The wrapper of a function that is only counted."""
     parameters = function.parameters()
-    shape = Shape(NOTES[library.prefix], "".join(forget(it) for it in parameters))
+    shape = Shape(NOTES[library.prefix], "".join(write_forgetting(it) for it in parameters))
     return write_wrapper(library, function, parameters, shape)
 
 

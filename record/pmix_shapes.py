@@ -3,7 +3,7 @@ names that the table gives them. What they call is in record/pmix."""
 from frame import Shape
 
 
-def begin(form: str, note: str) -> str:
+def write_begin(form: str, note: str) -> str:
     """C that notes that a call of a form begins."""
     return f"""\
 unsigned long number = 0;
@@ -14,16 +14,16 @@ if (is_noted(caller)) {{
 """
 
 
-def blocking(note: str, end: str = "note_end(number, result);\n") -> Shape:
+def shape_blocking(note: str, end: str = "note_end(number, result);\n") -> Shape:
     """A call that blocks: it is noted before and after."""
-    return Shape(begin("BLOCKS", note), end)
+    return Shape(write_begin("BLOCKS", note), end)
 
 
-def calling_back(note: str, ends: str) -> Shape:
+def shape_calling_back(note: str, ends: str) -> Shape:
     """A call that doesn't block: the recorder's callback for calls that end so stands in place of
     the program's."""
     keep = f"struct pending *pending = await_{ends}(number, then, data);\n"
-    return Shape(begin("CALLS_BACK", note) + keep, """\
+    return Shape(write_begin("CALLS_BACK", note) + keep, """\
 note_begun(number, result, pending);
 """, {"then": f"pending ? end_{ends} : then", "data": "pending ? pending : data"})
 
@@ -42,21 +42,21 @@ if (result == PMIX_SUCCESS && !is_inner)
 if (is_noted(caller))
     leave_session();
 """),
-    "put": blocking("note_put(&call, scope, key, value)"),
-    "commit": blocking("note_commit(&call)"),
-    "fence": blocking("note_fence(&call, processes, count, info, infos)"),
-    "fence-nb": calling_back("note_fence(&call, processes, count, info, infos)", "operation"),
-    "get": blocking("note_get(&call, process, key, info, infos)", """\
+    "put": shape_blocking("note_put(&call, scope, key, value)"),
+    "commit": shape_blocking("note_commit(&call)"),
+    "fence": shape_blocking("note_fence(&call, processes, count, info, infos)"),
+    "fence-nb": shape_calling_back("note_fence(&call, processes, count, info, infos)", "operation"),
+    "get": shape_blocking("note_get(&call, process, key, info, infos)", """\
 note_value(number, result, result == PMIX_SUCCESS && value ? *value : NULL);
 """),
-    "get-nb": calling_back("note_get(&call, process, key, info, infos)", "value"),
-    "publish": blocking("note_publish(&call, info, infos)"),
-    "publish-nb": calling_back("note_publish(&call, info, infos)", "operation"),
-    "lookup": blocking("note_lookup(&call, found, count, info, infos)", """\
+    "get-nb": shape_calling_back("note_get(&call, process, key, info, infos)", "value"),
+    "publish": shape_blocking("note_publish(&call, info, infos)"),
+    "publish-nb": shape_calling_back("note_publish(&call, info, infos)", "operation"),
+    "lookup": shape_blocking("note_lookup(&call, found, count, info, infos)", """\
 bool is_found = result == PMIX_SUCCESS || result == PMIX_ERR_PARTIAL_SUCCESS;
 note_found(number, result, found, is_found ? count : 0);
 """),
-    "lookup-nb": calling_back("note_lookup_of_keys(&call, keys, info, infos)", "lookup"),
-    "unpublish": blocking("note_unpublish(&call, keys, info, infos)"),
-    "unpublish-nb": calling_back("note_unpublish(&call, keys, info, infos)", "operation"),
+    "lookup-nb": shape_calling_back("note_lookup_of_keys(&call, keys, info, infos)", "lookup"),
+    "unpublish": shape_blocking("note_unpublish(&call, keys, info, infos)"),
+    "unpublish-nb": shape_calling_back("note_unpublish(&call, keys, info, infos)", "operation"),
 }

@@ -1,7 +1,21 @@
-/* What the two recorders share: the texts of records, and the one file that a process writes them
- * to. record.so has these functions, and record-mpi.so calls them.
+/* The recorders: libraries that stand before PMIx and MPI, note the calls of a process in a file of
+ * its own, and change nothing that the process sees.
  *
- * The wrappers keep errno as it was before them: what they call need not. */
+ *   LD_PRELOAD=.../record.so:.../record-mpi.so WIRE_UP_RECORD=DIRECTORY program
+ *
+ * `wire_up-record` sets both and turns the files into a plan. docs/recording.md has the form of the
+ * files.
+ *
+ * record.so (core, pmix) notes calls of PMIx; record-mpi.so (mpi) notes those of MPI that order
+ * processes. It isn't linked with MPI: a process without MPI, such as the launcher, can load it.
+ *
+ * pmix.table and mpi.table say what each function is; wrappers.py and others.py write its wrapper. A
+ * call is noted just before the library's own function runs, and its end just after. What the
+ * libraries' own code calls, on any thread, isn't noted. A wrapper keeps errno as it was, so that
+ * what it calls need not.
+ *
+ * This header has what the two share: the texts of records, and the file. record.so has these
+ * functions, and record-mpi.so calls them. */
 #ifndef WIRE_UP_RECORD_H
 #define WIRE_UP_RECORD_H
 

@@ -15,8 +15,8 @@ enum owner find_owner(const void *address);
 /* Keeps the place of a frame in `found` and ends the walk, if it is the program's. */
 _Unwind_Reason_Code keep_frame(struct _Unwind_Context *frame, void *found);
 
-/* Finds where in the program this call comes from, through however many calls of libraries. Null on
- * a thread that isn't the program's. Inline, so that a wrapper is the only frame of the recorder. */
+/* Finds where in the program this call comes from, through however many calls of libraries. Null
+ * on a thread that isn't the program's. Inline: a wrapper is the one frame of the recorder. */
 static inline struct place *find_place_in_program(void)
 {
     struct place *found = NULL;

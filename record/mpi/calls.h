@@ -1,6 +1,6 @@
 /* Calls of MPI that are noted. */
-#ifndef WIRE_UP_CALLS_H
-#define WIRE_UP_CALLS_H
+#ifndef WIRE_UP_MPI_CALLS_H
+#define WIRE_UP_MPI_CALLS_H
 
 #include "record.h"
 

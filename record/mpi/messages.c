@@ -2,9 +2,9 @@
 #include "mpi/messages.h"
 #include "mpi/communicators.h"
 
-/* Answers the number of the communicator of a message; 0 where there is no other side, and where
+/* Finds the number of the communicator of a message; 0 where there is no other side, and where
  * the communicator isn't known: such a call is counted. */
-static unsigned number_of(const struct call *call, struct envelope message)
+static unsigned find_number(const struct call *call, struct envelope message)
 {
     if (message.rank == MPI_PROC_NULL)
         return 0;
@@ -16,7 +16,7 @@ static unsigned number_of(const struct call *call, struct envelope message)
 
 unsigned long note_send(const struct call *call, struct envelope to, long long bytes)
 {
-    unsigned comm = number_of(call, to);
+    unsigned comm = find_number(call, to);
     if (!comm)
         return 0;
     struct text what;
@@ -28,7 +28,7 @@ unsigned long note_send(const struct call *call, struct envelope to, long long b
 /* Notes what is asked for: a message of a rank or of any, with a tag or any. */
 static unsigned long note_asked(const struct call *call, const char *verb, struct envelope from)
 {
-    unsigned comm = number_of(call, from);
+    unsigned comm = find_number(call, from);
     if (!comm)
         return 0;
     struct text what;

@@ -1,6 +1,8 @@
-/* What the wrappers of MPI's functions call: wrappers.py and others.py write them. */
-#ifndef WIRE_UP_WRAPPER_H
-#define WIRE_UP_WRAPPER_H
+/* What the wrappers of MPI's functions call, which wrappers.py and others.py write. No message is
+ * added, and each call is made as the program made it; where the program ignores the status of a
+ * receive, the recorder takes it. */
+#ifndef WIRE_UP_MPI_WRAPPER_H
+#define WIRE_UP_MPI_WRAPPER_H
 
 #include "mpi/collectives.h"
 #include "mpi/completions.h"

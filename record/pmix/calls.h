@@ -1,7 +1,7 @@
 /* Notes of PMIx calls. A call is noted just before the library's own function runs, and its end
  * just after, or when its callback comes. */
-#ifndef WIRE_UP_CALLS_H
-#define WIRE_UP_CALLS_H
+#ifndef WIRE_UP_PMIX_CALLS_H
+#define WIRE_UP_PMIX_CALLS_H
 
 #include "record.h"
 

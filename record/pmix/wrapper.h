@@ -1,6 +1,6 @@
-/* What the wrappers of PMIx' functions call: wrappers.py and others.py write them. */
-#ifndef WIRE_UP_WRAPPER_H
-#define WIRE_UP_WRAPPER_H
+/* What the wrappers of PMIx' functions call, which wrappers.py and others.py write. */
+#ifndef WIRE_UP_PMIX_WRAPPER_H
+#define WIRE_UP_PMIX_WRAPPER_H
 
 #include "core/places.h"
 #include "pmix/callbacks.h"
