@@ -44,12 +44,14 @@ record: record/record.so
 # The recorder of MPI's order beside it. It isn't linked with MPI, so that processes without MPI can load it.
 record-mpi: record/record-mpi.so
 
-# Where the C goes that is made: wrappers of the functions in the tables, and of all others in the headers that can order processes, which are counted.
+# Where the C goes that is made of the headers: the wrappers of the functions in the tables, which are noted, and of all others that can order
+# processes, which are counted.
 RECORD_OUT ?= record/out
-RECORD_PYTHON = record/c_header.py record/frame.py
-RECORD_PMIX = $(wildcard record/core/*.c record/pmix/*.c) $(RECORD_OUT)/pmix-noted.c $(RECORD_OUT)/pmix-counted.c
 RECORD_MPI = $(wildcard record/mpi/*.c) $(RECORD_OUT)/mpi-noted.c $(RECORD_OUT)/mpi-counted.c
+RECORD_PMIX = $(wildcard record/core/*.c record/pmix/*.c) $(RECORD_OUT)/pmix-noted.c $(RECORD_OUT)/pmix-counted.c
 PMIX_INCLUDES = $(patsubst -I%,-isystem %,$(or $(PMIX_CFLAGS),$(shell pkg-config --cflags pmix 2> /dev/null)))
+LIBRARY_mpi = MPI
+LIBRARY_pmix = PMIx
 
 $(RECORD_OUT)/pmix.i:
 	@test -n "$(PMIX_CFLAGS)" || pkg-config --exists pmix || { echo "pkg-config doesn't find PMIx: on Debian the package is libpmix-dev"; exit 1; }
@@ -61,17 +63,11 @@ $(RECORD_OUT)/mpi.i:
 	@mkdir -p $(RECORD_OUT)
 	@echo '#include <mpi.h>' | $(MPICC) -DOMPI_OMIT_MPI1_COMPAT_DECLS=1 -E -x c - > $@.new && mv $@.new $@
 
-$(RECORD_OUT)/pmix-noted.c: $(RECORD_OUT)/pmix.i record/pmix.table record/wrappers.py record/pmix_shapes.py $(RECORD_PYTHON)
-	@python3 -B record/wrappers.py PMIx record/pmix.table < $< > $@.new && mv $@.new $@
+$(RECORD_OUT)/%-noted.c: $(RECORD_OUT)/%.i record/%.table record/wrappers.py record/%_shapes.py record/c_header.py record/frame.py
+	@python3 -B record/wrappers.py $(LIBRARY_$*) record/$*.table < $< > $@.new && mv $@.new $@
 
-$(RECORD_OUT)/pmix-counted.c: $(RECORD_OUT)/pmix.i record/pmix.table record/others.py $(RECORD_PYTHON)
-	@python3 -B record/others.py PMIx record/pmix.table < $< > $@.new && mv $@.new $@
-
-$(RECORD_OUT)/mpi-noted.c: $(RECORD_OUT)/mpi.i record/mpi.table record/wrappers.py record/mpi_shapes.py $(RECORD_PYTHON)
-	@python3 -B record/wrappers.py MPI record/mpi.table < $< > $@.new && mv $@.new $@
-
-$(RECORD_OUT)/mpi-counted.c: $(RECORD_OUT)/mpi.i record/mpi.table record/others.py $(RECORD_PYTHON)
-	@python3 -B record/others.py MPI record/mpi.table < $< > $@.new && mv $@.new $@
+$(RECORD_OUT)/%-counted.c: $(RECORD_OUT)/%.i record/%.table record/others.py record/c_header.py record/frame.py
+	@python3 -B record/others.py $(LIBRARY_$*) record/$*.table < $< > $@.new && mv $@.new $@
 
 record/record.so: $(RECORD_PMIX) record/record.h $(wildcard record/core/*.h record/pmix/*.h)
 	$(CC) $(SHARED) $(PMIX_INCLUDES) -o $@.new $(filter %.c,$^) -ldl

@@ -9,8 +9,8 @@
  * record.so (core, pmix) notes calls of PMIx; record-mpi.so (mpi) notes those of MPI that order
  * processes. It isn't linked with MPI: a process without MPI, such as the launcher, can load it.
  *
- * pmix.table and mpi.table say what each function is; wrappers.py and others.py write its wrapper. A
- * call is noted just before the library's own function runs, and its end just after. What the
+ * pmix.table and mpi.table say what each function is; wrappers.py and others.py write its wrapper.
+ * A call is noted just before the library's own function runs, and its end just after. What the
  * libraries' own code calls, on any thread, isn't noted. A wrapper keeps errno as it was, so that
  * what it calls need not.
  *
