@@ -119,7 +119,10 @@ def main(words: list[str]) -> int:
         with open(words[2], encoding="utf-8") as table:
             noted = find_names(table.read(), library.prefix)
         wrappers = list(write_others(library, noted, sys.stdin.read()))
-    except (HeaderError, OSError) as error:
+    except OSError as error:
+        print(f"others.py: {words[2]}: {error.strerror}", file=sys.stderr)
+        return 1
+    except HeaderError as error:
         print(f"others.py: {error}", file=sys.stderr)
         return 1
     sys.stdout.write(write_file(library, "others.py", wrappers))

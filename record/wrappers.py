@@ -81,7 +81,10 @@ def main(words: list[str]) -> int:
     try:
         with open(words[2], encoding="utf-8") as table:
             text = write_wrappers(LIBRARIES[words[1]], table.read(), sys.stdin.read())
-    except (TableError, HeaderError, OSError) as error:
+    except OSError as error:
+        print(f"wrappers.py: {words[2]}: {error.strerror}", file=sys.stderr)
+        return 1
+    except (TableError, HeaderError) as error:
         print(f"wrappers.py: {words[2]}: {error}", file=sys.stderr)
         return 1
     sys.stdout.write(text)
