@@ -27,18 +27,18 @@ TOLD = {"status": "told"}
 MESSAGES = {
     "send": Shape(CALL + NOTE_SEND),
     # It ends only when the receive has begun, so its end is noted too.
-    "send-synchronous": Shape(CALL + """\
+    "synchronous-send": Shape(CALL + """\
 unsigned long number = 0;
 if (call.is_noted)
     number = note_send(&call, (struct envelope){comm, to, tag}, count_bytes(count, type));
 """, """\
 note_sent(number, result);
 """),
-    "send-later": Shape(CALL + NOTE_SEND, """\
+    "nonblocking-send": Shape(CALL + NOTE_SEND, """\
 if (call.is_noted && result == MPI_SUCCESS)
     forget_request(*request);
 """),
-    "send-again": Shape(CALL, """\
+    "persistent-send": Shape(CALL, """\
 if (call.is_noted && result == MPI_SUCCESS)
     keep_persistent_send(*request, (struct envelope){comm, to, tag}, count_bytes(count, type));
 """),
@@ -46,16 +46,16 @@ if (call.is_noted && result == MPI_SUCCESS)
     "receive": Shape(CALL + NOTE_RECEIVE + TELL_STATUS, """\
 note_received(number, result, told, WAITED);
 """, TOLD),
-    "receive-later": Shape(CALL + NOTE_RECEIVE, """\
+    "nonblocking-receive": Shape(CALL + NOTE_RECEIVE, """\
 if (call.is_noted && result == MPI_SUCCESS)
     keep_receive(*request, number);
 """),
-    "receive-again": Shape(CALL, """\
+    "persistent-receive": Shape(CALL, """\
 if (call.is_noted && result == MPI_SUCCESS)
     keep_persistent_receive(*request, (struct envelope){comm, from, tag});
 """),
     # It fetches what a probe matched, which was noted.
-    "fetch-later": Shape(CALL, """\
+    "matched-receive": Shape(CALL, """\
 if (call.is_noted && result == MPI_SUCCESS)
     forget_request(*request);
 """),
