@@ -11,7 +11,7 @@ export PYTHONDONTWRITEBYTECODE = 1
 
 MPICC ?= mpicc
 CFLAGS ?= -O2 -Wall -Wextra
-SHARED = -std=gnu11 $(CFLAGS) -shared -fPIC -pthread
+SHARED = -std=gnu11 $(CFLAGS) -shared -fPIC -fvisibility=hidden -pthread -Irecord
 
 # An example without proofs, then the proof, and the same example by the proved ./wire_up.
 run:
@@ -68,26 +68,40 @@ figures:
 # The recorder of PMIx calls, which ./wire_up-record preloads. `PMIX_CFLAGS=-I..` says where the headers are, if pkg-config doesn't know.
 record: record/record.so
 
-# What the recorders only count: all functions of the headers that can order processes, and that they don't note.
-record/record-others.h: record/others.py record/record.c
-	@test -n "$(PMIX_CFLAGS)" || pkg-config --exists pmix || { echo "pkg-config doesn't find PMIx: on Debian the package is libpmix-dev"; exit 1; }
-	@echo '#include <pmix.h>' | $(CC) -E $(or $(PMIX_CFLAGS),$$(pkg-config --cflags pmix)) -x c - > $@.header
-	@python3 record/others.py PMIx record/record.c < $@.header > $@.new && rm $@.header && mv $@.new $@
-
-record/record-mpi-others.h: record/others.py record/record-mpi.c
-	@command -v $(MPICC) > /dev/null || { echo "there is no $(MPICC): on Debian the packages are openmpi-bin and libopenmpi-dev"; exit 1; }
-	@echo '#include <mpi.h>' | $(MPICC) -DOMPI_OMIT_MPI1_COMPAT_DECLS=1 -E -x c - > $@.header
-	@python3 record/others.py MPI record/record-mpi.c < $@.header > $@.new && rm $@.header && mv $@.new $@
-
-record/record.so: record/record.c record/record.h record/record-others.h
-	$(CC) $(SHARED) $(or $(PMIX_CFLAGS),$$(pkg-config --cflags pmix)) -o $@.new $< -ldl
-	@mv $@.new $@
-
 # The recorder of MPI's order beside it. It isn't linked with MPI, so that processes without MPI can load it.
 record-mpi: record/record-mpi.so
 
-record/record-mpi.so: record/record-mpi.c record/record.h record/record-mpi-others.h
-	$(MPICC) $(SHARED) -Wl,--as-needed -o $@.new $< -ldl
+# Where the C goes that is made of the headers: the wrappers of the functions in the tables, which are noted, and of all others that can order
+# processes, which are counted.
+RECORD_OUT ?= record/out
+RECORD_MPI = $(wildcard record/mpi/*.c) $(RECORD_OUT)/mpi-noted.c $(RECORD_OUT)/mpi-counted.c
+RECORD_PMIX = $(wildcard record/core/*.c record/pmix/*.c) $(RECORD_OUT)/pmix-noted.c $(RECORD_OUT)/pmix-counted.c
+PMIX_INCLUDES = $(patsubst -I%,-isystem %,$(or $(PMIX_CFLAGS),$(shell pkg-config --cflags pmix 2> /dev/null)))
+LIBRARY_mpi = MPI
+LIBRARY_pmix = PMIx
+
+$(RECORD_OUT)/pmix.i:
+	@test -n "$(PMIX_CFLAGS)" || pkg-config --exists pmix || { echo "pkg-config doesn't find PMIx: on Debian the package is libpmix-dev"; exit 1; }
+	@mkdir -p $(RECORD_OUT)
+	@echo '#include <pmix.h>' | $(CC) -E $(PMIX_INCLUDES) -x c - > $@.new && mv $@.new $@
+
+$(RECORD_OUT)/mpi.i:
+	@command -v $(MPICC) > /dev/null || { echo "there is no $(MPICC): on Debian the packages are openmpi-bin and libopenmpi-dev"; exit 1; }
+	@mkdir -p $(RECORD_OUT)
+	@echo '#include <mpi.h>' | $(MPICC) -DOMPI_OMIT_MPI1_COMPAT_DECLS=1 -E -x c - > $@.new && mv $@.new $@
+
+$(RECORD_OUT)/%-noted.c: $(RECORD_OUT)/%.i record/%.table record/wrappers.py record/%_shapes.py record/c_header.py record/frame.py
+	@python3 -B record/wrappers.py $(LIBRARY_$*) record/$*.table < $< > $@.new && mv $@.new $@
+
+$(RECORD_OUT)/%-counted.c: $(RECORD_OUT)/%.i record/%.table record/others.py record/c_header.py record/frame.py
+	@python3 -B record/others.py $(LIBRARY_$*) record/$*.table < $< > $@.new && mv $@.new $@
+
+record/record.so: $(RECORD_PMIX) record/record.h $(wildcard record/core/*.h record/pmix/*.h)
+	$(CC) $(SHARED) $(PMIX_INCLUDES) -o $@.new $(filter %.c,$^) -ldl
+	@mv $@.new $@
+
+record/record-mpi.so: $(RECORD_MPI) record/record.h $(wildcard record/mpi/*.h)
+	$(MPICC) $(SHARED) -Wl,--as-needed -o $@.new $(filter %.c,$^) -ldl
 	@mv $@.new $@
 
 # Puts what `make run` built in place, with manual pages, completions, documents, and the recorders that are built.

@@ -1,95 +1,133 @@
-"""Writes the functions of a header that a recorder doesn't note itself, as C that counts each call and passes it on. So no call of the
-header that can order processes goes unnoticed.
+"""Writes wrappers for the functions of a header that the recorder doesn't note, as C that counts
+each call and passes it on. So no call of the header that can order processes goes unnoticed.
 
-Usage: cc -E HEADER.. | python3 record/others.py MPI|PMIx RECORDER.c > OTHERS.h
+Usage: cc -E HEADER.. | python3 record/others.py MPI|PMIx NOTED > OTHERS.c
 
-The header comes preprocessed on standard input. A function is left alone if the recorder has its name, or if it waits for nothing that
+The header comes preprocessed on standard input. NOTED is the table of the functions that are noted:
+a function is left alone if its name is there outside of a comment, or if it waits for nothing that
 another process does, as the names in LOCAL say.
 """
 import re
 import sys
+from collections.abc import Iterator
+
+from c_header import Function, HeaderError, Parameter, read_functions
+from frame import LIBRARIES, Library, Shape, write_file, write_wrapper
 
 LOCAL = {
     "MPI": (
         # Objects of the process alone, and what is asked of them.
-        r"(Type|Group|Info|Op|Errhandler|Error|Status|Message|Keyval|Attr|Add_error)_\w+", r"\w+_(c2f|f2c)", r"T_\w+",
-        r"(Comm|Win|File)_(get_\w+|call_errhandler|\w+_errhandler|\w+_keyval|\w+_attr|set_name)", r"(Cart|Graph|Dist_graph|Dims|Cartdim|Graphdims)_?\w*",
-        r"Comm_(group|rank|size|compare|remote_group|remote_size|test_inter)", r"Win_(attach|detach|sync|shared_query)", r"Topo_test",
-        r"(Pack|Unpack)\w*", r"Get_(address|count|elements|elements_x|library_version|processor_name|version)", r"(Alloc|Free)_mem", r"Reduce_local",
-        r"Initialized|Finalized|Is_thread_main|Query_thread|Pcontrol|Wtick|Wtime|Register_datarep|Buffer_attach|Cancel|Test_cancelled|Grequest_\w+",
-        r"Mrecv",  # of a message that MPI_Mprobe received
-        r"Init|Init_thread|Finalize|(Open|Close)_port|(Publish|Unpublish|Lookup)_name",  # the calls of PMIx that they make are noted
+        r"(Type|Group|Info|Op|Errhandler|Error|Status|Message|Keyval|Attr|Add_error)_\w+",
+        r"\w+_(c2f|f2c)",
+        r"T_\w+",
+        r"(Comm|Win|File)_(get_\w+|call_errhandler|\w+_errhandler|\w+_keyval|\w+_attr|set_name)",
+        r"(Cart|Graph|Dist_graph|Dims|Cartdim|Graphdims)_?\w*",
+        r"Comm_(group|rank|size|compare|remote_group|remote_size|test_inter)",
+        r"Win_(attach|detach|sync|shared_query)",
+        r"Topo_test",
+        r"(Pack|Unpack)\w*",
+        r"Get_(address|count|elements|elements_x|library_version|processor_name|version)",
+        r"(Alloc|Free)_mem",
+        r"Reduce_local",
+        r"Initialized|Finalized|Is_thread_main|Query_thread",
+        r"Pcontrol|Wtick|Wtime",
+        r"Register_datarep|Buffer_attach|Cancel|Test_cancelled|Grequest_\w+",
+        # It fetches a message that MPI_Mprobe received.
+        r"Mrecv",
+        # The calls of PMIx that they make are noted.
+        r"Init|Init_thread|Finalize|(Open|Close)_port|(Publish|Unpublish|Lookup)_name",
     ),
     "PMIx": (
-        r"\w+_string", r"(Value|Info|Data|Topology|Cpuset)_\w+", r"Get_(version|attribute_\w+|cpuset|relative_locality)", r"Initialized|Progress|Load_topology",
-        r"Compute_distances\w*", r"(Register|Deregister)_event_handler", r"tool_\w+|server_\w+|IOF_\w+",
+        r"\w+_string",
+        r"(Value|Info|Data|Topology|Cpuset)_\w+",
+        r"Get_(version|attribute_\w+|cpuset|relative_locality)",
+        r"Initialized|Progress|Load_topology",
+        r"Compute_distances\w*",
+        r"(Register|Deregister)_event_handler",
+        r"tool_\w+|server_\w+|IOF_\w+",
     ),
 }
-# Functions in whose place others are noted, though their names begin as those above do.
-NOT_LOCAL = r"File_get_position_shared"
+# Functions that wait for others, though their names begin as those above do.
+NOT_LOCAL = ("MPI_File_get_position_shared",)
 
-FORMS = {
-    "MPI": """int {name}({parameters})
-{{
-    REAL({name});
-    bool is = is_noted(caller);
-    if (is)
-        note_other("{name}");
-    int result = real({words});
-{forgets}    return result;
-}}
+NOTES = {
+    "MPI": """\
+struct call call = enter_call("$function", caller);
+if (call.is_noted)
+    note_other("$function");
 """,
-    "PMIx": """pmix_status_t {name}({parameters})
-{{
-    BEGIN({name}, PMIX_ERR_NOT_SUPPORTED);
-    PASS_ON("{name}", real({words}));
-}}
+    "PMIx": """\
+if (is_noted(caller))
+    note_other("$function");
 """,
 }
-RESULTS = {"MPI": "int", "PMIx": "pmix_status_t"}
 # What the function makes may have the handle of something that is gone.
-FORGETS = {"MPI_Request": "forget_request", "MPI_Comm": "forget_communicator"}
+FORGETTING = {
+    "MPI_Request": "forget_request(*{})",
+    "MPI_Comm": "forget_communicator((uintptr_t)*{})",
+}
 
 
-def functions(header, prefix):
-    """The functions of a header: the type of each result, the name, and the parameters."""
-    text = re.sub(r"\s+", " ", "\n".join(line for line in header.splitlines() if not line.startswith("#")))
-    for found in re.finditer(rf"([\w ]+?[ *]+)\b({prefix}_\w+) ?\(", text):
-        depth, end = 1, found.end()
-        while depth:
-            depth += {"(": 1, ")": -1}.get(text[end], 0)
-            end += 1
-        yield found[1].split()[-1] if "*" not in found[1] else "*", found[2], text[found.end() : end - 1].strip()
+def find_names(text: str, prefix: str) -> set[str]:
+    """The names of functions that a text has outside of comments."""
+    plain = re.sub(r"/\*.*?\*/|^\s*#.*?$", "", text, flags=re.DOTALL | re.MULTILINE)
+    return set(re.findall(rf"\b{prefix}_\w+", plain))
 
 
-def names(parameters):
-    """The names of parameters."""
-    if parameters in ("void", ""):
-        return []
-    return [re.findall(r"\w+", re.sub(r"\[[^\]]*\]", "", it))[-1] for it in parameters.split(",")]
+def is_local(name: str, prefix: str) -> bool:
+    """Whether a function waits for nothing that another process does."""
+    short = name.removeprefix(f"{prefix}_")
+    return name not in NOT_LOCAL and any(re.fullmatch(it, short) for it in LOCAL[prefix])
 
 
-def forgets(parameters):
-    """The lines that forget what had the handles that a call makes."""
-    made = [(FORGETS[it[1]], it[2]) for it in re.finditer(r"(?:^|,)\s*(MPI_Request|MPI_Comm) ?\* ?(\w+)\s*(?=,|$)", parameters)]
-    return "".join(f"    if (is && result == MPI_SUCCESS)\n        {function}(*{name});\n" for function, name in made)
+def write_forgetting(parameter: Parameter) -> str:
+    """The C that forgets what had the handle that a call puts where a parameter points, if it puts
+    one there."""
+    found = re.fullmatch(r"\s*(\w+) ?\* ?", parameter.start)
+    if not found or found[1] not in FORGETTING or parameter.end:
+        return ""
+    call = FORGETTING[found[1]].format(parameter.name)
+    return f"if (call.is_noted && result == MPI_SUCCESS)\n    {call};\n"
 
 
-def written(header, prefix, recorder):
-    """The text of the functions that are counted."""
-    known = set(re.findall(rf"\b{prefix}_\w+", re.sub(r"/\*.*?\*/", "", recorder, flags=re.S)))
-    for result, name, parameters in dict((it[1], it) for it in functions(header, prefix)).values():
-        is_local = any(re.fullmatch(f"{prefix}_(?:{it})", name) for it in LOCAL[prefix]) and not re.fullmatch(f"{prefix}_{NOT_LOCAL}", name)
-        if name in known or is_local:
+def write_counted(library: Library, function: Function) -> str:
+    """The wrapper of a function that is only counted."""
+    parameters = function.parameters()
+    shape = Shape(NOTES[library.prefix], "".join(write_forgetting(it) for it in parameters))
+    return write_wrapper(library, function, parameters, shape)
+
+
+def write_others(library: Library, noted: set[str], header: str) -> Iterator[str]:
+    """The wrappers of the functions that are counted. Says which can't be passed on."""
+    for name, function in read_functions(header, library.prefix).items():
+        if name in noted or is_local(name, library.prefix):
             continue
-        if result != RESULTS[prefix] or "..." in parameters:
-            print(f"others.py: {name} can't be passed on: say in LOCAL why it need not be", file=sys.stderr)
-            continue
-        yield FORMS[prefix].format(name=name, parameters=parameters, words=", ".join(names(parameters)), forgets=forgets(parameters))
+        if function.answer != library.answer or function.is_variadic:
+            text = f"others.py: {name} can't be passed on: say in LOCAL why it need not be"
+            print(text, file=sys.stderr)
+        else:
+            yield write_counted(library, function)
+
+
+def main(words: list[str]) -> int:
+    """Runs the program; answers its exit status."""
+    if len(words) != 3 or words[1] not in LIBRARIES:
+        print(__doc__, file=sys.stderr)
+        return 1
+    library = LIBRARIES[words[1]]
+    try:
+        with open(words[2], encoding="utf-8") as table:
+            noted = find_names(table.read(), library.prefix)
+        wrappers = list(write_others(library, noted, sys.stdin.read()))
+    except OSError as error:
+        print(f"others.py: {words[2]}: {error.strerror}", file=sys.stderr)
+        return 1
+    except HeaderError as error:
+        print(f"others.py: {error}", file=sys.stderr)
+        return 1
+    sys.stdout.write(write_file(library, "others.py", wrappers))
+    return 0
 
 
 if __name__ == "__main__":
-    if len(sys.argv) != 3 or sys.argv[1] not in LOCAL:
-        sys.exit(__doc__)
-    with open(sys.argv[2], encoding="utf-8") as source:
-        print("/* Made by others.py. */\n" + "\n".join(written(sys.stdin.read(), sys.argv[1], source.read())))
+    sys.exit(main(sys.argv))

@@ -1,9 +1,29 @@
-/* What the two recorders share: the texts of records, and the one file that a process writes them to. */
+/* The recorders: libraries that stand before PMIx and MPI, note the calls of a process in a file of
+ * its own, and change nothing that the process sees.
+ *
+ *   LD_PRELOAD=.../record.so:.../record-mpi.so WIRE_UP_RECORD=DIRECTORY program
+ *
+ * `wire_up-record` sets both and turns the files into a plan. docs/recording.md has the form of the
+ * files.
+ *
+ * record.so (core, pmix) notes calls of PMIx; record-mpi.so (mpi) notes those of MPI that order
+ * processes. It isn't linked with MPI: a process without MPI, such as the launcher, can load it.
+ *
+ * pmix.table and mpi.table say what each function is; wrappers.py and others.py write its wrapper.
+ * A call is noted just before the library's own function runs, and its end just after. What the
+ * libraries' own code calls, on any thread, isn't noted. A wrapper keeps errno as it was, so that
+ * what it calls need not.
+ *
+ * This header has what the two share: the texts of records, and the file. record.so has these
+ * functions, and record-mpi.so calls them. */
 #ifndef WIRE_UP_RECORD_H
 #define WIRE_UP_RECORD_H
 
 #include <stdbool.h>
 #include <stddef.h>
+
+/* Marks what other objects of the process find. All else stays within its recorder. */
+#define EXPORTED __attribute__((visibility("default")))
 
 /* A text that grows. `is_lost` says that memory for it was refused. */
 struct text {
@@ -13,21 +33,22 @@ struct text {
     char first[1024];
 };
 
-void wire_up_text_open(struct text *to);
-void wire_up_text_close(struct text *to);
-void wire_up_text_add(struct text *to, const char *format, ...) __attribute__((format(printf, 2, 3)));
+EXPORTED void wire_up_text_open(struct text *to);
+EXPORTED void wire_up_text_close(struct text *to);
+EXPORTED void wire_up_text_add(struct text *to, const char *format, ...)
+    __attribute__((format(printf, 2, 3)));
 
 /* Whether a record would be written now: this process is a client of PMIx, and its file is open. */
-bool wire_up_is_recording(void);
+EXPORTED bool wire_up_is_recording(void);
 
-/* A new number for a call. */
-unsigned long wire_up_number(void);
+/* Makes a new number for a call. */
+EXPORTED unsigned long wire_up_number(void);
 
 /* Whose code calls. */
 enum owner { OF_PROGRAM, OF_BINDINGS, OF_MPI, OF_PMIX, OF_SYSTEM, OF_RECORDER };
 
-/* A place in code: a return address, and the object that it is in; or a line of Python, and its function. Its number is written once with
- * what it stands for. */
+/* A place in code: a return address, and the object that it is in; or a line of Python, and its
+ * function. Its number is written once with what it stands for. */
 struct place {
     const void *address;
     unsigned number;
@@ -38,17 +59,19 @@ struct place {
     struct place *next;
 };
 
-/* The place of an address; null where memory is refused. */
-struct place *wire_up_place(const void *address);
+/* Finds or makes the place of an address; null where memory is refused. */
+EXPORTED struct place *wire_up_place(const void *address);
 
-/* The line of Python that called, where the place is in mpi4py; else the place itself. */
-struct place *wire_up_in_python(struct place *place);
+/* Finds the line of Python that called, where the place is in mpi4py; else answers the place. */
+EXPORTED struct place *wire_up_in_python(struct place *place);
 
-/* Writes one record: a sign (+ a call begins, - it ended, = anything else), the number, the thread, the time, the place if there is one,
- * and the text. */
-void wire_up_write(char sign, unsigned long number, struct place *place, const struct text *what);
+/* Writes one record: a sign (+ a call begins, - it ended, = anything else), the number, the thread,
+ * the time, the place if there is one, and the text. */
+EXPORTED void wire_up_write(char sign, unsigned long number, struct place *place,
+                            const struct text *what);
 
-/* The function of this name after this library, as the code at `caller` would find it; null where there is none. */
-void *wire_up_find(const char *name, void *caller, const void *not_this);
+/* Finds the function of this name after the library that has `not_this`, as the code at `caller`
+ * would find it; null where there is none. */
+EXPORTED void *wire_up_find(const char *name, void *caller, const void *not_this);
 
 #endif

@@ -150,7 +150,7 @@ int main(int count, char **words)
     look_up(3);
     publish(0);
     for (int n = 0; n < 4; n++)
-        at[n] *= sizeof(int);
+        at[n] *= (int)sizeof(int);
     MPI_Alltoallw(y, outs, at, types, z, ins, at, types, MPI_COMM_WORLD);
     look_up(2);
     publish(3);

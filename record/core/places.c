@@ -1,0 +1,118 @@
+/* Places in the code of a process: whose code it is, and which call of it. */
+#define _GNU_SOURCE
+#include "core/places.h"
+#include "core/text.h"
+
+#include <dlfcn.h>
+#include <elf.h>
+#include <link.h>
+#include <pthread.h>
+#include <stdint.h>
+#include <stdlib.h>
+#include <string.h>
+
+#define BUCKETS 1024
+static struct place *places[BUCKETS];
+static pthread_mutex_t adding = PTHREAD_MUTEX_INITIALIZER;
+static unsigned places_known;
+
+unsigned number_place(void) { return __atomic_add_fetch(&places_known, 1, __ATOMIC_RELAXED); }
+
+/* The objects that aren't the program's, by how their file names begin. */
+static const struct {
+    const char *start;
+    enum owner owner;
+} objects[] = {
+    {"libpmix", OF_PMIX},        {"pmix_mca_", OF_PMIX},          {"libmpi_", OF_BINDINGS},
+    {"libmpi.", OF_MPI},         {"libmpich", OF_MPI},            {"mca_", OF_MPI},
+    {"libopen-", OF_MPI},        {"libompi", OF_MPI},             {"libc.", OF_SYSTEM},
+    {"libc-", OF_SYSTEM},        {"libpthread", OF_SYSTEM},       {"libevent", OF_SYSTEM},
+    {"ld-linux", OF_SYSTEM},     {"record.so", OF_RECORDER},      {"record-mpi.so", OF_RECORDER},
+};
+
+/* Finds whose code an object has, by the path of its file. */
+static enum owner find_object_owner(const char *path)
+{
+    const char *slash = strrchr(path, '/');
+    const char *name = slash ? slash + 1 : path;
+    const char *in_pmix = strstr(path, "/pmix");
+    if (in_pmix && slash && in_pmix < slash && begins_with(name, "mca_"))
+        return OF_PMIX;
+    for (size_t n = 0; n < sizeof objects / sizeof *objects; n++)
+        if (begins_with(name, objects[n].start))
+            return objects[n].owner;
+    return OF_PROGRAM;
+}
+
+/* Says which object a place is in, and how far from its beginning. */
+static void locate(struct place *it, const Dl_info *object)
+{
+    const ElfW(Ehdr) *head = object->dli_fbase;
+    it->is_mpi4py = strstr(object->dli_fname, "/mpi4py/") != NULL;
+    it->owner = find_object_owner(object->dli_fname);
+    const char *whole = realpath(object->dli_fname, NULL);
+    it->module = whole ? whole : strdup(object->dli_fname);
+    if (head->e_type != ET_EXEC)
+        it->offset -= (uintptr_t)object->dli_fbase;
+}
+
+static struct place *make_place(const void *address)
+{
+    Dl_info object;
+    struct place *made = calloc(1, sizeof *made);
+    if (!made)
+        return NULL;
+    made->address = address;
+    made->number = number_place();
+    made->offset = (uintptr_t)address - 1;
+    if (dladdr(address, &object) && object.dli_fname && object.dli_fbase)
+        locate(made, &object);
+    if (!made->module)
+        made->module = "unknown";
+    return made;
+}
+
+static struct place *find_in_list(struct place *first, const void *address)
+{
+    struct place *it = first;
+    while (it && it->address != address)
+        it = it->next;
+    return it;
+}
+
+/* Adds a place to a list, unless another thread just did. */
+static struct place *add_place(struct place **list, const void *address)
+{
+    pthread_mutex_lock(&adding);
+    struct place *it = find_in_list(*list, address);
+    struct place *made = it ? NULL : make_place(address);
+    if (made) {
+        made->next = *list;
+        __atomic_store_n(list, made, __ATOMIC_RELEASE);
+    }
+    pthread_mutex_unlock(&adding);
+    return it ? it : made;
+}
+
+struct place *wire_up_place(const void *address)
+{
+    uintptr_t bits = (uintptr_t)address;
+    struct place **list = &places[(bits >> 2 ^ bits >> 12) % BUCKETS];
+    struct place *it = find_in_list(__atomic_load_n(list, __ATOMIC_ACQUIRE), address);
+    return it ? it : add_place(list, address);
+}
+
+enum owner find_owner(const void *address)
+{
+    const struct place *it = wire_up_place(address);
+    return it ? it->owner : OF_PROGRAM;
+}
+
+_Unwind_Reason_Code keep_frame(struct _Unwind_Context *frame, void *found)
+{
+    struct place *it = wire_up_place((const void *)_Unwind_GetIP(frame));
+    if (!it || it->owner != OF_PROGRAM)
+        return _URC_NO_REASON;
+    *(struct place **)found = it;
+    return _URC_END_OF_STACK;
+}

@@ -1,0 +1,255 @@
+/* The file of a process, and the lines in it. Each line goes out by one `write`, so that nothing is
+ * lost when the process dies. */
+#define _GNU_SOURCE
+#include "core/recording.h"
+#include "core/text.h"
+
+#include <errno.h>
+#include <fcntl.h>
+#include <limits.h>
+#include <signal.h>
+#include <stdio.h>
+#include <stdlib.h>
+#include <string.h>
+#include <sys/stat.h>
+#include <time.h>
+#include <unistd.h>
+
+/* The program gets the same descriptors as without a recorder: the file's is this at least. */
+#define LOWEST_DESCRIPTOR 900
+
+static struct {
+    int file;      /* where the records go; -1 before it is opened and after a failed write */
+    pid_t process; /* that opened it: a fork of it isn't the same process of the job */
+    dev_t device;
+    ino_t inode;
+    char path[PATH_MAX];
+    struct timespec began;
+} recording = {.file = -1};
+static unsigned long calls, threads;
+static __thread unsigned long own_thread;
+
+/* --- writing --- */
+
+/* Stops recording, and says why, once: whoever takes the descriptor away says it. */
+static void give_up(const char *why)
+{
+    if (__atomic_exchange_n(&recording.file, -1, __ATOMIC_ACQ_REL) >= 0)
+        fprintf(stderr, "wire_up-record: %s: %s; what follows isn't recorded\n", recording.path,
+                why);
+}
+
+/* Whether a descriptor is still the file that was opened: a program may close descriptors that it
+ * doesn't know. */
+static bool is_still_open(int file)
+{
+    struct stat it;
+    return fstat(file, &it) == 0 && it.st_dev == recording.device && it.st_ino == recording.inode;
+}
+
+/* Writes without the signal that a limit of file sizes brings: the program isn't to see it. */
+static ssize_t write_quietly(int file, const char *bytes, size_t length)
+{
+    sigset_t of_size, before, pending;
+    sigemptyset(&of_size);
+    sigaddset(&of_size, SIGXFSZ);
+    pthread_sigmask(SIG_BLOCK, &of_size, &before);
+    sigpending(&pending);
+    ssize_t wrote;
+    do
+        wrote = write(file, bytes, length);
+    while (wrote < 0 && errno == EINTR);
+    int error = errno;
+    if (wrote < 0 && error == EFBIG && !sigismember(&pending, SIGXFSZ))
+        sigtimedwait(&of_size, NULL, &(struct timespec){0, 0});
+    pthread_sigmask(SIG_SETMASK, &before, NULL);
+    errno = error;
+    return wrote;
+}
+
+/* Writes all bytes, or gives up. */
+static bool write_whole(int file, const char *bytes, size_t length)
+{
+    if (!is_still_open(file)) {
+        give_up("the program closed it");
+        return false;
+    }
+    ssize_t wrote = write_quietly(file, bytes, length);
+    if (wrote < 0)
+        give_up(strerror(errno));
+    else if ((size_t)wrote < length)
+        give_up("no room");
+    return wrote >= 0 && (size_t)wrote == length;
+}
+
+/* --- records --- */
+
+/* Answers the descriptor of the file in this process; -1 where nothing is to be written. */
+static int get_file(void)
+{
+    int file = __atomic_load_n(&recording.file, __ATOMIC_ACQUIRE);
+    return file >= 0 && getpid() == recording.process ? file : -1;
+}
+
+bool wire_up_is_recording(void) { return get_file() >= 0; }
+
+unsigned long wire_up_number(void) { return __atomic_add_fetch(&calls, 1, __ATOMIC_RELAXED); }
+
+/* Answers the number of this thread, which it gets with its first record. */
+static unsigned long number_thread(void)
+{
+    if (!own_thread)
+        own_thread = __atomic_add_fetch(&threads, 1, __ATOMIC_RELAXED);
+    return own_thread;
+}
+
+/* Adds the seconds since the file was opened. */
+static void add_time(struct text *to)
+{
+    struct timespec now;
+    clock_gettime(CLOCK_MONOTONIC, &now);
+    long seconds = now.tv_sec - recording.began.tv_sec;
+    long nanoseconds = now.tv_nsec - recording.began.tv_nsec;
+    if (nanoseconds < 0) {
+        seconds--;
+        nanoseconds += 1000000000;
+    }
+    wire_up_text_add(to, "%ld.%06ld", seconds, nanoseconds / 1000);
+}
+
+/* Writes one line: what all records begin with, the number of the place if it has one, and the
+ * text. */
+static void write_line(int file, char sign, unsigned long number, unsigned place,
+                       const struct text *what)
+{
+    struct text line;
+    wire_up_text_open(&line);
+    wire_up_text_add(&line, "%c %lu %lu ", sign, number, number_thread());
+    add_time(&line);
+    if (place)
+        wire_up_text_add(&line, " @%u", place);
+    wire_up_text_add(&line, " %s\n", what->at);
+    if (line.is_lost || what->is_lost)
+        write_whole(file, "lost\n", 5);
+    else
+        write_whole(file, line.at, line.length);
+    wire_up_text_close(&line);
+}
+
+/* Writes what a place stands for. */
+static void write_place(int file, const struct place *place)
+{
+    struct text what;
+    wire_up_text_open(&what);
+    wire_up_text_add(&what, "%s %u ", place->function ? "line" : "place", place->number);
+    add_word(&what, place->module, strlen(place->module));
+    if (place->function) {
+        wire_up_text_add(&what, " %zu ", place->offset);
+        add_word(&what, place->function, strlen(place->function));
+    } else {
+        wire_up_text_add(&what, " %zx", place->offset);
+    }
+    write_line(file, '=', 0, 0, &what);
+    wire_up_text_close(&what);
+}
+
+void wire_up_write(char sign, unsigned long number, struct place *place, const struct text *what)
+{
+    int file = get_file();
+    if (file < 0)
+        return;
+    if (place && !__atomic_exchange_n(&place->is_noted, true, __ATOMIC_RELAXED))
+        write_place(file, place);
+    write_line(file, sign, number, place ? place->number : 0, what);
+}
+
+/* --- opening --- */
+
+bool has_recording(void) { return recording.file >= 0 || recording.process; }
+
+/* Makes the path of the file: its name has the job, the rank, the host and the process. */
+static bool make_path(const char *folder, const struct identity *me, const char *host)
+{
+    struct text job;
+    wire_up_text_open(&job);
+    add_word(&job, me->job, me->length);
+    for (char *at = job.at; !job.is_lost && *at; at++)
+        if (*at == '/')
+            *at = '_';
+    int length = snprintf(recording.path, sizeof recording.path, "%s/%s.%u.%s.%ld.recording",
+                          folder, job.at, me->rank, host, (long)getpid());
+    wire_up_text_close(&job);
+    return length >= 0 && (size_t)length < sizeof recording.path;
+}
+
+/* Creates the file; -1 where it can't be. */
+static int create_file(void)
+{
+    int opened = open(recording.path, O_WRONLY | O_CREAT | O_EXCL | O_APPEND | O_CLOEXEC, 0666);
+    int high = opened < 0 ? -1 : fcntl(opened, F_DUPFD_CLOEXEC, LOWEST_DESCRIPTOR);
+    if (high < 0)
+        return opened;
+    close(opened);
+    return high;
+}
+
+/* Writes the first lines, which say which process it is. */
+static bool write_head(int file, const struct identity *me, const char *host)
+{
+    struct timespec today;
+    struct text head;
+    clock_gettime(CLOCK_REALTIME, &today);
+    wire_up_text_open(&head);
+    wire_up_text_add(&head, "wire_up-recording 1\nprocess ");
+    add_word(&head, me->job, me->length);
+    wire_up_text_add(&head, " %u ", me->rank);
+    add_word(&head, host, strlen(host));
+    wire_up_text_add(&head, " %ld\nbegan %lld.%06ld\nlibrary ", (long)recording.process,
+                     (long long)today.tv_sec, today.tv_nsec / 1000);
+    add_word(&head, me->version, strlen(me->version));
+    wire_up_text_add(&head, "\n");
+    bool is_written = !head.is_lost && write_whole(file, head.at, head.length);
+    wire_up_text_close(&head);
+    return is_written;
+}
+
+/* Begins the recording in a file that was just created. */
+static void begin_file(int file, const struct identity *me, const char *host)
+{
+    struct stat it;
+    if (fstat(file, &it) < 0) {
+        close(file);
+        return;
+    }
+    recording.device = it.st_dev;
+    recording.inode = it.st_ino;
+    recording.process = getpid();
+    clock_gettime(CLOCK_MONOTONIC, &recording.began);
+    if (write_head(file, me, host)) {
+        __atomic_store_n(&recording.file, file, __ATOMIC_RELEASE);
+    } else {
+        fprintf(stderr, "wire_up-record: %s: can't be written; nothing is recorded\n",
+                recording.path);
+        close(file);
+    }
+}
+
+void open_recording(const struct identity *me)
+{
+    const char *folder = getenv("WIRE_UP_RECORD");
+    char host[256] = "";
+    if (!folder || !*folder)
+        return;
+    gethostname(host, sizeof host - 1);
+    if (!make_path(folder, me, host)) {
+        fprintf(stderr, "wire_up-record: the path of the recordings is too long; nothing is "
+                        "recorded\n");
+        return;
+    }
+    int file = create_file();
+    if (file < 0)
+        fprintf(stderr, "wire_up-record: %s: %s; nothing is recorded\n", recording.path,
+                strerror(errno));
+    else
+        begin_file(file, me, host);
+}

@@ -1,0 +1,22 @@
+/* The file that the records of a process go to. docs/recording.md has its form. */
+#ifndef WIRE_UP_RECORDING_H
+#define WIRE_UP_RECORDING_H
+
+#include "record.h"
+
+/* Which process writes a recording, and the version of its library. */
+struct identity {
+    const char *job; /* its namespace, of `length` bytes */
+    size_t length;
+    unsigned rank;
+    const char *version;
+};
+
+/* Whether a file was opened in this process or in one that it was forked from. */
+bool has_recording(void);
+
+/* Opens the file in the folder that WIRE_UP_RECORD names, if it names one, and writes which process
+ * it is of. Says on standard error where this fails. */
+void open_recording(const struct identity *me);
+
+#endif

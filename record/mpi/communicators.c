@@ -1,0 +1,255 @@
+/* The communicators that a process has. */
+#include "mpi/communicators.h"
+
+#include <pthread.h>
+#include <stdlib.h>
+
+#define BUCKETS 256
+static struct communicator *communicators[BUCKETS];
+static pthread_mutex_t table = PTHREAD_MUTEX_INITIALIZER;
+static unsigned numbers;
+
+static MPI_Group world_group;
+static bool has_world;
+
+/* --- the table --- */
+
+/* Answers where the communicator of a handle hangs, or would: called with the lock. */
+static struct communicator **find_slot(uintptr_t handle)
+{
+    struct communicator **at = &communicators[((handle >> 4) ^ handle) % BUCKETS];
+    while (*at && (*at)->handle != handle)
+        at = &(*at)->next;
+    return at;
+}
+
+struct communicator find_communicator(uintptr_t handle)
+{
+    struct communicator found = {.number = 0};
+    pthread_mutex_lock(&table);
+    const struct communicator *it = *find_slot(handle);
+    if (it)
+        found = *it;
+    pthread_mutex_unlock(&table);
+    return found;
+}
+
+void forget_communicator(uintptr_t handle)
+{
+    pthread_mutex_lock(&table);
+    struct communicator **at = find_slot(handle), *it = *at;
+    if (it)
+        *at = it->next;
+    pthread_mutex_unlock(&table);
+    free(it);
+}
+
+/* Keeps a communicator whose handle was forgotten. */
+static void keep_communicator(struct communicator it)
+{
+    struct communicator *kept = malloc(sizeof *kept);
+    if (!kept)
+        return;
+    *kept = it;
+    pthread_mutex_lock(&table);
+    struct communicator **at = find_slot(it.handle);
+    kept->next = *at;
+    *at = kept;
+    pthread_mutex_unlock(&table);
+}
+
+static unsigned number_communicator(void)
+{
+    return __atomic_add_fetch(&numbers, 1, __ATOMIC_RELAXED);
+}
+
+struct communicator count_child(const struct call *call, MPI_Comm parent)
+{
+    struct communicator found = {.number = 0};
+    if (!call->is_noted)
+        return found;
+    pthread_mutex_lock(&table);
+    struct communicator *it = *find_slot((uintptr_t)parent);
+    if (it) {
+        it->made++;
+        found = *it;
+    }
+    pthread_mutex_unlock(&table);
+    return found;
+}
+
+/* --- members --- */
+
+/* Answers the ranks in the world of the members of a group, to be freed; null where one isn't of
+ * this world. */
+static int *translate_ranks(MPI_Group group, int size)
+{
+    size_t count = size > 0 ? (size_t)size : 0;
+    int *ranks = calloc(2 * count + 1, sizeof *ranks);
+    if (!ranks)
+        return NULL;
+    int *own = ranks + count;
+    for (int n = 0; n < size; n++)
+        own[n] = n;
+    bool are_all = mpi.group_translate_ranks(group, size, own, world_group, ranks) == MPI_SUCCESS;
+    for (int n = 0; are_all && n < size; n++)
+        are_all = ranks[n] != MPI_UNDEFINED;
+    if (are_all)
+        return ranks;
+    free(ranks);
+    return NULL;
+}
+
+/* Adds ranks as ranges. */
+static void add_ranges(struct text *to, const int ranks[], int size)
+{
+    for (int n = 0, last; n < size; n = last + 1) {
+        for (last = n; last + 1 < size && ranks[last + 1] == ranks[last] + 1; last++)
+            ;
+        wire_up_text_add(to, n ? ",%d" : "%d", ranks[n]);
+        if (last > n)
+            wire_up_text_add(to, "-%d", ranks[last]);
+    }
+}
+
+/* Adds the ranks in the world of the members of a group that `take` takes of a communicator. False
+ * where they can't be told. */
+static bool add_members(struct text *to, MPI_Comm comm, __typeof__(&PMPI_Comm_group) take, int size)
+{
+    MPI_Group group;
+    if (take(comm, &group) != MPI_SUCCESS)
+        return false;
+    int *ranks = translate_ranks(group, size);
+    bool are_known = ranks != NULL;
+    if (are_known)
+        add_ranges(to, ranks, size);
+    mpi.group_free(&group);
+    free(ranks);
+    return are_known;
+}
+
+/* --- notes --- */
+
+/* Which making of its parent's a communicator is: a letter for how it was made, and a number. */
+struct making {
+    unsigned parent;
+    const char *how;
+    long nth;
+};
+
+/* Asks MPI about a communicator, and adds the members. False where one isn't of this world. */
+static bool describe(struct text *to, MPI_Comm comm, struct communicator *it, struct making making)
+{
+    int size = 0, is_inter = 0;
+    mpi.comm_test_inter(comm, &is_inter);
+    mpi.comm_size(comm, &size);
+    it->is_inter = is_inter;
+    it->size = size;
+    wire_up_text_add(to, "%s %u %u %s%ld ", is_inter ? "inter" : "comm", it->number, making.parent,
+                     making.how, making.nth);
+    bool is_known = add_members(to, comm, mpi.comm_group, size);
+    if (!is_inter) {
+        mpi.comm_rank(comm, &it->rank);
+        return is_known;
+    }
+    mpi.comm_remote_size(comm, &it->size);
+    wire_up_text_add(to, " ");
+    return is_known && add_members(to, comm, mpi.comm_remote_group, it->size);
+}
+
+/* Writes a communicator that is described, and keeps it. */
+static void note_described(struct text *what, struct communicator it, bool is_known)
+{
+    if (is_known) {
+        keep_communicator(it);
+        write_plain(what);
+    } else {
+        wire_up_text_close(what);
+    }
+}
+
+/* Notes a communicator whose processes are all of this world. */
+static void note_communicator(MPI_Comm comm, struct making making)
+{
+    struct communicator it = {.handle = (uintptr_t)comm, .rank = -1};
+    struct text what;
+    forget_communicator(it.handle);
+    it.number = number_communicator();
+    wire_up_text_open(&what);
+    bool is_known = describe(&what, comm, &it, making);
+    note_described(&what, it, is_known);
+}
+
+/* Notes a communicator that a call made, if it made one. */
+static void note_made(struct making making, int result, const MPI_Comm *made)
+{
+    if (result != MPI_SUCCESS)
+        return;
+    if (making.parent && *made != mpi.no_comm)
+        note_communicator(*made, making);
+    else
+        forget_communicator((uintptr_t)*made);
+}
+
+void note_child(const struct communicator *parent, int result, const MPI_Comm *made)
+{
+    struct making making = {.parent = parent->number, .how = "c", .nth = (long)parent->made};
+    note_made(making, result, made);
+}
+
+void note_child_of_group(const struct communicator *parent, int result, const MPI_Comm *made,
+                         int tag)
+{
+    note_made((struct making){.parent = parent->number, .how = "g", .nth = tag}, result, made);
+}
+
+void note_window(const struct communicator *parent, int result, MPI_Comm comm, const MPI_Win *made)
+{
+    int size = 0;
+    if (result != MPI_SUCCESS)
+        return;
+    forget_communicator((uintptr_t)*made);
+    if (!parent->number)
+        return;
+    struct text what;
+    struct communicator it = *parent;
+    it.handle = (uintptr_t)*made;
+    it.number = number_communicator();
+    it.made = 0;
+    mpi.comm_size(comm, &size);
+    wire_up_text_open(&what);
+    wire_up_text_add(&what, "comm %u %u v%u ", it.number, parent->number, parent->made);
+    bool is_known = add_members(&what, comm, mpi.comm_group, size);
+    note_described(&what, it, is_known);
+}
+
+/* --- the world --- */
+
+/* Takes the group of the world. True the first time. */
+static bool take_world(void)
+{
+    pthread_mutex_lock(&table);
+    bool is_first = !has_world;
+    if (is_first) {
+        mpi.comm_group(mpi.world, &world_group);
+        __atomic_store_n(&has_world, true, __ATOMIC_RELEASE);
+    }
+    pthread_mutex_unlock(&table);
+    return is_first;
+}
+
+void note_world(void)
+{
+    int is_there = 0, rank = 0, size = 0;
+    if (__atomic_load_n(&has_world, __ATOMIC_ACQUIRE))
+        return;
+    if (mpi.initialized(&is_there) != MPI_SUCCESS || !is_there || !take_world())
+        return;
+    struct text what;
+    mpi.comm_rank(mpi.world, &rank);
+    mpi.comm_size(mpi.world, &size);
+    wire_up_text_open(&what);
+    wire_up_text_add(&what, "world %d %d", rank, size);
+    write_plain(&what);
+    note_communicator(mpi.world, (struct making){.parent = 0, .how = "w", .nth = 0});
+}

@@ -1,0 +1,44 @@
+/* The communicators that a process has, by their handles. A window counts as one: its fences are
+ * collectives of their own. */
+#ifndef WIRE_UP_COMMUNICATORS_H
+#define WIRE_UP_COMMUNICATORS_H
+
+#include "mpi/calls.h"
+#include "mpi/library.h"
+
+#include <stdint.h>
+
+/* A communicator: its number in the recording, and how many were made of it. */
+struct communicator {
+    uintptr_t handle;
+    unsigned number, made;
+    int size, rank; /* of the processes that its collectives and messages are with: on an
+                       intercommunicator the remote ones, and no rank */
+    bool is_inter;
+    struct communicator *next;
+};
+
+/* Answers a copy of what is known of a communicator; its number is 0 where nothing is. */
+struct communicator find_communicator(uintptr_t handle);
+
+/* Forgets what had a handle that is free or new. */
+void forget_communicator(uintptr_t handle);
+
+/* Notes the world the first time that MPI is there. */
+void note_world(void);
+
+/* Counts one more communicator that is made of a parent, where the call is noted, and answers the
+ * parent: every process of it counts the same. Its number is 0 where nothing is known of it. */
+struct communicator count_child(const struct call *call, MPI_Comm parent);
+
+/* Notes what was made of a parent. */
+void note_child(const struct communicator *parent, int result, const MPI_Comm *made);
+
+/* Notes what some processes of a parent made by themselves: the others don't count it. */
+void note_child_of_group(const struct communicator *parent, int result, const MPI_Comm *made,
+                         int tag);
+
+/* Notes a window that was made over the processes of a communicator. */
+void note_window(const struct communicator *parent, int result, MPI_Comm comm, const MPI_Win *made);
+
+#endif

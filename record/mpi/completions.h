@@ -1,0 +1,42 @@
+/* Calls that complete one request of several, or more. */
+#ifndef WIRE_UP_COMPLETIONS_H
+#define WIRE_UP_COMPLETIONS_H
+
+#include "mpi/requests.h"
+
+/* The requests of a call that completes some of them, as they are before it. It isn't watched where
+ * no receive or collective is among them, or where memory is refused. */
+struct watch {
+    bool is_on;
+    int count, active; /* how many requests are active: one alone is waited for */
+    MPI_Request *requests;
+    MPI_Status *own; /* statuses, where the program takes none */
+};
+
+/* Begins to watch a call, if it is to be noted. */
+struct watch watch_requests(const struct call *call, int count, const MPI_Request requests[]);
+
+/* Answers the statuses to hand to MPI: the watch's own where the program ignores them. */
+MPI_Status *provide_statuses(struct watch *watch, MPI_Status statuses[]);
+
+/* Notes that all requests are complete. */
+void note_all_complete(const struct watch *watch, int result, const MPI_Status statuses[],
+                       const char *how);
+
+/* Notes that some requests are, as their indices say, and answers how many; `*ended` is MPI's
+ * count. */
+int note_some_complete(const struct watch *watch, int result, const int *ended, const int indices[],
+                       const MPI_Status statuses[], const char *how);
+
+/* Notes that the one of an index is. */
+void note_one_complete(const struct watch *watch, int result, const int *index,
+                       const MPI_Status *status, const char *how);
+
+/* Says how a wait for any of the requests ends. */
+const char *name_wait(const struct watch *watch);
+
+/* Ends the watch, and answers the result for the program: where it has no statuses of its own, it
+ * is told of the first error of so many requests itself, and not that it stands in a status. */
+int end_watch(struct watch *watch, int result, int count);
+
+#endif

@@ -1,0 +1,105 @@
+/* The MPI library of the process. */
+#define _GNU_SOURCE
+#include "mpi/library.h"
+
+#include <dlfcn.h>
+#include <errno.h>
+#include <pthread.h>
+#include <string.h>
+
+struct mpi_library mpi;
+
+static enum { UNKNOWN, FOUND, LACKING } state;
+static pthread_mutex_t finding = PTHREAD_MUTEX_INITIALIZER;
+
+static const struct {
+    void *function;
+    const char *name;
+} wanted[] = {
+    {&mpi.initialized, "PMPI_Initialized"},
+    {&mpi.comm_rank, "PMPI_Comm_rank"},
+    {&mpi.comm_size, "PMPI_Comm_size"},
+    {&mpi.comm_group, "PMPI_Comm_group"},
+    {&mpi.comm_test_inter, "PMPI_Comm_test_inter"},
+    {&mpi.comm_remote_size, "PMPI_Comm_remote_size"},
+    {&mpi.comm_remote_group, "PMPI_Comm_remote_group"},
+    {&mpi.group_translate_ranks, "PMPI_Group_translate_ranks"},
+    {&mpi.group_free, "PMPI_Group_free"},
+    {&mpi.type_size, "PMPI_Type_size"},
+    {&mpi.test_cancelled, "PMPI_Test_cancelled"},
+};
+
+/* Finds the functions in the library. False where one isn't there. */
+static bool find_functions(void *library)
+{
+    bool are_there = true;
+    for (size_t n = 0; n < sizeof wanted / sizeof *wanted; n++) {
+        void *found = dlsym(library, wanted[n].name);
+        memcpy(wanted[n].function, &found, sizeof found);
+        are_there = are_there && found;
+    }
+    return are_there;
+}
+
+#ifdef OPEN_MPI
+/* Finds an object of the library: the program may have the one copy of it that counts. */
+static void *find_object(void *library, const char *name)
+{
+    void *found = dlsym(RTLD_DEFAULT, name);
+    return found ? found : dlsym(library, name);
+}
+
+static bool find_objects(void *library)
+{
+    mpi.world = find_object(library, "ompi_mpi_comm_world");
+    mpi.no_comm = find_object(library, "ompi_mpi_comm_null");
+    mpi.no_request = find_object(library, "ompi_request_null");
+    return mpi.world && mpi.no_comm && mpi.no_request;
+}
+#else
+static bool find_objects(void *library)
+{
+    (void)library;
+    mpi.world = MPI_COMM_WORLD;
+    mpi.no_comm = MPI_COMM_NULL;
+    mpi.no_request = MPI_REQUEST_NULL;
+    return true;
+}
+#endif
+
+bool is_mpi_found(void) { return __atomic_load_n(&state, __ATOMIC_ACQUIRE) == FOUND; }
+
+/* Finds all in the library that has `function`, once. */
+static void find_library(const void *function)
+{
+    Dl_info it;
+    if (__atomic_load_n(&state, __ATOMIC_ACQUIRE) != UNKNOWN)
+        return;
+    pthread_mutex_lock(&finding);
+    bool is_first = state == UNKNOWN && dladdr(function, &it);
+    void *library = is_first ? dlopen(it.dli_fname, RTLD_LAZY | RTLD_NOLOAD) : NULL;
+    if (library) {
+        bool are_there = find_functions(library) && find_objects(library);
+        __atomic_store_n(&state, are_there ? FOUND : LACKING, __ATOMIC_RELEASE);
+    }
+    pthread_mutex_unlock(&finding);
+}
+
+void *look_up_function(void **known, const char *name, const void *wrapper, void *caller)
+{
+    int error = errno;
+    void *found = wire_up_find(name, caller, wrapper);
+    if (found)
+        find_library(found);
+    __atomic_store_n(known, found, __ATOMIC_RELAXED);
+    errno = error;
+    return found;
+}
+
+long long count_bytes(int count, MPI_Datatype type)
+{
+    int size = 0;
+    if (count > 0)
+        mpi.type_size(type, &size);
+    return count > 0 ? (long long)count * size : 0;
+}

@@ -1,0 +1,40 @@
+/* The MPI library of the process. The recorder isn't linked with one, so that processes without MPI
+ * can load it; it finds what it calls itself in the library that the program calls. */
+#ifndef WIRE_UP_LIBRARY_H
+#define WIRE_UP_LIBRARY_H
+
+#define OMPI_OMIT_MPI1_COMPAT_DECLS 1
+#include "record.h"
+
+#include <mpi.h>
+
+/* The functions of MPI that the recorder calls for itself, and the objects that stand for handles
+ * where the MPI library has such. */
+struct mpi_library {
+    __typeof__(&PMPI_Initialized) initialized;
+    __typeof__(&PMPI_Comm_rank) comm_rank;
+    __typeof__(&PMPI_Comm_size) comm_size;
+    __typeof__(&PMPI_Comm_group) comm_group;
+    __typeof__(&PMPI_Comm_test_inter) comm_test_inter;
+    __typeof__(&PMPI_Comm_remote_size) comm_remote_size;
+    __typeof__(&PMPI_Comm_remote_group) comm_remote_group;
+    __typeof__(&PMPI_Group_translate_ranks) group_translate_ranks;
+    __typeof__(&PMPI_Group_free) group_free;
+    __typeof__(&PMPI_Type_size) type_size;
+    __typeof__(&PMPI_Test_cancelled) test_cancelled;
+    MPI_Comm world, no_comm;
+    MPI_Request no_request;
+};
+extern struct mpi_library mpi;
+
+/* Whether all of it was found. */
+bool is_mpi_found(void);
+
+/* Finds MPI's own function of a name and keeps it in `known`; null where there is none. `wrapper`
+ * stands before it, and the code at `caller` calls it. */
+void *look_up_function(void **known, const char *name, const void *wrapper, void *caller);
+
+/* Answers how many bytes so many elements of a type have. */
+long long count_bytes(int count, MPI_Datatype type);
+
+#endif

@@ -1,0 +1,40 @@
+/* Messages: sends are noted when they are called, receives when they are posted and when they are
+ * complete. */
+#ifndef WIRE_UP_MESSAGES_H
+#define WIRE_UP_MESSAGES_H
+
+#include "mpi/calls.h"
+#include "mpi/library.h"
+
+/* What a message is matched by: the rank is that of its other side. */
+struct envelope {
+    MPI_Comm comm;
+    int rank, tag;
+};
+
+/* How a request ended: the process waited for it, it asked whether it was over, or it waited for
+ * any of several. */
+#define WAITED "wait"
+#define POLLED "poll"
+#define ONE_OF_SOME "some"
+
+/* Note that a message is sent, that a receive is posted, and that a probe begins. They answer the
+ * number of the call; 0 where it can't be matched. */
+unsigned long note_send(const struct call *call, struct envelope to, long long bytes);
+unsigned long note_receive(const struct call *call, struct envelope from);
+unsigned long note_probe(const struct call *call, struct envelope from);
+
+/* Notes that a send ended, for one that ends only when its receive has begun. */
+void note_sent(unsigned long number, int result);
+
+/* Notes how a receive or a probe ended. Nothing where its number is 0. */
+void note_received(unsigned long number, int result, const MPI_Status *status, const char *how);
+
+/* Answers the status to hand to MPI: the recorder's own where one is needed, and the program
+ * ignores it. */
+static inline MPI_Status *choose_status(bool is_needed, MPI_Status *status, MPI_Status *own)
+{
+    return is_needed && status == MPI_STATUS_IGNORE ? own : status;
+}
+
+#endif

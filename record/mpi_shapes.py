@@ -1,0 +1,257 @@
+"""What the wrappers of MPI's functions do, by the words of mpi.table, in C. Arguments have the
+names that the table gives them. What they call is in record/mpi."""
+from frame import Shape
+
+CALL = """\
+struct call call = enter_call("$function", caller);
+"""
+NOTE_SEND = """\
+if (call.is_noted)
+    note_send(&call, (struct envelope){comm, to, tag}, count_bytes(count, type));
+"""
+NOTE_RECEIVE = """\
+unsigned long number =
+    call.is_noted ? note_receive(&call, (struct envelope){comm, from, tag}) : 0;
+"""
+# A status of the recorder's own, where it must know what came.
+TELL_STATUS = """\
+MPI_Status own;
+MPI_Status *told = choose_status(number != 0, status, &own);
+"""
+WATCH_STATUS = """\
+MPI_Status own;
+MPI_Status *told = choose_status(is_watched, status, &own);
+"""
+TOLD = {"status": "told"}
+
+MESSAGES = {
+    "send": Shape(CALL + NOTE_SEND),
+    # It ends only when the receive has begun, so its end is noted too.
+    "synchronous-send": Shape(CALL + """\
+unsigned long number = 0;
+if (call.is_noted)
+    number = note_send(&call, (struct envelope){comm, to, tag}, count_bytes(count, type));
+""", """\
+note_sent(number, result);
+"""),
+    "nonblocking-send": Shape(CALL + NOTE_SEND, """\
+if (call.is_noted && result == MPI_SUCCESS)
+    forget_request(*request);
+"""),
+    "persistent-send": Shape(CALL, """\
+if (call.is_noted && result == MPI_SUCCESS)
+    keep_persistent_send(*request, (struct envelope){comm, to, tag}, count_bytes(count, type));
+"""),
+    # A message that a probe matches is received there.
+    "receive": Shape(CALL + NOTE_RECEIVE + TELL_STATUS, """\
+note_received(number, result, told, WAITED);
+""", TOLD),
+    "nonblocking-receive": Shape(CALL + NOTE_RECEIVE, """\
+if (call.is_noted && result == MPI_SUCCESS)
+    keep_receive(*request, number);
+"""),
+    "persistent-receive": Shape(CALL, """\
+if (call.is_noted && result == MPI_SUCCESS)
+    keep_persistent_receive(*request, (struct envelope){comm, from, tag});
+"""),
+    # It fetches what a probe matched, which was noted.
+    "matched-receive": Shape(CALL, """\
+if (call.is_noted && result == MPI_SUCCESS)
+    forget_request(*request);
+"""),
+    "send-receive": Shape(CALL + """\
+unsigned long number = 0;
+if (call.is_noted) {
+    number = note_receive(&call, (struct envelope){comm, from, in_tag});
+    note_send(&call, (struct envelope){comm, to, out_tag}, count_bytes(count, type));
+}
+""" + TELL_STATUS, """\
+note_received(number, result, told, WAITED);
+""", TOLD),
+    "probe": Shape(CALL + """\
+unsigned long number = call.is_noted ? note_probe(&call, (struct envelope){comm, from, tag}) : 0;
+""" + TELL_STATUS, """\
+note_received(number, result, told, WAITED);
+""", TOLD),
+}
+
+
+def shape_poll(note: str) -> Shape:
+    """A probe that doesn't wait. One that found nothing isn't noted."""
+    return Shape(CALL + """\
+bool is_watched = call.is_noted;
+""" + WATCH_STATUS, f"""\
+if (call.is_noted && result == MPI_SUCCESS && *flag)
+    note_received({note}(&call, (struct envelope){{comm, from, tag}}), result, told, POLLED);
+""", TOLD)
+
+
+POLLS = {"poll-probe": shape_poll("note_probe"), "poll-receive": shape_poll("note_receive")}
+
+WATCH_REQUEST = CALL + """\
+bool is_watched = call.is_noted && request;
+MPI_Request before = is_watched ? *request : (MPI_Request)0;
+""" + WATCH_STATUS
+
+REQUESTS = {
+    "start": Shape(CALL + """\
+if (call.is_noted && request)
+    note_start(&call, *request);
+"""),
+    "start-all": Shape(CALL + """\
+if (call.is_noted && requests)
+    note_starts(&call, count, requests);
+"""),
+    "free-request": Shape(CALL + """\
+if (call.is_noted && request)
+    note_freed(*request);
+"""),
+    "wait": Shape(WATCH_REQUEST, """\
+if (is_watched)
+    note_complete(before, result, told, WAITED);
+""", TOLD),
+    "test": Shape(WATCH_REQUEST, """\
+if (is_watched && (result != MPI_SUCCESS || *flag))
+    note_complete(before, result, told, POLLED);
+""", TOLD),
+}
+
+WATCH_ALL = CALL + """\
+struct watch watch = watch_requests(&call, count, requests);
+MPI_Status *told = provide_statuses(&watch, statuses);
+"""
+TOLD_ALL = {"statuses": "told"}
+WATCH_ANY = CALL + """\
+struct watch watch = watch_requests(&call, count, requests);
+MPI_Status own;
+MPI_Status *told = choose_status(watch.is_on, status, &own);
+"""
+
+
+def shape_some(how: str) -> Shape:
+    """A call that completes some of several requests."""
+    return Shape(WATCH_ALL, f"""\
+int some = note_some_complete(&watch, result, ended, indices, told, {how});
+result = end_watch(&watch, result, some);
+""", TOLD_ALL)
+
+
+SEVERAL_REQUESTS = {
+    "wait-all": Shape(WATCH_ALL, """\
+note_all_complete(&watch, result, told, WAITED);
+result = end_watch(&watch, result, count);
+""", TOLD_ALL),
+    "test-all": Shape(WATCH_ALL, """\
+if (watch.is_on && (result == MPI_ERR_IN_STATUS || (result == MPI_SUCCESS && *flag)))
+    note_all_complete(&watch, result, told, POLLED);
+result = end_watch(&watch, result, count);
+""", TOLD_ALL),
+    "wait-some": shape_some("name_wait(&watch)"),
+    "test-some": shape_some("POLLED"),
+    "wait-any": Shape(WATCH_ANY, """\
+note_one_complete(&watch, result, which, told, name_wait(&watch));
+result = end_watch(&watch, result, 0);
+""", TOLD),
+    "test-any": Shape(WATCH_ANY, """\
+if (watch.is_on && flag && *flag)
+    note_one_complete(&watch, result, which, told, POLLED);
+result = end_watch(&watch, result, 0);
+""", TOLD),
+}
+
+BEGIN = CALL + """\
+struct collective it = begin_collective(&call, "$kind", (uintptr_t)comm);
+"""
+# Whose data a process waits for.
+SOURCES = {
+    "all": '"all"',
+    "all-with-data": "name_all(count, type)",
+    "all-with-own-data": "name_all_by_own(&it, counts, type)",
+    "all-at-root": "name_all_at_root(&it, root, count, type)",
+    "below": "name_below(count, type)",
+    "root": "name_root(&room, &it, root, count, type)",
+    "counted": "name_counted(&room, &it, counts, type)",
+    "counted-at-root": "name_counted_at_root(&room, &it, root, counts, type)",
+    "counted-of-types": "name_counted_of_types(&room, &it, counts, types)",
+}
+
+
+def add_room(sources: str, text: str) -> str:
+    """C that names ranks, with room for them where it needs some."""
+    if "&room" not in sources:
+        return text
+    return f"struct text room;\nwire_up_text_open(&room);\n{text}wire_up_text_close(&room);\n"
+
+
+def shape_collective(sources: str) -> Shape:
+    """A collective that blocks."""
+    return Shape(BEGIN, add_room(sources, f"""\
+end_collective(&it, result, is_told(&it, result) ? {sources} : "none");
+"""))
+
+
+def shape_nonblocking(sources: str) -> Shape:
+    """A collective that doesn't block: it ends with its request."""
+    return Shape(BEGIN, add_room(sources, f"""\
+keep_begun(&it, result, request, is_told(&it, result) ? {sources} : "none");
+"""))
+
+
+COLLECTIVES = {
+    **{f"collective/{name}": shape_collective(it) for name, it in SOURCES.items()},
+    **{f"nonblocking/{name}": shape_nonblocking(it) for name, it in SOURCES.items()},
+}
+
+COUNT_CHILD = """\
+struct communicator parent = count_child(&call, comm);
+"""
+
+COMMUNICATORS = {
+    "init": Shape(after="""\
+enter_call("$function", caller);
+"""),
+    "make": Shape(CALL + COUNT_CHILD, """\
+note_child(&parent, result, made);
+"""),
+    # Each process gets data of every other: it is a collective too.
+    "make-gathering": Shape(BEGIN + COUNT_CHILD, """\
+end_collective(&it, result, "all");
+note_child(&parent, result, made);
+"""),
+    # The processes of the group alone make it.
+    "make-of-group": Shape(CALL + """\
+struct communicator parent = {.number = 0};
+if (call.is_noted)
+    parent = find_communicator((uintptr_t)comm);
+""", """\
+note_child_of_group(&parent, result, made, tag);
+"""),
+    "free-communicator": Shape("""\
+if (comm)
+    forget_communicator((uintptr_t)*comm);
+"""),
+}
+
+WINDOWS = {
+    "make-window": Shape(BEGIN + COUNT_CHILD, """\
+end_collective(&it, result, "all");
+note_window(&parent, result, comm, made);
+"""),
+    # A fence that ends no epoch need not wait.
+    "fence-window": Shape(CALL + """\
+struct collective it = begin_collective(&call, "$kind", (uintptr_t)window);
+""", """\
+end_collective(&it, result, how & MPI_MODE_NOPRECEDE ? "none" : "all");
+"""),
+    "free-window": Shape(CALL + """\
+uintptr_t handle = window ? (uintptr_t)*window : 0;
+struct collective it = begin_collective(&call, "$kind", handle);
+forget_communicator(handle);
+""", """\
+end_collective(&it, result, "all");
+"""),
+}
+
+SHAPES = {
+    **MESSAGES, **POLLS, **REQUESTS, **SEVERAL_REQUESTS, **COLLECTIVES, **COMMUNICATORS, **WINDOWS,
+}

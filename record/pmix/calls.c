@@ -1,0 +1,178 @@
+/* Notes of PMIx calls. */
+#include "pmix/calls.h"
+#include "core/text.h"
+#include "pmix/words.h"
+
+#include <string.h>
+
+/* --- that they begin --- */
+
+/* Writes that a call begins, and answers its number. */
+static unsigned long write_begin(const struct call *call, struct text *what)
+{
+    unsigned long number = wire_up_number();
+    wire_up_write('+', number, call->place, what);
+    wire_up_text_close(what);
+    return number;
+}
+
+static const char *name_scope(pmix_scope_t scope)
+{
+    switch (scope) {
+    case PMIX_LOCAL: return "local";
+    case PMIX_REMOTE: return "remote";
+    case PMIX_GLOBAL: return "global";
+    default: return "other";
+    }
+}
+
+unsigned long note_put(const struct call *call, pmix_scope_t scope, const char *key,
+                       const pmix_value_t *value)
+{
+    struct text what;
+    wire_up_text_open(&what);
+    wire_up_text_add(&what, "put %s ", name_scope(scope));
+    if (key)
+        add_word(&what, key, strlen(key));
+    else
+        wire_up_text_add(&what, "none");
+    wire_up_text_add(&what, " ");
+    add_value(&what, value);
+    return write_begin(call, &what);
+}
+
+unsigned long note_commit(const struct call *call)
+{
+    struct text what;
+    wire_up_text_open(&what);
+    wire_up_text_add(&what, "commit");
+    return write_begin(call, &what);
+}
+
+unsigned long note_fence(const struct call *call, const pmix_proc_t processes[], size_t count,
+                         const pmix_info_t info[], size_t infos)
+{
+    struct text what;
+    wire_up_text_open(&what);
+    wire_up_text_add(&what, "fence %s ", call->form);
+    add_processes(&what, processes, count);
+    add_directives(&what, info, infos);
+    return write_begin(call, &what);
+}
+
+unsigned long note_get(const struct call *call, const pmix_proc_t *process, const char *key,
+                       const pmix_info_t info[], size_t infos)
+{
+    struct text what;
+    wire_up_text_open(&what);
+    wire_up_text_add(&what, "get %s ", call->form);
+    add_process(&what, process);
+    wire_up_text_add(&what, key ? " :" : " every");
+    if (key)
+        add_word(&what, key, strlen(key));
+    add_directives(&what, info, infos);
+    return write_begin(call, &what);
+}
+
+unsigned long note_publish(const struct call *call, const pmix_info_t info[], size_t infos)
+{
+    struct text what;
+    wire_up_text_open(&what);
+    wire_up_text_add(&what, "publish %s ", call->form);
+    add_published(&what, info, infos);
+    return write_begin(call, &what);
+}
+
+unsigned long note_lookup(const struct call *call, const pmix_pdata_t wanted[], size_t count,
+                          const pmix_info_t info[], size_t infos)
+{
+    struct text what;
+    wire_up_text_open(&what);
+    wire_up_text_add(&what, "lookup %s ", call->form);
+    for (size_t n = 0; wanted && n < count; n++) {
+        wire_up_text_add(&what, n ? ",:" : ":");
+        add_key(&what, wanted[n].key);
+    }
+    wire_up_text_add(&what, wanted && count ? "" : "-");
+    add_directives(&what, info, infos);
+    return write_begin(call, &what);
+}
+
+/* Notes a call on keys alone. */
+static unsigned long note_keys(const struct call *call, const char *verb, char **keys,
+                               const pmix_info_t info[], size_t infos)
+{
+    struct text what;
+    wire_up_text_open(&what);
+    wire_up_text_add(&what, "%s %s ", verb, call->form);
+    add_keys(&what, keys);
+    add_directives(&what, info, infos);
+    return write_begin(call, &what);
+}
+
+unsigned long note_lookup_of_keys(const struct call *call, char **keys, const pmix_info_t info[],
+                                  size_t infos)
+{
+    return note_keys(call, "lookup", keys, info, infos);
+}
+
+unsigned long note_unpublish(const struct call *call, char **keys, const pmix_info_t info[],
+                             size_t infos)
+{
+    return note_keys(call, "unpublish", keys, info, infos);
+}
+
+/* --- that they ended --- */
+
+static void write_end(unsigned long number, struct text *what)
+{
+    wire_up_write('-', number, NULL, what);
+    wire_up_text_close(what);
+}
+
+void note_end(unsigned long number, pmix_status_t status)
+{
+    struct text what;
+    if (!number)
+        return;
+    wire_up_text_open(&what);
+    wire_up_text_add(&what, "%d", (int)status);
+    write_end(number, &what);
+}
+
+void note_value(unsigned long number, pmix_status_t status, const pmix_value_t *value)
+{
+    struct text what;
+    if (!number)
+        return;
+    wire_up_text_open(&what);
+    wire_up_text_add(&what, "%d", (int)status);
+    if (status == PMIX_SUCCESS && value) {
+        wire_up_text_add(&what, " ");
+        add_value(&what, value);
+    }
+    write_end(number, &what);
+}
+
+void note_found(unsigned long number, pmix_status_t status, const pmix_pdata_t found[],
+                size_t count)
+{
+    struct text what;
+    if (!number)
+        return;
+    wire_up_text_open(&what);
+    wire_up_text_add(&what, "%d ", (int)status);
+    add_found(&what, found, count);
+    write_end(number, &what);
+}
+
+/* --- that are only counted --- */
+
+void note_other(const char *name)
+{
+    struct text what;
+    wire_up_text_open(&what);
+    wire_up_text_add(&what, "other %s", name);
+    wire_up_write('=', 0, NULL, &what);
+    wire_up_text_close(&what);
+}

@@ -1,0 +1,45 @@
+/* Notes of PMIx calls. A call is noted just before the library's own function runs, and its end
+ * just after, or when its callback comes. */
+#ifndef WIRE_UP_PMIX_CALLS_H
+#define WIRE_UP_PMIX_CALLS_H
+
+#include "record.h"
+
+#include <pmix.h>
+
+/* How a call waits for its end. */
+#define BLOCKS "blocks"
+#define CALLS_BACK "nb"
+
+/* A call that is noted: how it waits, and from where in the program it comes. */
+struct call {
+    const char *form;
+    struct place *place; /* null on a thread that isn't the program's */
+};
+
+/* Note that a call begins. They answer its number. */
+unsigned long note_put(const struct call *call, pmix_scope_t scope, const char *key,
+                       const pmix_value_t *value);
+unsigned long note_commit(const struct call *call);
+unsigned long note_fence(const struct call *call, const pmix_proc_t processes[], size_t count,
+                         const pmix_info_t info[], size_t infos);
+unsigned long note_get(const struct call *call, const pmix_proc_t *process, const char *key,
+                       const pmix_info_t info[], size_t infos);
+unsigned long note_publish(const struct call *call, const pmix_info_t info[], size_t infos);
+unsigned long note_lookup(const struct call *call, const pmix_pdata_t wanted[], size_t count,
+                          const pmix_info_t info[], size_t infos);
+unsigned long note_lookup_of_keys(const struct call *call, char **keys, const pmix_info_t info[],
+                                  size_t infos);
+unsigned long note_unpublish(const struct call *call, char **keys, const pmix_info_t info[],
+                             size_t infos);
+
+/* Notes that a call ended. They do nothing where its number is 0: it wasn't noted. */
+void note_end(unsigned long number, pmix_status_t status);
+void note_value(unsigned long number, pmix_status_t status, const pmix_value_t *value);
+void note_found(unsigned long number, pmix_status_t status, const pmix_pdata_t found[],
+                size_t count);
+
+/* Notes that a function was called that a plan has no word for: it is only counted. */
+void note_other(const char *name);
+
+#endif

@@ -1,0 +1,32 @@
+/* What the wrappers of PMIx' functions call, which wrappers.py and others.py write. */
+#ifndef WIRE_UP_PMIX_WRAPPER_H
+#define WIRE_UP_PMIX_WRAPPER_H
+
+#include "core/places.h"
+#include "pmix/callbacks.h"
+#include "pmix/calls.h"
+#include "pmix/session.h"
+
+#include <errno.h>
+#include <string.h>
+
+/* Whether a call is to be noted: what PMIx' own code calls isn't, on any thread. */
+static inline bool is_noted(const void *caller)
+{
+    return wire_up_is_recording() && find_owner(caller) != OF_PMIX;
+}
+
+/* Finds PMIx' own function of a name, once: `known` keeps it. `wrapper` stands before it. */
+static inline void *find_function(void **known, const char *name, const void *wrapper, void *caller)
+{
+    void *found = __atomic_load_n(known, __ATOMIC_RELAXED);
+    if (!found) {
+        int error = errno;
+        found = wire_up_find(name, caller, wrapper);
+        errno = error;
+        __atomic_store_n(known, found, __ATOMIC_RELAXED);
+    }
+    return found;
+}
+
+#endif

@@ -1,0 +1,62 @@
+"""What the wrappers of PMIx' functions do, by the words of pmix.table, in C. Arguments have the
+names that the table gives them. What they call is in record/pmix."""
+from frame import Shape
+
+
+def write_begin(form: str, note: str) -> str:
+    """C that notes that a call of a form begins."""
+    return f"""\
+unsigned long number = 0;
+if (is_noted(caller)) {{
+    struct call call = {{.form = {form}, .place = find_place_in_program()}};
+    number = {note};
+}}
+"""
+
+
+def shape_blocking(note: str, end: str = "note_end(number, result);\n") -> Shape:
+    """A call that blocks: it is noted before and after."""
+    return Shape(write_begin("BLOCKS", note), end)
+
+
+def shape_calling_back(note: str, ends: str) -> Shape:
+    """A call that doesn't block: the recorder's callback for calls that end so stands in place of
+    the program's."""
+    keep = f"struct pending *pending = await_{ends}(number, then, data);\n"
+    return Shape(write_begin("CALLS_BACK", note) + keep, """\
+note_begun(number, result, pending);
+""", {"then": f"pending ? end_{ends} : then", "data": "pending ? pending : data"})
+
+
+SHAPES = {
+    "init": Shape("""\
+pmix_proc_t own;
+memset(&own, 0, sizeof own);
+pmix_proc_t *me = process ? process : &own;
+bool is_inner = find_owner(caller) == OF_PMIX;
+""", """\
+if (result == PMIX_SUCCESS && !is_inner)
+    enter_session(me, caller);
+""", {"process": "me"}),
+    "finalize": Shape("""\
+if (is_noted(caller))
+    leave_session();
+"""),
+    "put": shape_blocking("note_put(&call, scope, key, value)"),
+    "commit": shape_blocking("note_commit(&call)"),
+    "fence": shape_blocking("note_fence(&call, processes, count, info, infos)"),
+    "fence-nb": shape_calling_back("note_fence(&call, processes, count, info, infos)", "operation"),
+    "get": shape_blocking("note_get(&call, process, key, info, infos)", """\
+note_value(number, result, result == PMIX_SUCCESS && value ? *value : NULL);
+"""),
+    "get-nb": shape_calling_back("note_get(&call, process, key, info, infos)", "value"),
+    "publish": shape_blocking("note_publish(&call, info, infos)"),
+    "publish-nb": shape_calling_back("note_publish(&call, info, infos)", "operation"),
+    "lookup": shape_blocking("note_lookup(&call, found, count, info, infos)", """\
+bool is_found = result == PMIX_SUCCESS || result == PMIX_ERR_PARTIAL_SUCCESS;
+note_found(number, result, found, is_found ? count : 0);
+"""),
+    "lookup-nb": shape_calling_back("note_lookup_of_keys(&call, keys, info, infos)", "lookup"),
+    "unpublish": shape_blocking("note_unpublish(&call, keys, info, infos)"),
+    "unpublish-nb": shape_calling_back("note_unpublish(&call, keys, info, infos)", "operation"),
+}
