@@ -1,4 +1,7 @@
-"""Tests of the README of each crate: its length, and the files that it names."""
+"""Tests of the README of each crate: its form, its length, and the files of crates that it names.
+
+The other files that it names are looked at with those of all documents.
+"""
 import glob
 import os
 import re
@@ -29,12 +32,11 @@ def read_readme(crate: str) -> str:
 
 
 def named_files(crate: str, text: str) -> list[str]:
-    """The files that the README of a crate names, from the top of the repository."""
+    """The files of crates that the README of a crate names, from the top of the repository."""
     own = [f"crates/{crate}/{it}" for it in re.findall(f"`{FILE}`", text)]
     others = [f"crates/{name}/{it}" for name, it in re.findall(rf"`(\w+)/{FILE}`", text)]
-    tests = re.findall(r"`((?:tests|build|crates)/[\w./-]+)`", text)
-    links = [os.path.join("crates", crate, it) for it in re.findall(r"\]\(([^)#\s]+)", text)]
-    return own + others + tests + links
+    folders: list[str] = re.findall(r"`(crates/\w+)`", text)
+    return own + others + folders
 
 
 class CrateReadmes(unittest.TestCase):
