@@ -1,6 +1,6 @@
 """Draws the crates: docs/crates.svg, made of crates.txt.
 
-Usage: python3 build/crates_picture.py [--check]
+Usage: python3 -m build.crates_picture [--check]
 A crate stands above all crates that it uses. A line goes from a crate down to one that it uses;
 a use that follows from other lines has none. The colour of a box tells the layer of the crate.
 With --check it writes nothing, and ends with status 1 if the picture isn't the one of crates.txt.
@@ -134,11 +134,17 @@ def users_of(uses: Uses) -> dict[str, list[str]]:
     return users
 
 
-def rows_of(uses: Uses) -> dict[str, int]:
-    """The row of each crate, 0 the lowest: near its users or its uses, to keep lines short."""
+def lowest_rows(uses: Uses) -> dict[str, int]:
+    """The row of each crate, 0 the lowest: right above the highest crate that it uses."""
     rows: dict[str, int] = {}
     for name in uses:
         rows[name] = 1 + max((rows[it] for it in uses[name]), default=-1)
+    return rows
+
+
+def rows_of(uses: Uses) -> dict[str, int]:
+    """The row of each crate, 0 the lowest: near its users or its uses, to keep lines short."""
+    rows = lowest_rows(uses)
     users = users_of(uses)
     for name in reversed(list(uses)):
         highest = min((rows[it] for it in users[name]), default=0) - 1
@@ -168,13 +174,17 @@ def average_place(spot: Spot, places: Mapping[int, int], beside: Sequence[Spot])
     return sum(known) / len(known) if known else places[id(spot)]
 
 
+def sweep_order(rows: Sequence[list[Spot]], is_up: bool) -> None:
+    """Puts each row in the order of what is joined with it, from the lowest row up or back."""
+    for row in rows if is_up else reversed(rows):
+        places = {id(it): place for other in rows for place, it in enumerate(other)}
+        row.sort(key=lambda it: average_place(it, places, it.below if is_up else it.above))
+
+
 def put_in_order(rows: Sequence[list[Spot]]) -> None:
     """Puts each row in an order in which few lines cross."""
     for sweep in range(SWEEPS):
-        is_up = sweep % 2 == 0
-        for row in rows if is_up else reversed(rows):
-            places = {id(it): place for other in rows for place, it in enumerate(other)}
-            row.sort(key=lambda it: average_place(it, places, it.below if is_up else it.above))
+        sweep_order(rows, sweep % 2 == 0)
 
 
 def push_right(row: Sequence[Spot], wanted: Sequence[float], edge: float) -> list[float]:
@@ -202,16 +212,26 @@ def spread(row: Sequence[Spot], wanted: Sequence[float]) -> None:
         spot.middle = middle
 
 
-def place_all(rows: Sequence[list[Spot]]) -> None:
-    """Gives each spot its place within the width of the picture."""
+def place_evenly(rows: Iterable[list[Spot]]) -> None:
+    """Spreads each row over the width of the picture."""
     for row in rows:
         step = (WIDTH - 2 * MARGIN) / len(row)
         spread(row, [MARGIN + step * (number + 0.5) for number in range(len(row))])
+
+
+def draw_near(rows: Iterable[list[Spot]]) -> None:
+    """Moves each spot towards the middle of all that it is joined with, row by row."""
+    for row in rows:
+        joined = [it.below + it.above for it in row]
+        spread(row, [sum(it.middle for it in near) / len(near) if near else spot.middle
+                     for spot, near in zip(row, joined)])
+
+
+def place_all(rows: Sequence[list[Spot]]) -> None:
+    """Gives each spot its place within the width of the picture."""
+    place_evenly(rows)
     for sweep in range(SWEEPS):
-        for row in rows if sweep % 2 == 0 else reversed(rows):
-            joined = [it.below + it.above for it in row]
-            spread(row, [sum(it.middle for it in near) / len(near) if near else spot.middle
-                         for spot, near in zip(row, joined)])
+        draw_near(rows if sweep % 2 == 0 else reversed(rows))
 
 
 def lay_out(crates: Sequence[Crate]) -> Picture:
@@ -309,7 +329,7 @@ def main(words: Sequence[str]) -> int:
     if options.check:
         if is_up_to_date(text):
             return 0
-        print("docs/crates.svg isn't that of crates.txt: python3 build/crates_picture.py makes it")
+        print("docs/crates.svg isn't that of crates.txt: python3 -m build.crates_picture makes it")
         return 1
     with open(PICTURE, "w", encoding="utf-8") as file:
         file.write(text)
