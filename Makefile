@@ -65,36 +65,48 @@ bench:
 figures:
 	@python3 -m build.figures "$(PROGRAM)"
 
-# The recorder of PMIx calls, which ./wire_up-record preloads. `PMIX_CFLAGS=-I..` says where the headers are, if pkg-config doesn't know.
+# The recorder of PMIx calls, which ./wire_up-record preloads. `PMIX_CFLAGS=-I..` says where the
+# headers are, if pkg-config doesn't know.
 record: record/record.so
 
-# The recorder of MPI's order beside it. It isn't linked with MPI, so that processes without MPI can load it.
+# The recorder of MPI's order beside it. It isn't linked with MPI, so that processes without MPI can
+# load it.
 record-mpi: record/record-mpi.so
 
-# Where the C goes that is made of the headers: the wrappers of the functions in the tables, which are noted, and of all others that can order
-# processes, which are counted.
+# Where the C goes that is made of the headers: the wrappers of the functions in the tables, which
+# are noted, and of all others that can order processes, which are counted.
 RECORD_OUT ?= record/out
 RECORD_MPI = $(wildcard record/mpi/*.c) $(RECORD_OUT)/mpi-noted.c $(RECORD_OUT)/mpi-counted.c
-RECORD_PMIX = $(wildcard record/core/*.c record/pmix/*.c) $(RECORD_OUT)/pmix-noted.c $(RECORD_OUT)/pmix-counted.c
-PMIX_INCLUDES = $(patsubst -I%,-isystem %,$(or $(PMIX_CFLAGS),$(shell pkg-config --cflags pmix 2> /dev/null)))
+RECORD_PMIX = $(wildcard record/core/*.c record/pmix/*.c) \
+	$(RECORD_OUT)/pmix-noted.c $(RECORD_OUT)/pmix-counted.c
+RECORD_PYTHON = record/c_header.py record/frame.py
+PMIX_FLAGS = $(or $(PMIX_CFLAGS),$(shell pkg-config --cflags pmix 2> /dev/null))
+PMIX_INCLUDES = $(patsubst -I%,-isystem %,$(PMIX_FLAGS))
 LIBRARY_mpi = MPI
 LIBRARY_pmix = PMIx
 
 $(RECORD_OUT)/pmix.i:
-	@test -n "$(PMIX_CFLAGS)" || pkg-config --exists pmix || { echo "pkg-config doesn't find PMIx: on Debian the package is libpmix-dev"; exit 1; }
+	@test -n "$(PMIX_CFLAGS)" || pkg-config --exists pmix || \
+		{ echo "pkg-config doesn't find PMIx: on Debian the package is libpmix-dev"; exit 1; }
 	@mkdir -p $(RECORD_OUT)
-	@echo '#include <pmix.h>' | $(CC) -E $(PMIX_INCLUDES) -x c - > $@.new && mv $@.new $@
+	@echo '#include <pmix.h>' | $(CC) -E $(PMIX_INCLUDES) -x c - > $@.new
+	@mv $@.new $@
 
 $(RECORD_OUT)/mpi.i:
-	@command -v $(MPICC) > /dev/null || { echo "there is no $(MPICC): on Debian the packages are openmpi-bin and libopenmpi-dev"; exit 1; }
+	@command -v $(MPICC) > /dev/null || \
+		{ echo "there is no $(MPICC): on Debian the packages are openmpi-bin and libopenmpi-dev"; exit 1; }
 	@mkdir -p $(RECORD_OUT)
-	@echo '#include <mpi.h>' | $(MPICC) -DOMPI_OMIT_MPI1_COMPAT_DECLS=1 -E -x c - > $@.new && mv $@.new $@
+	@echo '#include <mpi.h>' | $(MPICC) -DOMPI_OMIT_MPI1_COMPAT_DECLS=1 -E -x c - > $@.new
+	@mv $@.new $@
 
-$(RECORD_OUT)/%-noted.c: $(RECORD_OUT)/%.i record/%.table record/wrappers.py record/%_shapes.py record/c_header.py record/frame.py
-	@python3 -B record/wrappers.py $(LIBRARY_$*) record/$*.table < $< > $@.new && mv $@.new $@
+$(RECORD_OUT)/%-noted.c: $(RECORD_OUT)/%.i record/%.table record/wrappers.py record/%_shapes.py \
+		$(RECORD_PYTHON)
+	@python3 -B record/wrappers.py $(LIBRARY_$*) record/$*.table < $< > $@.new
+	@mv $@.new $@
 
-$(RECORD_OUT)/%-counted.c: $(RECORD_OUT)/%.i record/%.table record/others.py record/c_header.py record/frame.py
-	@python3 -B record/others.py $(LIBRARY_$*) record/$*.table < $< > $@.new && mv $@.new $@
+$(RECORD_OUT)/%-counted.c: $(RECORD_OUT)/%.i record/%.table record/others.py $(RECORD_PYTHON)
+	@python3 -B record/others.py $(LIBRARY_$*) record/$*.table < $< > $@.new
+	@mv $@.new $@
 
 record/record.so: $(RECORD_PMIX) record/record.h $(wildcard record/core/*.h record/pmix/*.h)
 	$(CC) $(SHARED) $(PMIX_INCLUDES) -o $@.new $(filter %.c,$^) -ldl
