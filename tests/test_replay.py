@@ -211,6 +211,7 @@ KEEPING = (
     b"rehearsal 2\nkeep\nnode n0\nnode n1\njob app\n"
     b"rank n0\nput global k v\ncommit\nrank n1\n"
     b"get app:0 k\nfence app:1,app:2\nrank n1\n"
+    b"fence app:1,app:2\nget-now app:0 k\n"
 )
 
 
