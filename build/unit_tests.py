@@ -80,12 +80,12 @@ class Result(unittest.TestResult):
         return Counts(self.passed, len(self.told))
 
 
-def run_file(file: str) -> Result:
-    """Runs the tests of a file."""
+def run_file(file: str, top: str = TESTS) -> Result:
+    """Runs the tests of a file in or below a folder from which tests are named."""
     result = Result()
     loader = unittest.TestLoader()
     folder, name = os.path.split(os.path.abspath(file))
-    loader.discover(folder, pattern=name, top_level_dir=TESTS).run(result)
+    loader.discover(folder, pattern=name, top_level_dir=top).run(result)
     for failed in loader.errors:
         print(failed)
     if not result.testsRun and not result.skipped and not result.told:

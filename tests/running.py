@@ -79,8 +79,8 @@ class Run(NamedTuple):
 
     name: str
     words: Words
-    # What standard input gives; by itself it is closed after nothing.
-    given: Optional[bytes] = None
+    # What standard input gives.
+    given: bytes = b""
     status: int = 0
     wrote: Text = b""
     said: Text = b""

@@ -277,9 +277,16 @@ STOPPED = (
 
 def explanations(room: str) -> Runs:
     """The runs with `--explain`."""
-    racy, cards = written(room, "explained.plan", RACY), written(
-        room, "explained-cards.plan", CARDS
-    )
+    yield from explained_files(room)
+    yield from explained_orders(room)
+    yield from explained_words(room)
+    yield from explained_stops(room)
+    yield from nothing_to_explain(room)
+    yield from other_explanations(room)
+
+
+def explained_files(room: str) -> Runs:
+    """Files that are refused."""
     for name, plan, said in EXPLAINED:
         first = b"wire_up: " + said.split(b"\n")[0] + b"\n"
         for words in (
@@ -310,6 +317,11 @@ def explanations(room: str) -> Runs:
             status=2,
             set_up=closed(2),
         )
+
+
+def explained_orders(room: str) -> Runs:
+    """Orders and plans that are refused."""
+    racy = written(room, "explained.plan", RACY)
     order = written(room, "explained.order", b"# first\napp:0\n  app:7 \n")
     yield Run(
         "an order explained",
@@ -334,6 +346,11 @@ def explanations(room: str) -> Runs:
             b"  nearest word: rehearsal\n"
         ),
     )
+
+
+def explained_words(room: str) -> Runs:
+    """Words of a question that are wrong."""
+    racy = written(room, "explained.plan", RACY)
     for n, (word, told) in enumerate(ASKED, 1):
         asked = ["app:0", "1", "app:1", "1"]
         asked[n - 1] = word
@@ -351,6 +368,11 @@ def explanations(room: str) -> Runs:
                 status=2,
                 said=said,
             )
+
+
+def explained_stops(room: str) -> Runs:
+    """Orders of which a step can't be taken."""
+    order = written(room, "explained.order", b"# first\napp:0\n  app:7 \n")
     for name, plan, steps, said in STOPPED:
         order, first = (
             written(room, f"{name}.order", steps),
@@ -373,6 +395,12 @@ def explanations(room: str) -> Runs:
         yield Run(
             f"{name}, which stops an order", ["follow", order], given=plan, status=2, said=first
         )
+
+
+def nothing_to_explain(room: str) -> Runs:
+    """Runs that go well."""
+    racy = written(room, "explained.plan", RACY)
+    cards = written(room, "explained-cards.plan", CARDS)
     yield Run("nothing to explain", ["check", "--explain", cards], wrote=NOTHING)
     yield Run("a report and nothing to explain", ["replay", "--explain", cards], wrote=CARDS_REPORT)
     yield Run(
@@ -381,6 +409,11 @@ def explanations(room: str) -> Runs:
         status=1,
         wrote=(b"findings 1\n",),
     )
+
+
+def other_explanations(room: str) -> Runs:
+    """Other faults."""
+    cards = written(room, "explained-cards.plan", CARDS)
     yield Run(
         "no such file, explained",
         ["check", "--explain", os.path.join(room, "none")],

@@ -33,19 +33,17 @@ NO_FORM: list[str] = []
 
 def forms(room: str) -> Runs:
     """The runs of `check`, `follow`, `why` and `witness` with `--json`."""
-    racy, cards, odd = (
-        "examples/early-get.plan",
-        written(room, "cards.plan", CARDS),
-        written(room, "odd.plan", b"# only\n"),
-    )
-    fence, still = "examples/card-fence.plan", "examples/standstill.plan"
-    question, full = ["why", "--json", "app:0", "3", "app:1", "4"], b"wire_up: fault 11 Write 0\n"
-    chain = (
-        b'{"before":"%s","chain":[{"call":3,"proc":"app:0","verb":"commit"},{"call":4,"half":'
-        b'"arrive","proc":"app:0","verb":"fence"},'
-        b'{"call":3,"half":"leave","proc":"app:1","verb":"fence"},{"call":4,"proc":"app:1",'
-        b'"verb":"get-now"}]}\n'
-    )
+    yield from forms_of_findings()
+    yield from forms_of_chains()
+    yield from forms_of_orders(room)
+    yield from forms_of_examples()
+    yield from forms_of_witnesses()
+    yield from forms_that_fail(room)
+
+
+def forms_of_findings() -> Runs:
+    """Findings as JSON."""
+    racy = "examples/early-get.plan"
     yield Run(
         "findings as JSON",
         ["check", "--json", racy],
@@ -58,6 +56,22 @@ def forms(room: str) -> Runs:
         ["check", "--json", "--large", EXAMPLE],
         wrote=b'{"findings":[]}\n',
     )
+
+
+def forms_of_chains() -> Runs:
+    """Answers of `why` as JSON."""
+    racy = "examples/early-get.plan"
+    fence = "examples/card-fence.plan"
+    still = "examples/standstill.plan"
+    question = ["why", "--json", "app:0", "3", "app:1", "4"]
+    chain = (
+        b'{"before":"%s","chain":[{"call":3,"proc":"app:0","verb":"commit"},{"call":4,"half":'
+        b'"arrive","proc":"app:0","verb":"fence"},'
+        b'{"call":3,"half":"leave","proc":"app:1","verb":"fence"},{"call":4,"proc":"app:1",'
+        b'"verb":"get-now"}]}\n'
+    )
+    dead = b'{"before":null,"dead":[{"call":2,"proc":"app:0"},{"call":2,"proc":"app:1"}]}\n'
+    alone = b'{"before":null,"dead":[{"call":2,"proc":"app:0"}]}\n'
     yield Run("a chain as JSON", [*question, fence], wrote=chain % b"first")
     yield Run(
         "a chain the other way round, as JSON",
@@ -69,26 +83,34 @@ def forms(room: str) -> Runs:
         ["why", "--json", "app:0", "2", "app:1", "1", racy],
         wrote=b'{"before":null,"dead":[]}\n',
     )
-    dead = b'{"before":null,"dead":[{"call":2,"proc":"app:0"},{"call":2,"proc":"app:1"}]}\n'
     yield Run(
         "dead calls as JSON", ["why", "--json", "app:0", "2", "app:1", "2", still], wrote=dead
     )
-    alone = b'{"before":null,"dead":[{"call":2,"proc":"app:0"}]}\n'
     yield Run(
         "a dead call asked against itself, as JSON",
         ["why", "--json", "app:0", "2", "app:0", "2", still],
         wrote=alone,
     )
+
+
+def forms_of_orders(room: str) -> Runs:
+    """Reports of orders as JSON."""
+    racy = "examples/early-get.plan"
+    cards = written(room, "cards.plan", CARDS)
     order = written(
         room, "lowest.order", "".join(f"app:{rank}\n" for rank in "00001112001222").encode()
     )
-    yield Run("an order as JSON", ["follow", "--json", order, cards], wrote=as_json(CARDS_REPORT))
     late = written(room, "late.order", b"app:1\n")
     told = (
         b"app:0 1 put ready\napp:0 2 commit unreached\n"
         b"app:1 1 get-now PMIX_ERR_NOT_FOUND\nwaiting 0\n"
     )
+    yield Run("an order as JSON", ["follow", "--json", order, cards], wrote=as_json(CARDS_REPORT))
     yield Run("a step as JSON", ["follow", "--json", late, racy], wrote=as_json(told))
+
+
+def forms_of_examples() -> Runs:
+    """The examples as JSON."""
     for it in examples(".findings"):
         found = text_of(f"examples/{it}.findings")
         status = int(found != NOTHING)
@@ -114,12 +136,24 @@ def forms(room: str) -> Runs:
             ["follow", "--json", f"examples/{it}.order", f"examples/{it}.plan"],
             wrote=as_json(report),
         )
+
+
+def forms_of_witnesses() -> Runs:
+    """What `witness` writes as JSON."""
+    racy = "examples/early-get.plan"
+    full = b"wire_up: fault 11 Write 0\n"
     asked = ["witness", "--json", "app:0", "2", "app:1", "1", racy]
     runs_of_it = (
         b'{"first":{"order":["app:0","app:0","app:1"],"reply":"PMIX_SUCCESS","value":"10.0.0.'
         b'1:7000"},"race":true,'
         b'"second":{"order":["app:0","app:1","app:0"],"reply":"PMIX_ERR_NOT_FOUND"},"shown":{'
         b'"call":1,"proc":"app:1","verb":"get-now"}}\n'
+    )
+    none = b'{"counts":{"not_shown":0,"not_tried":1,"races":1,"shown":0},"races":[]}\n'
+    tried = (
+        b'{"counts":{"not_shown":0,"not_tried":0,"races":1,"shown":1},'
+        b'"races":[{"finding":"race app:0 2 app:1 1 key app:0 '
+        b'card","shown":{"call":1,"proc":"app:1"}}]}\n'
     )
     yield Run("a witness as JSON", asked, status=1, wrote=runs_of_it)
     yield Run(
@@ -134,14 +168,18 @@ def forms(room: str) -> Runs:
         said=full,
         set_up=onto("/dev/full", 1),
     )
-    none = b'{"counts":{"not_shown":0,"not_tried":1,"races":1,"shown":0},"races":[]}\n'
     yield Run("no race tried, as JSON", ["witness", "--json", "--most", "0", racy], wrote=none)
-    tried = (
-        b'{"counts":{"not_shown":0,"not_tried":0,"races":1,"shown":1},'
-        b'"races":[{"finding":"race app:0 2 app:1 1 key app:0 '
-        b'card","shown":{"call":1,"proc":"app:1"}}]}\n'
-    )
     yield Run("the races as JSON", ["witness", "--json", racy], status=1, wrote=tried)
+
+
+def forms_that_fail(room: str) -> Runs:
+    """Refusals and full devices, where JSON is asked for."""
+    racy = "examples/early-get.plan"
+    odd = written(room, "odd.plan", b"# only\n")
+    fence = "examples/card-fence.plan"
+    question = ["why", "--json", "app:0", "3", "app:1", "4"]
+    full = b"wire_up: fault 11 Write 0\n"
+    late = written(room, "late.order", b"app:1\n")
     yield Run(
         "a file that is refused, for JSON",
         ["check", "--json", odd],
@@ -170,16 +208,23 @@ def forms(room: str) -> Runs:
 
 def placings(room: str) -> Runs:
     """The runs of `check`, `why` and `witness` with `--lines`, and with `--json` besides."""
-    racy, odd, full = (
-        "examples/early-get.plan",
-        written(room, "odd.plan", b"# only\n"),
-        b"wire_up: fault 11 Write 0\n",
-    )
-    pair, usage, misfit = (
-        ["app:0", "2", "app:1", "1"],
-        (b"Usage: wire_up",),
-        b"wire_up: usage witness\n",
-    )
+    yield from placings_of_calls()
+    yield from placings_of_findings()
+    yield from placings_that_fail(room)
+    yield from misused_placings()
+    yield from placings_of_examples()
+
+
+def placings_of_calls() -> Runs:
+    """Chains and runs with lines."""
+    yield from lines_of_two_calls()
+    yield from lines_of_races()
+
+
+def lines_of_two_calls() -> Runs:
+    """A chain and the runs of two calls, with lines."""
+    racy = "examples/early-get.plan"
+    pair = ["app:0", "2", "app:1", "1"]
     chain = as_lines(
         ["before", "<stdin>:6: app:0 1 put", "<stdin>:7: app:0 2 commit", "<stdin>:9: app:1 1 get"]
     )
@@ -188,18 +233,6 @@ def placings(room: str) -> Runs:
         "first PMIX_SUCCESS 10.0.0.1:7000\nsecond PMIX_ERR_NOT_FOUND\n"
     )
     orders = "order 3\napp:0\napp:0\napp:1\norder 3\napp:0\napp:1\napp:0\n"
-    tried = (
-        "%s:7: shown app:1 1 race app:0 2 app:1 1 key app:0 card\n"
-        "%s:9: note: app:1 1 get-now\nraces 1 shown 1 not-shown 0 not-tried 0\n"
-    )
-    found = (
-        b'{"findings":[{"calls":[{"call":2,"line":7,"proc":"app:0","verb":"commit"},{"call":1,'
-        b'"line":9,"proc":"app:1","verb":"get-now"}],'
-        b'"finding":"race app:0 2 app:1 1 key app:0 card"}],"groups":[{"count":1,"first":0}]}\n'
-    )
-    none = b'{"counts":{"not_shown":0,"not_tried":1,"races":1,"shown":0},"races":[]}\n'
-    quoted = b'rehearsal 1\nnode n0\njob "\\\nrank n0\nput global k 1\nput global k 2\n'
-    escaped = b'"proc":"\\"\\\\:0","verb":"put"}'
     yield Run(
         "a question with lines",
         ["why", "--lines", "app:0", "1", "app:1", "1"],
@@ -217,6 +250,16 @@ def placings(room: str) -> Runs:
         ["witness", "--lines", "app:0", "1", "app:1", "1", racy],
         wrote=(b"no race\n",),
     )
+
+
+def lines_of_races() -> Runs:
+    """The races with lines."""
+    racy = "examples/early-get.plan"
+    tried = (
+        "%s:7: shown app:1 1 race app:0 2 app:1 1 key app:0 card\n"
+        "%s:9: note: app:1 1 get-now\nraces 1 shown 1 not-shown 0 not-tried 0\n"
+    )
+    none = b'{"counts":{"not_shown":0,"not_tried":1,"races":1,"shown":0},"races":[]}\n'
     yield Run(
         "the races with lines",
         ["witness", "--lines", racy],
@@ -233,6 +276,18 @@ def placings(room: str) -> Runs:
         ["witness", "--lines", "--json", "--most", "0", racy],
         wrote=none,
     )
+
+
+def placings_of_findings() -> Runs:
+    """Findings as JSON with lines."""
+    racy = "examples/early-get.plan"
+    found = (
+        b'{"findings":[{"calls":[{"call":2,"line":7,"proc":"app:0","verb":"commit"},{"call":1,'
+        b'"line":9,"proc":"app:1","verb":"get-now"}],'
+        b'"finding":"race app:0 2 app:1 1 key app:0 card"}],"groups":[{"count":1,"first":0}]}\n'
+    )
+    quoted = b'rehearsal 1\nnode n0\njob "\\\nrank n0\nput global k 1\nput global k 2\n'
+    escaped = b'"proc":"\\"\\\\:0","verb":"put"}'
     yield Run(
         "findings as JSON with lines", ["check", "--lines", "--json", racy], status=1, wrote=found
     )
@@ -248,6 +303,14 @@ def placings(room: str) -> Runs:
         status=1,
         wrote=(escaped,),
     )
+
+
+def placings_that_fail(room: str) -> Runs:
+    """Refusals and full devices, where lines are asked for."""
+    racy = "examples/early-get.plan"
+    odd = written(room, "odd.plan", b"# only\n")
+    full = b"wire_up: fault 11 Write 0\n"
+    pair = ["app:0", "2", "app:1", "1"]
     for words in (["check"], ["why", *pair], ["witness"], ["witness", *pair]):
         for form in NO_FORM, ["--json"]:
             name = " ".join([*words, "--lines", *form])
@@ -271,6 +334,14 @@ def placings(room: str) -> Runs:
             status=2,
             said=b"wire_up: fault 13 BadOrder 2\n",
         )
+
+
+def misused_placings() -> Runs:
+    """Where lines don't go."""
+    racy = "examples/early-get.plan"
+    pair = ["app:0", "2", "app:1", "1"]
+    usage = (b"Usage: wire_up",)
+    misfit = b"wire_up: usage witness\n"
     for order in ("--first", "--second"):
         yield Run(
             f"witness {order} with lines",
@@ -290,7 +361,6 @@ def placings(room: str) -> Runs:
         yield Run(
             f"lines in the help on {command}", [command, "--help"], wrote=(b"--lines", b"--json")
         )
-    yield from placings_of_examples()
 
 
 def placings_of_examples() -> Runs:

@@ -22,20 +22,16 @@ NO_OPTION: list[str] = []
 
 def rehearsals(room: str) -> Runs:
     """The runs of `replay` by workers, with its options."""
-    cards, report, usage = written(room, "cards.plan", CARDS), CARDS_REPORT, (b"Usage: wire_up",)
-    racy, none, odd = (
-        written(room, "racy.plan", RACY),
-        os.path.join(room, "none"),
-        written(room, "odd.plan", b"# only\n"),
-    )
-    late = written(room, "late.order", b"app:1\napp:0\napp:0\n")
-    of_late = (
-        b"app:0 1 put PMIX_SUCCESS\napp:0 2 commit PMIX_SUCCESS\n"
-        b"app:1 1 get-now PMIX_ERR_NOT_FOUND\nwaiting 0\n"
-    )
-    first = b"app:0 1 put ready\napp:0 2 commit unreached\napp:1 1 get-now ready\nwaiting 0\n"
-    race = b"race app:0 2 app:1 1 key app:0 k"
-    workers, word = b"wire_up: fault 9 Workers\n", b"wire_up: usage --workers\n"
+    yield from replays_by_workers(room)
+    yield from replays_of_races(room)
+    yield from refused_workers(room)
+    yield from misused_replays(room)
+
+
+def replays_by_workers(room: str) -> Runs:
+    """Plans without findings."""
+    cards = written(room, "cards.plan", CARDS)
+    report = CARDS_REPORT
     for n in ("1", "2", "7", "64", "007"):
         yield Run(f"{n} workers", ["replay", "--workers", n, cards], wrote=report)
         yield Run(
@@ -61,6 +57,18 @@ def rehearsals(room: str) -> Runs:
     yield Run(
         "workers, and standard input", ["replay", "--workers", "2"], given=CARDS, wrote=report
     )
+
+
+def replays_of_races(room: str) -> Runs:
+    """A plan with a race."""
+    racy = written(room, "racy.plan", RACY)
+    late = written(room, "late.order", b"app:1\napp:0\napp:0\n")
+    of_late = (
+        b"app:0 1 put PMIX_SUCCESS\napp:0 2 commit PMIX_SUCCESS\n"
+        b"app:1 1 get-now PMIX_ERR_NOT_FOUND\nwaiting 0\n"
+    )
+    first = b"app:0 1 put ready\napp:0 2 commit unreached\napp:1 1 get-now ready\nwaiting 0\n"
+    race = b"race app:0 2 app:1 1 key app:0 k"
     yield Run(
         "a race, by workers",
         ["replay", "--workers", "2", racy],
@@ -77,6 +85,15 @@ def rehearsals(room: str) -> Runs:
     yield Run(
         "an empty order on a race", ["follow", written(room, "empty.order", b""), racy], wrote=first
     )
+
+
+def refused_workers(room: str) -> Runs:
+    """Numbers of workers that are refused."""
+    cards = written(room, "cards.plan", CARDS)
+    none = os.path.join(room, "none")
+    odd = written(room, "odd.plan", b"# only\n")
+    workers = b"wire_up: fault 9 Workers\n"
+    word = b"wire_up: usage --workers\n"
     for n in ("0", "65", "99999999999999999999"):
         yield Run(f"{n} workers at most", ["replay", "--workers", n, cards], status=2, said=workers)
     yield Run(
@@ -94,6 +111,12 @@ def rehearsals(room: str) -> Runs:
     for it in ("x", "", "+1", "1x"):
         yield Run(f"'{it}' workers", ["replay", "--workers", it, none], status=5, said=word)
     yield Run("less than no worker", ["replay", "--workers=-1", cards], status=5, said=word)
+
+
+def misused_replays(room: str) -> Runs:
+    """Words that `replay` doesn't take, and those that it does."""
+    cards = written(room, "cards.plan", CARDS)
+    usage = (b"Usage: wire_up",)
     yield Run(
         "workers told twice",
         ["replay", "--workers", "1", "--workers", "1", cards],
@@ -111,22 +134,24 @@ def rehearsals(room: str) -> Runs:
 
 def completions(room: str) -> Runs:
     """The runs of `replay --complete`."""
-    racy, race, usage = (
-        written(room, "racy.plan", RACY),
-        b"race app:0 2 app:1 1 key app:0 k",
-        (b"Usage: wire_up",),
-    )
-    late, lost = CARDS.replace(b"lookup-wait x", b"lookup-wait y"), CARDS.replace(
-        b"get-now app:0 k\nlookup", b"get-now app:0 z\nlookup"
-    )
+    yield from completions_of_plans()
+    yield from completions_of_races(room)
+    yield from completions_that_fail(room)
+
+
+def plans_to_complete() -> list[tuple[str, bytes, bytes, bytes]]:
+    """Plans, each with its report and the line of its first call that doesn't succeed."""
+    late = CARDS.replace(b"lookup-wait x", b"lookup-wait y")
+    lost = CARDS.replace(b"get-now app:0 k\nlookup", b"get-now app:0 z\nlookup")
     of_late = CARDS_REPORT.replace(b"PMIX_SUCCESS 7\nwaiting 0", b"waiting\nwaiting 1")
     of_lost = CARDS_REPORT.replace(
         b"app:2 2 get-now PMIX_SUCCESS v", b"app:2 2 get-now PMIX_ERR_NOT_FOUND"
     )
-    both, of_both = late.replace(
-        b"get-now app:0 k\nlookup", b"get-now app:0 z\nlookup"
-    ), of_late.replace(b"app:2 2 get-now PMIX_SUCCESS v", b"app:2 2 get-now PMIX_ERR_NOT_FOUND")
-    rows = (
+    both = late.replace(b"get-now app:0 k\nlookup", b"get-now app:0 z\nlookup")
+    of_both = of_late.replace(
+        b"app:2 2 get-now PMIX_SUCCESS v", b"app:2 2 get-now PMIX_ERR_NOT_FOUND"
+    )
+    return [
         ("every call succeeds", CARDS, CARDS_REPORT, b""),
         ("a rank waits", late, of_late, b"wire_up: app:2 3 lookup-wait waiting\n"),
         ("a get finds nothing", lost, of_lost, b"wire_up: app:2 2 get-now PMIX_ERR_NOT_FOUND\n"),
@@ -138,8 +163,12 @@ def completions(room: str) -> Runs:
             b"wire_up: app:0 1 get waiting\n",
         ),
         ("no call", b"rehearsal 1\n", b"waiting 0\n", b""),
-    )
-    for name, plan, report, said in rows:
+    ]
+
+
+def completions_of_plans() -> Runs:
+    """Plans of which a call doesn't succeed, or each does."""
+    for name, plan, report, said in plans_to_complete():
         yield Run(f"{name}, plainly", ["replay"], given=plan, wrote=report)
         for options in (NO_OPTION, ["--workers", "3"], ["--large"], ["--anyway"]):
             yield Run(
@@ -159,6 +188,12 @@ def completions(room: str) -> Runs:
                 wrote=as_json(report),
                 said=said,
             )
+
+
+def completions_of_races(room: str) -> Runs:
+    """A plan with a race."""
+    racy = written(room, "racy.plan", RACY)
+    race = b"race app:0 2 app:1 1 key app:0 k"
     for options in (NO_OPTION, ["--workers", "2"]):
         yield Run(
             f"a race, complete {options}",
@@ -178,6 +213,14 @@ def completions(room: str) -> Runs:
         status=1,
         wrote=(b"unsettled\n", b"order 3\n"),
     )
+
+
+def completions_that_fail(room: str) -> Runs:
+    """Files that are refused, streams that are closed or full, and odd words."""
+    racy = written(room, "racy.plan", RACY)
+    usage = (b"Usage: wire_up",)
+    late = CARDS.replace(b"lookup-wait x", b"lookup-wait y")
+    of_late = CARDS_REPORT.replace(b"PMIX_SUCCESS 7\nwaiting 0", b"waiting\nwaiting 1")
     yield Run(
         "complete, and a file that is refused",
         ["replay", "--complete"],
@@ -211,23 +254,28 @@ KEEPING = (
     b"rehearsal 2\nkeep\nnode n0\nnode n1\njob app\n"
     b"rank n0\nput global k v\ncommit\nrank n1\n"
     b"get app:0 k\nfence app:1,app:2\nrank n1\n"
+    b"fence app:1,app:2\nget-now app:0 k\n"
 )
 
 
 def keepings(room: str) -> Runs:
     """The runs of plans that keep what gets bring, and of lines `keep` that are refused."""
-    alone, fence = b"rehearsal 2\nkeep\n", b"fence app:1,app:2\n"
+    yield from keepings_of_plans()
+    yield from keepings_with_races()
+    yield from refused_keepings()
+
+
+def keepings_of_plans() -> Runs:
+    """Plans that keep, or don't."""
+    alone = b"rehearsal 2\nkeep\n"
     calls = (
         b"app:0 1 put PMIX_SUCCESS\napp:0 2 commit PMIX_SUCCESS\n"
         b"app:1 1 get %s\napp:1 2 fence PMIX_SUCCESS\n"
-        b"app:2 1 fence PMIX_SUCCESS\n"
+        b"app:2 1 fence PMIX_SUCCESS\napp:2 2 get-now %s\nwaiting 0\n"
     )
-    calls += b"app:2 2 get-now %s\nwaiting 0\n"
-    found, none, outside = (
-        b"PMIX_SUCCESS v",
-        b"PMIX_ERR_NOT_FOUND",
-        b"PMIX_ERR_EXISTS_OUTSIDE_SCOPE",
-    )
+    found = b"PMIX_SUCCESS v"
+    none = b"PMIX_ERR_NOT_FOUND"
+    outside = b"PMIX_ERR_EXISTS_OUTSIDE_SCOPE"
     rows = {
         "a get brings the value": (KEEPING, calls % (found, found)),
         "without keep a get brings nothing": (
@@ -249,7 +297,13 @@ def keepings(room: str) -> Runs:
                 given=plan,
                 wrote=report,
             )
-    racy, race = KEEPING.replace(fence, b""), b"race app:1 1 app:2 1 key app:0 k\nfindings 1\n"
+
+
+def keepings_with_races() -> Runs:
+    """A plan in which what a get brings races."""
+    fence = b"fence app:1,app:2\n"
+    racy = KEEPING.replace(fence, b"")
+    race = b"race app:1 1 app:2 1 key app:0 k\nfindings 1\n"
     yield Run("a get that brings races: check", ["check"], given=racy, status=1, wrote=race)
     for workers in ("1", "2", "7", "64"):
         yield Run(
@@ -265,6 +319,11 @@ def keepings(room: str) -> Runs:
         given=b"# a note\n" + KEEPING,
         wrote=KEEPING,
     )
+
+
+def refused_keepings() -> Runs:
+    """Lines `keep` that are refused."""
+    alone = b"rehearsal 2\nkeep\n"
     refused = {
         "in version 1": (b"rehearsal 1\nkeep\n", 2),
         "twice": (alone + b"keep\n", 3),
