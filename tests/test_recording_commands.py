@@ -62,6 +62,8 @@ class CommandLineTest(RoomTest):
     def test_options(self) -> None:
         self.use(["-o", self.plan, "--loud", "true"], 125, "wire_up-record: --loud is no option\n")
         self.use(["-o", self.plan, "--str", "true"], 125, "--str is no option")
+        self.use(["-o", self.plan, "-5"], 125, "-5 is no option")
+        self.use(["-o", self.plan, "--strict=yes", "true"], 125, "--strict=yes is no option")
         self.use(["-o", self.plan, "-o", self.plan, "true"], 125, "-o stands twice")
         self.use(["-o"], 125, "-o needs a file")
         self.use(["--keep"], 125, "--keep needs a folder")

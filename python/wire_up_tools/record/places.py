@@ -9,8 +9,8 @@ from collections.abc import Iterable, Iterator, Mapping, Sequence
 from dataclasses import dataclass
 from typing import Optional
 
+from wire_up_tools.failures import Refused
 from wire_up_tools.record.draft import Draft, Line
-from wire_up_tools.record.failures import Refused
 from wire_up_tools.record.forms import decode_text
 from wire_up_tools.record.processes import Process
 from wire_up_tools.record.recordings import Address, Place

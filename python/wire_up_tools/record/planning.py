@@ -2,10 +2,10 @@
 from collections.abc import Sequence
 from dataclasses import dataclass
 
+from wire_up_tools.failures import Refused
 from wire_up_tools.limits import VERSION_1, Limits
 from wire_up_tools.record.draft import Draft, Part, Step, make_draft, walk
 from wire_up_tools.record.notes import Notes
-from wire_up_tools.record.failures import Refused
 from wire_up_tools.record.meetings import Sets
 from wire_up_tools.record.mpi_order import order_by_mpi
 from wire_up_tools.record.names import Spelling, find_spelling

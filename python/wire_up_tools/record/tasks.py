@@ -9,9 +9,9 @@ from dataclasses import dataclass, replace
 from typing import Optional, Union
 
 from wire_up_tools.checker import Checker, find_checker
+from wire_up_tools.failures import Refused
 from wire_up_tools.files import STANDARD_OUTPUT, write_whole
 from wire_up_tools.limits import LARGE, VERSION_1
-from wire_up_tools.record.failures import Refused
 from wire_up_tools.record.places import find_call_place, find_places, read_places, write_places
 from wire_up_tools.record.planning import Choices, Plan, make_plan
 from wire_up_tools.record.recordings import Recording, read_recordings
