@@ -79,6 +79,8 @@ class CommandLineTest(RoomTest):
         self.use(["-o", "-", "--from", self.good], 0)
         self.use(["-o", self.plan, "--from", self.room], 0)
         none = os.path.join(self.room, "none")
+        twice = ["-o", self.plan, "--from", self.good, "--", self.good]
+        self.use(twice, 125, "is rank 0 of job once more")
         self.use(["-o", self.plan, "--from", none], 125, "none: No such file")
 
     def test_where_the_plan_goes(self) -> None:
@@ -185,7 +187,9 @@ class WhereTest(RoomTest):
 
     def test_words_that_are_wrong(self) -> None:
         few: list[str] = []
-        for words in (few, ["app:0", "1"], ["app:0", "0", self.plan], ["app:0", "x", self.plan]):
+        more = ["app:0", "1", self.plan, "--", "app:1"]
+        wrong = ["app:0", "0", self.plan], ["app:0", "x", self.plan]
+        for words in (few, ["app:0", "1"], more, *wrong):
             with self.subTest(words):
                 ran = run_recorder("--where", *words)
                 self.assertEqual(ran.returncode, 125)

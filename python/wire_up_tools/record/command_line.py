@@ -102,7 +102,7 @@ def read_request(words: Sequence[str]) -> Request:
     """What a command line asks for. Raises Unusable."""
     found = RecorderParser().read(words)
     if found.where is not None:
-        return read_where_request(found.where)
+        return read_where_request([*found.where, *found.rest])
     if found.o is None:
         raise Unusable("-o PLAN says where the plan goes")
     output = Output(
@@ -117,9 +117,11 @@ def read_request(words: Sequence[str]) -> Request:
         if not found.rest:
             raise Unusable("which command?")
         return CommandRequest(output, found.rest)
-    if not found.files or output.kept:
-        raise Unusable("--keep goes with a command" if found.files else "which recordings?")
-    return FilesRequest(output, found.files)
+    # Two hyphens may stand between them.
+    files = [*found.files, *found.rest]
+    if not files or output.kept:
+        raise Unusable("--keep goes with a command" if files else "which recordings?")
+    return FilesRequest(output, files)
 
 
 def stop(number: int, _: Optional[FrameType]) -> None:
