@@ -1,0 +1,89 @@
+"""Asks the checker about one plan, and judges how it ended."""
+import json
+import subprocess
+import tempfile
+from collections.abc import Generator
+from dataclasses import dataclass
+from typing import Any
+
+from wire_up_tools.checker import Answer, Checker
+from wire_up_tools.plan import Call
+from wire_up_tools.report.errors import Refused
+
+# The exit statuses of an answer: nothing is found, or something is.
+CLEAN, FOUND = 0, 1
+
+
+@dataclass(frozen=True)
+class Asker:
+    """The checker, and the bytes of the plan that it is asked about."""
+
+    checker: Checker
+    data: bytes
+
+    def version(self) -> str:
+        """The version of the checker. Raises Refused if it can't be run."""
+        try:
+            return self.checker.version()
+        except OSError as why:
+            raise Refused(f"{self.checker.path}: {why.strerror}") from None
+
+    def has_command(self, command: str) -> bool:
+        """Whether the checker has a command. Raises Refused if it can't be run."""
+        try:
+            return self.checker.has_command(command)
+        except OSError as why:
+            raise Refused(f"{self.checker.path}: {why.strerror}") from None
+
+    def ask(self, command: str, *words: str) -> Answer:
+        """Asks a command. Raises Refused if the checker can't be run."""
+        try:
+            return self.checker.ask(command, *words, plan=self.data)
+        except OSError as why:
+            raise Refused(f"{self.checker.path}: {why.strerror}") from None
+
+    def judge(self, status: int, stderr: str) -> None:
+        """Raises Refused for a status that isn't that of an answer, with what was said last."""
+        if status not in (CLEAN, FOUND):
+            last = stderr.strip().split("\n")[-1]
+            raise Refused(last or f"{self.checker.path} ended with status {status}")
+
+    def refuse(self, wanted: str) -> Refused:
+        """What to raise for an answer that isn't what was wanted."""
+        return Refused(f"{self.checker.path}: what it wrote is no {wanted}")
+
+
+def read_json(answer: Answer) -> dict[str, Any]:
+    """The object that the checker wrote; an empty one, if it wrote none."""
+    try:
+        said = json.loads(answer.stdout)
+    except ValueError:
+        return {}
+    return said if isinstance(said, dict) else {}
+
+
+def name_pair(first: Call, second: Call) -> list[str]:
+    """Two calls as `why` and `witness` take them."""
+    return [first.rank.name, str(first.number), second.rank.name, str(second.number)]
+
+
+def stream_check(asker: Asker) -> Generator[str, None, None]:
+    """The lines that `check` writes, one after another: there may be millions.
+
+    Raises Refused, before the first, if the plan is refused.
+    """
+    with tempfile.TemporaryFile() as plan, tempfile.TemporaryFile() as errors:
+        plan.write(asker.data)
+        plan.seek(0)
+        words = [asker.checker.path, "check", *["--large"] * asker.checker.is_large]
+        with subprocess.Popen(
+            words, stdin=plan, stdout=subprocess.PIPE, stderr=errors, text=True, errors="replace"
+        ) as ran:
+            try:
+                for line in ran.stdout or ():
+                    yield line.rstrip("\n")
+                status = ran.wait()
+            finally:
+                ran.kill()
+        errors.seek(0)
+        asker.judge(status, errors.read().decode("utf-8", "replace"))

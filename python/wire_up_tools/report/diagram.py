@@ -1,0 +1,195 @@
+"""What stands in a diagram: lanes from left to right, and calls and fences at rows below them.
+
+`race_diagram` and `wire_up_diagram` make diagrams, and `drawing` and `text_drawing` draw them.
+"""
+import dataclasses
+import enum
+from collections.abc import Iterable, Mapping, Sequence
+from dataclasses import dataclass
+from typing import Optional
+
+from wire_up_tools.plan import Call, Meeting
+from wire_up_tools.report.orders import Order
+from wire_up_tools.report.phrases import count_of, pick
+
+# How much a diagram shows: lanes, rows, and characters of a label.
+LANES, ROWS, LABEL_WIDTH = 12, 20, 26
+
+
+class Style(enum.Enum):
+    """How a call is drawn: as one of two that race, as waiting for ever, or as never reached."""
+
+    PLAIN = ""
+    RACING = "racing"
+    WAITING = "waiting"
+    UNREACHED = "unreached"
+
+
+class Part(enum.IntEnum):
+    """What comes first of what is equally deep: a call, a fence, or all between two fences."""
+
+    CALL = 0
+    FENCE = 1
+    BETWEEN = 2
+
+
+@dataclass(frozen=True, order=True)
+class Row:
+    """The row of a diagram: by how deep it is, and by the number of a fence. Lesser is higher."""
+
+    depth: int
+    part: Part
+    number: int = 0
+
+
+@dataclass(frozen=True)
+class Lane:
+    """A lane: its name, and what stands below the name."""
+
+    name: str
+    below: str
+
+
+@dataclass(frozen=True, eq=False)
+class Item:
+    """A call in a lane, or several in a row.
+
+    `first` and `last` are their numbers in their rank, 0 for calls of several ranks, and `line`
+    is that of the first in the plan.
+    """
+
+    lane: int
+    row: Row
+    label: str
+    line: Optional[int] = None
+    style: Style = Style.PLAIN
+    verb: str = ""
+    first: int = 0
+    last: int = 0
+
+
+@dataclass(frozen=True)
+class Mark:
+    """The call of a fence in a lane: its label, its line in the plan, and its number."""
+
+    label: str
+    line: Optional[int] = None
+    number: int = 0
+
+
+@dataclass(frozen=True)
+class Bar:
+    """A fence: a bar over lanes, with the mark of each lane whose calls meet in it."""
+
+    row: Row
+    marks: Mapping[int, Mark]
+
+
+@dataclass(frozen=True)
+class Link:
+    """Two items that a line joins. An arrow leads from what is awaited to what waits for it."""
+
+    source: Item
+    target: Item
+
+
+@dataclass(frozen=True)
+class Spot:
+    """Where something stands in a lane: its row, and the numbers of its first and last call."""
+
+    row: Row
+    first: int
+    last: int
+
+
+@dataclass(frozen=True)
+class Diagram:
+    """A diagram: lanes, what stands in them, and what is said below it."""
+
+    lanes: Sequence[Lane]
+    items: Sequence[Item]
+    bars: Sequence[Bar]
+    arrows: Sequence[Link] = ()
+    race: Optional[Link] = None
+    notes: Sequence[str] = ()
+
+    @property
+    def rows(self) -> list[Row]:
+        """Its rows, from the top."""
+        return sorted({it.row for it in self.items} | {it.row for it in self.bars})
+
+    @property
+    def links(self) -> list[Link]:
+        """All lines that join two items."""
+        return [*self.arrows, *([self.race] if self.race else [])]
+
+    @property
+    def lines(self) -> set[int]:
+        """The lines of the plan that it names."""
+        marks = (mark.line for bar in self.bars for mark in bar.marks.values())
+        return {line for line in (*(it.line for it in self.items), *marks) if line}
+
+    def list_spots(self, lane: int) -> list[Spot]:
+        """What stands in a lane, from the top."""
+        spots = {Spot(it.row, it.first, it.last) for it in self.items if it.lane == lane}
+        for bar in self.bars:
+            if lane in bar.marks:
+                number = bar.marks[lane].number
+                spots.add(Spot(bar.row, number, number))
+        return sorted(spots, key=lambda it: (it.row, it.last))
+
+
+def row_of(order: Order, call: Call) -> Row:
+    """The row of a call."""
+    return Row(order.depth_of(call), Part.CALL)
+
+
+def row_of_meeting(order: Order, meeting: Meeting) -> Row:
+    """The row of a fence."""
+    return Row(order.depth_of_meeting(meeting), Part.FENCE, meeting.number)
+
+
+def label_call(call: Call) -> str:
+    """What stands beside a call."""
+    what = " collect" if call.collects else f" {call.about}" if call.about else ""
+    return f"{call.number} {call.verb}{what}"
+
+
+def make_bars(order: Order, lanes: Mapping[str, int], meetings: Iterable[Meeting]) -> list[Bar]:
+    """The bars of fences over the lanes of their members, by the names of the ranks."""
+    rows = {row_of_meeting(order, it): it for it in meetings}
+    bars = [Bar(row, make_marks(rows[row], lanes)) for row in sorted(rows)]
+    return [it for it in bars if it.marks]
+
+
+def make_marks(meeting: Meeting, lanes: Mapping[str, int]) -> dict[int, Mark]:
+    """The marks of the calls of a fence, by their lanes."""
+    return {
+        lanes[call.rank.name]: Mark(label_call(call), call.line, call.number)
+        for call in meeting.calls
+        if call.rank.name in lanes
+    }
+
+
+def leave_out_implied(diagram: Diagram) -> Diagram:
+    """Leaves out the arrows between calls that a fence of the diagram orders: its bar says it."""
+    kept = [
+        it
+        for it in diagram.arrows
+        if it.target.style is Style.WAITING or not any(is_said(bar, it) for bar in diagram.bars)
+    ]
+    return dataclasses.replace(diagram, arrows=kept)
+
+
+def is_said(bar: Bar, link: Link) -> bool:
+    """Whether the source of a link comes before a fence in its lane, and the target after it."""
+    before, after = bar.marks.get(link.source.lane), bar.marks.get(link.target.lane)
+    if before is None or after is None:
+        return False
+    return link.source.last < before.number and after.number < link.target.last
+
+
+def say_not_drawn(count: int, noun: str, plural: Optional[str] = None) -> list[str]:
+    """The note that so many aren't drawn; none where all are."""
+    said = f"{count_of(count, noun, plural)} {pick(count, 'is', 'are')} not drawn."
+    return [said] if count else []

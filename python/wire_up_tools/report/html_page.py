@@ -1,0 +1,302 @@
+"""Writes a report as a page of HTML.
+
+The page loads nothing and runs no script, whatever a plan holds.
+"""
+import datetime
+from collections.abc import Iterable, Sequence
+
+from wire_up_tools import words
+from wire_up_tools.plan import Call
+from wire_up_tools.report import explaining, verdict
+from wire_up_tools.report.contents import ENDINGS, Detail, Report, WireUp
+from wire_up_tools.report.drawing import draw_figure
+from wire_up_tools.report.findings import PAIRS, Finding, Group, Kind
+from wire_up_tools.report.markup import escape, escape_lines
+from wire_up_tools.report.page_style import STYLE
+from wire_up_tools.report.phrases import VALUE_WIDTH, count_of, cut, describe_circle, pick
+from wire_up_tools.report.runs import Outcome, Run, Runs
+
+# How many more groups are told in a line each, and how many steps of an order are shown.
+MORE_GROUPS, STEPS = 400, 2000
+# A plan of more lines is cut to what is named, with so many lines around it.
+WHOLE_PLAN, AROUND = 400, 2
+# How many characters of a line of the plan are shown.
+LINE_WIDTH = 160
+
+HEAD = """<!DOCTYPE html>
+<html lang="en">
+<head>
+<meta charset="utf-8">
+<meta http-equiv="Content-Security-Policy" content="default-src 'none'; style-src 'unsafe-inline'">
+<meta name="viewport" content="width=device-width, initial-scale=1">
+<title>{title}</title>
+<style>{style}</style>
+</head>
+<body>
+"""
+FOOT = "\n</body>\n</html>\n"
+LISTS_ALL = "<code>wire_up check</code> lists all."
+
+
+def write_page(report: Report) -> str:
+    """The whole page."""
+    title = escape(f"{report.name}: {verdict.say_found(report)}")
+    parts = [write_header(report)]
+    parts += [write_detail(report, number, it) for number, it in enumerate(report.details, 1)]
+    parts += [write_others(report)] if report.others else []
+    parts += [write_wire_up(report.wire_up)] if report.wire_up else []
+    parts.append(write_plan(report))
+    return HEAD.format(title=title, style=STYLE) + "\n".join(parts) + FOOT
+
+
+# --- the header ---
+
+
+def write_header(report: Report) -> str:
+    """The verdict, what holds only in part, and the list of the groups."""
+    kind, badge = choose_badge(report)
+    version, today = report.version, datetime.date.today()
+    meta = f"{verdict.say_size(report)} · checked by wire_up {version} · {today:%d %b %Y}"
+    title = f"{escape(report.name)}: {verdict.say_found(report)}"
+    parts = [
+        f'<header class="{kind}"><div class="top"><h1>{title}</h1>',
+        f'<span class="badge">{badge}</span></div><p>{escape(verdict.say_verdict(report))}</p>'
+        f'<p class="meta">{escape(meta)}</p>',
+    ]
+    if report.ordered_more:
+        why = escape("; ".join(report.ordered_more))
+        parts.append(
+            '<p class="part">This holds only in part. The plan is more ordered than the program, '
+            f"so a race can be missed: {why}.</p>"
+        )
+    parts += [write_recording(report)] if report.plan.is_recorded else []
+    parts += [write_contents(report)] if len(report.groups) > 1 else []
+    return "\n".join([*parts, "</header>"])
+
+
+def choose_badge(report: Report) -> tuple[str, str]:
+    """The kind of the verdict, and its words."""
+    if report.groups:
+        has_race = any(it.first.kind is not Kind.REWRITE for it in report.groups)
+        return "found", "races found" if has_race else "keys put again"
+    return ("waits", "ranks wait for ever") if report.waits else ("quiet", "no race")
+
+
+def write_recording(report: Report) -> str:
+    """The head of a recorded plan, and how much was left out."""
+    kinds = count_of(len(report.left_out), "kind of call", "kinds of calls")
+    left_out = f"{kinds} left out" if report.left_out else "nothing left out"
+    head = escape_lines(report.plan.declared.head)
+    summary = f"<summary>A recording, with {left_out}</summary>"
+    return f"<details>{summary}<pre>{head}</pre></details>"
+
+
+def write_contents(report: Report) -> str:
+    """A list of the groups that are told in full."""
+    rows = []
+    for number, detail in enumerate(report.details, 1):
+        link = f'<a href="#group-{number}">{escape(explaining.title(detail.group.first))}</a>'
+        rows.append(f"<li>{link} {write_count(f'{detail.group.count:,}')}</li>")
+    return f"<ol>{''.join(rows)}</ol>"
+
+
+def write_count(said: str) -> str:
+    """A number beside a title."""
+    return f'<span class="count">{said}</span>'
+
+
+# --- a group ---
+
+
+def write_detail(report: Report, number: int, detail: Detail) -> str:
+    """A group of findings that is told in full."""
+    group, one = detail.group, detail.group.first
+    title = f"{number}. {escape(explaining.title(one))} {write_count(verdict.say_count(group))}"
+    fix = escape(explaining.fix(one, report.order.uses))
+    calls = " and ".join(f"{it.name} {it.verb}" for it in one.calls)
+    figure = draw_figure(detail.diagram, f"Diagram: {calls}")
+    parts = [
+        f'<section id="group-{number}" class="found"><h2>{title}</h2>',
+        write_calls(report, one.calls),
+        f"<p>{escape(explaining.explain(one))}</p>",
+        f'<p class="fix"><strong>Fix:</strong> {fix}</p>',
+        f'<div class="both">{figure}{write_runs(report, one, detail.runs)}</div>',
+    ]
+    parts += [write_pairs(group)] if group.count > 1 else []
+    return "\n".join([*parts, "</section>"])
+
+
+def write_calls(report: Report, calls: Sequence[Call]) -> str:
+    """Calls with their lines and places."""
+    has_places = any(it.place for it in calls)
+    head = "<tr><th>call</th><th>in the plan</th>"
+    head += "<th>in the program</th></tr>" if has_places else "</tr>"
+    rows = []
+    for call in calls:
+        place = f"<td>{escape(call.place or words.UNKNOWN_PLACE)}</td>" if has_places else ""
+        link = link_to_call(call, f"{report.name}:{call.line}")
+        rows.append(f"<tr><td>{escape(f'{call.name} {call.verb}')}</td><td>{link}</td>{place}</tr>")
+    return f'<div class="wide" tabindex="0"><table>{head}{"".join(rows)}</table></div>'
+
+
+def link_to_call(call: Call, said: str) -> str:
+    """A link to the line of a call."""
+    return f'<a href="#line-{call.line}">{escape(said)}</a>'
+
+
+def link_with_place(call: Call) -> str:
+    """A call as a link to its line, with its place in the program."""
+    place = f" ({escape(call.place)})" if call.place else ""
+    return link_to_call(call, f"{call.name} {call.verb}") + place
+
+
+def write_runs(report: Report, finding: Finding, runs: Runs) -> str:
+    """The two runs that show a race, or what it means that there are none."""
+    if runs.outcome is not Outcome.SHOWN:
+        said = escape(verdict.WITHOUT_RUNS[runs.outcome])
+        return f'<div class="runs"><h3>Two runs</h3><p>{said}</p></div>'
+    parts = ['<div class="runs"><h3>Two runs that show it</h3><dl>']
+    for which, run in zip(("first", "second"), runs.both):
+        parts += write_ends(run)
+        parts.append(f"<dd>{write_steps(report, finding, which, run)}</dd>")
+    rest = len(runs.both[0].ends) - ENDINGS
+    more = f"{count_of(rest, 'more call')} {pick(rest, 'ends', 'end')} differently."
+    return "".join([*parts, "</dl>", f"<p>{more}</p>" * (rest > 0), "</div>"])
+
+
+def write_ends(run: Run) -> list[str]:
+    """How the calls end that end otherwise in the other run."""
+    call = run.starts_with
+    title = f"If the {escape(call.verb)} ({escape(call.name)}) comes first"
+    ends = [
+        f"<dd class=mono>{escape(it.call)} {escape(it.verb)}: {write_end(it.said)}</dd>"
+        for it in run.ends[:ENDINGS]
+    ]
+    return [f"<dt>{title}</dt>", *ends]
+
+
+def write_end(end: str) -> str:
+    """How a call ended. A long value is cut, and has its whole as a title."""
+    if len(end) <= VALUE_WIDTH:
+        return escape(end)
+    return f'<span title="{escape(end)}">{escape(cut(end, VALUE_WIDTH))}</span>'
+
+
+def write_steps(report: Report, finding: Finding, which: str, run: Run) -> str:
+    """The steps of a run, to copy; of a long one, how to get them."""
+    count = len(run.order)
+    if count > STEPS:
+        one, other = finding.calls
+        said = escape(f"wire_up witness --{which} {one.name} {other.name}")
+        return f"<p>Its {count:,} steps: <code>{said} {escape(report.name)}</code></p>"
+    title = f"its {count_of(count, 'step')}, for <code>wire_up follow</code>"
+    steps = escape_lines(run.order)
+    return f"<details><summary>{title}</summary><pre>{steps}</pre></details>"
+
+
+def write_pairs(group: Group) -> str:
+    """The pairs of a group after the first."""
+    pairs = [" and ".join(map(link_with_place, it.calls)) for it in group.others]
+    rest = group.count - 1 - len(pairs)
+    more = f"<p>{rest:,} more: {LISTS_ALL}</p>" if rest else ""
+    ranks = count_of(group.rank_count, "rank")
+    title = f"{count_of(group.count - 1, 'other pair')}, {ranks} in all"
+    rows = "".join(f"<li>{it}</li>" for it in pairs)
+    return f'<details><summary>{title}</summary><ul class="mono">{rows}</ul>{more}</details>'
+
+
+def write_others(report: Report) -> str:
+    """The groups that aren't told in full."""
+    rows = [write_other(it) for it in report.others[:MORE_GROUPS]]
+    rest = len(report.others) - len(rows)
+    more = f"<p>And {count_of(rest, 'other group')}: {LISTS_ALL}</p>" if rest else ""
+    title = f"{count_of(len(report.others), 'other group')}, without diagrams"
+    return f'<section class="long"><h2>{title}</h2><ul>{"".join(rows)}</ul>{more}</section>'
+
+
+def write_other(group: Group) -> str:
+    """A group in one line."""
+    calls = " and ".join(link_to_call(it, it.name) for it in group.first.calls)
+    title = escape(explaining.title(group.first))
+    return f"<li>{title} {write_count(f'{group.count:,}')}: {calls}</li>"
+
+
+# --- a plan without findings ---
+
+
+def write_wire_up(wire_up: WireUp) -> str:
+    """The diagram of a wire-up, and who waits for ever."""
+    parts = []
+    if wire_up.diagram.rows:
+        figure = draw_figure(wire_up.diagram, "Diagram of the wire-up")
+        parts += ["<section><h2>The wire-up</h2>", figure, "</section>"]
+    if wire_up.waits:
+        parts.append(write_waits(wire_up))
+    return "\n".join(parts)
+
+
+def write_waits(wire_up: WireUp) -> str:
+    """Who waits for ever, and why."""
+    count = len(wire_up.waits)
+    title = f"{count_of(count, 'rank waits', 'ranks wait')} for ever"
+    shown = wire_up.waits[:PAIRS]
+    rows = "".join(f"<li>{link_with_place(it.call)}: {escape(it.reason)}</li>" for it in shown)
+    more = f"<p>And {count_of(count - PAIRS, 'other rank')}.</p>" if count > PAIRS else ""
+    circle = escape(describe_circle(wire_up.circle)) if wire_up.circle else ""
+    parts = [f"<section><h2>{title}</h2>"]
+    parts += [f'<p class="part">In a circle: {circle}.</p>'] if circle else []
+    return "\n".join([*parts, f"<ul>{rows}</ul>{more}</section>"])
+
+
+# --- the plan ---
+
+
+def write_plan(report: Report) -> str:
+    """The plan, whole where it is short, else what is named and what stands around it."""
+    lines, named = report.plan.lines, find_named(report)
+    shown = choose_lines(len(lines), named)
+    cut_to = f"cut to what is named: {len(shown):,} of {len(lines):,} lines"
+    count = f" {write_count(cut_to)}" if len(lines) > WHOLE_PLAN else ""
+    parts = [f'<section class="long"><h2>The plan{count}</h2><div class="plan mono">']
+    before = 0
+    for number in shown:
+        parts += write_left_out(number - before - 1)
+        parts.append(write_line(number, lines[number - 1], number in named))
+        before = number
+    parts += write_left_out(len(lines) - before)
+    return "\n".join([*parts, "</div></section>"])
+
+
+def find_named(report: Report) -> set[int]:
+    """The lines of the plan to which the page has links."""
+    calls = [it.call for it in report.waits[:PAIRS]]
+    found = set(report.wire_up.diagram.lines if report.wire_up else ())
+    for detail in report.details:
+        found |= detail.diagram.lines
+        findings = (detail.group.first, *detail.group.others)
+        calls += (call for it in findings for call in it.calls)
+    calls += (call for it in report.others[:MORE_GROUPS] for call in it.first.calls)
+    return found.union(it.line for it in calls)
+
+
+def choose_lines(count: int, named: Iterable[int]) -> Sequence[int]:
+    """The lines to show of so many: all of a short plan."""
+    if count <= WHOLE_PLAN:
+        return range(1, count + 1)
+    near = {it for line in named for it in range(line - AROUND, line + AROUND + 1)}
+    return sorted(it for it in near if 1 <= it <= count)
+
+
+def write_left_out(count: int) -> list[str]:
+    """How many lines are left out, if any."""
+    return [f'<div class="cut"><b>…</b>{count_of(count, "line")}</div>'] if count > 0 else []
+
+
+def write_line(number: int, line: str, is_named: bool) -> str:
+    """A line of the plan. A long one is cut, and has its whole as a title."""
+    said = line.split()
+    kind = "said" if said and said[0].startswith("#") else ""
+    kind = "named" if is_named else kind
+    title = f' title="{escape(line)}"' if len(line) > LINE_WIDTH else ""
+    shown = f"<b>{number}</b>{escape(cut(line, LINE_WIDTH))}"
+    return f'<div id="line-{number}" class="{kind}"{title}>{shown}</div>'

@@ -1,0 +1,136 @@
+"""The diagram of a finding: its two calls, and what stands near them."""
+import itertools
+from collections.abc import Mapping, Sequence
+
+from wire_up_tools.plan import Call, Rank
+from wire_up_tools.report.asking import Asker
+from wire_up_tools.report.chains import find_chain
+from wire_up_tools.report.diagram import (
+    LANES,
+    ROWS,
+    Diagram,
+    Item,
+    Lane,
+    Link,
+    Style,
+    label_call,
+    leave_out_implied,
+    make_bars,
+    row_of,
+    say_not_drawn,
+)
+from wire_up_tools.report.findings import Finding, Kind
+from wire_up_tools.report.orders import Order
+
+# How many calls of a chain are shown, those next to its end.
+CHAIN = 6
+# How many calls before a call of the finding are shown, and how many after it.
+BEFORE, AFTER = 2, 1
+# How many gets are shown of a key that is put again.
+READERS = 2
+
+
+def make_race_diagram(finding: Finding, asker: Asker, order: Order) -> Diagram:
+    """The diagram of a finding."""
+    calls = choose_fitting(list_calls(finding, asker, order))
+    ranks = sorted({it.rank for it in calls}, key=lambda rank: rank.index)
+    lanes = {rank.name: lane for lane, rank in enumerate(ranks)}
+    items = make_items(finding, order, calls, lanes)
+    race = Link(items[finding.first], items[finding.second])
+    meetings = {order.plan.meeting_of[it] for it in calls if it in order.plan.meeting_of}
+    diagram = Diagram(
+        lanes=[Lane(it.name, f"on {it.node}") for it in ranks],
+        items=list(items.values()),
+        bars=make_bars(order, lanes, meetings),
+        arrows=make_arrows(order, items),
+        race=None if finding.kind is Kind.REWRITE else race,
+        notes=say_not_drawn(len(order.plan.ranks) - len(ranks), "other rank"),
+    )
+    return leave_out_implied(diagram)
+
+
+def list_calls(finding: Finding, asker: Asker, order: Order) -> list[Call]:
+    """The calls to show, those first that matter most."""
+    found = [*finding.calls]
+    if finding.kind is Kind.REWRITE:
+        found += list_around_rewrite(finding, order)
+    elif finding.kind is Kind.KEY:
+        found += list_around_key(finding, order)
+    if finding.kind is not Kind.REWRITE:
+        found += list_chain(asker, order, finding.first, finding.second)
+        found += list_chain(asker, order, finding.second, finding.first)
+    for call in finding.calls:
+        calls = order.plan.calls_of[call.rank.name]
+        start, end = max(call.number - BEFORE - 1, 0), call.number + AFTER
+        near = calls[start:end]
+        found += [it for it in near if it not in found]
+    return list(dict.fromkeys(found))
+
+
+def list_around_rewrite(finding: Finding, order: Order) -> list[Call]:
+    """The commits after two puts of one key, and the first gets of it."""
+    commits = [order.uses.find_commit(it) for it in finding.calls]
+    gets = [
+        it
+        for it in order.plan.calls
+        if it.verb in ("get", "get-now")
+        and it.target == finding.owner
+        and it.about == finding.about
+    ]
+    return [*(it for it in commits if it), *gets[:READERS]]
+
+
+def list_around_key(finding: Finding, order: Order) -> list[Call]:
+    """The put of the key, and of a fence that brings it the call by a rank of the reader's node."""
+    puts = order.uses.puts.get((finding.owner or "", finding.about), ())
+    fence, reader = finding.calls
+    if fence.verb != "fence":
+        fence, reader = reader, fence
+    meeting = order.plan.meeting_of.get(fence)
+    calls = meeting.calls if meeting else ()
+    return [*puts[:1], *[it for it in calls if it.rank.node == reader.rank.node][:1]]
+
+
+def list_chain(asker: Asker, order: Order, first: Call, second: Call) -> Sequence[Call]:
+    """The chain, from its end, to a call from the last call of the other's rank before it."""
+    nearest = order.find_nearest(first.rank, second)
+    chain = find_chain(asker, order.plan, nearest, second) if nearest else ()
+    return list(itertools.islice(reversed(chain), CHAIN))
+
+
+def choose_fitting(calls: Sequence[Call]) -> list[Call]:
+    """As many of the calls as there is room for, those first that stand first."""
+    kept: list[Call] = []
+    ranks: set[Rank] = set()
+    for call in calls:
+        has_lane = call.rank in ranks or len(ranks) < LANES
+        if has_lane and len(kept) < ROWS - 2:
+            ranks.add(call.rank)
+            kept.append(call)
+    return kept
+
+
+def make_items(
+    finding: Finding, order: Order, calls: Sequence[Call], lanes: Mapping[str, int]
+) -> dict[Call, Item]:
+    """The items of the calls but for fences, which are bars, unless they are of the finding."""
+    return {
+        call: Item(
+            lane=lanes[call.rank.name],
+            row=row_of(order, call),
+            label=f"{call.number} fence: comes" if call.verb == "fence" else label_call(call),
+            line=call.line,
+            style=Style.RACING if call in finding.calls else Style.PLAIN,
+            verb=call.verb,
+            first=call.number,
+            last=call.number,
+        )
+        for call in calls
+        if call.verb != "fence" or call in finding.calls
+    }
+
+
+def make_arrows(order: Order, items: Mapping[Call, Item]) -> list[Link]:
+    """The arrows to calls from those for which they wait."""
+    awaited = ((it, order.uses.find_awaited(it)) for it in items)
+    return [Link(items[it], items[call]) for call, it in awaited if it and it in items]

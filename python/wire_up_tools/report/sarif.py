@@ -1,0 +1,114 @@
+"""Writes the findings of a report as SARIF 2.1.0: a result for each group."""
+import collections
+import json
+import os
+import re
+import urllib.parse
+from collections.abc import Mapping, Sequence
+from dataclasses import dataclass
+from typing import Any, Optional
+
+from wire_up_tools.plan import Call
+from wire_up_tools.report import explaining
+from wire_up_tools.report.contents import Report
+from wire_up_tools.report.findings import Finding, Group, Kind
+from wire_up_tools.report.phrases import count_of
+
+SCHEMA = "https://json.schemastore.org/sarif-2.1.0.json"
+NOT_WAITING = "A get that doesn't wait"
+EITHER_ORDER = "can come in either order"
+RULES = {
+    "commit-race": f"{NOT_WAITING}, and the commit that brings its key, {EITHER_ORDER}",
+    "get-race": (
+        f"{NOT_WAITING}, and the get of another rank of its node that brings its key, "
+        f"{EITHER_ORDER}"
+    ),
+    "fence-race": f"{NOT_WAITING}, and the fence that brings its key, {EITHER_ORDER}",
+    "name-race": f"Two calls on a published name {EITHER_ORDER}",
+    "rewrite": "A key is put again",
+}
+# How a place ends: with the name of a file and a line.
+PLACE = re.compile(r".*\((.+):([1-9]\d{0,8})\)")
+
+# The paths of files below a folder, by their names.
+Paths = Mapping[str, Sequence[str]]
+
+
+@dataclass(frozen=True)
+class Location:
+    """Where a call stands: the path of a file, and a line of it from 1."""
+
+    path: str
+    line: int
+
+
+def write_sarif(report: Report, source: Optional[str]) -> str:
+    """The whole text. `source` is the folder of the files that places name, if it is known."""
+    paths = find_files(source) if source else {}
+    rules = [{"id": it, "shortDescription": {"text": said}} for it, said in RULES.items()]
+    driver = {"name": "wire_up", "version": report.version, "rules": rules}
+    results = [make_result(report, it, paths) for it in report.groups]
+    runs = [{"tool": {"driver": driver}, "results": results}]
+    return json.dumps({"version": "2.1.0", "$schema": SCHEMA, "runs": runs}, indent=1) + "\n"
+
+
+def find_files(folder: str) -> Paths:
+    """The files below a folder. Hidden folders are left out."""
+    found = collections.defaultdict(list)
+    for path, folders, names in os.walk(folder):
+        folders[:] = [it for it in folders if not it.startswith(".")]
+        for name in names:
+            found[name].append(os.path.relpath(os.path.join(path, name), folder))
+    return found
+
+
+def make_result(report: Report, group: Group, paths: Paths) -> dict[str, Any]:
+    """The result of a group: its first finding, with its calls in the program and in the plan."""
+    one, rule = group.first, choose_rule(group.first)
+    names = {it: f"{it.name} {it.verb}" for it in one.calls}
+    fix = explaining.fix(one, report.order.uses)
+    title = f"{explaining.title(one)} ({count_of(group.count, 'finding')})."
+    in_plan = [
+        {"id": number, **make_location(locate_in_plan(report, it), f"{names[it]} in the plan")}
+        for number, it in enumerate(one.calls, 1)
+    ]
+    return {
+        "ruleId": rule,
+        "ruleIndex": list(RULES).index(rule),
+        "level": "warning",
+        "message": {"text": f"{title} {explaining.explain(one)} Fix: {fix}"},
+        "locations": [make_location(locate(report, it, paths), names[it]) for it in one.calls],
+        "relatedLocations": in_plan,
+        "partialFingerprints": {"group/v1": one.mistake},
+    }
+
+
+def choose_rule(finding: Finding) -> str:
+    """The rule of a finding, which is one of RULES."""
+    if finding.kind is Kind.KEY:
+        return f"{finding.bringer}-race"
+    return "name-race" if finding.kind is Kind.NAME else "rewrite"
+
+
+def locate(report: Report, call: Call, paths: Paths) -> Location:
+    """Where a call stands in the program, if the plan has its place, else in the plan.
+
+    A place has only the name of a file: its path is found if one file alone has that name.
+    """
+    read = PLACE.fullmatch(call.place or "")
+    if not read:
+        return locate_in_plan(report, call)
+    found = paths.get(read[1], ())
+    return Location(found[0] if len(found) == 1 else read[1], int(read[2]))
+
+
+def locate_in_plan(report: Report, call: Call) -> Location:
+    """Where a call stands in the plan."""
+    return Location(report.path, call.line)
+
+
+def make_location(where: Location, said: str) -> dict[str, Any]:
+    """A location with a message."""
+    uri = urllib.parse.quote(os.fsencode(where.path))
+    place = {"artifactLocation": {"uri": uri}, "region": {"startLine": where.line}}
+    return {"physicalLocation": place, "message": {"text": said}}

@@ -1,0 +1,103 @@
+"""Writes a report as text for a terminal."""
+import textwrap
+
+from wire_up_tools.plan import Call
+from wire_up_tools.report import explaining, verdict
+from wire_up_tools.report.contents import ENDINGS, Detail, Report, WireUp
+from wire_up_tools.report.findings import PAIRS
+from wire_up_tools.report.markup import REPLACEMENT
+from wire_up_tools.report.phrases import VALUE_WIDTH, count_of, cut, describe_circle
+from wire_up_tools.report.runs import Outcome, Run, Runs
+from wire_up_tools.report.text_drawing import draw_lines
+
+# How many characters a line has. Lines of calls and diagrams, which stand deeper than this, stay
+# whole.
+WIDTH, DEEPEST_FOLDED = 100, 3
+
+
+def write_text(report: Report) -> str:
+    """The whole report, in which nothing is a command to a terminal."""
+    lines = [
+        f"{report.name}: {verdict.say_found(report)}",
+        verdict.say_verdict(report),
+        f"{verdict.say_size(report)}; checked by wire_up {report.version}",
+    ]
+    if report.ordered_more:
+        why = "; ".join(report.ordered_more)
+        lines.append(f"This holds only in part. A race can be missed: {why}.")
+    if report.plan.is_recorded:
+        lines.append(f"A recording. Left out: {'; '.join(report.left_out) or 'nothing'}.")
+    for number, detail in enumerate(report.details, 1):
+        lines += ["", *write_detail(report, number, detail)]
+    if report.others:
+        lines += ["", f"{count_of(len(report.others), 'other group')}: wire_up check lists all."]
+    if report.wire_up:
+        lines += ["", *write_wire_up(report, report.wire_up)]
+    folded = (part for line in lines for part in fold(line))
+    return "".join(f"{make_printable(it)}\n" for it in folded)
+
+
+def write_detail(report: Report, number: int, detail: Detail) -> list[str]:
+    """A group of findings that is told in full."""
+    one, count = detail.group.first, verdict.say_count(detail.group)
+    return [
+        f"{number}. {explaining.title(one)} ({count})",
+        *(f"   {describe_call(report, it)}" for it in one.calls),
+        "",
+        f"   {explaining.explain(one)}",
+        f"   Fix: {explaining.fix(one, report.order.uses)}",
+        "",
+        *draw_lines(detail.diagram),
+        "",
+        *write_runs(detail.runs),
+    ]
+
+
+def describe_call(report: Report, call: Call) -> str:
+    """A call with its line and its place."""
+    place = f", {call.place}" if call.place else ""
+    return f"{call.name} {call.verb}, {report.name}:{call.line}{place}"
+
+
+def write_runs(runs: Runs) -> list[str]:
+    """The two runs that show a race, or what it means that there are none."""
+    if runs.outcome is not Outcome.SHOWN:
+        return [f"   Two runs: {verdict.WITHOUT_RUNS[runs.outcome]}"]
+    return [line for run in runs.both for line in write_run(run)]
+
+
+def write_run(run: Run) -> list[str]:
+    """How the calls end in a run that end otherwise in the other."""
+    call = run.starts_with
+    ends = [
+        f"      {it.call} {it.verb}: {cut(it.said, VALUE_WIDTH)}" for it in run.ends[:ENDINGS]
+    ]
+    return [f"   If the {call.verb} ({call.name}) comes first:", *ends]
+
+
+def write_wire_up(report: Report, wire_up: WireUp) -> list[str]:
+    """The diagram of a wire-up, and who waits for ever."""
+    lines = draw_lines(wire_up.diagram) if wire_up.diagram.rows else []
+    count = len(wire_up.waits)
+    if count:
+        lines += ["", f"{count_of(count, 'rank waits', 'ranks wait')} for ever:"]
+    shown = wire_up.waits[:PAIRS]
+    lines += [f"   {describe_call(report, it.call)}: {it.reason}" for it in shown]
+    lines += [f"   And {count_of(count - PAIRS, 'other rank')}."] if count > PAIRS else []
+    circle = wire_up.circle
+    return lines + ([f"   In a circle: {describe_circle(circle)}."] if circle else [])
+
+
+def make_printable(text: str) -> str:
+    """A text without what a terminal could take for a command."""
+    return "".join(it if it.isprintable() else REPLACEMENT for it in text)
+
+
+def fold(line: str) -> list[str]:
+    """A line in lines of at most so many characters."""
+    indent = line[: len(line) - len(line.lstrip(" "))]
+    if len(line) <= WIDTH or len(indent) > DEEPEST_FOLDED:
+        return [line]
+    return textwrap.wrap(
+        line, WIDTH, subsequent_indent=indent, break_long_words=False, break_on_hyphens=False
+    )

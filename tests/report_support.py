@@ -1,0 +1,210 @@
+"""What the tests of `wire_up-report` share: how it is run, and plans of every kind."""
+import atexit
+import functools
+import glob
+import os
+import shutil
+import subprocess
+import sys
+import tempfile
+import unittest
+from collections.abc import Callable
+from dataclasses import dataclass
+from typing import Optional, TypeVar
+
+import support
+
+COMMAND = os.path.join(support.TOP, "wire_up-report")
+RECORDER = os.path.join(support.TOP, "wire_up-record")
+EXAMPLES = os.path.join(support.TOP, "examples")
+RECORDINGS = os.path.join(support.TOP, "record", "recordings")
+EARLY = os.path.join(EXAMPLES, "early-get.plan")
+SECONDS = 300
+
+Case = TypeVar("Case", bound=unittest.TestCase)
+
+
+def run_report(*words: str, checker: Optional[str] = None) -> "subprocess.CompletedProcess[str]":
+    """Runs the command with a checker: the built program, if none is named."""
+    command = [sys.executable, COMMAND, "--checker", checker or support.program(), *words]
+    return subprocess.run(
+        command,
+        stdin=subprocess.DEVNULL,
+        capture_output=True,
+        text=True,
+        errors="replace",
+        timeout=SECONDS,
+        check=False,
+    )
+
+
+def run_checker(*words: str) -> "subprocess.CompletedProcess[str]":
+    """Runs the built program."""
+    command = [support.program(), *words]
+    return subprocess.run(command, capture_output=True, text=True, timeout=SECONDS, check=False)
+
+
+def write(path: str, data: bytes) -> str:
+    """Writes a file. Answers its path."""
+    with open(path, "wb") as to:
+        to.write(data)
+    return path
+
+
+def read(path: str) -> str:
+    """The text of a file."""
+    with open(path, encoding="utf-8") as it:
+        return it.read()
+
+
+# --- plans ---
+
+
+def write_cards(ranks: int, nodes: int, gets: int, fence: str = "") -> str:
+    """A plan in which each rank puts its card, and asks for those of the ranks after it."""
+    lines = ["rehearsal 1", *(f"node n{it}" for it in range(nodes)), "job app"]
+    for rank in range(ranks):
+        lines += [
+            f"rank n{rank * nodes // ranks}",
+            f"put global card 10.0.{rank // 250}.{rank % 250}:7000",
+            "commit",
+            *([fence] if fence else []),
+            *(f"get-now app:{(rank + it + 1) % ranks} card" for it in range(gets)),
+        ]
+    return "".join(f"{it}\n" for it in lines)
+
+
+def write_shapes() -> str:
+    """A plan whose ranks have more shapes than a diagram has lanes."""
+    lines = ["rehearsal 1", *(f"node n{it}" for it in range(14)), "job a"]
+    for rank in range(28):
+        lines += [f"rank n{rank % 14}", f"put global k{'x' * (rank % 20)} v", "commit"]
+        lines += ["fence all collect", *["get a:0 k"] * (rank % 5), "fence all"]
+    return "".join(f"{it}\n" for it in lines)
+
+
+EVIL = b"<script>document.title='in'</script>&amp;\"'><img/src=x/onerror=alert(1)>"
+HOSTILE = (
+    b"# Recorded by wire_up-record <i>on\xff\x00\x1b[31m a day</i>\n"
+    b"# Left out:\n#   3 <b>things</b>\n"
+    b"rehearsal 1\nnode <n>\nnode \"n'\njob <j>&\nrank <n>\n"
+    b'# at <u>f</u> (a&b".c:3)\n'
+    b"put global " + EVIL[:63] + b" " + EVIL + b"\n"
+    b"put global " + EVIL[:63] + b" " + b"<" * 255 + b"\n"
+    b"commit\n"
+    b"publish '\"<x>&--> " + b"&" * 255 + b"\n"
+    b"rank \"n'\n"
+    b"# at <u>f</u> (c.c:4)\nlookup '\"<x>&-->\n"
+    b"# \x1b]0;bad\x07 \xe2\x80\xae\n"
+    b"put global ]]></svg></style> v\n"
+    b"lookup " + b"z" * 63 + b"\n"
+    b"rank <n>\npublish " + b"z" * 63 + b" 1\npublish &lt; <\n"
+)
+IN_CIRCLE = "rank n\nget a:{} k\nput global k v\ncommit\nfence all\n"
+CIRCLE = (
+    "rehearsal 1\nnode n\njob a\n"
+    + "".join(IN_CIRCLE.format(it) for it in (1, 2, 0))
+    + "rank n\nfence all\nlookup-wait no\n"
+)
+LATE = (
+    "rehearsal 1\nnode n\njob a\nrank n\nget a:0 own\npublish p 1\nrank n\nlookup-wait p\n"
+    "rank n\nput global k v\nget a:1 none\nrank n\nget a:2 k\n"
+)
+NAMES = (
+    "rehearsal 1\nnode n\njob a\n"
+    + "rank n\npublish p 1\nunpublish p\nlookup-wait p\n" * 3
+    + "rank n\nlookup p\n"
+)
+STAR = "rehearsal 2\nnode n\njob a\nrank n\npublish p 1\nunpublish *\nrank n\nlookup-wait p\n"
+# Plans by their names. Those of which the name begins with `large` are past the limits of both
+# versions: 2,048 ranks with some 100,000 calls.
+WRITTEN: dict[str, Callable[[], bytes]] = {
+    "hostile": lambda: HOSTILE,
+    "circle": lambda: CIRCLE.encode(),
+    "late": lambda: LATE.encode(),
+    "names": lambda: NAMES.encode(),
+    "star": lambda: STAR.encode(),
+    "empty": lambda: b"rehearsal 1\n",
+    "shapes": lambda: write_shapes().encode(),
+    "cards": lambda: write_cards(6, 2, 5).encode(),
+    "large": lambda: write_cards(2048, 64, 46).encode(),
+    "large-fence": lambda: write_cards(2048, 64, 46, "fence all collect").encode(),
+}
+RECORDED = {
+    f"recorded-{os.path.basename(os.path.dirname(it))}": it
+    for it in sorted(glob.glob(os.path.join(RECORDINGS, "*", "")))
+}
+SHIPPED = {
+    os.path.basename(it).removesuffix(".plan"): it
+    for it in sorted(glob.glob(os.path.join(EXAMPLES, "*.plan")))
+}
+NAMES_OF_PLANS = (*SHIPPED, *RECORDED, *WRITTEN)
+
+
+@functools.cache
+def make_room() -> str:
+    """The folder of the plans and pages that are made: it goes when the tests end."""
+    room = tempfile.mkdtemp(prefix="wire-up-report-")
+    atexit.register(shutil.rmtree, room, ignore_errors=True)
+    return room
+
+
+@functools.cache
+def find_plan(name: str) -> str:
+    """The path of a plan, which is made if need be."""
+    if name in SHIPPED:
+        return SHIPPED[name]
+    path = os.path.join(make_room(), f"{name}.plan")
+    if name in WRITTEN:
+        return write(path, WRITTEN[name]())
+    command = [sys.executable, RECORDER, "--checker", support.program(), "-o", path]
+    command += ["--from", RECORDED[name]]
+    subprocess.run(command, capture_output=True, timeout=SECONDS, check=True)
+    return path
+
+
+def list_options(name: str) -> list[str]:
+    """The options that a plan needs."""
+    return ["--large"] if name.startswith("large") else []
+
+
+@dataclass(frozen=True)
+class Made:
+    """How the command ended that made a page, and the paths of the page and of its SARIF."""
+
+    ran: "subprocess.CompletedProcess[str]"
+    page: str
+    sarif: str
+
+
+@functools.cache
+def make_page(name: str) -> Made:
+    """The page of a plan, which is made once, and its SARIF."""
+    path = find_plan(name)
+    page, sarif = (os.path.join(make_room(), f"{name}.{it}") for it in ("html", "sarif"))
+    words = [*list_options(name), "-o", page, "--sarif", sarif, "--source", support.TOP]
+    return Made(run_report(*words, path), page, sarif)
+
+
+def for_each_plan(case: type[Case]) -> type[Case]:
+    """Gives a test case a test for each plan, which calls its `check` with the plan's name."""
+    for name in NAMES_OF_PLANS:
+        setattr(case, f"test_{name.replace('-', '_')}", make_test(name))
+    return case
+
+
+def make_test(name: str) -> Callable[["PlanCase"], None]:
+    """A test of one plan."""
+
+    def test(self: "PlanCase") -> None:
+        self.check(name)
+
+    return test
+
+
+class PlanCase(unittest.TestCase):
+    """Tests one thing of the reports of all plans."""
+
+    def check(self, name: str) -> None:
+        """Tests the report of a plan by its name."""
+        raise NotImplementedError

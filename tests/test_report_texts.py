@@ -1,0 +1,141 @@
+"""Tests the text that `wire_up-report` writes for a terminal, and what it says."""
+import os
+import re
+import tempfile
+import unittest
+
+import report_support
+import support
+
+# What the text of a report must have, by the name of the plan.
+SAYS = {
+    "circle": (
+        "a:0 waits for a:1, which waits for a:2, which waits for a:0.",
+        "4 ranks wait for ever",
+        "a:3 1 fence",
+        "wait for ever before this fence",
+    ),
+    "late": (
+        "the rank itself hasn't put own before",
+        "a:0 would publish p later, and waits for ever before that",
+        "a:1 never puts none",
+        "a:2 puts k and never commits it",
+    ),
+    "names": (
+        "Only the first publish of a name holds",
+        "Put a fence between the two calls",
+    ),
+    "hostile": ('a&b".c:3', "The key <script>"),
+    "recorded-wild1": (
+        "look_up (cases.c:30)",
+        "publish (cases.c:23)",
+        "Left out: 36 gets of a wildcard rank",
+        "use lookup-wait in place of lookup",
+    ),
+    "early-get": ("early-get.plan:7", "use get in place of get-now", "<race> app:1"),
+    "foreign-fence": ("Let the reader meet in the fence itself", "3 fence: comes <race> app:1"),
+    "kept-card": (
+        "The plan keeps what gets bring",
+        "Use get in place of get-now",
+        "<race> app:2",
+    ),
+    "standstill": (
+        "no race, but 2 ranks wait for ever",
+        "app:0 waits for app:1, which waits for app:0.",
+    ),
+    "large": ("31,744 races", "takes no plan past the limits of its version"),
+    "large-fence": ("no race", "and 2,047 like it"),
+    "changed-card": ("Use a key of its own for each value", "1 key that is put again"),
+}
+
+
+@report_support.for_each_plan
+class TextsTest(report_support.PlanCase):
+    """The text of each plan: nothing in it is a command to a terminal, and it says what it must."""
+
+    def check(self, name: str) -> None:
+        path, options = report_support.find_plan(name), report_support.list_options(name)
+        ran = report_support.run_report("--text", *options, path)
+        self.assertIn(ran.returncode, (0, 1), ran.stderr)
+        self.assertEqual(ran.stderr, "")
+        wrong = [it for it in ran.stdout if not (it.isprintable() or it == "\n")]
+        self.assertEqual(wrong, [])
+        self.assertGreater(ran.stdout.count("\n"), 2)
+        flat = " ".join(ran.stdout.split())
+        missing = [it for it in SAYS.get(name, ()) if it not in flat]
+        self.assertEqual(missing, [], ran.stdout[:3000])
+
+
+# A checker that has `witness`, and answers it by itself.
+CHECKER = """#!/bin/sh
+case "$1" in
+witness) cat > /dev/null; {answer} ;;
+*) exec "{program}" "$@" ;;
+esac
+"""
+SHOWN = (
+    '{"first":{"order":["app:0","app:0","app:1"],"reply":"PMIX_SUCCESS","value":"10.0.0.1:7000"},'
+    '"race":true,'
+    '"second":{"order":["app:1","app:0","app:0"],"reply":"PMIX_ERR_NOT_FOUND"},'
+    '"shown":{"call":1,"proc":"app:1","verb":"get-now"}}'
+)
+NOT_SHOWN = '{"race":true,"shown":null}'
+# A checker that has no such command.
+WITHOUT_WITNESS = """#!/bin/sh
+case "$1" in
+--help) "{program}" --help | grep -v '^ *witness ' ;;
+*) exec "{program}" "$@" ;;
+esac
+"""
+
+
+class RunsTest(unittest.TestCase):
+    """The two runs that a report shows, or what it says where there are none."""
+
+    def setUp(self) -> None:
+        room = tempfile.TemporaryDirectory(prefix="wire-up-report-")
+        self.addCleanup(room.cleanup)
+        self.room = room.name
+
+    def write_checker(self, script: str, **words: str) -> str:
+        """Writes a program that stands before the built one."""
+        text = script.format(program=support.program(), **words)
+        path = report_support.write(os.path.join(self.room, "checker"), text.encode())
+        os.chmod(path, 0o755)
+        return path
+
+    def check(self, checker: str, wanted: tuple[str, ...]) -> None:
+        """Tests that the text and the page of a plan have these words."""
+        page = os.path.join(self.room, "page.html")
+        early = report_support.EARLY
+        text = report_support.run_report("--text", early, checker=checker)
+        paged = report_support.run_report("-o", page, early, checker=checker)
+        self.assertEqual((text.returncode, paged.returncode), (1, 1), text.stderr + paged.stderr)
+        for said in (text.stdout, re.sub(r"<[^>]*>", "", report_support.read(page))):
+            flat = " ".join(said.split())
+            self.assertEqual([it for it in wanted if it not in flat], [], flat[:3000])
+
+    def test_runs_that_are_shown(self) -> None:
+        answer = f"printf '%s\\n' '{SHOWN}'; exit 1"
+        wanted = (
+            "If the commit (app:0 2) comes first",
+            "If the get-now (app:1 1) comes first",
+            "app:1 1 get-now: PMIX_SUCCESS 10.0.0.1:7000",
+            "app:1 1 get-now: PMIX_ERR_NOT_FOUND",
+        )
+        self.check(self.write_checker(CHECKER, answer=answer), wanted)
+
+    def test_runs_of_the_built_program(self) -> None:
+        self.check(support.program(), ("If the commit (app:0 2) comes first",))
+
+    def test_no_run_shows_it(self) -> None:
+        checker = self.write_checker(CHECKER, answer=f"printf '%s\\n' '{NOT_SHOWN}'")
+        self.check(checker, ("No run that was tried shows a difference",))
+
+    def test_a_checker_without_witness(self) -> None:
+        checker = self.write_checker(WITHOUT_WITNESS)
+        self.check(checker, ("This wire_up has no command that looks for two runs.",))
+
+
+if __name__ == "__main__":
+    unittest.main()
