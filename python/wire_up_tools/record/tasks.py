@@ -68,7 +68,7 @@ def say(what: str) -> None:
 
 def say_where(asked: WhereRequest) -> int:
     """Writes where a call of a plan comes from. Raises Refused, OSError."""
-    with open(asked.plan, encoding="ascii", errors="replace") as it:
+    with open(asked.plan, "rb") as it:
         found = find_call_place(asked.process, asked.number, it.read())
     if found is None:
         raise Refused(f"{asked.plan}: has no call {asked.number} of {asked.process}")
