@@ -3,7 +3,7 @@ run, whichever it got."""
 from collections import Counter, deque
 from collections.abc import Iterator, Mapping, Sequence
 from dataclasses import dataclass, field
-from typing import Optional
+from typing import NamedTuple, Optional
 
 from wire_up_tools.record.calls import Call
 from wire_up_tools.record.communicators import Side
@@ -65,6 +65,13 @@ class Taken:
         return new
 
 
+class Coming(NamedTuple):
+    """A message of a stream that comes after a line of the receiver's recording."""
+
+    after: int
+    stream: Stream
+
+
 class Counted:
     """How many messages of each stream could have come by now, and how many surely have.
 
@@ -80,15 +87,17 @@ class Counted:
         self.have: Counter[Stream] = Counter()
         self.own: Counter[Ask] = Counter()
         self.total = 0
-        coming = [(after[send], stream) for stream, sends in streams.items() for send in sends]
-        self.coming = deque(sorted(coming, key=lambda it: it[0]))
+        coming = [
+            Coming(after[send], stream) for stream, sends in streams.items() for send in sends
+        ]
+        self.coming = deque(sorted(coming, key=lambda it: it.after))
         self.open: set[Stream] = set()
         self.spread = 0
 
     def come_to(self, at: int) -> None:
         """Counts the messages that could have come by a line of the receiver's recording."""
-        while self.coming and self.coming[0][0] < at:
-            _, stream = self.coming.popleft()
+        while self.coming and self.coming[0].after < at:
+            stream = self.coming.popleft().stream
             self.could[stream] += 1
             self.total += 1
             self.open.add(stream)
