@@ -7,11 +7,20 @@ from typing import NamedTuple, Optional
 
 from wire_up_tools.record.calls import Call
 from wire_up_tools.record.communicators import Side
-from wire_up_tools.record.draft import Draft, Line, Part, Step, make_draft, make_publish, walk
-from wire_up_tools.record.notes import Notes
+from wire_up_tools.record.draft import (
+    Draft,
+    Line,
+    Ordered,
+    Part,
+    Step,
+    make_draft,
+    make_publish,
+    walk,
+)
 from wire_up_tools.record.knowledge import Latest, find_heard, merge
 from wire_up_tools.record.messages import Ask, Got, Group, Stream
 from wire_up_tools.record.names import MessageNames
+from wire_up_tools.record.notes import Notes
 from wire_up_tools.record.processes import Process, Processes
 
 # How often the order of messages that could have come otherwise is looked at again.
@@ -28,16 +37,6 @@ class OpenGroup:
     group: Group
     target: Process
     peers: Side
-
-
-@dataclass(frozen=True)
-class OpenOrder:
-    """The lines that order open groups, for how many messages, and what is noted of them."""
-
-    part: Part
-    message_count: int
-    left_to_luck: int
-    notes: Notes
 
 
 class Taken:
@@ -236,7 +235,7 @@ def order_open_groups(
     groups: Sequence[OpenGroup],
     names: MessageNames,
     is_strict: bool,
-) -> OpenOrder:
+) -> Ordered:
     """Orders messages that could have come otherwise, by what holds in every run.
 
     What is ordered already, by `parts`, rules messages out: one that is sent after a receive has
@@ -255,4 +254,4 @@ def order_open_groups(
     ] += sum(it.group.receive_count for it in groups)
     asked = (got for it in groups for got in it.group.asked)
     left_to_luck = sum(it.call.is_left_to_luck for it in asked)
-    return OpenOrder(waits.finish(), len(waits.known), left_to_luck, notes)
+    return Ordered(waits.finish(), notes, len(waits.known), left_to_luck)
