@@ -62,6 +62,8 @@ class CommandLineTest(RoomTest):
     def test_options(self) -> None:
         self.use(["-o", self.plan, "--loud", "true"], 125, "wire_up-record: --loud is no option\n")
         self.use(["-o", self.plan, "--str", "true"], 125, "--str is no option")
+        self.use(["-o", self.plan, "-5"], 125, "-5 is no option")
+        self.use(["-o", self.plan, "--strict=yes", "true"], 125, "--strict=yes is no option")
         self.use(["-o", self.plan, "-o", self.plan, "true"], 125, "-o stands twice")
         self.use(["-o"], 125, "-o needs a file")
         self.use(["--keep"], 125, "--keep needs a folder")
@@ -77,6 +79,8 @@ class CommandLineTest(RoomTest):
         self.use(["-o", "-", "--from", self.good], 0)
         self.use(["-o", self.plan, "--from", self.room], 0)
         none = os.path.join(self.room, "none")
+        twice = ["-o", self.plan, "--from", self.good, "--", self.good]
+        self.use(twice, 125, "is rank 0 of job once more")
         self.use(["-o", self.plan, "--from", none], 125, "none: No such file")
 
     def test_where_the_plan_goes(self) -> None:
@@ -183,7 +187,9 @@ class WhereTest(RoomTest):
 
     def test_words_that_are_wrong(self) -> None:
         few: list[str] = []
-        for words in (few, ["app:0", "1"], ["app:0", "0", self.plan], ["app:0", "x", self.plan]):
+        more = ["app:0", "1", self.plan, "--", "app:1"]
+        wrong = ["app:0", "0", self.plan], ["app:0", "x", self.plan]
+        for words in (few, ["app:0", "1"], more, *wrong):
             with self.subTest(words):
                 ran = run_recorder("--where", *words)
                 self.assertEqual(ran.returncode, 125)

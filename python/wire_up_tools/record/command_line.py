@@ -4,12 +4,12 @@ import re
 import signal
 import sys
 from collections.abc import Sequence
-from dataclasses import dataclass
 from types import FrameType
-from typing import NoReturn, Optional, Union
+from typing import Optional
 
-from wire_up_tools.record.failures import NotRun, Refused, Stopped, Unusable
-from wire_up_tools.record.running import BY_SIGNAL, HANDED_ON
+from wire_up_tools.failures import Refused, Unusable, explain
+from wire_up_tools.options import Option, Parser, describe
+from wire_up_tools.record.running import BY_SIGNAL, HANDED_ON, NotRun, Stopped
 from wire_up_tools.record.tasks import (
     CommandRequest,
     FilesRequest,
@@ -49,20 +49,6 @@ BELOW = (
 )
 
 
-@dataclass(frozen=True)
-class Option:
-    """An option: its name, the kind of word that it takes, if any, and what it means."""
-
-    name: str
-    word: str
-    meaning: str
-
-    @property
-    def written(self) -> str:
-        """The option with its word, as it is written."""
-        return f"{self.name} {self.word}".strip()
-
-
 OPTIONS = (
     Option("-o", "PLAN", "where the plan goes; - is standard output"),
     Option(
@@ -90,62 +76,19 @@ OPTIONS = (
 )
 
 
-class Once(argparse.Action):
-    """An option that takes a word, and stands once."""
-
-    def __call__(
-        self,
-        parser: argparse.ArgumentParser,
-        namespace: argparse.Namespace,
-        values: Union[str, Sequence[str], None],
-        option_string: Optional[str] = None,
-    ) -> None:
-        if getattr(namespace, self.dest) is not None:
-            raise Unusable(f"{option_string} stands twice")
-        setattr(namespace, self.dest, values)
-
-
-class Parser(argparse.ArgumentParser):
-    """The options of the recorder. What follows them is the command."""
+class RecorderParser(Parser):
+    """The options of the recorder, and two that take all that follows."""
 
     def __init__(self) -> None:
-        super().__init__(
-            prog="wire_up-record", add_help=False, allow_abbrev=False, exit_on_error=False
-        )
-        for it in OPTIONS:
-            if it.word:
-                self.add_argument(it.name, metavar=it.word, action=Once, help=it.meaning)
-            else:
-                self.add_argument(it.name, action="store_true", help=it.meaning)
+        super().__init__(OPTIONS)
         self.add_argument("--from", dest="files", nargs=argparse.REMAINDER)
         self.add_argument("--where", nargs=argparse.REMAINDER)
-        self.add_argument("command", nargs=argparse.REMAINDER)
-
-    def error(self, message: str) -> NoReturn:
-        """Raises Unusable in place of ending the program."""
-        raise Unusable(message)
-
-    def format_help(self) -> str:
-        """All that the recorder says of itself."""
-        uses = "".join(f"    wire_up-record {use:<32} {meaning}\n" for use, meaning in USES)
-        rows = [*((it.written, it.meaning) for it in OPTIONS), ("-h, --help", "shows this")]
-        options = "".join(f"  {option:<16} {meaning}\n" for option, meaning in rows)
-        return f"{ABOUT}\n\n{uses}\n{options}\n{BELOW}"
 
 
-def parse(words: Sequence[str]) -> argparse.Namespace:
-    """The options by their names. Raises Unusable."""
-    try:
-        found, unknown = Parser().parse_known_args(words)
-    except argparse.ArgumentError as why:
-        what = "folder" if why.argument_name == "--keep" else "file"
-        takes_word = "expected" in why.message
-        raise Unusable(
-            f"{why.argument_name} {f'needs a {what}' if takes_word else 'takes no word'}"
-        ) from None
-    if unknown:
-        raise Unusable(f"{unknown[0]} is no option")
-    return found
+def write_help() -> str:
+    """All that the recorder says of itself."""
+    uses = "".join(f"    wire_up-record {use:<32} {meaning}\n" for use, meaning in USES)
+    return f"{ABOUT}\n\n{uses}\n{describe(OPTIONS)}\n{BELOW}"
 
 
 def read_where_request(words: Sequence[str]) -> WhereRequest:
@@ -157,11 +100,9 @@ def read_where_request(words: Sequence[str]) -> WhereRequest:
 
 def read_request(words: Sequence[str]) -> Request:
     """What a command line asks for. Raises Unusable."""
-    found = parse(words)
+    found = RecorderParser().read(words)
     if found.where is not None:
-        return read_where_request(found.where)
-    # What two hyphens end are the options.
-    command = found.command[1:] if found.command[:1] == ["--"] else found.command
+        return read_where_request([*found.where, *found.rest])
     if found.o is None:
         raise Unusable("-o PLAN says where the plan goes")
     output = Output(
@@ -173,12 +114,14 @@ def read_request(words: Sequence[str]) -> Request:
         is_strict=found.strict,
     )
     if found.files is None:
-        if not command:
+        if not found.rest:
             raise Unusable("which command?")
-        return CommandRequest(output, command)
-    if not found.files or output.kept:
-        raise Unusable("--keep goes with a command" if found.files else "which recordings?")
-    return FilesRequest(output, found.files)
+        return CommandRequest(output, found.rest)
+    # Two hyphens may stand between them.
+    files = [*found.files, *found.rest]
+    if not files or output.kept:
+        raise Unusable("--keep goes with a command" if files else "which recordings?")
+    return FilesRequest(output, files)
 
 
 def stop(number: int, _: Optional[FrameType]) -> None:
@@ -197,13 +140,13 @@ def main(words: Sequence[str], folder: str) -> int:
     """Does what a command line asks for, and answers the status. `folder` is that of the
     command."""
     if list(words) in (["-h"], ["--help"]):
-        print(Parser().format_help(), end="")
+        print(write_help(), end="")
         return 0
     catch_signals()
     try:
         return do(read_request(words), folder)
     except Unusable as why:
-        print(f"wire_up-record: {why}\n\n{Parser().format_help()}", end="", file=sys.stderr)
+        print(f"wire_up-record: {why}\n\n{write_help()}", end="", file=sys.stderr)
     except NotRun as why:
         say(str(why))
         return why.status
@@ -212,5 +155,5 @@ def main(words: Sequence[str], folder: str) -> int:
     except Stopped as why:
         return BY_SIGNAL + why.number
     except OSError as why:
-        say(f"{why.filename}: {why.strerror}" if why.filename else str(why))
+        say(explain(why))
     return FAILED

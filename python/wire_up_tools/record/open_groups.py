@@ -3,15 +3,24 @@ run, whichever it got."""
 from collections import Counter, deque
 from collections.abc import Iterator, Mapping, Sequence
 from dataclasses import dataclass, field
-from typing import Optional
+from typing import NamedTuple, Optional
 
 from wire_up_tools.record.calls import Call
 from wire_up_tools.record.communicators import Side
-from wire_up_tools.record.draft import Draft, Line, Part, Step, make_draft, make_publish, walk
-from wire_up_tools.record.notes import Notes
+from wire_up_tools.record.draft import (
+    Draft,
+    Line,
+    Ordered,
+    Part,
+    Step,
+    make_draft,
+    make_publish,
+    walk,
+)
 from wire_up_tools.record.knowledge import Latest, find_heard, merge
 from wire_up_tools.record.messages import Ask, Got, Group, Stream
 from wire_up_tools.record.names import MessageNames
+from wire_up_tools.record.notes import Notes
 from wire_up_tools.record.processes import Process, Processes
 
 # How often the order of messages that could have come otherwise is looked at again.
@@ -28,16 +37,6 @@ class OpenGroup:
     group: Group
     target: Process
     peers: Side
-
-
-@dataclass(frozen=True)
-class OpenOrder:
-    """The lines that order open groups, for how many messages, and what is noted of them."""
-
-    part: Part
-    message_count: int
-    left_to_luck: int
-    notes: Notes
 
 
 class Taken:
@@ -65,6 +64,13 @@ class Taken:
         return new
 
 
+class Coming(NamedTuple):
+    """A message of a stream that comes after a line of the receiver's recording."""
+
+    after: int
+    stream: Stream
+
+
 class Counted:
     """How many messages of each stream could have come by now, and how many surely have.
 
@@ -80,15 +86,17 @@ class Counted:
         self.have: Counter[Stream] = Counter()
         self.own: Counter[Ask] = Counter()
         self.total = 0
-        coming = [(after[send], stream) for stream, sends in streams.items() for send in sends]
-        self.coming = deque(sorted(coming, key=lambda it: it[0]))
+        coming = [
+            Coming(after[send], stream) for stream, sends in streams.items() for send in sends
+        ]
+        self.coming = deque(sorted(coming, key=lambda it: it.after))
         self.open: set[Stream] = set()
         self.spread = 0
 
     def come_to(self, at: int) -> None:
         """Counts the messages that could have come by a line of the receiver's recording."""
-        while self.coming and self.coming[0][0] < at:
-            _, stream = self.coming.popleft()
+        while self.coming and self.coming[0].after < at:
+            stream = self.coming.popleft().stream
             self.could[stream] += 1
             self.total += 1
             self.open.add(stream)
@@ -227,7 +235,7 @@ def order_open_groups(
     groups: Sequence[OpenGroup],
     names: MessageNames,
     is_strict: bool,
-) -> OpenOrder:
+) -> Ordered:
     """Orders messages that could have come otherwise, by what holds in every run.
 
     What is ordered already, by `parts`, rules messages out: one that is sent after a receive has
@@ -246,4 +254,4 @@ def order_open_groups(
     ] += sum(it.group.receive_count for it in groups)
     asked = (got for it in groups for got in it.group.asked)
     left_to_luck = sum(it.call.is_left_to_luck for it in asked)
-    return OpenOrder(waits.finish(), len(waits.known), left_to_luck, notes)
+    return Ordered(waits.finish(), notes, len(waits.known), left_to_luck)

@@ -4,22 +4,20 @@ import os
 import re
 import shutil
 import subprocess
-from collections import Counter
 from collections.abc import Iterable, Iterator, Mapping, Sequence
 from dataclasses import dataclass
 from typing import Optional
 
+from wire_up_tools.failures import Refused
+from wire_up_tools.plan import read_lines, split_lines
 from wire_up_tools.record.draft import Draft, Line
-from wire_up_tools.record.failures import Refused
 from wire_up_tools.record.forms import decode_text
 from wire_up_tools.record.processes import Process
 from wire_up_tools.record.recordings import Address, Place
-from wire_up_tools.words import PLACE_COMMENT, UNKNOWN_PLACE, escape, make_printable
+from wire_up_tools.words import UNKNOWN_PLACE, escape, make_printable
 
 # The file beside recordings that keeps what was found out when the program was recorded.
 FILE = "places"
-# How a line of a plan begins that isn't a call, nor a job or a rank.
-COMMENT, DECLARATIONS = "#", ("rehearsal", "node")
 
 
 @dataclass(frozen=True)
@@ -130,24 +128,15 @@ def find_places(draft: Draft, kept: Mapping[Address, str]) -> Places:
 # --- calls of plans ---
 
 
-def find_call_place(process: str, number: int, plan: str) -> Optional[str]:
+def find_call_place(process: str, number: int, plan: bytes) -> Optional[str]:
     """Where a call of a plan comes from, by its comments; None where there is no such call.
 
     Calls of a process such as `app:0` are counted from 1.
     """
-    job, ranks, calls = "", Counter[str](), Counter[str]()
-    here, found = "", UNKNOWN_PLACE
-    for line in plan.splitlines():
-        verb, *words = line.split() or [COMMENT]
-        if line.startswith(PLACE_COMMENT):
-            found = line[len(PLACE_COMMENT):]
-        if verb == "job":
-            job = "".join(words)
-        elif verb == "rank":
-            here, found = f"{job}:{ranks[job]}", UNKNOWN_PLACE
-            ranks[job] += 1
-        elif here and verb not in DECLARATIONS and not verb.startswith(COMMENT):
-            calls[here] += 1
-            if (here, calls[here]) == (process, number):
-                return found
-    return None
+    try:
+        calls = read_lines(split_lines(plan)).calls
+    except LookupError:
+        return None
+    found = (it for it in calls if (it.rank.name, it.number) == (process, number))
+    call = next(found, None)
+    return (call.place or UNKNOWN_PLACE) if call else None

@@ -4,6 +4,7 @@ from collections.abc import Iterator, Mapping, Sequence
 from dataclasses import dataclass
 from typing import Optional
 
+from wire_up_tools.failures import Refused
 from wire_up_tools.limits import VERSION_1, Limits
 from wire_up_tools.record.calls import (
     AnyRank,
@@ -14,7 +15,6 @@ from wire_up_tools.record.calls import (
     ProcessName,
     ValueKind,
 )
-from wire_up_tools.record.failures import Refused
 from wire_up_tools.record.recordings import Recording, refuse_past
 from wire_up_tools.words import Words, show
 

@@ -6,9 +6,9 @@ from collections.abc import Mapping, Sequence
 from dataclasses import dataclass, field
 from typing import NoReturn, Optional, Union
 
+from wire_up_tools.failures import Refused
 from wire_up_tools.limits import Limits
 from wire_up_tools.record.calls import Action, Call, End
-from wire_up_tools.record.failures import Refused
 from wire_up_tools.record.forms import (
     WORD,
     Groups,

@@ -6,7 +6,7 @@ import subprocess
 from collections.abc import Mapping, Sequence
 from typing import Optional
 
-from wire_up_tools.record.failures import NotRun, Refused
+from wire_up_tools.failures import Refused
 
 # The signals that are handed on to the command.
 HANDED_ON = (signal.SIGINT, signal.SIGTERM, signal.SIGHUP, signal.SIGQUIT)
@@ -25,6 +25,22 @@ PRELOAD, TO_FOLDER = "LD_PRELOAD", "WIRE_UP_RECORD"
 # Names the variables that the launcher of Open MPI hands on to other nodes. Where it has the option
 # -x, which doesn't go with this variable, the recorder in it adds them to the options.
 TO_OTHER_NODES = "OMPI_MCA_mca_base_env_list"
+
+
+class NotRun(Exception):
+    """A command that can't be run: why, and the status that says so."""
+
+    def __init__(self, why: str, status: int) -> None:
+        super().__init__(why)
+        self.status = status
+
+
+class Stopped(Exception):
+    """A signal came while no command ran: its number."""
+
+    def __init__(self, number: int) -> None:
+        super().__init__(number)
+        self.number = number
 
 
 def find_library(folder: str, name: str) -> Optional[str]:

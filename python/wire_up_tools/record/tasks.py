@@ -9,9 +9,9 @@ from dataclasses import dataclass, replace
 from typing import Optional, Union
 
 from wire_up_tools.checker import Checker, find_checker
+from wire_up_tools.failures import Refused
 from wire_up_tools.files import STANDARD_OUTPUT, write_whole
 from wire_up_tools.limits import LARGE, VERSION_1
-from wire_up_tools.record.failures import Refused
 from wire_up_tools.record.places import find_call_place, find_places, read_places, write_places
 from wire_up_tools.record.planning import Choices, Plan, make_plan
 from wire_up_tools.record.recordings import Recording, read_recordings
@@ -68,7 +68,7 @@ def say(what: str) -> None:
 
 def say_where(asked: WhereRequest) -> int:
     """Writes where a call of a plan comes from. Raises Refused, OSError."""
-    with open(asked.plan, encoding="ascii", errors="replace") as it:
+    with open(asked.plan, "rb") as it:
         found = find_call_place(asked.process, asked.number, it.read())
     if found is None:
         raise Refused(f"{asked.plan}: has no call {asked.number} of {asked.process}")
