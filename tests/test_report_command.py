@@ -11,9 +11,8 @@ from typing import Optional
 import report_support
 import support
 from report_support import EARLY
-from wire_up_tools.report.command_line import HELP
-from wire_up_tools.report.command_line import read_options
-from wire_up_tools.report.errors import Unusable
+from wire_up_tools.failures import Unusable
+from wire_up_tools.report.command_line import HELP, read_options
 
 FAILED = 125
 KEPT = "kept"

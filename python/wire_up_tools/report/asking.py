@@ -7,8 +7,8 @@ from dataclasses import dataclass
 from typing import Any
 
 from wire_up_tools.checker import Answer, Checker
+from wire_up_tools.failures import Refused
 from wire_up_tools.plan import Call
-from wire_up_tools.report.errors import Refused
 
 # The exit statuses of an answer: nothing is found, or something is.
 CLEAN, FOUND = 0, 1

@@ -1,17 +1,17 @@
 """The command `wire_up-report`: what its options mean, and how it ends."""
-import argparse
 import os
 import shutil
 import sys
 from collections.abc import Sequence
 from dataclasses import dataclass
-from typing import Any, Optional
+from typing import Optional
 
 from wire_up_tools.checker import Checker, find_checker
+from wire_up_tools.failures import Refused, Unusable, explain
 from wire_up_tools.files import STANDARD_OUTPUT, write_whole
+from wire_up_tools.options import Option, Parser, describe
 from wire_up_tools.report.asking import Asker
 from wire_up_tools.report.contents import make_report
-from wire_up_tools.report.errors import Refused, Unusable
 from wire_up_tools.report.html_page import write_page
 from wire_up_tools.report.sarif import write_sarif
 from wire_up_tools.report.terminal_text import write_text
@@ -19,24 +19,42 @@ from wire_up_tools.report.terminal_text import write_text
 HELPED, FAILED = 0, 125
 PAGE = "report.html"
 NAME = "wire_up-report"
-# The options that need a word, and what it names.
-WORDS = {"-o": "file", "--sarif": "file", "--source": "folder", "--checker": "file"}
-HELP = """\
+OPTIONS = (
+    Option("-o", "FILE", f"where the report goes, else {PAGE}; - is standard output"),
+    Option(
+        "--text",
+        "",
+        "writes text for a terminal in place of HTML, to standard output where no -o is given",
+    ),
+    Option(
+        "--sarif",
+        "FILE",
+        "writes the findings also as SARIF 2.1.0, which code hosts show beside the code",
+    ),
+    Option(
+        "--source",
+        "FOLDER",
+        "looks below this folder for the files that the plan names as places, "
+        "so that SARIF has their paths",
+    ),
+    Option(
+        "--checker",
+        "FILE",
+        "the program `wire_up`; else the one beside this command or on the path is taken",
+    ),
+    Option(
+        "--large",
+        "",
+        "takes plans past the limits of their version, as `wire_up --large` does",
+    ),
+)
+HELP = f"""\
 Writes a report that people look at: what `wire_up` finds in a plan, with diagrams, places and \
 fixes.
 
     wire_up-report [OPTION..] PLAN                  writes the report of a plan as one HTML file
 
-  -o FILE          where the report goes, else report.html; - is standard output
-  --text           writes text for a terminal in place of HTML, to standard output where no -o is \
-given
-  --sarif FILE     writes the findings also as SARIF 2.1.0, which code hosts show beside the code
-  --source FOLDER  looks below this folder for the files that the plan names as places, so that \
-SARIF has their paths
-  --checker FILE   the program `wire_up`; else the one beside this command or on the path is taken
-  --large          takes plans past the limits of their version, as `wire_up --large` does
-  -h, --help       shows this
-
+{describe(OPTIONS)}
 The plan is a file. If it comes from `wire_up-record`, the report says where in the program each \
 call comes from.
 docs/report.md says what a report has.
@@ -59,56 +77,15 @@ class Options:
     checker: Optional[str]
 
 
-class Once(argparse.Action):
-    """Takes the word of an option that may stand once."""
-
-    def __call__(
-        self,
-        parser: argparse.ArgumentParser,
-        namespace: argparse.Namespace,
-        values: Any,
-        option_string: Optional[str] = None,
-    ) -> None:
-        """Notes the word. Raises Unusable if there is one already."""
-        if getattr(namespace, self.dest) is not None:
-            raise Unusable(f"{option_string} stands twice")
-        setattr(namespace, self.dest, values)
-
-
-def make_parser() -> argparse.ArgumentParser:
-    """The options of the command. What comes after the plan is taken for more plans."""
-    parser = argparse.ArgumentParser(NAME, add_help=False, allow_abbrev=False, exit_on_error=False)
-    for option in WORDS:
-        parser.add_argument(option, action=Once)
-    parser.add_argument("--text", action="store_true")
-    parser.add_argument("--large", action="store_true")
-    parser.add_argument("plans", nargs=argparse.REMAINDER)
-    return parser
-
-
 def read_options(words: Sequence[str]) -> Options:
     """Reads the words of the command line. Raises Unusable, with what is wrong with them."""
-    try:
-        said, unknown = make_parser().parse_known_args(words)
-    except argparse.ArgumentError as why:
-        raise Unusable(explain_wrong(words, why.argument_name or "")) from None
-    # The parser takes what looks like a negative number, or has a space, for a plan.
-    unknown += [it for it in said.plans[:1] if it.startswith("-") and it not in ("-", "--")]
-    if unknown:
-        raise Unusable(f"{unknown[0]} is no option")
-    plans = said.plans[1:] if said.plans[:1] == ["--"] else said.plans
-    if len(plans) != 1:
-        raise Unusable("one plan at a time" if plans else "which plan?")
+    said = Parser(OPTIONS).read(words)
+    if len(said.rest) != 1:
+        raise Unusable("one plan at a time" if said.rest else "which plan?")
     output = said.o or (STANDARD_OUTPUT if said.text else PAGE)
-    return Options(plans[0], output, said.text, said.large, said.sarif, said.source, said.checker)
-
-
-def explain_wrong(words: Sequence[str], option: str) -> str:
-    """What is wrong with an option: it needs a word and has none, or has one and takes none."""
-    if option in WORDS:
-        return f"{option} needs a {WORDS[option]}"
-    written = next((it for it in words if it.startswith(f"{option}=")), option)
-    return f"{written} is no option"
+    return Options(
+        said.rest[0], output, said.text, said.large, said.sarif, said.source, said.checker
+    )
 
 
 def choose_checker(asked: Optional[str], folder: str) -> str:
@@ -156,5 +133,5 @@ def main(words: Sequence[str], folder: str) -> int:
     except Refused as why:
         tell(f"{why}" if f"{why}".startswith("wire_up: ") else f"{NAME}: {why}")
     except OSError as why:
-        tell(f"{NAME}: {why.filename}: {why.strerror}" if why.filename else f"{NAME}: {why}")
+        tell(f"{NAME}: {explain(why)}")
     return FAILED
