@@ -1,9 +1,19 @@
+pub mod Answered
 pub mod Came
-pub mod FileFaults
-pub mod Limited
-pub mod Replayed
-pub mod Followed
-pub mod Questioned
-pub mod Texts
 pub mod Checked
+pub mod Failures
+pub mod FileFaults
+mod Fits
+pub mod Followed
+mod Grouped
+pub mod Judged
+mod Limited
+mod Listed
+mod Ordered
+mod Placed
+pub mod Questioned
+pub mod Replayed
+pub mod ReplayWritten
+pub mod Texts
+pub mod Worked
 pub mod Written

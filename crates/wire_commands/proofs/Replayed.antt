@@ -6,7 +6,7 @@ use Rattle.wire_types.specs.declared.Fault.TheVariants.{Memory, Read, Write}
 use Rattle.wire_types.specs.Front.{WritesFront}
 use Rattle.wire_content.specs.Scripts.{Scripts}
 use Rattle.wire_script.specs.declared.Size.{Size}
-use Rattle.wire_commands.specs.Plain.{plain_report, ReadAs, Refuses, WritesReport, BreaksOff}
+use Rattle.wire_commands.specs.Plain.{plain_report, ReadAs, Refuses, WritesReport, BreaksOffReport}
 use Rattle.wire_commands.proofs.FileFaults.{not_write}
 
 -- an error that is handed on
@@ -60,7 +60,7 @@ writes_report coming old new s text (Err e) read is wrote = tt
 -- a fault of the writing counts what went out
 pub breaks_off : {size : Size} (coming old new : Option (List ℕ)) (s : Scripts) (text : List ℕ) (r : Result (Unit {0}) Fault) (n : ℕ) →
     ReadAs size coming s → text ≡ plain_report s → IfErr r (WritesFront old new text) →
-    r ≡ Err (Write n) → BreaksOff size coming old new n
+    r ≡ Err (Write n) → BreaksOffReport size coming old new n
 breaks_off coming old new s text (Ok x) n read is front at = let bad : Ok x ≡ Err (Write n) = at in cc
 breaks_off coming old new s text (Err e) n read is (m, carries, (short, front)) at =
     let same : m ≡ n = cc in
