@@ -200,7 +200,7 @@ fn read_command<'a>(name: &str, found: &ArgMatches<'a>) -> Result<Command<'a>, L
 
 /// The word that names the plan of a command, if it was given.
 fn find_plan<'a>(found: &ArgMatches<'a>, command: Command<'a>) -> Option<&'a str>
-    ensures { text_of result ≡ spec.plan_said command (rows_of (found_of found.now)) }
+    ensures { text_of result ≡ spec.plan_said command.entry (rows_of (found_of found.now)) }
 {
     match command {
         Command::Witnesses(_) => find_word(found, "P"),

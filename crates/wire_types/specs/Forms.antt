@@ -1,7 +1,7 @@
 -- The forms in which an answer is written.
 use Rattle.std.specs.Prelude.{Bool, true, false}
-use Rattle.wire_types.specs.declared.Form.{Form}
-use Rattle.wire_types.specs.declared.Form.TheVariants.{Lines, Places, Json, PlacedJson}
+use Rattle.wire_types.specs.declared.form.Form.{Form}
+use Rattle.wire_types.specs.declared.form.Form.TheVariants.{Lines, Places, Json, PlacedJson}
 
 -- whether the answer is JSON
 abbrev pub is_json : Form → Bool
