@@ -108,9 +108,9 @@ pub each_broken : (form : Form) (name : List ℕ) (rows : List (List ℕ)) (s : 
     (r : Result (Unit {0}) Fault) → places ≡ has_places form → json ≡ is_json form → places ≡ false →
     IfErr r (λ e. (e ≡ Memory) ⊎ WritesFront old new (findings_form json s found) e) → (r ≡ Err Memory → A) → IfErr r (λ e. e ≢ Memory → B) →
     IfErr r (StopsFindings form name rows s found old new A B)
-each_broken form name rows s found old new places json A B (Ok u) is_places is_form none told no failed = tt
-each_broken form name rows s found old new places json A B (Err e) is_places is_form none told no failed =
-    front_or_none e old new (findings_form json s found) A B (BreaksOffFindings form name rows s found old new e) told (λ memory. no (ap Err memory)) failed
+each_broken form name rows s found old new places json A B (Ok u) is_places is_form none front kept failed = tt
+each_broken form name rows s found old new places json A B (Err e) is_places is_form none front kept failed =
+    front_or_none e old new (findings_form json s found) A B (BreaksOffFindings form name rows s found old new e) front (λ memory. kept (ap Err memory)) failed
     (λ wrote. record { text = findings_form json s found; tells = told_each form name rows s found places json is_places is_form none; wrote = wrote })
 
 -- with places they are told in groups

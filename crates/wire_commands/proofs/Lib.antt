@@ -1,18 +1,18 @@
-pub mod Answered
-pub mod Came
-pub mod Checked
-pub mod Failures
-pub mod FileFaults
 mod Fits
-pub mod Followed
 mod Grouped
-pub mod Judged
 mod Limited
 mod Listed
 mod Ordered
 mod Placed
+mod Answered
+pub mod Came
+pub mod Checked
+pub mod Failures
+pub mod FileFaults
+pub mod Followed
+pub mod Handed
+pub mod Judged
 pub mod Questioned
-pub mod Replayed
 pub mod ReplayWritten
 pub mod Texts
 pub mod Worked

@@ -13,7 +13,7 @@ use wire_report::{line_of, pair_of, push_finding};
 use wire_types::CallAt;
 
 /// A call, or a half of a fence, with its line.
-#[tactic(auto, unfolding(crate::specs::Lined::json_step))]
+#[tactic(auto, unfolding(crate::specs::CallsJson::json_step))]
 pub(crate) fn step_json(
     alloc: Global,
     scripts: &Scripts,
@@ -39,7 +39,7 @@ pub(crate) fn call_json(
 }
 
 /// A call by its process, its number and its line alone.
-#[tactic(auto, unfolding(crate::specs::Lined::json_place))]
+#[tactic(auto, unfolding(crate::specs::CallsJson::json_place))]
 pub(crate) fn place_json(
     alloc: Global,
     scripts: &Scripts,

@@ -2,7 +2,7 @@ use Rattle.std.proofs.Common.{inl, refl, ap, Err}
 use Rattle.std.proofs.lemmas.Result.{on_ok_weaker}
 use Rattle.wire_commands.proofs.Checked.{writes_verdict, breaks_off, no_failed_read, clean_one_end}
 use Rattle.wire_commands.proofs.Followed.{err_always}
-use Rattle.wire_commands.proofs.Replayed.{handed_on, not_ok, not_on_ok, same_error}
+use Rattle.wire_commands.proofs.Handed.{handed_on, not_ok, not_on_ok, same_error}
 use Rattle.wire_commands.proofs.check.check_plan.Goals as goal
 
 pub returns-in_err-scripts-clause-ok : goal.returns-in_err-scripts-clause-ok

@@ -1,9 +1,9 @@
 use Rattle.std.proofs.Common.{inl, refl, ap, Err}
 use Rattle.std.proofs.lemmas.Result.{on_ok_weaker}
-use Rattle.wire_commands.proofs.Replayed.{handed_on, not_on_ok, same_error, no_read_writing, memory_no_read}
+use Rattle.wire_commands.proofs.Handed.{handed_on, not_on_ok, same_error, no_read_writing, memory_no_read}
 use Rattle.wire_commands.proofs.Followed.{err_always}
 use Rattle.wire_commands.proofs.Written.{writes_migrated, migrated_err}
-use Rattle.wire_commands.proofs.migrate.migrate_sized.Goals as goal
+use Rattle.wire_commands.proofs.migrate.migrate_plan.Goals as goal
 
 pub returns-in_err-scripts-clause-ok : goal.returns-in_err-scripts-clause-ok
 returns-in_err-scripts-clause-ok g c =

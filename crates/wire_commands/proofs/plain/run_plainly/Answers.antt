@@ -1,10 +1,10 @@
 use Rattle.std.proofs.Common.{◌∙◌, ap, refl, Err}
 use Rattle.std.proofs.lemmas.Result.{on_ok_weaker}
 use Rattle.wire_types.proofs.Results.{on_err_anyway}
-use Rattle.wire_commands.proofs.Replayed.{handed_on, not_on_ok, only_refused, same_error, before_writing, memory_no_read, memory_no_write, writes_report, breaks_off, no_read_writing}
-use Rattle.wire_commands.proofs.Replayed.{not_refused, untouched, at_error}
+use Rattle.wire_commands.proofs.Handed.{handed_on, not_on_ok, only_refused, same_error, before_writing, memory_no_read, memory_no_write, writes_report, breaks_off, no_read_writing}
+use Rattle.wire_commands.proofs.Handed.{not_refused, untouched, at_error}
 use Rattle.wire_commands.proofs.Followed.{err_always}
-use Rattle.wire_commands.proofs.plain.plain.Goals as goal
+use Rattle.wire_commands.proofs.plain.run_plainly.Goals as goal
 
 pub returns-in_err-scripts-clause-ok : goal.returns-in_err-scripts-clause-ok
 returns-in_err-scripts-clause-ok g c =

@@ -1,7 +1,7 @@
 use Rattle.std.proofs.Common.{subst, sym, ◌∙◌, []}
 use Rattle.wire_findings.specs.Findings.{AreFindings}
 use Rattle.wire_commands.proofs.Worked.{none_there}
-use Rattle.wire_commands.proofs.replay.settle_plan.Goals as goal
+use Rattle.wire_commands.proofs.replay.judge_marked.Goals as goal
 
 pub try_new-requires-clause-findings : goal.try_new-requires-clause-findings
 try_new-requires-clause-findings c =

@@ -1,9 +1,9 @@
 use Rattle.std.proofs.Common.{inl, inr, refl, arith}
 use Rattle.std.proofs.lemmas.Result.{on_ok_weaker}
 use Rattle.wire_commands.proofs.Followed.{err_always}
-use Rattle.wire_commands.proofs.Replayed.{handed_on}
+use Rattle.wire_commands.proofs.Handed.{handed_on}
 use Rattle.wire_commands.proofs.ReplayWritten.{writes_replay, judges_calls, clean_one_end, breaks_off, no_failed_read}
-use Rattle.wire_commands.proofs.replay.rehearse_complete.Goals as goal
+use Rattle.wire_commands.proofs.replay.replay_plan.Goals as goal
 
 pub replay_scripts-requires-clause-workers : goal.replay_scripts-requires-clause-workers
 replay_scripts-requires-clause-workers g c _ _ = (omega arith, omega arith)

@@ -1,5 +1,5 @@
 use Rattle.std.proofs.Common.{inl, refl, map}
-use Rattle.wire_commands.proofs.Replayed.{handed_on, not_ok}
+use Rattle.wire_commands.proofs.Handed.{handed_on, not_ok}
 use Rattle.wire_commands.proofs.Texts.{there_too}
 use Rattle.wire_commands.proofs.Questioned.{asked_too, refused_too}
 use Rattle.wire_commands.specs.Answer.{words_in}

@@ -1,7 +1,7 @@
 use Rattle.std.proofs.Common.{◌≡◌, ◌⊎◌, subst, inl, map, IfOk, IfErr, Err}
 use Rattle.wire_types.specs.declared.Fault.TheVariants.{Memory}
 use Rattle.wire_commands.specs.Why.{Asks}
-use Rattle.wire_commands.proofs.Replayed.{handed_on, not_ok}
+use Rattle.wire_commands.proofs.Handed.{handed_on, not_ok}
 use Rattle.wire_commands.specs.Why.{Answers}
 use Rattle.wire_commands.specs.Answer.{rows_in, words_in}
 use Rattle.wire_types.specs.Forms.{is_json}

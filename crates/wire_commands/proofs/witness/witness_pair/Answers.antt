@@ -1,6 +1,6 @@
 use Rattle.std.proofs.Common.{inl, refl, ap, Err, map}
 use Rattle.std.proofs.lemmas.Result.{on_ok_weaker}
-use Rattle.wire_commands.proofs.Replayed.{handed_on, not_ok, not_on_ok, same_error, no_read_writing}
+use Rattle.wire_commands.proofs.Handed.{handed_on, not_ok, not_on_ok, same_error, no_read_writing}
 use Rattle.wire_commands.proofs.Followed.{err_always}
 use Rattle.wire_commands.proofs.Questioned.{file_stops, no_read_of_words}
 use Rattle.wire_commands.specs.Why.{StopsBeforeAnswer}

@@ -1,6 +1,6 @@
 use Rattle.std.proofs.Common.{inl, refl, ap, Err}
 use Rattle.std.proofs.lemmas.Result.{on_ok_weaker}
-use Rattle.wire_commands.proofs.Replayed.{handed_on, not_ok, not_on_ok, same_error, no_read_writing, memory_no_read}
+use Rattle.wire_commands.proofs.Handed.{handed_on, not_ok, not_on_ok, same_error, no_read_writing, memory_no_read}
 use Rattle.wire_commands.proofs.Followed.{err_always}
 use Rattle.wire_commands.specs.Check.{StopsBeforeFindings}
 use Rattle.wire_commands.specs.Witnesses.{TriesRaces}
