@@ -1,24 +1,33 @@
-//! What was read, kept for the explanation of a fault.
+//! What was read, and why reading failed, kept for the explanation of a fault.
 
 use std::alloc::Global;
 use std::io;
 use std::io::Read;
+use wire_types::Fault;
 
-/// A copy of what was read, where one is wanted and memory serves.
+/// A copy of what was read, where one is wanted and memory serves, and the error for which opening or reading failed.
 #[derive(Drop)]
 pub struct Kept {
     pub bytes: Option<Vec<u8>>,
+    pub error: Option<io::Error>,
 }
 
 impl Kept {
     /// An empty copy, or none where none is wanted.
     pub fn new(alloc: Global, wanted: bool) -> Kept {
-        if wanted {
-            Kept {
-                bytes: Some(Vec::new(alloc)),
+        let bytes = if wanted { Some(Vec::new(alloc)) } else { None };
+        let error = None;
+        Kept { bytes, error }
+    }
+
+    /// What was opened. Each error of the system is the fault `Read`, and kept.
+    pub fn judge_opened<T>(&mut self, opened: io::Result<T>) -> Result<T, Fault> {
+        match opened {
+            Ok(value) => Ok(value),
+            Err(error) => {
+                self.error = Some(error);
+                Err(Fault::Read)
             }
-        } else {
-            Kept { bytes: None }
         }
     }
 
@@ -51,10 +60,13 @@ impl<'k, T: Read> KeptReader<'k, T> {
 impl<T: Read> Read for KeptReader<'_, T> {
     fn read(&mut self, buffer: &mut [u8]) -> io::Result<usize> {
         let answer = self.inner.read(buffer);
-        if let Ok(count) = &answer {
-            if *count <= buffer.len() {
-                self.kept.add(&buffer[..*count]);
+        match &answer {
+            Ok(count) => {
+                if *count <= buffer.len() {
+                    self.kept.add(&buffer[..*count]);
+                }
             }
+            Err(error) => self.kept.error = Some(*error),
         }
         answer
     }

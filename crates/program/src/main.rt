@@ -10,10 +10,7 @@ ghost use Rattle.std.specs.Thread.{IsSync};
 
 use clap::Error;
 use clap::error::ErrorKind;
-use commands::{
-    DONE, OrderWatch, answer_question, check_plan, follow_order, judge_read, length_of,
-    migrate_plan, replay_plan, show_race, show_races, size_of,
-};
+use commands::{DONE, OrderWatch, length_of, name_of, question_of, run_command, work_of};
 use kept::{Kept, KeptReader};
 use std::alloc::{AllocError, Global};
 use std::fs::File;
@@ -24,10 +21,10 @@ use std::sync::Wait;
 use std::thread::Threads;
 use std::time::Clock;
 use std::{env, io, thread};
-use terminal_line::{NotedReader, NotedWriter, Progress, Streams, Work, start_line};
+use terminal_line::{NotedReader, NotedWriter, Progress, Streams, start_line};
 use wire_explain::{explain_order, explain_plan, explain_stop, explain_word};
-use wire_types::{Fault, FromRead, Sink, ToWrite, write_out};
-use wire_up::{CallWords, Refusal, Request, Size, read_request};
+use wire_types::{Fault, FromRead, ToWrite, write_out};
+use wire_command_line::{Command, Refusal, Request, read_request};
 
 /// The exit status of a command line that can't be read.
 const USAGE: u8 = 5;
@@ -90,7 +87,7 @@ fn obey<'a>(
 ) -> Result<u8, Failure> {
     match read_request(rt.alloc(), words) {
         Ok(request) => {
-            let progress = Progress::new(work_of(&request), streams);
+            let progress = Progress::new(work_of(request.command), streams);
             serve_with_line(rt, request, &progress)
         }
         Err(refusal) => refuse(rt, refusal),
@@ -112,90 +109,11 @@ fn refuse(rt: &(impl Print + Eprint + AllocGlobal), refusal: Refusal) -> Result<
     }
 }
 
-/// What a command does once it has read all.
-fn work_of(request: &Request<'_>) -> Work {
-    match request {
-        Request::Check(_) => Work::Judging,
-        Request::Replay(_) => Work::Running,
-        Request::Follow(_) => Work::Following,
-        Request::Why(_) | Request::Witness(_) | Request::Witnesses(_) => Work::Searching,
-        Request::Migrate(_) => Work::Migrating,
-    }
-}
-
-/// The plan that a command reads, where one is named.
-fn plan_of<'a>(request: &Request<'a>) -> Option<&'a str> {
-    match request {
-        Request::Check(asked) => asked.plan,
-        Request::Replay(asked) => asked.plan,
-        Request::Follow(asked) => asked.plan,
-        Request::Why(asked) => asked.plan,
-        Request::Migrate(asked) => asked.plan,
-        Request::Witness(asked) => asked.plan,
-        Request::Witnesses(asked) => asked.plan,
-    }
-}
-
-/// Whether a fault is to be explained.
-fn is_explained(request: &Request<'_>) -> bool {
-    match request {
-        Request::Check(asked) => asked.explain,
-        Request::Replay(asked) => asked.explain,
-        Request::Follow(asked) => asked.explain,
-        Request::Why(asked) => asked.explain,
-        Request::Migrate(asked) => asked.explain,
-        Request::Witness(asked) => asked.explain,
-        Request::Witnesses(asked) => asked.explain,
-    }
-}
-
-/// The words of a question: they name two calls.
-#[derive(Clone, Copy)]
-struct Question<'a> {
-    first: CallWords<'a>,
-    second: CallWords<'a>,
-}
-
-/// The question of a command that has one.
-fn question_of<'a>(request: &Request<'a>) -> Option<Question<'a>> {
-    match request {
-        Request::Why(asked) => Some(Question {
-            first: asked.first,
-            second: asked.second,
-        }),
-        Request::Witness(asked) => Some(Question {
-            first: asked.first,
-            second: asked.second,
-        }),
-        _ => None,
-    }
-}
-
-/// The word of a question at a place, from 1.
-fn word_at<'a>(question: Question<'a>, place: u64) -> Option<&'a str> {
-    match place {
-        1 => Some(question.first.proc),
-        2 => Some(question.first.number),
-        3 => Some(question.second.proc),
-        4 => Some(question.second.number),
-        _ => None,
-    }
-}
-
-/// Within which limits a plan and its order are read, where a command has an order.
-fn order_size(request: &Request<'_>) -> Size {
-    match request {
-        Request::Follow(asked) => size_of(asked.large),
-        _ => Size::OfVersion,
-    }
-}
-
 /// What a command notes while it works: how far it is, and what it was given and has read.
 #[derive(Drop)]
 struct Watch<'p, 'w> {
     progress: &'p Progress,
-    question: Option<Question<'w>>,
-    size: Size,
+    request: Request<'w>,
     plan: Kept,
     order: Kept,
 }
@@ -206,9 +124,9 @@ fn explain_place(
     place: u64,
     watch: &Watch<'_, '_>,
 ) -> Result<Option<Vec<u8>>, AllocError> {
-    if let Some(question) = watch.question {
-        return match word_at(question, place) {
-            Some(word) => Ok(Some(explain_word(alloc, place, word)?)),
+    if let Some(words) = question_of(watch.request.command) {
+        return match words.get(place.saturating_sub(1) as usize) {
+            Some(word) => Ok(Some(explain_word(alloc, place, *word)?)),
             None => Ok(None),
         };
     }
@@ -226,7 +144,7 @@ fn explain_step(alloc: Global, watch: &Watch<'_, '_>) -> Option<Vec<u8>> {
     let Some(order) = &watch.order.bytes else {
         return None;
     };
-    match explain_stop(alloc, watch.size, plan.as_slice(), order.as_slice()) {
+    match explain_stop(alloc, watch.request.size, plan.as_slice(), order.as_slice()) {
         Ok(text) => Some(text),
         Err(_) => None,
     }
@@ -244,6 +162,48 @@ fn explain_file(
     }
 }
 
+/// What explains that a file couldn't be opened or read: its name and what the system says, and what was expected.
+fn explain_read(alloc: Global, watch: &Watch<'_, '_>) -> Result<Option<Vec<u8>>, AllocError> {
+    let mut text = Vec::new(alloc);
+    if let Some(error) = &watch.plan.error {
+        push_reason(alloc, &mut text, name_of(watch.request.plan), error)?;
+    }
+    if let Some(error) = &watch.order.error {
+        push_reason(alloc, &mut text, order_of(watch.request.command), error)?;
+    }
+    if let Some(expected) = explain_file(alloc, Fault::Read, watch)? {
+        text.extend_from_slice(expected.as_slice())?;
+    }
+    Ok(Some(text))
+}
+
+/// The name of the order that a command follows.
+fn order_of<'a>(command: Command<'a>) -> &'a str {
+    match command {
+        Command::Follow(order) => order,
+        _ => "<order>",
+    }
+}
+
+/// Appends the line that says for which error a file couldn't be opened or read. A byte of its name that isn't printable
+/// ASCII is shown as `?`.
+fn push_reason(
+    alloc: Global,
+    text: &mut Vec<u8>,
+    name: &str,
+    error: &io::Error,
+) -> Result<(), AllocError> {
+    text.extend_from_slice(b"  ")?;
+    for byte in name.as_bytes() {
+        text.push(if *byte < 32 || 126 < *byte { 63 } else { *byte })?;
+    }
+    text.extend_from_slice(b": ")?;
+    let reason = error.to_string(alloc)?;
+    text.extend_from_slice(reason.as_bytes())?;
+    text.push(10)?;
+    Ok(())
+}
+
 /// What explains a fault, where there is something to tell.
 fn explain(
     alloc: Global,
@@ -254,6 +214,7 @@ fn explain(
         Fault::Memory => Ok(None),
         Fault::BadOrder(place) => explain_place(alloc, place, watch),
         Fault::NotReady(_) => Ok(explain_step(alloc, watch)),
+        Fault::Read => explain_read(alloc, watch),
         _ => explain_file(alloc, fault, watch),
     }
 }
@@ -295,18 +256,16 @@ fn serve_explained(
     request: Request<'_>,
     progress: &Progress,
 ) -> Result<u8, Failure> {
-    let wanted = is_explained(&request);
     let mut watch = Watch {
         progress,
-        question: question_of(&request),
-        size: order_size(&request),
-        plan: Kept::new(rt.alloc(), wanted),
-        order: Kept::new(rt.alloc(), wanted),
+        request,
+        plan: Kept::new(rt.alloc(), request.explain),
+        order: Kept::new(rt.alloc(), request.explain),
     };
-    match serve(rt, request, &mut watch) {
+    match serve(rt, &mut watch) {
         Ok(status) => Ok(status),
         Err(fault) => {
-            if wanted {
+            if request.explain {
                 Err(explain_failure(rt.alloc(), fault, &watch))
             } else {
                 Err(fault.into())
@@ -318,46 +277,14 @@ fn serve_explained(
 /// Opens the plan of the command that was requested, runs the command, and answers the exit status.
 fn serve(
     rt: &(impl Files + Input + Print + Eprint + AllocGlobal + Threads + Wait + Sync),
-    request: Request<'_>,
     watch: &mut Watch<'_, '_>,
 ) -> Result<u8, Fault> {
-    let progress = watch.progress;
-    let mut reader = open_plan(rt, plan_of(&request), progress, &mut watch.plan)?;
+    let (progress, request) = (watch.progress, watch.request);
+    let mut reader = open_plan(rt, request.plan, progress, &mut watch.plan)?;
     let mut writer = ToWrite::new(NotedWriter::new(rt, progress));
     let kept = &mut watch.order;
-    run_command(
-        rt,
-        request,
-        OrderWatch { progress, kept },
-        &mut reader,
-        &mut writer,
-    )
-}
-
-/// Runs the command that was requested over its plan, which is open, and answers the exit status.
-fn run_command<R: Read, W: Sink>(
-    rt: &(impl Files + Print + Eprint + AllocGlobal + Threads + Wait + Sync),
-    request: Request<'_>,
-    watch: OrderWatch<'_>,
-    reader: &mut FromRead<R>,
-    writer: &mut W,
-) -> Result<u8, Fault> {
-    match request {
-        Request::Check(asked) => check_plan(rt, asked, reader, writer),
-        Request::Replay(asked) => replay_plan(rt, asked, watch.progress, reader, writer),
-        Request::Follow(asked) => {
-            if asked.plan.is_none() {
-                // Where standard input is closed, the order would be opened in its place, and be read as the
-                // plan. A read of no bytes fails there, and takes nothing anywhere else.
-                judge_read(reader.inner.read(&mut [0; 0]))?;
-            }
-            follow_order(rt, asked, watch, reader, writer)
-        }
-        Request::Why(asked) => answer_question(rt.alloc(), asked, reader, writer),
-        Request::Migrate(asked) => migrate_plan(rt.alloc(), asked, reader, writer),
-        Request::Witness(asked) => show_race(rt.alloc(), asked, reader, writer),
-        Request::Witnesses(asked) => show_races(rt, asked, reader, writer),
-    }
+    let order = OrderWatch { progress, kept };
+    run_command(rt, request, order, &mut reader, &mut writer)
 }
 
 /// Tells why there is nothing to do. Where the user asked for help or the version, the program is done then. Else the
@@ -400,7 +327,7 @@ fn open_plan<'p, R: Files + Input + Eprint + Wait>(
 ) -> Result<FromRead<KeptReader<'p, NotedReader<'p, Opened<R::File, R::Reader>>>>, Fault> {
     let (opened, size) = match plan {
         Some(path) => {
-            let file = judge_read(File::open(rt, path))?;
+            let file = kept.judge_opened(File::open(rt, path))?;
             let size = length_of(&file);
             (Opened::File(file), size)
         }

@@ -2,18 +2,24 @@
 use Rattle.std.specs.Prelude.{◌≡◌, false, List, Option, None, Result, Ok, Err, codes}
 use Rattle.clap.specs.Words.{Row, Text}
 use Rattle.wire_command_line.specs.CommandLine.{workers_word}
-use Rattle.wire_command_line.specs.Requests.{IsRequest, IsRequestBy, LacksFit, LacksWorkers, is_command, is_fitting, is_full}
+use Rattle.wire_command_line.specs.Requests.{IsCommand, IsRequest, IsRequestBy, LacksFit, LacksWorkers, is_command, is_fitting, is_full}
 use Rattle.wire_command_line.specs.Workers.{workers_said}
 use Rattle.wire_command_line.specs.declared.reading.Lack.{Lack}
 use Rattle.wire_command_line.specs.declared.reading.Lack.TheVariants.{Word, Workers, Fit}
+use Rattle.wire_command_line.specs.declared.request.Command.{Command}
 use Rattle.wire_command_line.specs.declared.request.Request.{Request}
 
--- of the command of this name with these words: what it requests, or what it lacks
-abbrev pub IsReadAs : Text → List Row → Result Request Lack → Type 0
-IsReadAs name rows (Ok request) = IsRequest name rows request
+-- of the command of this name with these words: which it is, or what it lacks
+abbrev pub IsReadAs : Text → List Row → Result Command Lack → Type 0
+IsReadAs name rows (Ok command) = IsCommand name rows command
 IsReadAs name rows (Err Word) = is_full name rows ≡ false
 IsReadAs name rows (Err Workers) = (name ≡ codes "replay") × (workers_said (workers_word rows) ≡ None)
 IsReadAs name rows (Err Fit) = (name ≡ codes "witness") × (is_fitting rows ≡ false)
+
+-- what it requests, or what it lacks
+abbrev pub IsReadIn : Text → List Row → Result Request Lack → Type 0
+IsReadIn name rows (Ok request) = IsRequest name rows request
+IsReadIn name rows (Err lack) = IsReadAs name rows (Err lack)
 
 -- of the command that the words name
 abbrev pub IsReadBy : Option (Text × List Row) → Result Request Lack → Type 0

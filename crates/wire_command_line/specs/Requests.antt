@@ -5,24 +5,26 @@ use Rattle.std.specs.List.{list_any}
 use Rattle.std.specs.Str.{bytes_eq}
 use Rattle.std.specs.Borrow.{Bor}
 use Rattle.clap.specs.Words.{Row, Text, HasKind, kind_of, fault_of, first_of, subcommand_of}
+use Rattle.wire_types.specs.declared.Form.{Form}
+use Rattle.wire_types.specs.declared.Form.TheVariants.{Lines, Places, Json, PlacedJson}
+use Rattle.wire_types.specs.declared.Orders.{Orders}
+use Rattle.wire_types.specs.declared.Orders.TheVariants.{Both, OfFirst, OfSecond}
+use Rattle.wire_script.specs.declared.Size.{Size}
+use Rattle.wire_script.specs.declared.Size.TheVariants.{Large, OfVersion}
 use Rattle.clap.specs.declared.error.kind.ErrorKind.TheVariants.{MissingRequiredArgument}
 use Rattle.wire_command_line.specs.CommandLine.{program_line, has_needed, is_set, most_word, workers_word}
 use Rattle.wire_command_line.specs.Workers.{most_said, workers_said}
+use Rattle.wire_command_line.specs.declared.request.CallPair.{CallPair}
 use Rattle.wire_command_line.specs.declared.request.CallWords.{CallWords}
-use Rattle.wire_command_line.specs.declared.request.Orders.{Orders}
-use Rattle.wire_command_line.specs.declared.request.Orders.TheVariants.{Both, OfFirst, OfSecond}
+use Rattle.wire_command_line.specs.declared.request.Command.{Command}
+use Rattle.wire_command_line.specs.declared.request.Command.TheVariants.{Check, Replay, Follow, Why, Migrate, Witness, Witnesses}
 use Rattle.wire_command_line.specs.declared.request.Request.{Request}
-use Rattle.wire_command_line.specs.declared.request.Request.TheVariants.{Check, Replay, Follow, Why, Migrate, Witness, Witnesses}
 use Rattle.wire_command_line.specs.declared.request.Refusal.{Refusal}
 use Rattle.wire_command_line.specs.declared.request.Refusal.TheVariants.{Usage, Workers, Witness as Misfit}
 
 -- the text of a word that may be left out
 abbrev pub text_of : Option (Bor Text) → Option Text
 text_of word = option_map (λ w. w.now) word
-
--- the word that names the plan
-abbrev pub plan_word : List Row → Option Text
-plan_word rows = first_of (codes "FILE") rows
 
 -- the words of these two names, which are those of a call
 pub record NamesCall (proc number : Text) (rows : List Row) (call : CallWords) : Type 0 where
@@ -33,24 +35,23 @@ pub record NamesCall (proc number : Text) (rows : List Row) (call : CallWords) :
 abbrev pub has_both : Text → Text → List Row → Bool
 has_both one other rows = is_some (first_of one rows) && is_some (first_of other rows)
 
--- whether the large limits are asked for
-abbrev pub is_large : List Row → Bool
-is_large rows = is_set (codes "large") rows
+-- the form that two flags ask for, with lines of the file and as JSON
+abbrev pub form_of : (lines json : Bool) → Form
+form_of false false = Lines
+form_of true false = Places
+form_of false true = Json
+form_of true true = PlacedJson
 
--- whether a fault is to be explained
-abbrev pub is_explained : List Row → Bool
-is_explained rows = is_set (codes "explain") rows
+abbrev pub form_said : List Row → Form
+form_said rows = form_of (is_set (codes "lines") rows) (is_set (codes "json") rows)
 
--- whether the answer is to be written with lines of the file, or as JSON
-abbrev pub has_lines : List Row → Bool
-has_lines rows = is_set (codes "lines") rows
+-- the limits that a flag asks for
+abbrev pub size_of : Bool → Size
+size_of large = if large then Large else OfVersion
 
-abbrev pub has_json : List Row → Bool
-has_json rows = is_set (codes "json") rows
-
--- or in either way, which an order alone isn't
+-- whether one of these flags is given: then an order is not written alone
 abbrev pub has_form : List Row → Bool
-has_form rows = has_lines rows || has_json rows
+has_form rows = is_set (codes "lines") rows || is_set (codes "json") rows
 
 -- which orders two flags ask for, nothing where both are given, or where one is given and the answer is to have a form
 abbrev pub orders_of : Bool → Bool → Bool → Option Orders
@@ -62,33 +63,41 @@ orders_of _ true true = None
 abbrev pub orders_said : List Row → Option Orders
 orders_said rows = orders_of (has_form rows) (is_set (codes "first") rows) (is_set (codes "second") rows)
 
--- the command of this name requests this, with the words that its matches have: each word is the one that was given by its name
-abbrev pub IsRequest : Text → List Row → Request → Type 0
-IsRequest name rows (Check asked) =
-    (name ≡ codes "check") × (text_of asked.plan ≡ plan_word rows) × (asked.lines ≡ has_lines rows) × (asked.json ≡ has_json rows)
-    × (asked.large ≡ is_large rows) × (asked.explain ≡ is_explained rows)
-IsRequest name rows (Replay asked) =
-    (name ≡ codes "replay") × (text_of asked.plan ≡ plan_word rows)
-    × (Some asked.workers ≡ workers_said (workers_word rows))
-    × (asked.json ≡ has_json rows) × (asked.anyway ≡ is_set (codes "anyway") rows) × (asked.complete ≡ is_set (codes "complete") rows)
-    × (asked.large ≡ is_large rows) × (asked.explain ≡ is_explained rows)
-IsRequest name rows (Follow asked) =
-    (name ≡ codes "follow") × (Some asked.order.now ≡ first_of (codes "ORDER") rows) × (text_of asked.plan ≡ plan_word rows)
-    × (asked.json ≡ has_json rows) × (asked.large ≡ is_large rows) × (asked.explain ≡ is_explained rows)
-IsRequest name rows (Why asked) =
-    (name ≡ codes "why") × NamesCall (codes "P") (codes "N") rows asked.first × NamesCall (codes "Q") (codes "M") rows asked.second
-    × (text_of asked.plan ≡ plan_word rows) × (asked.lines ≡ has_lines rows) × (asked.json ≡ has_json rows)
-    × (asked.large ≡ is_large rows) × (asked.explain ≡ is_explained rows)
-IsRequest name rows (Migrate asked) =
-    (name ≡ codes "migrate") × (text_of asked.plan ≡ plan_word rows) × (asked.large ≡ is_large rows) × (asked.explain ≡ is_explained rows)
-IsRequest name rows (Witness asked) =
-    (name ≡ codes "witness") × NamesCall (codes "P") (codes "N") rows asked.first × NamesCall (codes "Q") (codes "M") rows asked.second
-    × (Some asked.orders ≡ orders_said rows) × (first_of (codes "most") rows ≡ None) × (text_of asked.plan ≡ plan_word rows)
-    × (asked.lines ≡ has_lines rows) × (asked.json ≡ has_json rows) × (asked.explain ≡ is_explained rows)
-IsRequest name rows (Witnesses asked) =
-    (name ≡ codes "witness") × (first_of (codes "N") rows ≡ None) × (orders_said rows ≡ Some Both)
-    × (Some asked.most ≡ most_said (most_word rows)) × (text_of asked.plan ≡ first_of (codes "P") rows)
-    × (asked.lines ≡ has_lines rows) × (asked.json ≡ has_json rows) × (asked.explain ≡ is_explained rows)
+-- the words that name two calls
+pub record NamesCalls (rows : List Row) (calls : CallPair) : Type 0 where
+  pub first : NamesCall (codes "P") (codes "N") rows calls.first
+  pub second : NamesCall (codes "Q") (codes "M") rows calls.second
+
+-- all four are given
+abbrev pub has_calls : List Row → Bool
+has_calls rows = has_both (codes "P") (codes "N") rows && has_both (codes "Q") (codes "M") rows
+
+-- this is the command of this name, with the words that its matches have: each word is the one that was given by its name
+abbrev pub IsCommand : Text → List Row → Command → Type 0
+IsCommand name rows Check = name ≡ codes "check"
+IsCommand name rows (Replay asked) =
+    (name ≡ codes "replay") × (Some asked.workers ≡ workers_said (workers_word rows))
+    × (asked.anyway ≡ is_set (codes "anyway") rows) × (asked.complete ≡ is_set (codes "complete") rows)
+IsCommand name rows (Follow order) = (name ≡ codes "follow") × (Some order.now ≡ first_of (codes "ORDER") rows)
+IsCommand name rows (Why calls) = (name ≡ codes "why") × NamesCalls rows calls
+IsCommand name rows Migrate = name ≡ codes "migrate"
+IsCommand name rows (Witness asked) =
+    (name ≡ codes "witness") × NamesCalls rows asked.calls × (Some asked.orders ≡ orders_said rows) × (first_of (codes "most") rows ≡ None)
+IsCommand name rows (Witnesses most) =
+    (name ≡ codes "witness") × (first_of (codes "N") rows ≡ None) × (orders_said rows ≡ Some Both) × (Some most ≡ most_said (most_word rows))
+
+-- the word that names the plan of a command: of `witness` without calls it is the first
+abbrev pub plan_said : Command → List Row → Option Text
+plan_said (Witnesses most) rows = first_of (codes "P") rows
+plan_said _ rows = first_of (codes "FILE") rows
+
+-- the command of this name requests this
+pub record IsRequest (name : Text) (rows : List Row) (request : Request) : Type 0 where
+  pub command : IsCommand name rows request.command
+  pub plan : text_of request.plan ≡ plan_said request.command rows
+  pub form : request.form ≡ form_said rows
+  pub size : request.size ≡ size_of (is_set (codes "large") rows)
+  pub explain : request.explain ≡ is_set (codes "explain") rows
 
 -- the command that the words name requests this
 pub record IsRequestBy (command : Option (Text × List Row)) (request : Request) : Type 0 where
@@ -105,7 +114,7 @@ is_full name rows =
 -- the words of `witness` are those of two calls; one order alone has no form, and no `--most` goes with them
 abbrev pub is_of_pair : List Row → Bool
 is_of_pair rows =
-    has_both (codes "P") (codes "N") rows && has_both (codes "Q") (codes "M") rows && is_some (orders_said rows) && not (is_some (first_of (codes "most") rows))
+    has_calls rows && is_some (orders_said rows) && not (is_some (first_of (codes "most") rows))
 
 -- the words of `witness` name no call: no order is asked for, and `--most` says a number
 abbrev pub is_of_all : List Row → Bool

@@ -14,7 +14,6 @@ pub use matching::asked;
 pub use number::workers_of;
 pub use reading::read_request;
 pub use request::{
-    CallWords, CheckRequest, FollowRequest, MigrateRequest, Orders, PairRequest, RacesRequest,
-    Refusal, ReplayRequest, Request, WhyRequest,
+    CallPair, CallWords, Command, PairOptions, Refusal, ReplayOptions, Request,
 };
 pub use wanted::Asked;

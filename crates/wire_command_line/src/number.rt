@@ -8,7 +8,7 @@ ghost use Rattle.wire_command_line.specs.Workers.{most_said, number_said, worker
 /// The greatest number that a word is told apart by: one more than the most workers.
 const MOST_AND_ONE: usize = 65;
 
-/// More races than any plan has.
+/// So many races are tried at most. A plan can have more.
 const ALL_RACES: usize = 1_000_000_000;
 
 fn is_digit(byte: u8) -> bool

@@ -2,20 +2,21 @@
 
 ghost use Rattle.std.specs.Prelude.{◌≡◌, map, codes, false, None, IfOk, IfErr, IfSome, IfNone};
 ghost use Rattle.clap.specs.Words.{first_of, found_of, rows_of, subcommand_rows_of};
-ghost use Rattle.wire_command_line.specs.Reading.{IsReadAs, IsReadBy};
+ghost use Rattle.wire_command_line.specs.Reading.{IsReadAs, IsReadBy, IsReadIn};
 ghost use Rattle.wire_command_line.specs.Requests as spec;
-ghost use Rattle.wire_command_line.specs.Requests.{NamesCall, IsRequest, IsRequestOf, IsRefusalOf, text_of};
+ghost use Rattle.wire_command_line.specs.Requests.{NamesCall, NamesCalls, IsCommand, IsRequestOf, IsRefusalOf, text_of};
 
 use crate::matching::{
     find_word, has_word, is_same, is_set, match_words, most_given, tell_missing, workers_given,
 };
 use crate::number::{most_of, workers_of};
 use crate::request::{
-    CallWords, CheckRequest, FollowRequest, MigrateRequest, Orders, PairRequest, RacesRequest,
-    Refusal, ReplayRequest, Request, WhyRequest,
+    CallPair, CallWords, Command, PairOptions, Refusal, ReplayOptions, Request,
 };
 use clap::ArgMatches;
 use std::alloc::Global;
+use wire_script::Size;
+use wire_types::{Form, Orders};
 
 /// What a command lacks.
 #[derive(Clone, Copy)]
@@ -42,128 +43,62 @@ fn read_call<'a>(found: &ArgMatches<'a>, proc: &str, number: &str) -> Option<Cal
     Some(CallWords { proc, number })
 }
 
-/// The word that names the plan, if it was given.
-fn find_plan<'a>(found: &ArgMatches<'a>) -> Option<&'a str>
-    ensures { text_of result ≡ spec.plan_word (rows_of (found_of found.now)) }
+/// The two calls that the words name, where all four are given.
+fn read_calls<'a>(found: &ArgMatches<'a>) -> Option<CallPair<'a>>
+    ensures some { IfSome result (NamesCalls (rows_of (found_of found.now))) }
+    ensures none { IfNone result (spec.has_calls (rows_of (found_of found.now)) ≡ false) }
 {
-    find_word(found, "FILE")
+    let Some(first) = read_call(found, "P", "N") else {
+        return None;
+    };
+    let Some(second) = read_call(found, "Q", "M") else {
+        return None;
+    };
+    Some(CallPair { first, second })
 }
 
-/// Whether the answer is to tell lines of the file.
-fn has_lines(found: &ArgMatches<'_>) -> bool
-    ensures { result ≡ spec.has_lines (rows_of (found_of found.now)) }
+/// The form of the answer: two flags ask for it.
+fn form_of(lines: bool, json: bool) -> Form
+    ensures { result ≡ spec.form_of lines json }
 {
-    is_set(found, "lines")
+    match (lines, json) {
+        (false, false) => Form::Lines,
+        (true, false) => Form::Places,
+        (false, true) => Form::Json,
+        (true, true) => Form::PlacedJson,
+    }
 }
 
-/// Whether the answer is to be JSON.
-fn has_json(found: &ArgMatches<'_>) -> bool
-    ensures { result ≡ spec.has_json (rows_of (found_of found.now)) }
+/// The form in which the answer is to be written.
+fn read_form(found: &ArgMatches<'_>) -> Form
+    ensures { result ≡ spec.form_said (rows_of (found_of found.now)) }
 {
-    is_set(found, "json")
+    form_of(is_set(found, "lines"), is_set(found, "json"))
 }
 
-/// Whether the large limits hold.
-fn is_large(found: &ArgMatches<'_>) -> bool
-    ensures { result ≡ spec.is_large (rows_of (found_of found.now)) }
+/// The limits that hold: the large ones, or those of the plan's version.
+fn size_of(large: bool) -> Size
+    ensures { result ≡ spec.size_of large }
 {
-    is_set(found, "large")
+    if large { Size::Large } else { Size::OfVersion }
 }
 
-/// Whether a fault is to be explained.
-fn is_explained(found: &ArgMatches<'_>) -> bool
-    ensures { result ≡ spec.is_explained (rows_of (found_of found.now)) }
-{
-    is_set(found, "explain")
-}
-
-/// What `check` is to do.
-fn read_check<'a>(found: &ArgMatches<'a>) -> Request<'a>
-    ensures { IsRequest (codes "check") (rows_of (found_of found.now)) result }
-{
-    Request::Check(CheckRequest {
-        plan: find_plan(found),
-        lines: has_lines(found),
-        json: has_json(found),
-        large: is_large(found),
-        explain: is_explained(found),
-    })
-}
-
-/// What `migrate` is to do.
-fn read_migrate<'a>(found: &ArgMatches<'a>) -> Request<'a>
-    ensures { IsRequest (codes "migrate") (rows_of (found_of found.now)) result }
-{
-    Request::Migrate(MigrateRequest {
-        plan: find_plan(found),
-        large: is_large(found),
-        explain: is_explained(found),
-    })
-}
-
-/// What `replay` is to do, where the word of `--workers` is a number.
-fn read_replay<'a>(found: &ArgMatches<'a>) -> Result<Request<'a>, Lack>
+/// How `replay` is to run a plan, where the word of `--workers` is a number.
+fn read_replay<'a>(found: &ArgMatches<'a>) -> Result<Command<'a>, Lack>
     ensures { IsReadAs (codes "replay") (rows_of (found_of found.now)) result }
 {
     let Some(workers) = workers_of(workers_given(found)) else {
         return Err(Lack::Workers);
     };
-    Ok(Request::Replay(ReplayRequest {
-        plan: find_plan(found),
+    Ok(Command::Replay(ReplayOptions {
         workers,
-        json: has_json(found),
         anyway: is_set(found, "anyway"),
         complete: is_set(found, "complete"),
-        large: is_large(found),
-        explain: is_explained(found),
     }))
 }
 
-/// What `follow` is to do, where its order is given.
-fn read_follow<'a>(found: &ArgMatches<'a>) -> Result<Request<'a>, Lack>
-    ensures { IsReadAs (codes "follow") (rows_of (found_of found.now)) result }
-{
-    let Some(order) = find_word(found, "ORDER") else {
-        return Err(Lack::Word);
-    };
-    Ok(Request::Follow(FollowRequest {
-        order,
-        plan: find_plan(found),
-        json: has_json(found),
-        large: is_large(found),
-        explain: is_explained(found),
-    }))
-}
-
-/// What `why` is to do, where its two calls are given.
-fn read_why<'a>(found: &ArgMatches<'a>) -> Result<Request<'a>, Lack>
-    ensures { IsReadAs (codes "why") (rows_of (found_of found.now)) result }
-{
-    let Some(first) = read_call(found, "P", "N") else {
-        return Err(Lack::Word);
-    };
-    let Some(second) = read_call(found, "Q", "M") else {
-        return Err(Lack::Word);
-    };
-    Ok(Request::Why(WhyRequest {
-        first,
-        second,
-        plan: find_plan(found),
-        lines: has_lines(found),
-        json: has_json(found),
-        large: is_large(found),
-        explain: is_explained(found),
-    }))
-}
-
-/// Whether the answer is to have a form of its own: with lines of the file, or as JSON.
-fn has_form(found: &ArgMatches<'_>) -> bool
-    ensures { result ≡ spec.has_form (rows_of (found_of found.now)) }
-{
-    has_lines(found) || has_json(found)
-}
-
-/// Which orders two flags ask for: nothing where both are given, or where one is given and the answer is to have a form.
+/// Which orders two flags ask for: nothing where both are given, or where one is given and the answer isn't to be in lines
+/// alone.
 fn orders_of(formed: bool, first: bool, second: bool) -> Option<Orders>
     ensures { result ≡ spec.orders_of formed first second }
 {
@@ -173,6 +108,13 @@ fn orders_of(formed: bool, first: bool, second: bool) -> Option<Orders>
         (false, true) if !formed => Some(Orders::OfSecond),
         _ => None,
     }
+}
+
+/// Whether the answer is to have a form of its own: with lines of the file, or as JSON.
+fn has_form(found: &ArgMatches<'_>) -> bool
+    ensures { result ≡ spec.has_form (rows_of (found_of found.now)) }
+{
+    is_set(found, "lines") || is_set(found, "json")
 }
 
 /// Which orders `witness` is to write, where not both are asked for by themselves, nor one in a form.
@@ -187,14 +129,11 @@ fn read_orders(found: &ArgMatches<'_>) -> Option<Orders>
 }
 
 /// What `witness` is to do about two calls, where they are given and the options go with them.
-fn read_pair<'a>(found: &ArgMatches<'a>) -> Option<Request<'a>>
-    ensures some { IfSome result (IsRequest (codes "witness") (rows_of (found_of found.now))) }
+fn read_pair<'a>(found: &ArgMatches<'a>) -> Option<Command<'a>>
+    ensures some { IfSome result (IsCommand (codes "witness") (rows_of (found_of found.now))) }
     ensures none { IfNone result (spec.is_of_pair (rows_of (found_of found.now)) ≡ false) }
 {
-    let Some(first) = read_call(found, "P", "N") else {
-        return None;
-    };
-    let Some(second) = read_call(found, "Q", "M") else {
+    let Some(calls) = read_calls(found) else {
         return None;
     };
     let Some(orders) = read_orders(found) else {
@@ -203,21 +142,13 @@ fn read_pair<'a>(found: &ArgMatches<'a>) -> Option<Request<'a>>
     if has_word(found, "most") {
         return None;
     }
-    Some(Request::Witness(PairRequest {
-        first,
-        second,
-        orders,
-        plan: find_plan(found),
-        lines: has_lines(found),
-        json: has_json(found),
-        explain: is_explained(found),
-    }))
+    Some(Command::Witness(PairOptions { calls, orders }))
 }
 
 /// What `witness` is to do about all races, where the options go with that.
-fn read_all<'a>(found: &ArgMatches<'a>) -> Option<Request<'a>>
+fn read_all<'a>(found: &ArgMatches<'a>) -> Option<Command<'a>>
     requires { first_of (codes "N") (rows_of (found_of found.now)) ≡ None }
-    ensures some { IfSome result (IsRequest (codes "witness") (rows_of (found_of found.now))) }
+    ensures some { IfSome result (IsCommand (codes "witness") (rows_of (found_of found.now))) }
     ensures none { IfNone result (spec.is_of_all (rows_of (found_of found.now)) ≡ false) }
 {
     if is_set(found, "first") || is_set(found, "second") {
@@ -226,17 +157,11 @@ fn read_all<'a>(found: &ArgMatches<'a>) -> Option<Request<'a>>
     let Some(most) = most_of(most_given(found)) else {
         return None;
     };
-    Some(Request::Witnesses(RacesRequest {
-        most,
-        plan: find_word(found, "P"),
-        lines: has_lines(found),
-        json: has_json(found),
-        explain: is_explained(found),
-    }))
+    Some(Command::Witnesses(most))
 }
 
 /// What `witness` is to do, where its words and options go together.
-fn read_witness<'a>(found: &ArgMatches<'a>) -> Result<Request<'a>, Lack>
+fn read_witness<'a>(found: &ArgMatches<'a>) -> Result<Command<'a>, Lack>
     ensures { IsReadAs (codes "witness") (rows_of (found_of found.now)) result }
 {
     if has_word(found, "N") {
@@ -246,24 +171,26 @@ fn read_witness<'a>(found: &ArgMatches<'a>) -> Result<Request<'a>, Lack>
     }
 }
 
-/// What the command of this name is to do, where it has all that it needs.
-fn read_command<'a>(name: &str, found: &ArgMatches<'a>) -> Result<Request<'a>, Lack>
+/// The command of this name, where it has all that it needs.
+fn read_command<'a>(name: &str, found: &ArgMatches<'a>) -> Result<Command<'a>, Lack>
     ensures { IsReadAs name.now (rows_of (found_of found.now)) result }
 {
     if is_same(name, "check") {
-        return Ok(read_check(found));
+        return Ok(Command::Check);
     }
     if is_same(name, "replay") {
         return read_replay(found);
     }
     if is_same(name, "follow") {
-        return read_follow(found);
+        return find_word(found, "ORDER")
+            .map(Command::Follow)
+            .ok_or(Lack::Word);
     }
     if is_same(name, "why") {
-        return read_why(found);
+        return read_calls(found).map(Command::Why).ok_or(Lack::Word);
     }
     if is_same(name, "migrate") {
-        return Ok(read_migrate(found));
+        return Ok(Command::Migrate);
     }
     if is_same(name, "witness") {
         return read_witness(found);
@@ -271,12 +198,36 @@ fn read_command<'a>(name: &str, found: &ArgMatches<'a>) -> Result<Request<'a>, L
     Err(Lack::Word)
 }
 
+/// The word that names the plan of a command, if it was given.
+fn find_plan<'a>(found: &ArgMatches<'a>, command: Command<'a>) -> Option<&'a str>
+    ensures { text_of result ≡ spec.plan_said command.entry (rows_of (found_of found.now)) }
+{
+    match command {
+        Command::Witnesses(_) => find_word(found, "P"),
+        _ => find_word(found, "FILE"),
+    }
+}
+
+/// What the command of this name is to do, where it has all that it needs.
+fn read_named<'a>(name: &str, found: &ArgMatches<'a>) -> Result<Request<'a>, Lack>
+    ensures { IsReadIn name.now (rows_of (found_of found.now)) result }
+{
+    let command = read_command(name, found)?;
+    Ok(Request {
+        plan: find_plan(found, command),
+        form: read_form(found),
+        size: size_of(is_set(found, "large")),
+        explain: is_set(found, "explain"),
+        command,
+    })
+}
+
 /// What the command is to do that the matches name.
 fn read_matches<'a>(matches: &ArgMatches<'a>) -> Result<Request<'a>, Lack>
     ensures { IsReadBy (subcommand_rows_of matches.now) result }
 {
     match matches.subcommand() {
-        Some((name, found)) => read_command(name, found),
+        Some((name, found)) => read_named(name, found),
         None => Err(Lack::Word),
     }
 }

@@ -2,6 +2,8 @@
 
 use clap::Error;
 use std::alloc::AllocError;
+use wire_script::Size;
+use wire_types::{Form, Orders};
 
 /// The two words that name a call.
 #[derive(Clone, Copy)]
@@ -11,113 +13,62 @@ pub struct CallWords<'a> {
     pub number: &'a str,
 }
 
-/// What is written of the two runs that show a race.
+/// The words that name two calls.
 #[derive(Clone, Copy)]
-pub enum Orders {
-    /// How they differ, and the orders of both.
-    Both,
-    /// The order of the first run alone.
-    OfFirst,
-    /// The order of the second run alone.
-    OfSecond,
+pub struct CallPair<'a> {
+    pub first: CallWords<'a>,
+    pub second: CallWords<'a>,
 }
 
-/// What `check` is to do: to find the races of a plan.
+/// How `replay` is to run a plan.
 #[derive(Clone, Copy)]
-pub struct CheckRequest<'a> {
-    /// Without a plan's name, the plan comes from standard input: so in each request.
-    pub plan: Option<&'a str>,
-    /// The line of the file is told of each call, and findings that are alike are grouped.
-    pub lines: bool,
-    /// JSON in place of text. It goes with `lines`.
-    pub json: bool,
-    /// The large limits hold, in place of those of the plan's version.
-    pub large: bool,
-    /// A fault is explained.
-    pub explain: bool,
-}
-
-/// What `replay` is to do: to run a plan.
-#[derive(Clone, Copy)]
-pub struct ReplayRequest<'a> {
-    pub plan: Option<&'a str>,
+pub struct ReplayOptions {
     /// 65 for every greater number.
     pub workers: usize,
-    pub json: bool,
     /// Plans in which something is found are run too.
     pub anyway: bool,
     /// The first call that doesn't succeed is named.
     pub complete: bool,
-    pub large: bool,
-    pub explain: bool,
 }
 
-/// What `follow` is to do: to run a plan in the order of a file.
+/// Whose race `witness` is to show by two runs, and what it is to write of them.
 #[derive(Clone, Copy)]
-pub struct FollowRequest<'a> {
-    pub order: &'a str,
-    pub plan: Option<&'a str>,
-    pub json: bool,
-    pub large: bool,
-    pub explain: bool,
-}
-
-/// What `why` is to do: to tell which of two calls is before the other.
-#[derive(Clone, Copy)]
-pub struct WhyRequest<'a> {
-    pub first: CallWords<'a>,
-    pub second: CallWords<'a>,
-    pub plan: Option<&'a str>,
-    pub lines: bool,
-    pub json: bool,
-    pub large: bool,
-    pub explain: bool,
-}
-
-/// What `migrate` is to do: to write a plan under version 2 of the format.
-#[derive(Clone, Copy)]
-pub struct MigrateRequest<'a> {
-    pub plan: Option<&'a str>,
-    pub large: bool,
-    pub explain: bool,
-}
-
-/// What `witness` is to do with two calls: to show their race by two runs.
-#[derive(Clone, Copy)]
-pub struct PairRequest<'a> {
-    pub first: CallWords<'a>,
-    pub second: CallWords<'a>,
-    /// An order alone never comes with `lines` or `json`.
+pub struct PairOptions<'a> {
+    pub calls: CallPair<'a>,
+    /// An order alone comes only with the form `Lines`.
     pub orders: Orders,
-    pub plan: Option<&'a str>,
-    pub lines: bool,
-    pub json: bool,
-    pub explain: bool,
 }
 
-/// What `witness` is to do without calls: to tell which races two runs show.
+/// A command, with all that it alone needs.
 #[derive(Clone, Copy)]
-pub struct RacesRequest<'a> {
-    /// How many races are tried, 1,000,000,000 for every greater number.
-    pub most: usize,
-    pub plan: Option<&'a str>,
-    pub lines: bool,
-    pub json: bool,
-    pub explain: bool,
+pub enum Command<'a> {
+    /// To find the races of a plan.
+    Check,
+    /// To run a plan.
+    Replay(ReplayOptions),
+    /// To run a plan in the order of this file.
+    Follow(&'a str),
+    /// To tell which of two calls is before the other.
+    Why(CallPair<'a>),
+    /// To write a plan under version 2 of the format.
+    Migrate,
+    /// `witness` with two calls: to show their race by two runs.
+    Witness(PairOptions<'a>),
+    /// `witness` without calls: to tell which races two runs show. So many are tried, 1,000,000,000 for every greater
+    /// number.
+    Witnesses(usize),
 }
 
-/// What the program is to do.
+/// What the program is to do: what all commands share, and the command.
 #[derive(Clone, Copy)]
-pub enum Request<'a> {
-    Check(CheckRequest<'a>),
-    Replay(ReplayRequest<'a>),
-    Follow(FollowRequest<'a>),
-    Why(WhyRequest<'a>),
-    Migrate(MigrateRequest<'a>),
-    /// `witness` with two calls.
-    Witness(PairRequest<'a>),
-    /// `witness` without calls.
-    Witnesses(RacesRequest<'a>),
+pub struct Request<'a> {
+    /// Without a name, the plan comes from standard input.
+    pub plan: Option<&'a str>,
+    pub form: Form,
+    pub size: Size,
+    /// A fault is explained.
+    pub explain: bool,
+    pub command: Command<'a>,
 }
 
 /// Why a command line requests nothing.

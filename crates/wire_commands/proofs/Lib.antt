@@ -1,9 +1,19 @@
+mod Fits
+mod Grouped
+mod Limited
+mod Listed
+mod Ordered
+mod Placed
+mod Answered
 pub mod Came
-pub mod FileFaults
-pub mod Limited
-pub mod Replayed
-pub mod Followed
-pub mod Questioned
-pub mod Texts
 pub mod Checked
+pub mod Failures
+pub mod FileFaults
+pub mod Followed
+pub mod Handed
+pub mod Judged
+pub mod Questioned
+pub mod ReplayWritten
+pub mod Texts
+pub mod Worked
 pub mod Written

@@ -11,9 +11,8 @@ use Rattle.wire_script.specs.declared.Size.{Size}
 use Rattle.wire_script.specs.Question.{QuestionReads, Asks as AsksBoth, First, Second, Third, Fourth, IsCallNamed}
 use Rattle.wire_runs.specs.Ends.{calls_of}
 use Rattle.wire_content.proofs.PlannedCalls.{as_many_planned}
-use Rattle.wire_report.specs.Chain.{IsChainText}
 use Rattle.wire_commands.specs.Plain.{ReadAs, Refuses}
-use Rattle.wire_commands.specs.Why.{Asks, Answers, WritesAnswer, BreaksOffAnswer, StopsBeforeAnswer}
+use Rattle.wire_commands.specs.Why.{Asks, StopsBeforeAnswer}
 
 named_there : (s : Scripts) (proc number : List ℕ) (x : CallAt) → IsCallNamed s proc number x → x.call < length (calls_of (plan_of s) x.proc.number)
 named_there s proc number x named = subst (λ n. x.call < n) (as_many_planned s x.proc.number) named.numbered.there
@@ -42,12 +41,6 @@ pub all_there : (s : Scripts) (words : List (List ℕ)) (r : Result (CallAt × C
 all_there s words (Ok calls) asks = both_there s _ _ _ _ calls asks
 all_there s words (Err e) asks = tt
 
--- a text that tells the order of the calls that the words name answers them
-pub answered : (json : Bool) (s : Scripts) (words : List (List ℕ)) (x y : CallAt) (r : Result (Vec ℕ Global) Fault) → Asks s words (Ok (x, y)) → IfOk r (λ text. IsChainText json s x y text.items) →
-    IfOk r (λ text. Answers json s words text.items)
-answered json s words x y (Ok text) asks tells = record { x = x; y = y; asks = asks; tells = tells }
-answered json s words x y (Err e) asks tells = tt
-
 -- the plan of scripts is asked what they are asked, and answers the same
 pub asked_too : (shown s : Scripts) (words : List (List ℕ)) (calls : CallAt × CallAt) → shown ≡ s → Asks shown words (Ok calls) → Asks s words (Ok calls)
 asked_too shown s words calls is asks = subst (λ t. Asks t words (Ok calls)) is asks
@@ -55,30 +48,9 @@ asked_too shown s words calls is asks = subst (λ t. Asks t words (Ok calls)) is
 pub refused_too : (shown s : Scripts) (words : List (List ℕ)) (e : Fault) → shown ≡ s → (e ≡ Memory) ⊎ Asks shown words (Err e) → (e ≡ Memory) ⊎ Asks s words (Err e)
 refused_too shown s words e is refuses = subst (λ t. (e ≡ Memory) ⊎ Asks t words (Err e)) is refuses
 
-pub answers_too : (json : Bool) (s plan : Scripts) (words : List (List ℕ)) (r : Result (Vec ℕ Global) Fault) → plan ≡ s →
-    IfOk r (λ text. Answers json plan words text.items) → IfOk r (λ text. Answers json s words text.items)
-answers_too json s plan words r is answers = subst (λ t. IfOk r (λ text. Answers json t words text.items)) is answers
-
 pub refuses_too : (s plan : Scripts) (words : List (List ℕ)) (r : Result (Vec ℕ Global) Fault) → plan ≡ s → IfErr r (λ e. (e ≡ Memory) ⊎ Asks plan words (Err e)) →
     IfErr r (λ e. (e ≡ Memory) ⊎ Asks s words (Err e))
 refuses_too s plan words r is refuses = subst (λ t. IfErr r (λ e. (e ≡ Memory) ⊎ Asks t words (Err e))) is refuses
-
--- all of the answer goes out
-pub answer_ok : {size : Size} {json : Bool} (coming : Option (List ℕ)) (words : List (List ℕ)) (old new : Option (List ℕ)) (s : Scripts) (text out : List ℕ) (r : Result (Unit {0}) Fault) →
-    ReadAs size coming s →
-    Answers json s words text → out ≡ text → OnOk r (Appends old new out) → OnOk r (WritesAnswer size json coming words old new)
-answer_ok coming words old new s text out (Ok u) read answers at wrote =
-    record { scripts = s; read = read; text = text; answers = answers; wrote = subst (λ t. Appends old new t) at wrote }
-answer_ok coming words old new s text out (Err e) read answers at wrote = tt
-
--- or the front of it that the fault counts
-pub answer_err : {size : Size} {json : Bool} (coming : Option (List ℕ)) (words : List (List ℕ)) (old new : Option (List ℕ))
-    (s : Scripts) (text out : List ℕ) (kept failed : Type 0) (r : Result (Unit {0}) Fault) →
-    ReadAs size coming s → Answers json s words text → out ≡ text → IfErr r (WritesFront old new out) → IfErr r (λ _. failed)
-    → IfErr r (λ e. (StopsBeforeAnswer size coming words e × kept) ⊎ (BreaksOffAnswer size json coming words old new e × failed))
-answer_err coming words old new s text out kept failed (Ok u) read answers at front count = tt
-answer_err coming words old new s text out kept failed (Err e) read answers at front count =
-    inr (record { scripts = s; read = read; text = text; answers = answers; wrote = subst (λ t. WritesFront old new t e) at front }, count)
 
 -- a fault of the file comes before the writing
 pub file_stops : {size : Size} (coming : Option (List ℕ)) (words : List (List ℕ)) (e : Fault) → (e ≡ Memory) ⊎ ((e ≡ Read) ⊎ Refuses size coming e) → StopsBeforeAnswer size coming words e

@@ -1,9 +1,11 @@
--- What a check writes: all findings of the scripts that were to come from the reader.
-use Rattle.std.specs.Prelude.{◌≡◌, ◌⊎◌, ◌↔◌, ◌==◌, ℕ, Bool, if◌then◌else◌, List, [], ◌∷◌, Option, length}
+-- What `check` writes: all findings of the scripts that were to come from the reader.
+use Rattle.std.specs.Prelude.{◌≡◌, ◌⊎◌, ◌↔◌, ℕ, Bool, true, false, List, Option}
 use Rattle.std.specs.Io.KnownBytes.{Appends}
 use Rattle.wire_types.specs.Front.{WritesFront}
 use Rattle.wire_types.specs.declared.Fault.{Fault}
 use Rattle.wire_types.specs.declared.Fault.TheVariants.{Memory, Read}
+use Rattle.wire_types.specs.declared.Form.{Form}
+use Rattle.wire_types.specs.Forms.{has_places, is_json}
 use Rattle.wire_content.specs.Scripts.{Scripts}
 use Rattle.wire_content.specs.Planned.{plan_of}
 use Rattle.wire_runs.specs.Races.{IsSettled}
@@ -12,32 +14,23 @@ use Rattle.wire_runs.specs.Plan.{Plan}
 use Rattle.wire_runs.specs.Laws.{HasOneEnd, AreUnordered}
 use Rattle.wire_findings.specs.declared.finding.Finding.{Finding}
 use Rattle.wire_findings.specs.Findings.{AreFindings, all_shown}
+use Rattle.wire_report.specs.declared.tally.Group.{Group}
 use Rattle.wire_report.specs.Findings.{findings_form}
+use Rattle.wire_report.specs.Grouped.{AreGroupsOf}
+use Rattle.wire_report.specs.GroupedText.{IsLocatedText}
 use Rattle.wire_script.specs.declared.Size.{Size}
-use Rattle.wire_commands.specs.declared.checking.Ended.{Ended}
-use Rattle.wire_commands.specs.declared.checking.Ended.TheVariants.{Clean, Found}
+use Rattle.wire_commands.specs.declared.ended.Ended.{Ended}
+use Rattle.wire_commands.specs.declared.ended.Ended.TheVariants.{Clean}
+use Rattle.wire_commands.specs.CallsJson.{json_groups}
+use Rattle.wire_commands.specs.Ending.{ended_with}
 use Rattle.wire_commands.specs.Plain.{ReadAs, Refuses}
-
--- how a command ends that finds so many
-abbrev pub ended_of : ℕ → Ended
-ended_of count = if count == 0 then Clean else Found count
-
--- how a check or a rehearsal ends that has these findings
-abbrev pub ended_with : List Finding → Ended
-ended_with [] = Clean
-ended_with (finding ∷ others) = Found (length (finding ∷ others))
-
--- the exit status of what ended so
-abbrev pub status_of : Ended → ℕ
-status_of Clean = 0
-status_of (Found count) = 1
 
 -- the two calls of each race among the findings are live, and no chain orders them
 abbrev pub NoneIsOrdered : Plan → List Finding → Type 0
 NoneIsOrdered plan found = (f : runs.Finding) → runs.Has (all_shown plan found) f → AreUnordered plan f
 
--- these are the findings of the scripts, and it ends so: clean exactly where there is nothing to find, and then every interleaving that
--- can't go on ends in one state. The calls of each race are live, and no chain orders them
+-- these are the findings of the scripts, and it ends so: clean exactly where there is nothing to find, and then every
+-- interleaving that can't go on ends in one state. The calls of each race are live, and no chain orders them
 pub record IsJudged (scripts : Scripts) (found : List Finding) (ended : Ended) : Type 0 where
   pub those : AreFindings scripts found
   pub ends : ended ≡ ended_with found
@@ -45,43 +38,67 @@ pub record IsJudged (scripts : Scripts) (found : List Finding) (ended : Ended) :
   pub one_end : ended ≡ Clean → HasOneEnd (plan_of scripts)
   pub unordered : NoneIsOrdered (plan_of scripts) found
 
--- the text of all findings of the scripts, in lines or as JSON, and how a check of them ends
-pub record IsVerdict (json : Bool) (scripts : Scripts) (ended : Ended) (text : List ℕ) : Type 0 where
-  pub found : List Finding
-  pub judged : IsJudged scripts found ended
-  pub tells : text ≡ findings_form json scripts found
+-- the text is the JSON form of these findings and their groups
+pub record IsGroupedJson (rows : List (List ℕ)) (scripts : Scripts) (found : List Finding) (text : List ℕ) : Type 0 where
+  pub groups : List Group
+  pub grouped : AreGroupsOf scripts found groups
+  pub tells : text ≡ json_groups rows scripts found groups
 
--- all of the findings of the scripts went out
-pub record WritesVerdict (json : Bool) (scripts : Scripts) (ended : Ended) (old new : Option (List ℕ)) : Type 0 where
+-- the text tells these findings in groups: in lines, or as JSON
+abbrev pub IsGroupedText : (json : Bool) (name : List ℕ) (rows : List (List ℕ)) → Scripts → List Finding → List ℕ → Type 0
+IsGroupedText false name rows scripts found text = IsLocatedText name scripts rows found text
+IsGroupedText true name rows scripts found text = IsGroupedJson rows scripts found text
+
+-- with places the text tells them in groups, else one by one
+abbrev pub TellsEach : (places json : Bool) (name : List ℕ) (rows : List (List ℕ)) → Scripts → List Finding → List ℕ → Type 0
+TellsEach false json name rows scripts found text = text ≡ findings_form json scripts found
+TellsEach true json name rows scripts found text = IsGroupedText json name rows scripts found text
+
+-- the text tells these findings in this form
+abbrev pub TellsFindings : (form : Form) (name : List ℕ) (rows : List (List ℕ)) → Scripts → List Finding → List ℕ → Type 0
+TellsFindings form name rows scripts found text = TellsEach (has_places form) (is_json form) name rows scripts found text
+
+-- all of a text went out that tells these findings
+pub record WritesFindings (form : Form) (name : List ℕ) (rows : List (List ℕ)) (scripts : Scripts) (found : List Finding)
+    (old new : Option (List ℕ)) : Type 0 where
   pub text : List ℕ
-  pub verdict : IsVerdict json scripts ended text
+  pub tells : TellsFindings form name rows scripts found text
   pub wrote : Appends old new text
 
--- exactly as many bytes of the findings of the scripts went out as the fault says, which aren't all of them
-pub record BreaksOffVerdict (json : Bool) (scripts : Scripts) (old new : Option (List ℕ)) (fault : Fault) : Type 0 where
-  pub ended : Ended
+-- exactly as many bytes of such a text went out as the fault says, which aren't all of it
+pub record BreaksOffFindings (form : Form) (name : List ℕ) (rows : List (List ℕ)) (scripts : Scripts) (found : List Finding)
+    (old new : Option (List ℕ)) (fault : Fault) : Type 0 where
   pub text : List ℕ
-  pub verdict : IsVerdict json scripts ended text
+  pub tells : TellsFindings form name rows scripts found text
   pub wrote : WritesFront old new text fault
 
--- what was to come read as scripts, and every interleaving of their plan that can't go on ends in one state, the plain run's: the
--- same reply to every call, and the same processes waiting
+-- the text of all findings of the scripts, and how a check of them ends
+pub record IsVerdict (form : Form) (name : List ℕ) (scripts : Scripts) (rows : List (List ℕ)) (text : List ℕ) (ended : Ended) : Type 0 where
+  pub found : List Finding
+  pub judged : IsJudged scripts found ended
+  pub tells : TellsFindings form name rows scripts found text
+
+-- all of the verdict on the scripts went out
+pub record WritesVerdict (form : Form) (name : List ℕ) (scripts : Scripts) (rows : List (List ℕ)) (ended : Ended)
+    (old new : Option (List ℕ)) : Type 0 where
+  pub text : List ℕ
+  pub verdict : IsVerdict form name scripts rows text ended
+  pub wrote : Appends old new text
+
+-- exactly as many bytes of the verdict went out as the fault says, which aren't all of it
+pub record BreaksOffVerdict (form : Form) (name : List ℕ) (scripts : Scripts) (rows : List (List ℕ))
+    (old new : Option (List ℕ)) (fault : Fault) : Type 0 where
+  pub ended : Ended
+  pub text : List ℕ
+  pub verdict : IsVerdict form name scripts rows text ended
+  pub wrote : WritesFront old new text fault
+
+-- what was to come read as scripts, and every interleaving of their plan that can't go on ends in one state, the plain
+-- run's: the same reply to every call, and the same processes waiting
 pub record EndsInOneState (size : Size) (coming : Option (List ℕ)) : Type 0 where
   pub scripts : Scripts
   pub read : ReadAs size coming scripts
   pub one_end : HasOneEnd (plan_of scripts)
-
--- all of the findings of what was to come went out
-pub record WritesFindings (size : Size) (json : Bool) (coming : Option (List ℕ)) (ended : Ended) (old new : Option (List ℕ)) : Type 0 where
-  pub scripts : Scripts
-  pub read : ReadAs size coming scripts
-  pub wrote : WritesVerdict json scripts ended old new
-
--- exactly as many bytes of the findings went out as the fault says, which aren't all of them
-pub record BreaksOffFindings (size : Size) (json : Bool) (coming old new : Option (List ℕ)) (fault : Fault) : Type 0 where
-  pub scripts : Scripts
-  pub read : ReadAs size coming scripts
-  pub broke : BreaksOffVerdict json scripts old new fault
 
 -- why nothing is written: memory ran out, a read failed, or the file is refused
 abbrev pub StopsBeforeFindings : Size → Option (List ℕ) → Fault → Type 0

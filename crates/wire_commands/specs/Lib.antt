@@ -1,5 +1,13 @@
+pub mod Ending
 pub mod Plain
-pub mod Follow
-pub mod Why
+pub mod Answer
+pub mod CallsJson
 pub mod Check
+pub mod Chains
+pub mod Why
+pub mod Witness
+pub mod Witnesses
+pub mod Replay
+pub mod Complete
+pub mod Follow
 pub mod Migrate

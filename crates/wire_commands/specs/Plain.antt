@@ -29,7 +29,7 @@ pub record WritesReport (size : Size) (coming old new : Option (List ℕ)) : Typ
   pub wrote : Appends old new (plain_report scripts)
 
 -- exactly the first n bytes of the report of what was to come went out, which aren't all of it
-pub record BreaksOff (size : Size) (coming old new : Option (List ℕ)) (n : ℕ) : Type 0 where
+pub record BreaksOffReport (size : Size) (coming old new : Option (List ℕ)) (n : ℕ) : Type 0 where
   pub scripts : Scripts
   pub read : ReadAs size coming scripts
   pub wrote : Appends old new (take n (plain_report scripts))

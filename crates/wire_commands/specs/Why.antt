@@ -1,14 +1,18 @@
--- What a question writes: whether one call is before another, and the chain that shows it.
-use Rattle.std.specs.Prelude.{◌≡◌, ℕ, Bool, List, [], Option, Result, Ok, Err, ◌⊎◌, slice_index_or}
-use Rattle.std.specs.Io.KnownBytes.{Appends}
-use Rattle.wire_types.specs.Front.{WritesFront}
+-- What `why` writes: whether one call is before another, and the chain that shows it.
+use Rattle.std.specs.Prelude.{◌≡◌, ◌⊎◌, ℕ, Bool, true, false, List, [], Option, Result, Ok, Err, slice_index_or}
 use Rattle.wire_types.specs.declared.CallAt.{CallAt}
 use Rattle.wire_types.specs.declared.Fault.{Fault}
 use Rattle.wire_types.specs.declared.Fault.TheVariants.{Memory, Read}
+use Rattle.wire_types.specs.declared.Form.{Form}
+use Rattle.wire_types.specs.Forms.{has_places, is_json}
 use Rattle.wire_content.specs.Scripts.{Scripts}
+use Rattle.wire_report.specs.Chain.{IsChainText}
 use Rattle.wire_script.specs.declared.Size.{Size}
 use Rattle.wire_script.specs.Question.{QuestionReads}
-use Rattle.wire_report.specs.Chain.{IsChainText}
+use Rattle.wire_commands.specs.declared.ended.Ended.{Ended}
+use Rattle.wire_commands.specs.declared.ended.Ended.TheVariants.{Clean}
+use Rattle.wire_commands.specs.Answer.{Writes}
+use Rattle.wire_commands.specs.Chains.{IsPlacedChain}
 use Rattle.wire_commands.specs.Plain.{ReadAs, Refuses}
 
 abbrev pub word_at : List (List ℕ) → ℕ → List ℕ
@@ -18,29 +22,27 @@ word_at words n = slice_index_or words n []
 abbrev pub Asks : Scripts → List (List ℕ) → Result (CallAt × CallAt) Fault → Type 0
 Asks scripts words named = QuestionReads scripts (word_at words 0) (word_at words 1) (word_at words 2) (word_at words 3) named
 
--- the words name two calls of the scripts, and the text tells their order, in lines or as JSON
-pub record Answers (json : Bool) (scripts : Scripts) (words : List (List ℕ)) (text : List ℕ) : Type 0 where
+-- the text tells the order of two calls, with places or without
+abbrev pub TellsChain : (places json : Bool) (name : List ℕ) (rows : List (List ℕ)) → Scripts → CallAt → CallAt → List ℕ → Type 0
+TellsChain false json name rows scripts x y text = IsChainText json scripts x y text
+TellsChain true json name rows scripts x y text = IsPlacedChain json name rows scripts x y text
+
+-- the text tells the order of two calls in this form
+abbrev pub TellsOrder : (form : Form) (name : List ℕ) (rows : List (List ℕ)) → Scripts → CallAt → CallAt → List ℕ → Type 0
+TellsOrder form name rows scripts x y text = TellsChain (has_places form) (is_json form) name rows scripts x y text
+
+-- the words name two calls of the scripts, and the text tells their order. A question finds nothing, so it ends clean
+pub record Answers (form : Form) (name : List ℕ) (words : List (List ℕ)) (scripts : Scripts)
+    (rows : List (List ℕ)) (text : List ℕ) (ended : Ended) : Type 0 where
   pub x : CallAt
   pub y : CallAt
   pub asks : Asks scripts words (Ok (x, y))
-  pub tells : IsChainText json scripts x y text
+  pub tells : TellsOrder form name rows scripts x y text
+  pub ends : ended ≡ Clean
 
 -- all of the answer went out
-pub record WritesAnswer (size : Size) (json : Bool) (coming : Option (List ℕ)) (words : List (List ℕ)) (old new : Option (List ℕ)) : Type 0 where
-  pub scripts : Scripts
-  pub read : ReadAs size coming scripts
-  pub text : List ℕ
-  pub answers : Answers json scripts words text
-  pub wrote : Appends old new text
-
--- exactly as many bytes of the answer went out as the fault says, which aren't all of it
-pub record BreaksOffAnswer (size : Size) (json : Bool) (coming : Option (List ℕ)) (words : List (List ℕ))
-    (old new : Option (List ℕ)) (fault : Fault) : Type 0 where
-  pub scripts : Scripts
-  pub read : ReadAs size coming scripts
-  pub text : List ℕ
-  pub answers : Answers json scripts words text
-  pub wrote : WritesFront old new text fault
+abbrev pub WritesAnswer : Size → Form → Option (List ℕ) → (name : List ℕ) (words : List (List ℕ)) (old new : Option (List ℕ)) → Type 0
+WritesAnswer size form coming name words old new = (ended : Ended) × Writes size form coming (Answers form name words) ended old new
 
 -- the file reads as scripts, and a word of the question has this fault
 pub record RefusesQuestion (size : Size) (coming : Option (List ℕ)) (words : List (List ℕ)) (fault : Fault) : Type 0 where

@@ -1,21 +1,29 @@
-//! The commands that start no workers, from bytes to bytes: what races in a plan, its plain run, a run that takes the steps of an order,
-//! which of two calls comes first, and the same plan under version 2 of the format.
+//! The commands, from bytes to bytes: each in a module of its name, in all its forms.
 #![tactic(auto)]
 
 mod answer;
-mod asking;
-mod checking;
-mod following;
-mod form;
-mod migrating;
-mod plain_run;
+mod calls_json;
+mod check;
+mod complete;
+mod ended;
+mod follow;
+mod json_builder;
+mod manner;
+mod migrate;
+mod plain;
 mod reading;
+mod replay;
+mod why;
+mod witness;
+mod witnesses;
 
-pub use answer::{Answer, write_answer};
-pub use asking::{read_pair, why, why_in_form};
-pub use checking::{Ended, check, check_in_form};
-pub use following::{follow, follow_in_form};
-pub use form::Form;
-pub use migrating::{migrate, migrate_sized};
-pub use plain_run::{plain, read_scripts};
-pub use reading::read_up_to;
+pub use check::check_plan;
+pub use ended::Ended;
+pub use follow::follow_plan;
+pub use manner::Manner;
+pub use migrate::migrate_plan;
+pub use plain::run_plainly;
+pub use replay::{Mode, Replayed, Replaying, replay_plan};
+pub use why::answer_question;
+pub use witness::{PairAsked, witness_pair};
+pub use witnesses::witness_races;

@@ -1,14 +1,14 @@
 -- What following the two orders of a witness writes.
-use Rattle.std.specs.Prelude.{◌≡◌, ℕ, List, Ok}
+use Rattle.std.specs.Prelude.{◌≡◌, ℕ, List, [], Ok}
 use Rattle.wire_types.specs.declared.CallAt.{CallAt}
 use Rattle.wire_content.specs.Scripts.{Scripts, numbers_of}
 use Rattle.wire_script.specs.declared.Size.TheVariants.{OfVersion}
 use Rattle.wire_script.specs.Reads.{Reads}
 use Rattle.wire_witness.specs.declared.witness.Witness.{Witness}
 use Rattle.wire_witness.specs.Witness.{IsWitness}
-use Rattle.wire_up.specs.declared.part.Part.{Part}
-use Rattle.wire_up.specs.declared.part.Part.TheVariants.{FirstOrder, SecondOrder}
-use Rattle.wire_up.specs.PairText.{witness_text}
+use Rattle.wire_types.specs.declared.Form.TheVariants.{Lines}
+use Rattle.wire_types.specs.declared.Orders.TheVariants.{OfFirst, OfSecond}
+use Rattle.wire_commands.specs.Witness.{witness_text}
 use Rattle.wire_text_laws.specs.Again.{steps_text, ReadsAsOrder}
 use Rattle.wire_text_laws.specs.Following.{IsFollowed}
 
@@ -20,8 +20,8 @@ pub record IsOrderOf (bytes : List ℕ) (s : Scripts) (text steps : List ℕ) : 
 
 -- and so are both orders of a witness, as they are written
 pub record AreOrdersOf (bytes : List ℕ) (s : Scripts) (witness : Witness) : Type 0 where
-  pub first : IsOrderOf bytes s (witness_text FirstOrder s witness) (numbers_of witness.first.items)
-  pub second : IsOrderOf bytes s (witness_text SecondOrder s witness) (numbers_of witness.second.items)
+  pub first : IsOrderOf bytes s (witness_text Lines [] [] OfFirst s witness) (numbers_of witness.first.items)
+  pub second : IsOrderOf bytes s (witness_text Lines [] [] OfSecond s witness) (numbers_of witness.second.items)
 
 -- of scripts that were read: the orders of each witness of two calls are followed to the reports of its runs
 abbrev pub WitnessIsFollowed : Type 0

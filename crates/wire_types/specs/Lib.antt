@@ -1,5 +1,6 @@
 pub mod Counting
 pub mod Fault
+pub mod Forms
 pub mod Front
 pub mod Outcome
 pub mod Replies

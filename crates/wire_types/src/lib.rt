@@ -5,6 +5,7 @@
 
 mod call;
 mod fault;
+mod form;
 mod memory;
 mod place;
 mod reply;
@@ -17,6 +18,7 @@ mod wrap;
 
 pub use call::{Call, Scope};
 pub use fault::Fault;
+pub use form::{Form, Orders};
 pub use memory::{EndlessSource, MemorySink, MemorySource};
 pub use place::{CallAt, Event, Proc};
 pub use reply::{CallEnd, Outcome, Reply, Status, Value};

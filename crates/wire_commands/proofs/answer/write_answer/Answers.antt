@@ -1,7 +1,7 @@
 use Rattle.std.proofs.Common.{refl, subst}
 use Rattle.std.specs.Io.KnownBytes.{Appends}
 use Rattle.wire_types.specs.Front.{WritesFront}
-use Rattle.wire_commands.proofs.Replayed.{handed_on}
+use Rattle.wire_commands.proofs.Handed.{handed_on}
 use Rattle.wire_commands.proofs.answer.write_answer.Goals as goal
 
 pub returns-clause-ok : goal.returns-clause-ok

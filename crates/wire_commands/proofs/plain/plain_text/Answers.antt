@@ -1,0 +1,15 @@
+use Rattle.wire_commands.proofs.Handed.{handed_on, not_ok}
+use Rattle.wire_commands.proofs.Texts.{plain_too}
+use Rattle.wire_commands.proofs.plain.plain_text.Goals as goal
+
+pub returns-in_err-plan-clause-ok : goal.returns-in_err-plan-clause-ok
+returns-in_err-plan-clause-ok c = not_ok c.from_residual.result c.in_err-plan.field-0.0 _ c.from_residual.ensures.1
+
+pub returns-in_err-plan-clause-err : goal.returns-in_err-plan-clause-err
+returns-in_err-plan-clause-err c = handed_on c.from_residual.result c.in_err-plan.field-0.0 _ c.from_residual.ensures.1 (c.in_err-plan.ensures.err)
+
+pub returns-clause-ok : goal.returns-clause-ok
+returns-clause-ok c = plain_too c.args.scripts c.in_ok-plan.plan c.report_of-text.result c.in_ok-plan.ensures.ok c.report_of-text.ensures.ok
+
+pub returns-clause-err : goal.returns-clause-err
+returns-clause-err c = c.report_of-text.ensures.err

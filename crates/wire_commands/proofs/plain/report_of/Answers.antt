@@ -1,0 +1,14 @@
+use Rattle.wire_types.specs.Outcome.{ends_of}
+use Rattle.wire_commands.proofs.Handed.{handed_on, not_ok}
+use Rattle.wire_commands.proofs.Texts.{plain_told}
+use Rattle.wire_commands.proofs.plain.report_of.Goals as goal
+
+pub returns-in_err-outcome-clause-ok : goal.returns-in_err-outcome-clause-ok
+returns-in_err-outcome-clause-ok c = not_ok c.from_residual.result c.in_err-outcome.field-0.0 _ c.from_residual.ensures.1
+
+pub returns-in_err-outcome-clause-err : goal.returns-in_err-outcome-clause-err
+returns-in_err-outcome-clause-err c = handed_on c.from_residual.result c.in_err-outcome.field-0.0 _ c.from_residual.ensures.1 (c.in_err-outcome.ensures.memory)
+
+pub returns-clause-ok : goal.returns-clause-ok
+returns-clause-ok c =
+    plain_told c.args.plan.now c.scripts.result.now (ends_of c.in_ok-outcome.outcome) c.report_text.result c.scripts.ensures.scripts c.in_ok-outcome.ensures.ok c.report_text.ensures.ok

@@ -1,0 +1,107 @@
+-- What `replay` writes. Where nothing is found, it is what became of every call in the plain run, for any
+-- number of workers.
+use Rattle.std.specs.Prelude.{◌≡◌, ◌≢◌, ◌⊎◌, ℕ, Bool, true, false, List, [], ◌∷◌, Option}
+use Rattle.std.specs.Io.KnownBytes.{Appends}
+use Rattle.wire_types.specs.Front.{WritesFront}
+use Rattle.wire_types.specs.declared.Fault.{Fault}
+use Rattle.wire_types.specs.declared.Fault.TheVariants.{Workers}
+use Rattle.wire_types.specs.Outcome.{Ends}
+use Rattle.wire_content.specs.Scripts.{Scripts}
+use Rattle.wire_content.specs.Planned.{plan_of}
+use Rattle.wire_runs.specs.Laws.{HasOneEnd}
+use Rattle.wire_findings.specs.declared.finding.Finding.{Finding}
+use Rattle.wire_findings.specs.Findings.{AreFindings}
+use Rattle.wire_core.specs.EndsAfter.{plain_ends}
+use Rattle.wire_collect.specs.Collect.{MayWork, IsCompleteRun}
+use Rattle.wire_report.specs.Report.{report_form}
+use Rattle.wire_report.specs.Findings.{findings_form}
+use Rattle.wire_report.specs.Unsettled.{unsettled_form}
+use Rattle.wire_script.specs.declared.Size.{Size}
+use Rattle.wire_commands.specs.declared.replay.Judged.{Judged}
+use Rattle.wire_commands.specs.declared.replay.Judged.TheVariants.{Clean as NothingFound, Found as SomeFound}
+use Rattle.wire_commands.specs.declared.replay.Mode.{Mode}
+use Rattle.wire_commands.specs.declared.ended.Ended.{Ended}
+use Rattle.wire_commands.specs.Check.{IsJudged, StopsBeforeFindings}
+use Rattle.wire_commands.specs.Plain.{ReadAs}
+
+-- what was judged is the plan of the scripts: settled, or with all that is found in it, which is something
+abbrev pub JudgesPlan : Scripts → Judged → Type 0
+JudgesPlan scripts (NothingFound plan) = (plan ≡ scripts) × AreFindings plan []
+JudgesPlan scripts (SomeFound it) = (it.plan ≡ scripts) × AreFindings it.plan it.findings × (it.findings ≢ [])
+
+-- the text tells an interleaving of the scripts that can't go on: its steps, and what became of every call after them
+pub record TellsRun (json : Bool) (scripts : Scripts) (text : List ℕ) : Type 0 where
+  pub order : List ℕ
+  pub ends : Ends
+  pub complete : IsCompleteRun scripts order ends
+  pub tells : text ≡ unsettled_form json scripts ends order
+
+-- what is written where these are found: they alone, or an interleaving in spite of them
+abbrev pub TellsFound : (json anyway : Bool) → Scripts → List Finding → List ℕ → Type 0
+TellsFound json false scripts found text = text ≡ findings_form json scripts found
+TellsFound json true scripts found text = TellsRun json scripts text
+
+-- where none are found, it is the report of the plain run
+abbrev pub Tells : Mode → Scripts → List Finding → List ℕ → Type 0
+Tells mode scripts [] text = text ≡ report_form mode.json scripts (plain_ends scripts)
+Tells mode scripts (f ∷ fs) text = TellsFound mode.json mode.anyway scripts (f ∷ fs) text
+
+-- how a replay of the scripts ends, and its text
+pub record IsReplay (mode : Mode) (scripts : Scripts) (ended : Ended) (text : List ℕ) : Type 0 where
+  pub found : List Finding
+  pub judged : IsJudged scripts found ended
+  pub tells : Tells mode scripts found text
+
+-- all that is written where these are found went out
+pub record WritesFound (mode : Mode) (scripts : Scripts) (found : List Finding) (old new : Option (List ℕ)) : Type 0 where
+  pub text : List ℕ
+  pub tells : TellsFound mode.json mode.anyway scripts found text
+  pub wrote : Appends old new text
+
+-- exactly as many bytes of it went out as the fault says, which aren't all of it
+pub record BreaksOffFound (mode : Mode) (scripts : Scripts) (found : List Finding) (old new : Option (List ℕ)) (fault : Fault) : Type 0 where
+  pub text : List ℕ
+  pub tells : TellsFound mode.json mode.anyway scripts found text
+  pub wrote : WritesFront old new text fault
+
+-- all of a replay of the scripts went out
+pub record WritesReplayOf (mode : Mode) (scripts : Scripts) (ended : Ended) (old new : Option (List ℕ)) : Type 0 where
+  pub text : List ℕ
+  pub replay : IsReplay mode scripts ended text
+  pub wrote : Appends old new text
+
+-- exactly as many bytes of it went out as the fault says, which aren't all of it
+pub record BreaksOffReplayOf (mode : Mode) (scripts : Scripts) (old new : Option (List ℕ)) (fault : Fault) : Type 0 where
+  pub ended : Ended
+  pub text : List ℕ
+  pub replay : IsReplay mode scripts ended text
+  pub wrote : WritesFront old new text fault
+
+-- what was to come read as scripts of which every interleaving that can't go on ends in one state, the plain run's, and the report of
+-- that state went out
+pub record WritesOneEnd (size : Size) (json : Bool) (coming old new : Option (List ℕ)) : Type 0 where
+  pub scripts : Scripts
+  pub read : ReadAs size coming scripts
+  pub one_end : HasOneEnd (plan_of scripts)
+  pub wrote : Appends old new (report_form json scripts (plain_ends scripts))
+
+-- all of a replay of what was to come went out
+pub record WritesReplay (size : Size) (mode : Mode) (coming : Option (List ℕ)) (ended : Ended) (old new : Option (List ℕ)) : Type 0 where
+  pub scripts : Scripts
+  pub read : ReadAs size coming scripts
+  pub text : List ℕ
+  pub replay : IsReplay mode scripts ended text
+  pub wrote : Appends old new text
+
+-- exactly as many bytes of it went out as the fault says, which aren't all of it
+pub record BreaksOffReplay (size : Size) (mode : Mode) (coming old new : Option (List ℕ)) (fault : Fault) : Type 0 where
+  pub scripts : Scripts
+  pub read : ReadAs size coming scripts
+  pub ended : Ended
+  pub text : List ℕ
+  pub replay : IsReplay mode scripts ended text
+  pub wrote : WritesFront old new text fault
+
+-- why nothing is written: there can't be so many workers, or it is a reason for which a check writes nothing
+abbrev pub StopsBeforeReplay : Size → ℕ → Option (List ℕ) → Fault → Type 0
+StopsBeforeReplay size workers coming fault = ((fault ≡ Workers) × (MayWork workers → ⊥)) ⊎ (MayWork workers × StopsBeforeFindings size coming fault)

@@ -1,6 +1,0 @@
-mod Came
-mod Fits
-mod Grouped
-mod Listed
-mod Ordered
-mod Written

@@ -1,8 +1,0 @@
-use Rattle.std.proofs.Common.{◌≡◌, ◌++◌, map, drop}
-use Rattle.wire_lined_commands.specs.Lined.{json_step}
-use Rattle.wire_lined_commands.proofs.lined.step_texts.Given as goal
-
--- the texts that are made, and those that are left, are all of them
-abbrev pub invariant-loop-step : goal.invariant-loop-step
-invariant-loop-step l =
-    map (λ text. text.items) l.texts.items ++ map (json_step (map (λ row. row.items) l.rows) l.scripts) (drop l.step-index l.steps) ≡ map (json_step (map (λ row. row.items) l.rows) l.scripts) l.steps

@@ -1,6 +1,0 @@
-use Rattle.wire_types.specs.Outcome.{ends_of}
-use Rattle.wire_up.proofs.Failures.{Succeed}
-use Rattle.wire_up.proofs.failing.find_failing_call.Given as goal
-
-abbrev pub invariant-loop-call : goal.invariant-loop-call
-invariant-loop-call l = Succeed (ends_of l.outcome) l.proc.number l.call

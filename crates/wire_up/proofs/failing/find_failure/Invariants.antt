@@ -1,6 +1,0 @@
-use Rattle.wire_types.specs.Outcome.{ends_of}
-use Rattle.wire_up.proofs.Failures.{Below}
-use Rattle.wire_up.proofs.failing.find_failure.Given as goal
-
-abbrev pub invariant-loop-number : goal.invariant-loop-number
-invariant-loop-number l = Below l.scripts (ends_of l.outcome) l.number

@@ -1,4 +1,0 @@
-use Rattle.wire_up.proofs.replaying.find_races.Goals as goal
-
-pub returns-clause-findings : goal.returns-clause-findings
-returns-clause-findings g c = rw c.with.ensures at c.in_ok-found.ensures.ok
