@@ -5,3 +5,4 @@ pub mod Outcome
 pub mod Replies
 pub mod Verbs
 pub mod Said
+pub mod Texts
