@@ -119,7 +119,7 @@ impl<'a> Lanes<'a> {
     }
 }
 
-// These lanes, in their order, each under a lock.
+/// These lanes, in their order, each under a lock.
 fn lock_lanes<'a>(alloc: Global, lanes: Vec<Lane<'a>>) -> Result<Vec<Mutex<Lane<'a>>>, AllocError>
     ensures { IfOk result (λ locked. vec_len locked ≡ vec_len lanes.entry) }
 {
@@ -132,7 +132,7 @@ fn lock_lanes<'a>(alloc: Global, lanes: Vec<Lane<'a>>) -> Result<Vec<Mutex<Lane<
     Ok(locked)
 }
 
-// These lanes, in their order, under no lock.
+/// These lanes, in their order, under no lock.
 fn unlock_lanes<'a>(
     alloc: Global,
     locked: Vec<Mutex<Lane<'a>>>,

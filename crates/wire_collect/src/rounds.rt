@@ -9,7 +9,7 @@ use std::sync::Wait;
 use std::thread::Threads;
 use wire_sched::{Crew, Gate, Pass, Piece, Round, Serves};
 
-// Serves the pieces that no worker took. Answers how many events that were.
+/// Serves the pieces that no worker took. Answers how many events that were.
 fn serve_left<R: Wait, S: Serves, G: Gate>(
     rt: &R,
     served: &S,

@@ -27,6 +27,7 @@ fn write_line(out: &mut Vec<u8>, first: &[u8], others: &[&[u8]]) -> Result<(), A
     Ok(())
 }
 
+/// The word of a scope.
 fn scope_word(scope: Scope) -> &'static [u8]
     ensures { result.now ≡ spelled_scope scope }
 {
@@ -37,6 +38,7 @@ fn scope_word(scope: Scope) -> &'static [u8]
     }
 }
 
+/// The word of a version, in the header.
 fn version_word(version: Version) -> &'static [u8]
     ensures { result.now ≡ spelled_version version }
 {
@@ -156,6 +158,7 @@ fn write_call(out: &mut Vec<u8>, scripts: &Scripts, job: u32, call: &Call) -> Re
     }
 }
 
+/// Appends the lines of a process: its `rank` line, and those of its calls.
 fn write_process(out: &mut Vec<u8>, scripts: &Scripts, process: &Process) -> Result<(), AllocError>
     ensures { OnOk result (out.new.items ≡ out.old.items
         ++ flat_map line_text (process_said scripts.now process.now)) }
@@ -171,6 +174,7 @@ fn write_process(out: &mut Vec<u8>, scripts: &Scripts, process: &Process) -> Res
     Ok(())
 }
 
+/// Appends the lines of a job: its `job` line, and those of its processes.
 fn write_job(out: &mut Vec<u8>, scripts: &Scripts, job: u32) -> Result<(), AllocError>
     ensures { OnOk result (out.new.items ≡ out.old.items
         ++ flat_map line_text (job_said scripts.now job (text_at scripts.now.jobs job))) }
@@ -184,6 +188,7 @@ fn write_job(out: &mut Vec<u8>, scripts: &Scripts, job: u32) -> Result<(), Alloc
     Ok(())
 }
 
+/// Appends the lines of all nodes.
 fn write_nodes(out: &mut Vec<u8>, scripts: &Scripts) -> Result<(), AllocError>
     ensures { OnOk result (out.new.items ≡ out.old.items
         ++ flat_map line_text (map (λ n. said.Node n) scripts.now.nodes)) }
@@ -194,6 +199,7 @@ fn write_nodes(out: &mut Vec<u8>, scripts: &Scripts) -> Result<(), AllocError>
     Ok(())
 }
 
+/// Appends the lines of all jobs.
 fn write_jobs(out: &mut Vec<u8>, scripts: &Scripts) -> Result<(), AllocError>
     ensures { OnOk result (out.new.items ≡ out.old.items
         ++ flat_map line_text (jobs_said scripts.now 0 scripts.now.jobs)) }

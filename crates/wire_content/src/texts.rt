@@ -45,6 +45,7 @@ impl Texts {
         self.list.len() as u32
     }
 
+    /// Whether there is no text.
     pub fn is_empty(&self) -> bool
         ensures { result ≡ (length self.now == 0) }
     {

@@ -15,7 +15,7 @@ use wire_marks::{MarkedPlan, Marks};
 use wire_plan::Plan;
 use wire_types::Fault;
 
-// All findings of a plan, in their order.
+/// All findings of a plan, in their order.
 fn all_findings(
     rt: &(impl Threads + Sync),
     alloc: Global,
@@ -34,7 +34,7 @@ fn all_findings(
     Ok(list)
 }
 
-// All findings of a plan, in their order, one by one in a `Vec`.
+/// All findings of a plan, in their order, one by one in a `Vec`.
 fn vec_of_findings(
     rt: &(impl Threads + Sync),
     alloc: Global,

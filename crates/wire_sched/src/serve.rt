@@ -22,7 +22,7 @@ pub(crate) struct Victim {
 }
 
 impl Victim {
-    // The first deque.
+    /// The first deque.
     pub(crate) fn first() -> Victim {
         Victim {
             deque: 0,
@@ -106,7 +106,7 @@ pub fn serve_pieces<R: Wait, S: Serves, G: Gate>(
     steps
 }
 
-// The front piece of the worker's own deque, or else one that it steals.
+/// The front piece of the worker's own deque, or else one that it steals.
 pub(crate) fn next_piece(round: &Round, pass: &mut Pass, victim: &mut Victim) -> Option<Piece>
     requires { IsPassOf round.now pass.old }
     ensures kept { IsPassOf round.now pass.new × (worker_of pass.new ≡ worker_of pass.old) }
@@ -119,7 +119,7 @@ pub(crate) fn next_piece(round: &Round, pass: &mut Pass, victim: &mut Victim) ->
     }
 }
 
-// The front piece of the first deque from here on that gives one.
+/// The front piece of the first deque from here on that gives one.
 fn steal_next(round: &Round, pass: &mut Pass, victim: &mut Victim) -> Option<Piece>
     requires { IsPassOf round.now pass.old }
     ensures kept { IsPassOf round.now pass.new × (worker_of pass.new ≡ worker_of pass.old) }

@@ -60,7 +60,7 @@ struct Shift<'a, S, G> {
     seen: Vec<Seen>,
 }
 
-// Nothing seen yet, of so many ranks.
+/// Nothing seen yet, of so many ranks.
 fn new_seen(alloc: Global, ranks: u32) -> Result<Vec<Seen>, AllocError>
     ensures { IfOk result (λ seen. vec_len seen ≡ ranks) }
 {
@@ -72,7 +72,7 @@ fn new_seen(alloc: Global, ranks: u32) -> Result<Vec<Seen>, AllocError>
 }
 
 impl<'a, S: Serves, G: Gate> Shift<'a, S, G> {
-    // A worker that has served no rank of this round yet, with the memory for all its turns.
+    /// A worker that has served no rank of this round yet, with the memory for all its turns.
     fn new(crew: &Crew<'a, S, G>) -> Result<Shift<'a, S, G>, AllocError> {
         let seen = new_seen(crew.alloc, crew.round.ranks())?;
         Ok(Shift {
@@ -83,7 +83,7 @@ impl<'a, S: Serves, G: Gate> Shift<'a, S, G> {
         })
     }
 
-    // Serves pieces, and then takes turns until no rank moves in one.
+    /// Serves pieces, and then takes turns until no rank moves in one.
     fn work<R: Wait>(&mut self, rt: &R, round: &Round, pass: &mut Pass) -> usize
         requires { IsPassOf round.now pass.old }
         ensures kept { IsPassOf round.now pass.new × (worker_of pass.new ≡ worker_of pass.old) }
@@ -101,7 +101,7 @@ impl<'a, S: Serves, G: Gate> Shift<'a, S, G> {
         events
     }
 
-    // Serves the worker's own pieces, and those that it steals.
+    /// Serves the worker's own pieces, and those that it steals.
     fn serve_pieces<R: Wait>(&mut self, rt: &R, round: &Round, pass: &mut Pass) -> usize
         requires { IsPassOf round.now pass.old }
         ensures kept { IsPassOf round.now pass.new × (worker_of pass.new ≡ worker_of pass.old) }
@@ -114,7 +114,7 @@ impl<'a, S: Serves, G: Gate> Shift<'a, S, G> {
         events
     }
 
-    // Looks once at each rank that waits. Answers how many events were done.
+    /// Looks once at each rank that waits. Answers how many events were done.
     fn take_turn<R: Wait>(&mut self, rt: &R, worker: usize) -> usize {
         let mut events = 0usize;
         'ranks: for number in 0..self.ranks {
@@ -126,7 +126,7 @@ impl<'a, S: Serves, G: Gate> Shift<'a, S, G> {
         events
     }
 
-    // For which event a rank waits, if the worker served it and saw that.
+    /// For which event a rank waits, if the worker served it and saw that.
     fn missing_of(&self, rank: Proc) -> Option<Event> {
         match self.seen.get(rank.index()) {
             Some(seen) => seen.missing,
@@ -134,7 +134,7 @@ impl<'a, S: Serves, G: Gate> Shift<'a, S, G> {
         }
     }
 
-    // Serves a rank that waits, where the missing event has come. Answers how many events were done.
+    /// Serves a rank that waits, where the missing event has come. Answers how many events were done.
     fn look<R: Wait>(&mut self, rt: &R, worker: usize, rank: Proc, missing: Event) -> usize {
         if self.has_come(missing) {
             return self.serve(rt, worker, rank);
@@ -143,7 +143,7 @@ impl<'a, S: Serves, G: Gate> Shift<'a, S, G> {
         0
     }
 
-    // Whether the worker saw that an event was done.
+    /// Whether the worker saw that an event was done.
     fn has_come(&self, event: Event) -> bool {
         match self.seen.get(event.proc.index()) {
             Some(seen) => (event.at as usize) < seen.done,
@@ -151,7 +151,7 @@ impl<'a, S: Serves, G: Gate> Shift<'a, S, G> {
         }
     }
 
-    // Calls the gate, serves a rank, and keeps what was seen of it. Answers how many events were done.
+    /// Calls the gate, serves a rank, and keeps what was seen of it. Answers how many events were done.
     fn serve<R: Wait>(&mut self, rt: &R, worker: usize, rank: Proc) -> usize {
         self.gate.pass(worker, rank);
         let Served {

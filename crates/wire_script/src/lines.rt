@@ -21,6 +21,7 @@ pub struct Cursor<'a> {
     pub line: u64,
 }
 
+/// Whether a line says nothing: it has no word, or is a comment.
 fn is_skipped_line(words: &[&[u8]]) -> bool
     ensures { result ≡ is_skipped (map (λ w. w.now) words.now) }
 {
@@ -31,6 +32,7 @@ fn is_skipped_line(words: &[&[u8]]) -> bool
 }
 
 impl<'a> Cursor<'a> {
+    /// A cursor before the first line.
     pub fn new(bytes: &'a [u8]) -> Cursor<'a>
         ensures left { statements_left result ≡ statements bytes.now }
         ensures start { result.line ≡ 1 }

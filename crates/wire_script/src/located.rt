@@ -55,6 +55,7 @@ pub fn read_located(
     read_short_located(alloc, size, bytes)
 }
 
+/// The same, of a text within the limit of a file.
 fn read_short_located(
     alloc: Global,
     size: Size,

@@ -48,6 +48,7 @@ impl NumberedTexts {
         self.set.len() as u32
     }
 
+    /// Whether there is no text.
     pub fn is_empty(&self) -> bool
         ensures { result ≡ (length self.now == 0) }
     {
@@ -64,6 +65,7 @@ impl NumberedTexts {
         }
     }
 
+    /// Whether this text is among them.
     pub fn contains(&self, text: &[u8]) -> bool
         ensures { result ≡ list_any (bytes_eq text.now) self.now }
     {

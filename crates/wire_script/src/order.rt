@@ -68,6 +68,7 @@ fn read_steps(
     Ok(order)
 }
 
+/// Appends a step.
 fn add_step(order: &mut Vec<Proc>, step: Proc) -> Result<(), AllocError>
     ensures { OnOk result (order.new.items ≡ order.old.items ++ step ∷ []) }
 {

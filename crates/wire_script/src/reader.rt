@@ -35,6 +35,7 @@ pub fn read_sized(alloc: Global, size: Size, bytes: &[u8]) -> Result<Scripts, Fa
     read_short(alloc, size, bytes)
 }
 
+/// The scripts of a text within the limit of a file.
 fn read_short(alloc: Global, size: Size, bytes: &[u8]) -> Result<Scripts, Fault>
     requires { length bytes.now ≤ limit.file_bytes size }
     ensures ok { IfOk result (λ s. ReadsShort size bytes.now (Ok s)) }
