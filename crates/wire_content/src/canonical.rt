@@ -3,6 +3,7 @@
 ghost use Rattle.std.specs.Prelude.{◌≡◌, ◌++◌, ◌∷◌, [], map, flat_map, codes, OnOk, IfOk, IfErr};
 ghost use Rattle.wire_types.specs.Said as said;
 ghost use Rattle.wire_types.specs.Said.{spelled_scope, spelled_version};
+ghost use Rattle.wire_types.specs.Texts.{texts_of};
 ghost use Rattle.wire_content.specs.Scripts.{text_at, set_at};
 ghost use Rattle.wire_content.specs.Canonical.{process_at, process_text, words_text, line_text, set_said};
 ghost use Rattle.wire_content.specs.Canonical.{call_said, process_said, job_said, jobs_said, keep_said};
@@ -16,7 +17,7 @@ use wire_types::{Call, Fault, Proc, Scope, Version, proc_word};
 /// Writes a line: its words with a space between each two, and a line feed.
 fn write_line(out: &mut Vec<u8>, first: &[u8], others: &[&[u8]]) -> Result<(), AllocError>
     ensures { OnOk result (out.new.items ≡ out.old.items
-        ++ words_text (first.now ∷ map (λ w. w.now) others.now)) }
+        ++ words_text (first.now ∷ texts_of others.now)) }
 {
     out.extend_from_slice(first)?;
     for word in others {
