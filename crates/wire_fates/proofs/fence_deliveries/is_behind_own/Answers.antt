@@ -1,5 +1,5 @@
 use Rattle.std.proofs.Common.{◌+◌, ◌-◌, ◌/◌, ◌<◌, length, arith, ltb-true}
-use Rattle.wire_fates.proofs.deliveries.is_behind_own.Goals as goal
+use Rattle.wire_fates.proofs.fence_deliveries.is_behind_own.Goals as goal
 use Rattle.wire_fates.proofs.Places.{place_at}
 
 pub returns-then-arrival-event : goal.returns-then-arrival-event

@@ -3,7 +3,7 @@ use Rattle.std.proofs.lemmas.Bool.{true≢false}
 use Rattle.wire_runs.specs.Plan.{event_of}
 use Rattle.wire_content.specs.Planned.{plan_of}
 use Rattle.wire_fates.proofs.Surely.{fence_sure, get_sure, sure_either}
-use Rattle.wire_fates.proofs.deliveries.comes_surely.Goals as goal
+use Rattle.wire_fates.proofs.fence_deliveries.comes_surely.Goals as goal
 
 pub returns-then-fence_comes_surely : goal.returns-then-fence_comes_surely
 returns-then-fence_comes_surely c =

@@ -3,7 +3,7 @@ use Rattle.std.proofs.lemmas.Bool.{true≢false}
 use Rattle.wire_runs.specs.Plan.{event_of}
 use Rattle.wire_content.specs.Planned.{plan_of}
 use Rattle.wire_fates.proofs.Arrivals.{sure_tells, sure_live, behind_sure}
-use Rattle.wire_fates.proofs.deliveries.is_sure.Goals as goal
+use Rattle.wire_fates.proofs.fence_deliveries.is_sure.Goals as goal
 
 pub returns-then-all_live : goal.returns-then-all_live
 returns-then-all_live c =

@@ -4,7 +4,7 @@ use Rattle.wire_content.specs.Planned.{plan_of}
 use Rattle.wire_runs.specs.Order.{Before}
 use Rattle.wire_fates.proofs.Arrivals.{one_more}
 use Rattle.wire_fates.proofs.Places.{place_at}
-use Rattle.wire_fates.proofs.deliveries.first_not_before.Goals as goal
+use Rattle.wire_fates.proofs.fence_deliveries.first_not_before.Goals as goal
 
 pub loop-x-preserved : goal.loop-x-preserved
 loop-x-preserved c =

@@ -3,7 +3,7 @@ use Rattle.std.proofs.lemmas.Bool.{true≢false}
 use Rattle.wire_runs.specs.Plan.{event_of}
 use Rattle.wire_content.specs.Planned.{plan_of}
 use Rattle.wire_fates.proofs.Arrivals.{may_there, may_live, may_none_after}
-use Rattle.wire_fates.proofs.deliveries.may_be_late.Goals as goal
+use Rattle.wire_fates.proofs.fence_deliveries.may_be_late.Goals as goal
 
 pub returns-then-all_live : goal.returns-then-all_live
 returns-then-all_live c =

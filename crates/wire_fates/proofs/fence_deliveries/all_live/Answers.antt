@@ -6,7 +6,7 @@ use Rattle.wire_content.specs.Planned.{plan_of}
 use Rattle.wire_runs.specs.Order.{Live}
 use Rattle.wire_fates.proofs.Arrivals.{one_more, all_places}
 use Rattle.wire_fates.proofs.Places.{place_at}
-use Rattle.wire_fates.proofs.deliveries.all_live.Goals as goal
+use Rattle.wire_fates.proofs.fence_deliveries.all_live.Goals as goal
 
 pub returns-then-not-live : goal.returns-then-not-live
 returns-then-not-live c = (

@@ -4,7 +4,7 @@ use Rattle.wire_content.specs.Planned.{plan_of}
 use Rattle.wire_plan.specs.Index.{AreArrivals}
 use Rattle.wire_runs.proofs.Basics.{event_within}
 use Rattle.wire_fates.proofs.Arrivals.{ended}
-use Rattle.wire_fates.proofs.deliveries.all_arrivals.Goals as goal
+use Rattle.wire_fates.proofs.fence_deliveries.all_arrivals.Goals as goal
 
 pub sources-requires : goal.sources-requires
 sources-requires c = event_within (plan_of c.args.plan.now) c.end_of.result.proc.number c.end_of.result.at _ (c.end_of.ensures.leave c.requires.members c.requires.j c.requires.arrival)

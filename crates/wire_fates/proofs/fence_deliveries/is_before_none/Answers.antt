@@ -6,7 +6,7 @@ use Rattle.wire_content.specs.Planned.{plan_of}
 use Rattle.wire_runs.specs.Order.{Before}
 use Rattle.wire_fates.proofs.Arrivals.{one_more, all_places}
 use Rattle.wire_fates.proofs.Places.{place_at}
-use Rattle.wire_fates.proofs.deliveries.is_before_none.Goals as goal
+use Rattle.wire_fates.proofs.fence_deliveries.is_before_none.Goals as goal
 
 pub returns-then-before : goal.returns-then-before
 returns-then-before c = (

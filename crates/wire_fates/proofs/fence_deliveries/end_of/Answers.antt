@@ -4,7 +4,7 @@ use Rattle.wire_content.specs.Planned.{plan_of}
 use Rattle.wire_runs.proofs.Basics.{event_within}
 use Rattle.wire_plan.proofs.Planning.{count_fits}
 use Rattle.wire_fates.proofs.First.{leave_next}
-use Rattle.wire_fates.proofs.deliveries.end_of.Goals as goal
+use Rattle.wire_fates.proofs.fence_deliveries.end_of.Goals as goal
 
 pub overflow_add-result : goal.overflow_add-result
 overflow_add-result c =
