@@ -3,6 +3,7 @@
 ghost use Rattle.std.specs.Prelude.{◌<◌};
 ghost use Rattle.wire_rounds.specs.Rounds.{ArePassesOf};
 
+use crate::crew::Workers;
 use crate::threads::run_round;
 use std::alloc::Global;
 use std::sync::Wait;
@@ -50,13 +51,15 @@ pub(crate) fn serve_round<R: Threads + Wait + Sync, S: Serves + Sync, G: Gate + 
         passes,
         collector,
     } = dealt;
-    let crew = Crew {
+    let workers = Workers {
         alloc,
-        served,
-        round: &round,
-        gate,
+        crew: Crew {
+            served,
+            round: &round,
+            gate,
+        },
     };
-    let (passes, taken) = run_round(rt, &crew, passes);
+    let (passes, taken) = run_round(rt, &workers, passes);
     let left = round.finish(passes);
     let events = serve_left(rt, served, left.as_slice(), collector, gate);
     taken.saturating_add(events)
