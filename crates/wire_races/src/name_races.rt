@@ -20,7 +20,7 @@ ghost use Rattle.wire_races.specs.NameRaces.{AreFacing, IsOneOf, AreSweepers, Is
 ghost use Rattle.wire_content.specs.Scripts.{numbers_of};
 
 use crate::call_races::{NameCall, add_races, find_unordered};
-use crate::pieces::add_pieces;
+use crate::search_pieces::add_pieces;
 use crate::sweep_races::{add_sweep_races, is_publisher, sweepers_of};
 use rayon::prelude::*;
 use std::alloc::{AllocError, Global};

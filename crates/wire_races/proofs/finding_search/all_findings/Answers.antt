@@ -6,7 +6,7 @@ use Rattle.wire_findings.specs.Findings.{all_shown, lower_name}
 use Rattle.wire_findings.specs.Standings.{AreNamesOf}
 use Rattle.wire_races.proofs.AllKinds.{all_kinds}
 use Rattle.wire_races.proofs.Names.{names_of}
-use Rattle.wire_races.proofs.list.all_findings.Goals as goal
+use Rattle.wire_races.proofs.finding_search.all_findings.Goals as goal
 
 pub returns : goal.returns
 returns g c =

@@ -6,7 +6,7 @@ use Rattle.wire_races.specs.Pieces.{IsInSome, AreAllFound}
 use Rattle.wire_races.specs.Adding.{Adds}
 use Rattle.wire_races.proofs.Adding.{appended}
 use Rattle.wire_races.proofs.Together.{some_more, none_more}
-use Rattle.wire_races.proofs.pieces.add_pieces.Goals as goal
+use Rattle.wire_races.proofs.search_pieces.add_pieces.Goals as goal
 
 pub loop-piece-init : goal.loop-piece-init
 loop-piece-init c =

@@ -4,7 +4,7 @@ use Rattle.wire_runs.specs.Plan.{Plan}
 use Rattle.wire_findings.specs.Collected.{AreFound}
 use Rattle.wire_races.specs.Adding.{Adds}
 use Rattle.wire_races.specs.Pieces.{IsInSome, AreAllFound}
-use Rattle.wire_races.proofs.pieces.add_pieces.Given as goal
+use Rattle.wire_races.proofs.search_pieces.add_pieces.Given as goal
 
 abbrev pub invariant-loop-piece : goal.invariant-loop-piece
 invariant-loop-piece l =

@@ -71,7 +71,7 @@ pub fn finding_list(
 /// `Fault::Memory`.
 ///
 /// The `Vec` is made from the list that [`finding_list`] gives, and while it is made there are both. What
-/// counts as memory that ran out there does so here.
+/// counts as memory that ran out there does so here. Only tests and `make bench` call this.
 pub fn findings(
     rt: &(impl Threads + Sync),
     alloc: Global,
