@@ -1,7 +1,8 @@
 //! The first pass: each line by itself and by those before it.
 
-ghost use Rattle.std.specs.Prelude.{◌≡◌, ◌+◌, ◌<◌, ◌≤◌, ◌⊎◌, true, false, Ok, Err, map, length, ◌^◌, OnOk, IfOk, IfErr, MatchResult};
+ghost use Rattle.std.specs.Prelude.{◌≡◌, ◌+◌, ◌<◌, ◌≤◌, ◌⊎◌, true, false, Ok, Err, length, ◌^◌, OnOk, IfOk, IfErr, MatchResult};
 ghost use Rattle.std.specs.List.{list_all};
+ghost use Rattle.wire_types.specs.Texts.{texts_of};
 ghost use Rattle.wire_lines.specs.Text.{lines_of};
 ghost use Rattle.wire_lines.specs.Said.{Keep};
 ghost use Rattle.wire_lines.specs.Shown.{said_by, call_by, item_by, set_by};
@@ -254,9 +255,9 @@ fn take<'a>(
     words: &[&'a [u8]],
 ) -> Result<(), Fault>
     ensures ok { OnOk result
-        (Judges (declared_of draft.old) (line, map (λ w. w.now) words.now) (Ok (declared_of draft.new))) }
+        (Judges (declared_of draft.old) (line, texts_of words.now) (Ok (declared_of draft.new))) }
     ensures err { IfErr result
-        (λ e. (e ≡ Fault.Memory) ⊎ Judges (declared_of draft.old) (line, map (λ w. w.now) words.now) (Err e)) }
+        (λ e. (e ≡ Fault.Memory) ⊎ Judges (declared_of draft.old) (line, texts_of words.now) (Err e)) }
 {
     let Some(said) = read_line(alloc, words)? else {
         return Err(Fault::BadLine(line));
