@@ -16,7 +16,7 @@ use wire_board::{Board, Seat};
 use wire_collect::outcome_of;
 use wire_core::plain_outcome;
 use wire_races::{Fate, Settled};
-use wire_sched::{Lanes, OpenGate, Round, work};
+use wire_sched::{Crew, Lanes, OpenGate, Round, take_turns, work};
 use wire_types::{Fault, Outcome, Proc};
 
 /// How often a thread looks before it gives up.
@@ -228,16 +228,55 @@ fn a_lane_is_served_once_it_is_ready(rt: HostRuntime) -> Result<(), Fail> {
     Ok(())
 }
 
+/// What a worker does: a round, or a round and then turns.
+#[derive(Clone, Copy)]
+enum Way {
+    Round,
+    Turns,
+}
+
+/// A process waits for one that waits for a third.
+const LATE: &[u8] = b"\
+rehearsal 1
+node n0
+node n1
+job app
+rank n0
+get app:1 k
+rank n1
+get app:2 k
+put global k v
+commit
+rank n1
+put global k v
+commit
+rank n1
+commit
+rank n1
+commit
+";
+
 /// One worker serves a round of one deque in this thread. Answers how many events that were.
 fn work_round<R: Wait>(
     rt: &R,
     alloc: Global,
     lanes: &Lanes<'_>,
     processes: u32,
+    way: Way,
 ) -> Result<usize, Fault> {
     let (round, passes) = Round::deal(alloc, 0, processes, 1)?;
     let mut passes = passes;
-    let events = work(rt, lanes, &round, &mut passes[0], &OpenGate);
+    let events = match way {
+        Way::Round => work(rt, lanes, &round, &mut passes[0], &OpenGate),
+        Way::Turns => {
+            let crew = Crew {
+                served: lanes,
+                round: &round,
+                gate: &OpenGate,
+            };
+            take_turns(rt, alloc, &crew, &mut passes[0])
+        }
+    };
     drop(passes);
     drop(round);
     Ok(events)
@@ -250,20 +289,26 @@ fn work_lanes<R: Wait>(
     board: &Board,
     settled: &Settled,
     seats: Vec<Seat>,
+    way: Way,
 ) -> Result<(usize, Option<Vec<Vec<Fate>>>), Fault>
     requires plan { board.now.plan ≡ settled.now }
     requires seats { seats.items ≡ opening_seats board.now }
 {
     let lanes = Lanes::new(alloc, board, settled, seats)?;
-    let events = work_round(rt, alloc, &lanes, settled.plan().process_count());
+    let events = work_round(rt, alloc, &lanes, settled.plan().process_count(), way);
     let trails = lanes.trails(alloc, settled)?;
     Ok((events?, trails))
 }
 
 /// One worker serves a round of a settled plan in this thread.
-fn work_alone<R: Wait>(rt: &R, alloc: Global, settled: &Settled) -> Result<Left, Fault> {
+fn work_alone<R: Wait>(
+    rt: &R,
+    alloc: Global,
+    settled: &Settled,
+    way: Way,
+) -> Result<Left, Fault> {
     let (board, seats) = Board::new(alloc, settled)?;
-    let (events, trails) = work_lanes(rt, alloc, &board, settled, seats)?;
+    let (events, trails) = work_lanes(rt, alloc, &board, settled, seats, way)?;
     let words = board.close(alloc, Vec::new(alloc))?;
     Ok(Left {
         events,
@@ -285,9 +330,14 @@ fn are_as_long(trails: &Option<Vec<Vec<Fate>>>, lengths: &[usize]) -> bool {
 }
 
 /// One worker serves a round of a file, which is a settled plan.
-fn work_file<R: Threads + Wait + Sync>(rt: &R, alloc: Global, file: &[u8]) -> Result<Left, Fault> {
+fn work_file<R: Threads + Wait + Sync>(
+    rt: &R,
+    alloc: Global,
+    file: &[u8],
+    way: Way,
+) -> Result<Left, Fault> {
     let settled = settle(rt, alloc, file)?;
-    let left = work_alone(rt, alloc, &settled);
+    let left = work_alone(rt, alloc, &settled, way);
     drop(settled);
     left
 }
@@ -295,7 +345,7 @@ fn work_file<R: Threads + Wait + Sync>(rt: &R, alloc: Global, file: &[u8]) -> Re
 /// One worker serves all that it can over the board, and counts the events.
 #[test]
 fn one_worker_serves_a_round_over_the_board(rt: HostRuntime) -> Result<(), Fail> {
-    let left = work_file(&rt, rt.alloc(), WAITING)?;
+    let left = work_file(&rt, rt.alloc(), WAITING, Way::Round)?;
     assert!(rt; left.events == 3 && are_as_long(&left.trails, &[2, 1]));
     assert!(rt; left.words.as_slice() == [2u64, 1].as_slice());
     Ok(())
@@ -305,8 +355,18 @@ fn one_worker_serves_a_round_over_the_board(rt: HostRuntime) -> Result<(), Fail>
 #[test]
 fn one_worker_serves_256_ranks_over_the_board(rt: HostRuntime) -> Result<(), Fail> {
     let file = commits(rt.alloc())?;
-    let left = work_file(&rt, rt.alloc(), file.as_bytes())?;
+    let left = work_file(&rt, rt.alloc(), file.as_bytes(), Way::Round)?;
     assert!(rt; left.events == 256 && left.words.len() == 256);
+    Ok(())
+}
+
+/// A round leaves what waits for a process that comes later, and turns serve it.
+#[test]
+fn turns_serve_what_a_round_leaves(rt: HostRuntime) -> Result<(), Fail> {
+    let left = work_file(&rt, rt.alloc(), LATE, Way::Round)?;
+    assert!(rt; left.events == 4 && are_as_long(&left.trails, &[0, 0, 2, 1, 1]));
+    let left = work_file(&rt, rt.alloc(), LATE, Way::Turns)?;
+    assert!(rt; left.events == 8 && are_as_long(&left.trails, &[1, 3, 2, 1, 1]));
     Ok(())
 }
 

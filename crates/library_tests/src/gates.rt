@@ -29,6 +29,7 @@ pub(crate) struct Meeting {
 }
 
 impl Meeting {
+    /// A gate at which nobody has come yet.
     pub(crate) fn new() -> Meeting {
         Meeting {
             first: AtomicBool::new(false),
@@ -65,6 +66,7 @@ pub(crate) struct Later {
 }
 
 impl Later {
+    /// A gate at which nobody has come yet.
     pub(crate) fn new() -> Later {
         Later {
             third: AtomicBool::new(false),
@@ -101,6 +103,7 @@ pub(crate) struct Counter {
 }
 
 impl Counter {
+    /// A counter of the passes of this process.
     pub(crate) fn of(proc: Proc) -> Counter {
         Counter {
             proc,

@@ -112,6 +112,7 @@ fn is_served_in_turn<R: Wait>(rt: &R, alloc: Global, plan: &Plan) -> Result<bool
     Ok(is_served && has_ended)
 }
 
+/// `serve` takes the steps of a process that is ready, and none of one that waits.
 #[test]
 fn steps_under_the_lock(rt: HostRuntime) -> Result<(), Fail> {
     let alloc = rt.alloc();

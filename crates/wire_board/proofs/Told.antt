@@ -3,12 +3,25 @@ use Rattle.std.proofs.Common.{◌≡◌, ℕ, zero, suc, ◌+◌, List, [], ◌�
 use Rattle.std.proofs.Common.{length-append}
 use Rattle.std.specs.Prelude.{slice_get}
 use mathlib.Core.List.{reverse}
-use Rattle.std.proofs.lemmas.List.{reverse-append, nil_from_length}
+use Rattle.std.proofs.lemmas.List.{reverse-append, length-reverse, nil_from_length}
+use Rattle.std.proofs.lemmas.List.Elements.{All-nil, All-head, All-tail, All-push, All-same}
+use Rattle.std.specs.List.{All}
 use Rattle.std.proofs.lemmas.Option.{same_Some, slice_get_cases, slice_get_within, none-some}
 use Rattle.wire_runs.specs.Plan.{Plan, process_count}
 use Rattle.wire_runs.proofs.Lists.{not_in_empty, slice_get-append_kept, slice_get_push_last}
 use Rattle.wire_fates.specs.declared.Fate.{Fate}
-use Rattle.wire_board.specs.Lanes.{LaneIs, AreFates, IsLaneOf, AreLanesOf, IsTrailOf, Tell, IsToldBy, AreTrails}
+use Rattle.wire_board.specs.Lanes.{LaneIs, AreFates, IsLaneOf, AreLanesOf, IsTrail, IsTrailOf, Tell, AreUnlocked, IsToldBy, AreLaneTrails, AreTrails}
+
+All-reverse : {X : Type 0} (P : X → Type 0) (xs : List X) → All P xs → All P (reverse xs)
+All-reverse P [] all = All-nil P
+All-reverse P (x ∷ xs) all =
+    All-same P (reverse (x ∷ xs)) (reverse xs ++ x ∷ []) (reverse-append (x ∷ []) xs)
+    (All-push P (reverse xs) x (All-reverse P xs (All-tail P x xs all)) (All-head P x xs all))
+
+All-at : {X : Type 0} (P : X → Type 0) (xs : List X) (i : ℕ) (x : X) → slice_get xs i ≡ Some x → All P xs → P x
+All-at P [] i x at all = absurd (none-some x at)
+All-at P (y ∷ xs) zero x at all = subst P (same_Some y x at) (All-head P y xs all)
+All-at P (y ∷ xs) (suc i) x at all = All-at P xs i x at (All-tail P y xs all)
 
 -- these are lanes of the ranks from r on, and their trails
 abbrev pub ToldFrom : Plan → ℕ → List LaneIs → List (Vec Fate Global) → Type 0
@@ -96,9 +109,9 @@ tells_none plan all others = record { some = (λ ne. absurd (ne refl), λ are. a
 pub told_trails : (plan : Plan) (count : ℕ) (told : Option (Vec (Vec Fate Global) Global)) → IsToldBy plan count told → IfSome told (λ trails. AreTrails plan trails.items)
 told_trails plan count None by = tt
 told_trails plan count (Some told) by =
-    let lanes = by.0 in
-    let are = by.2.some.0 (λ e. none-some told (sym e)) in
-    let its = by.2.trails in
+    let lanes = by.lanes in
+    let are = by.tell.some.0 (λ e. none-some told (sym e)) in
+    let its = by.tell.trails in
     record {
       count = its.count ∙ are.count;
       each = λ r trail at. elim (slice_get_cases lanes r).1 [
@@ -109,4 +122,28 @@ told_trails plan count (Some told) by =
 
 pub told_count : (plan : Plan) (count : ℕ) (told : Option (Vec (Vec Fate Global) Global)) → IsToldBy plan count told → IfSome told (λ trails. length trails.items ≡ count)
 told_count plan count None by = tt
-told_count plan count (Some told) by = by.2.trails.count ∙ by.1
+told_count plan count (Some told) by = by.tell.trails.count ∙ by.unlocked.as_many
+
+-- the r-th of them is the trail of a lane of rank r
+pub told_of_lanes : (plan : Plan) (count : ℕ) (told : Option (Vec (Vec Fate Global) Global)) → IsToldBy plan count told → IfSome told (λ trails. AreLaneTrails trails.items)
+told_of_lanes plan count None by = tt
+told_of_lanes plan count (Some told) by =
+    let lanes = by.lanes in
+    let are = by.tell.some.0 (λ e. none-some told (sym e)) in
+    let its = by.tell.trails in
+    λ r trail at. elim (slice_get_cases lanes r).1 [
+      | inl there ↦ record {
+        lane = there.0;
+        rank_is = (are.each r there.0 there.2).rank_is;
+        keeps = All-at IsTrail lanes r there.0 there.2 by.unlocked.keep;
+        is = (its.each r there.0 trail there.2 at).is;
+      }
+      | inr past ↦ absurd (let within = slice_get_within told.items r trail at in let long = its.count in let p = past.0 in omega (arith, within, long, p))
+    ]
+
+-- lanes that were taken from under locks, the last one first
+pub unlocked_turned : (count : ℕ) (lanes turned : List LaneIs) → All IsTrail lanes → turned ≡ reverse lanes → length lanes ≡ count → AreUnlocked count turned
+unlocked_turned count lanes turned keep is as_many = record {
+  as_many = ap length is ∙ length-reverse lanes ∙ as_many;
+  keep = All-same IsTrail turned (reverse lanes) is (All-reverse IsTrail lanes keep);
+}

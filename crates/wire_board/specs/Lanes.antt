@@ -1,5 +1,6 @@
 -- What clauses see of a lane, and what its type keeps.
 use Rattle.std.specs.Prelude.{◌≡◌, ◌≢◌, ◌↔◌, ◌⊎◌, ℕ, suc, true, ◌++◌, ◌≤◌, List, [], Option, Some, None, IfSome, Vec, length, slice_get, slice_index}
+use Rattle.std.specs.List.{All}
 use Rattle.std.specs.declared.alloc.Global.{Global}
 use Rattle.wire_runs.specs.Plan.{Plan, Event, event_count, process_count}
 use Rattle.wire_runs.specs.Order.{Edge}
@@ -100,9 +101,28 @@ pub record Tell (plan : Plan) (lanes : List LaneIs) (told : Option (Vec (Vec Fat
   pub some : (told ≢ None) ↔ AreLanesOf plan lanes
   pub trails : IfSome told (λ trails. AreTrailsOf lanes trails.items)
 
--- it is what so many lanes tell
-abbrev pub IsToldBy : Plan → ℕ → Option (Vec (Vec Fate Global) Global) → Type 0
-IsToldBy plan count told = (lanes : List LaneIs) × (length lanes ≡ count) × Tell plan lanes told
+-- what comes from under so many locks, in their order: from under each lock a lane, whose trail has the fates of its rank's first events, as
+-- many as are done
+pub record AreUnlocked (count : ℕ) (lanes : List LaneIs) : Type 0 where
+  pub as_many : length lanes ≡ count
+  pub keep : All IsTrail lanes
+
+-- it is what the lanes tell that come from under so many locks
+pub record IsToldBy (plan : Plan) (count : ℕ) (told : Option (Vec (Vec Fate Global) Global)) : Type 0 where
+  pub lanes : List LaneIs
+  pub unlocked : AreUnlocked count lanes
+  pub tell : Tell plan lanes told
+
+-- the trail of a lane of this rank, whole: as long as the place of the lane's seat
+pub record IsLaneTrail (rank : ℕ) (trail : List Fate) : Type 0 where
+  pub lane : LaneIs
+  pub rank_is : lane.seat.rank ≡ rank
+  pub keeps : IsTrail lane
+  pub is : trail ≡ lane.trail
+
+-- the r-th trail is that of a lane of rank r
+abbrev pub AreLaneTrails : List (Vec Fate Global) → Type 0
+AreLaneTrails trails = (r : ℕ) (trail : Vec Fate Global) → slice_get trails r ≡ Some trail → IsLaneTrail r trail.items
 
 -- a trail for each rank of the plan, in process order
 pub record AreTrails (plan : Plan) (trails : List (Vec Fate Global)) : Type 0 where

@@ -38,7 +38,7 @@ impl Model for Board {
     ghost invariant = { λ b. (b.table.shared.table_id.words ≡ procs_of b.table.shared.key) × (b.table.shared.table_id.slots ≡ 0) };
 }
 
-// So many zeros.
+/// So many zeros.
 fn zeros(alloc: Global, count: u32) -> Result<Vec<u64>, AllocError>
     ensures { IfOk result (λ v. v.items ≡ replicate count 0) }
 {
@@ -59,7 +59,7 @@ impl Board {
         Ok((board, seats))
     }
 
-    // A board, and a first token, which owns each rank.
+    /// A board, and a first token, which owns each rank.
     fn make(alloc: Global, plan: &Plan) -> Result<(Board, TableSeat), AllocError>
         ensures plan { IfOk result (λ made. made.0.plan ≡ plan.now) }
         ensures first { IfOk result (λ made. Has made.0 (ranks_from made.0 0) made.1.table_id made.1.me) }
@@ -69,7 +69,7 @@ impl Board {
         Ok((Board { table }, first))
     }
 
-    // Cuts one seat for each rank off the first token.
+    /// Cuts one seat for each rank off the first token.
     fn deal(
         &self,
         alloc: Global,
@@ -88,7 +88,7 @@ impl Board {
         Ok(seats)
     }
 
-    // A seat for the first of the ranks that are left.
+    /// A seat for the first of the ranks that are left.
     fn cut(
         &self,
         alloc: Global,
@@ -165,7 +165,7 @@ impl Board {
         seat.known[index] = next;
     }
 
-    // One token that has the ranks of all of these.
+    /// One token that has the ranks of all of these.
     fn gather(&self, mut seats: Vec<Seat>) -> Option<TableSeat>
         requires { All (λ seat. seat.board ≡ self.now) seats.items }
         ensures { MatchOption result (seats.items ≡ []) (λ token. Has self.now (map hold_of seats.items) token.table_id token.me) }
@@ -186,7 +186,7 @@ impl Board {
         Some(token)
     }
 
-    // Ends the table, with what these seats know of its words.
+    /// Ends the table, with what these seats know of its words.
     fn shut(self, seats: Vec<Seat>) -> Closed<(), Global>
         requires { All (λ seat. seat.board ≡ self) seats.items }
         ensures counts { (slots_len result.words ≡ procs_of self.plan) × (slots_len result.slots ≡ 0) }

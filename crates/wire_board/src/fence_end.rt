@@ -9,8 +9,8 @@ ghost use Rattle.wire_board.specs.Lanes.{WaitsForMore, SameEvents};
 use wire_plan::{Plan, Sources};
 use wire_types::{Event, Proc};
 
-// The last of these arrivals by a process before this one, if they are in process order; or the last of all, where there is
-// none before.
+/// The last of these arrivals by a process before this one, if they are in process order; or the last of all, where there is
+/// none before.
 fn member_before(arrivals: &[Event], proc: Proc) -> Option<Event>
     ensures { IfSome result (λ x. (k : ℕ) × (slice_get arrivals.now k ≡ Some x)) }
 {
@@ -44,7 +44,7 @@ pub(crate) fn end_before(plan: &Plan, event: Event) -> Option<Event>
     })
 }
 
-// The first of these arrivals by a process after this one, if they are in process order.
+/// The first of these arrivals by a process after this one, if they are in process order.
 fn next_member(arrivals: &[Event], proc: Proc) -> Option<Event>
     ensures { IfSome result (λ x. (k : ℕ) × (slice_get arrivals.now k ≡ Some x)) }
 {

@@ -113,7 +113,7 @@ impl<'a> Lane<'a> {
         }
     }
 
-    // Whether the seat knows that an event is done. Where it doesn't, it reads the word of the event's process afresh first.
+    /// Whether the seat knows that an event is done. Where it doesn't, it reads the word of the event's process afresh first.
     fn finds(&mut self, source: Event) -> bool
         ensures read { HasRead self.old self.new }
         ensures found { result ≡ shows_event self.new.seat.known (event_of source) }
@@ -130,8 +130,8 @@ impl<'a> Lane<'a> {
         self.seat.knows(source)
     }
 
-    // The sources of the next event that may not be known to be done: those from the first one on that was missing when
-    // they were looked at last, or all.
+    /// The sources of the next event that may not be known to be done: those from the first one on that was missing when
+    /// they were looked at last, or all.
     fn sources_left(&self, event: Event) -> Sources<'a>
         requires event { (event_of event ≡ next_of self.now.seat) × (event.at < event_count (plan_of self.now.seat.board.plan) event.proc.number) }
         ensures { AreLeft (plan_of self.now.seat.board.plan) self.now.seat (source_list result.previous result.awaited result.arrivals.now) }
@@ -145,7 +145,7 @@ impl<'a> Lane<'a> {
         }
     }
 
-    // These sources are the ones to be looked at next.
+    /// These sources are the ones to be looked at next.
     fn keep_left(&mut self, left: Sources<'a>)
         requires { AreLeft (plan_of self.old.seat.board.plan) self.old.seat (source_list left.previous left.awaited left.arrivals.now) }
         ensures { self.new ≡ self.old }
@@ -153,8 +153,8 @@ impl<'a> Lane<'a> {
         self.left = Some(left);
     }
 
-    // Whether the seat knows all sources of the next event to be done. It reads afresh the word of each that it doesn't know to
-    // be done, up to the first that isn't done then. Each source is passed once, however often this is called.
+    /// Whether the seat knows all sources of the next event to be done. It reads afresh the word of each that it doesn't know to
+    /// be done, up to the first that isn't done then. Each source is passed once, however often this is called.
     fn finds_all(&mut self, event: Event) -> bool
         requires event { (event_of event ≡ next_of self.old.seat) × (event.at < event_count (plan_of self.old.seat.board.plan) event.proc.number) }
         ensures read { HasRead self.old self.new }
@@ -171,8 +171,8 @@ impl<'a> Lane<'a> {
         true
     }
 
-    // Whether all members have arrived at the fence that the next event ends, as the word of another member tells: that
-    // member has left the fence. False where the next event doesn't end a fence.
+    /// Whether all members have arrived at the fence that the next event ends, as the word of another member tells: that
+    /// member has left the fence. False where the next event doesn't end a fence.
     fn finds_other_left(&mut self, event: Event) -> bool
         requires event { (event_of event ≡ next_of self.old.seat) × (event.at < event_count (plan_of self.old.seat.board.plan) event.proc.number) }
         ensures read { HasRead self.old self.new }
@@ -185,7 +185,7 @@ impl<'a> Lane<'a> {
         }
     }
 
-    // The next event of the rank, if there is one.
+    /// The next event of the rank, if there is one.
     fn next_event(&self) -> Option<Event>
         ensures { MatchOption result (event_count (plan_of self.now.seat.board.plan) self.now.seat.rank ≤ place_of self.now.seat)
             (λ event. (event_of event ≡ next_of self.now.seat) × (event.at < event_count (plan_of self.now.seat.board.plan) event.proc.number)) }
@@ -202,7 +202,7 @@ impl<'a> Lane<'a> {
         })
     }
 
-    // The fate of the next event; `None` where that is to wait.
+    /// The fate of the next event; `None` where that is to wait.
     fn fate_of(&self, event: Event) -> Option<Fate>
         requires { event_of event ≡ next_of self.now.seat }
         ensures { MatchOption result (HasFate (plan_of self.now.seat.board.plan) (next_of self.now.seat) Waits)
@@ -216,8 +216,8 @@ impl<'a> Lane<'a> {
         }
     }
 
-    // The fate of the next event, where the seat shows that it can happen after it read afresh the words of sources that
-    // it didn't know to be done; else `None`.
+    /// The fate of the next event, where the seat shows that it can happen after it read afresh the words of sources that
+    /// it didn't know to be done; else `None`.
     fn next_fate(&mut self) -> Option<Fate>
         ensures read { HasRead self.old self.new }
         ensures ready { (result ≢ None) ↔ ShowsNext self.new.seat }
@@ -232,7 +232,7 @@ impl<'a> Lane<'a> {
         self.fate_of(event)
     }
 
-    // The fate of the next event, where that ends a fence which another member has left already; else `None`.
+    /// The fate of the next event, where that ends a fence which another member has left already; else `None`.
     fn fate_after_other(&mut self) -> Option<Fate>
         ensures read { HasRead self.old self.new }
         ensures fate { IfSome result (λ fate. ImpliesNext self.new.seat
@@ -247,7 +247,7 @@ impl<'a> Lane<'a> {
         self.fate_of(event)
     }
 
-    // The fate of the next event, where what the seat knows after fresh reads implies that it can happen; else `None`.
+    /// The fate of the next event, where what the seat knows after fresh reads implies that it can happen; else `None`.
     fn due_fate(&mut self) -> Option<Fate>
         ensures read { HasRead self.old self.new }
         ensures fate { MatchOption result (¬ (ShowsNext self.new.seat)) (λ fate. ImpliesNext self.new.seat
@@ -259,7 +259,7 @@ impl<'a> Lane<'a> {
         }
     }
 
-    // The next event happens, with this fate.
+    /// The next event happens, with this fate.
     fn happen(&mut self, fate: Fate)
         requires ready { ImpliesNext self.old.seat }
         requires fate { IsFateOf (plan_of self.old.seat.board.plan) (next_of self.old.seat) fate × (fate ≢ Fate.Waits) }
@@ -323,7 +323,7 @@ impl<'a> Lane<'a> {
     }
 }
 
-// Whether an event has this fate, and it isn't to wait.
+/// Whether an event has this fate, and it isn't to wait.
 fn has_fate(settled: &Settled, event: Event, fate: Fate) -> bool
     ensures { IsTrue result ↔ (IsFateOf (plan_of settled.now) (event_of event) fate × (fate ≢ Fate.Waits)) }
 {
@@ -331,7 +331,7 @@ fn has_fate(settled: &Settled, event: Event, fate: Fate) -> bool
     settled.fate(event) == fate && fate != Fate::Waits
 }
 
-// Whether these are the fates of a rank's first events.
+/// Whether these are the fates of a rank's first events.
 fn are_fates(settled: &Settled, rank: Proc, trail: &[Fate]) -> bool
     ensures { IsTrue result ↔ AreFates (plan_of settled.now) rank.number trail.now }
 {

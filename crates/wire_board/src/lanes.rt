@@ -5,7 +5,7 @@ ghost use Rattle.wire_types.specs.declared.Fault.TheVariants.{Memory};
 ghost use Rattle.wire_content.specs.Planned.{plan_of};
 ghost use Rattle.wire_board.specs.Cuts.{procs_of};
 ghost use Rattle.wire_board.specs.Seats.{opening_seats};
-ghost use Rattle.wire_board.specs.Lanes.{AreTrails, IsToldBy};
+ghost use Rattle.wire_board.specs.Lanes.{AreLaneTrails, AreTrails, AreUnlocked, IsToldBy};
 
 use crate::board::Board;
 use crate::lane::Lane;
@@ -103,12 +103,14 @@ impl<'a> Lanes<'a> {
         }
     }
 
-    /// The trails of all ranks of this plan, in process order; `None` where there aren't as many lanes as
-    /// ranks, or where a lane is of another rank than its place says or has entries that aren't the fates of
-    /// this plan (`trails_of`). Which lanes come from under the locks isn't told: other threads may have served
-    /// them, or not. The one fault is `Fault::Memory`.
+    /// The trails of the lanes that come from under the locks, in process order: the r-th is the whole trail of a lane of
+    /// rank r. `None` where there aren't as many lanes as this plan has ranks, or where a lane is of another rank than its
+    /// place says or has entries that aren't the fates of this plan (`trails_of`). How far the lanes are isn't told: other
+    /// threads may have served them, or not; nor of which board they are, as no clause can name what is under a lock. The
+    /// one fault is `Fault::Memory`.
     pub fn trails(self, alloc: Global, settled: &Settled) -> Result<Option<Vec<Vec<Fate>>>, Fault>
         ensures told { IfOk result (λ o. IsToldBy (plan_of settled.now) self.entry.count o) }
+        ensures lanes { IfOk result (λ o. IfSome o (λ trails. AreLaneTrails trails.items)) }
         ensures trails { IfOk result (λ o. IfSome o (λ trails. AreTrails (plan_of settled.now) trails.items)) }
         ensures count { IfOk result (λ o. IfSome o (λ trails. length trails.items ≡ self.entry.count)) }
         ensures memory { IsOkUnless result Memory }
@@ -119,7 +121,7 @@ impl<'a> Lanes<'a> {
     }
 }
 
-// These lanes, in their order, each under a lock.
+/// These lanes, in their order, each under a lock.
 fn lock_lanes<'a>(alloc: Global, lanes: Vec<Lane<'a>>) -> Result<Vec<Mutex<Lane<'a>>>, AllocError>
     ensures { IfOk result (λ locked. vec_len locked ≡ vec_len lanes.entry) }
 {
@@ -132,17 +134,20 @@ fn lock_lanes<'a>(alloc: Global, lanes: Vec<Lane<'a>>) -> Result<Vec<Mutex<Lane<
     Ok(locked)
 }
 
-// These lanes, in their order, under no lock.
+/// These lanes, in their order, under no lock.
 fn unlock_lanes<'a>(
     alloc: Global,
     locked: Vec<Mutex<Lane<'a>>>,
 ) -> Result<Vec<Lane<'a>>, AllocError>
-    ensures { IfOk result (λ lanes. vec_len lanes ≡ vec_len locked.entry) }
+    ensures { IfOk result (λ lanes. AreUnlocked (vec_len locked.entry) lanes.items) }
 {
     let mut locked = locked;
     let mut lanes = Vec::with_capacity(alloc, locked.len())?;
-    'locks: while let Some(lane) = locked.pop() {
-        lanes.push_reserved(lane.into_inner());
+    'locks: while let Some(lock) = locked.pop() {
+        let lane = lock.into_inner();
+        // The lane keeps its trail.
+        let _ = lane.trail();
+        lanes.push_reserved(lane);
     }
     lanes.reverse();
     Ok(lanes)

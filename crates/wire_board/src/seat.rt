@@ -72,7 +72,7 @@ impl Seat {
 
     /// Whether the next event of its rank can happen: there is one, its fate isn't `Waits`, and the
     /// positions that the seat knows show all its sources. It takes no memory, and looks at each source
-    /// once. The caller ensures that the seat's board was made of this settled plan.
+    /// once. The caller ensures that the seat's board was made of this settled plan. Only tests call this.
     pub fn shows(&self, settled: &Settled) -> bool
         requires { self.now.board.plan ≡ settled.now }
         ensures { IsTrue result ↔ ShowsNext self.now }

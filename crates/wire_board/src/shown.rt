@@ -23,7 +23,7 @@ pub(crate) fn shows_event(known: &[u64], event: Event) -> bool
     }
 }
 
-// The same of an event that needn't be there.
+/// The same of an event that needn't be there.
 fn shows_awaited(known: &[u64], event: Option<Event>) -> bool
     ensures { result ≡ list_all (shows_event known.now) (option_to_list (option_map event_of event)) }
 {
@@ -33,7 +33,7 @@ fn shows_awaited(known: &[u64], event: Option<Event>) -> bool
     }
 }
 
-// These events from the first one on that the positions don't show to be done; none where they show each.
+/// These events from the first one on that the positions don't show to be done; none where they show each.
 fn skip_shown_events<'a>(known: &[u64], events: &'a [Event]) -> &'a [Event]
     ensures { map event_of result.now ≡ skip_shown known.now (map event_of events.now) }
 {
@@ -84,7 +84,7 @@ pub fn first_source(sources: Sources<'_>) -> Option<Event>
     }
 }
 
-// Whether the positions show all sources of an event of the plan.
+/// Whether the positions show all sources of an event of the plan.
 fn shows_sources(known: &[u64], plan: &Plan, event: Event) -> bool
     requires { event.at < event_count (plan_of plan.now) event.proc.number }
     ensures { IsTrue result ↔ ShowsSources (plan_of plan.now) known.now (event_of event) }
@@ -92,7 +92,7 @@ fn shows_sources(known: &[u64], plan: &Plan, event: Event) -> bool
     first_source(skip_shown(known, plan.sources(event))).is_none()
 }
 
-// The next event of a rank, if there is one.
+/// The next event of a rank, if there is one.
 fn next_event(known: &[u64], plan: &Plan, rank: Proc) -> Option<Event>
     ensures { MatchOption result (event_count (plan_of plan.now) rank.number ≤ slice_index known.now rank.number)
         (λ event. (event_of event ≡ next_in (hold plan.now rank.number known.now)) × (event.at < event_count (plan_of plan.now) event.proc.number)) }

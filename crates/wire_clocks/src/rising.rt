@@ -52,7 +52,7 @@ impl Rising {
         Ok(())
     }
 
-    // Goes on to another block.
+    /// Goes on to another block.
     fn turn_to(&mut self, trees: &mut ClockTrees, block: u32) -> Result<(), AllocError>
         requires rising { IsRising trees.old self.old }
         requires block { Holds trees.old (16 * block) }

@@ -31,7 +31,7 @@ impl Model for ClockTrees {
     ghost invariant = { λ t. AreTrees t.rows.items t.levels };
 }
 
-// The height of trees for this many processes.
+/// The height of trees for this many processes.
 fn levels_for(processes: u32) -> u32
     ensures shallow { result ≤ 8 }
     ensures high { 0 < result }
@@ -45,7 +45,7 @@ fn levels_for(processes: u32) -> u32
     levels
 }
 
-// Whether a process is one that trees of this height have a number for.
+/// Whether a process is one that trees of this height have a number for.
 fn is_within(levels: u32, process: u32) -> bool
     requires { levels ≤ 8 }
     ensures { IsTrue result ↔ (process < 16 ^ levels) }

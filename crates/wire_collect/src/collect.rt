@@ -22,14 +22,14 @@ use wire_types::{Fault, Outcome, Proc};
 /// The highest number of workers of a run. The lowest is 1.
 pub const MOST_WORKERS: usize = 64;
 
-// Whether a run may have so many workers.
+/// Whether a run may have so many workers.
 fn may_work(workers: usize) -> bool
     ensures { IsTrue result ↔ MayWork workers }
 {
     workers >= 1 && workers <= MOST_WORKERS
 }
 
-// The core, where it is of this plan and no process is ready; else a new one of the plan, run to its end.
+/// The core, where it is of this plan and no process is ready; else a new one of the plan, run to its end.
 fn end_core<'a, G: Gate>(
     alloc: Global,
     plan: &'a Plan,
@@ -52,7 +52,7 @@ fn end_core<'a, G: Gate>(
     Ok(core)
 }
 
-// What became of every call of a core at its end, and its history.
+/// What became of every call of a core at its end, and its history.
 fn tell_run(alloc: Global, core: &Core<'_>) -> Result<(Outcome, Vec<Proc>), Fault>
     requires { IsEnd (plan_in core.now) (state_of core.now) }
     ensures ok { IfOk result (λ r. IsCompleteRun core.now.scripts (map (λ p. p.number) r.1.items) (ends_of r.0)) }

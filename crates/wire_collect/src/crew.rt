@@ -4,6 +4,7 @@ ghost use Rattle.std.specs.Prelude.{◌≡◌};
 ghost use Rattle.wire_rounds.specs.declared.round.Round.{Round};
 ghost use Rattle.wire_rounds.specs.Rounds.{IsPassOf, worker_of};
 
+use std::alloc::Global;
 use std::sync::Wait;
 use wire_sched::{Crew, Gate, Pass, Round, Serves, take_turns};
 
@@ -22,14 +23,21 @@ pub(crate) trait Works {
         ensures { IsPassOf (dealt self.now) pass.new × (worker_of pass.new ≡ worker_of pass.old) };
 }
 
-impl<'r, S: Serves, G: Gate> Works for Crew<'r, S, G> {
-    ghost dealt = { λ c. c.round.now };
+/// The workers of a round: what they share, and where each has its memory.
+#[derive(Drop)]
+pub(crate) struct Workers<'r, S, G> {
+    pub(crate) alloc: Global,
+    pub(crate) crew: Crew<'r, S, G>,
+}
+
+impl<'r, S: Serves, G: Gate> Works for Workers<'r, S, G> {
+    ghost dealt = { λ w. w.crew.round.now };
 
     fn round(&self) -> &Round {
-        self.round
+        self.crew.round
     }
 
     fn work<R: Wait>(&self, rt: &R, pass: &mut Pass) -> usize {
-        take_turns(rt, self, pass)
+        take_turns(rt, self.alloc, &self.crew, pass)
     }
 }

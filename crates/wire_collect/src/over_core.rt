@@ -12,7 +12,7 @@ use wire_locked::{LockedCore, advance_far};
 use wire_sched::{Gate, Round};
 use wire_types::Fault;
 
-// Serves the lowest process that is ready. Answers how many steps that were.
+/// Serves the lowest process that is ready. Answers how many steps that were.
 fn serve_lowest<G: Gate>(core: &mut Core<'_>, collector: usize, gate: &G) -> usize {
     match core.lowest_ready() {
         Some(proc) => {
@@ -23,7 +23,7 @@ fn serve_lowest<G: Gate>(core: &mut Core<'_>, collector: usize, gate: &G) -> usi
     }
 }
 
-// One round, and where it took no step, the lowest process that is ready. Gives the core back, with the number of steps.
+/// One round, and where it took no step, the lowest process that is ready. Gives the core back, with the number of steps.
 fn run_locked_round<'a, R: Threads + Wait + Sync, G: Gate + Sync>(
     rt: &R,
     core: Core<'a>,

@@ -26,7 +26,7 @@ pub(crate) struct Settings<'a, G> {
     pub(crate) gate: &'a G,
 }
 
-// Serves the lowest process that is ready. Answers how many events that were.
+/// Serves the lowest process that is ready. Answers how many events that were.
 fn serve_lowest<R: Wait, G: Gate>(rt: &R, lanes: &Lanes<'_>, settings: &Settings<'_, G>) -> usize {
     for number in 0..settings.settled.plan().process_count() {
         let proc = Proc::new(number);
@@ -38,7 +38,7 @@ fn serve_lowest<R: Wait, G: Gate>(rt: &R, lanes: &Lanes<'_>, settings: &Settings
     0
 }
 
-// One round, and where it did no event, the lowest process that is ready. Answers how many events that were.
+/// One round, and where it did no event, the lowest process that is ready. Answers how many events that were.
 fn run_lanes_round<R: Threads + Wait + Sync, G: Gate + Sync>(
     rt: &R,
     lanes: &Lanes<'_>,
@@ -53,9 +53,9 @@ fn run_lanes_round<R: Threads + Wait + Sync, G: Gate + Sync>(
     }
 }
 
-// Serves lanes by rounds, each of which deals every process, until all events are done or no process is ready. Each round
-// but the last does an event, so there are no more rounds than events. That all are done is told by a sum of answers. It
-// only ends the rounds: what became of the calls is told by the trails and the words.
+/// Serves lanes by rounds, each of which deals every process, until all events are done or no process is ready. Each round
+/// but the last does an event, so there are no more rounds than events. That all are done is told by a sum of answers. It
+/// only ends the rounds: what became of the calls is told by the trails and the words.
 fn run_lanes<R: Threads + Wait + Sync, G: Gate + Sync>(
     rt: &R,
     alloc: Global,
@@ -87,7 +87,7 @@ fn run_lanes<R: Threads + Wait + Sync, G: Gate + Sync>(
     Ok(())
 }
 
-// The trails that the lanes of these seats have once they were served.
+/// The trails that the lanes of these seats have once they were served.
 fn serve_seats<R: Threads + Wait + Sync, G: Gate + Sync>(
     rt: &R,
     alloc: Global,

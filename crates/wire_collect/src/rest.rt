@@ -8,7 +8,7 @@ use wire_board::find_next_fate;
 use wire_fates::{Fate, Settled};
 use wire_types::Proc;
 
-// Whether a process's trail is as long as its word, and the process can't take an event.
+/// Whether a process's trail is as long as its word, and the process can't take an event.
 fn is_at_rest(settled: &Settled, words: &[u64], proc: Proc, trail: &[Fate]) -> bool
     ensures { IsTrue result ↔ IsAtRest settled.now words.now proc.number trail.now }
 {

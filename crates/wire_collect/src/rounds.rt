@@ -3,13 +3,14 @@
 ghost use Rattle.std.specs.Prelude.{◌<◌};
 ghost use Rattle.wire_rounds.specs.Rounds.{ArePassesOf};
 
+use crate::crew::Workers;
 use crate::threads::run_round;
 use std::alloc::Global;
 use std::sync::Wait;
 use std::thread::Threads;
 use wire_sched::{Crew, Gate, Pass, Piece, Round, Serves};
 
-// Serves the pieces that no worker took. Answers how many events that were.
+/// Serves the pieces that no worker took. Answers how many events that were.
 fn serve_left<R: Wait, S: Serves, G: Gate>(
     rt: &R,
     served: &S,
@@ -50,13 +51,15 @@ pub(crate) fn serve_round<R: Threads + Wait + Sync, S: Serves + Sync, G: Gate + 
         passes,
         collector,
     } = dealt;
-    let crew = Crew {
+    let workers = Workers {
         alloc,
-        served,
-        round: &round,
-        gate,
+        crew: Crew {
+            served,
+            round: &round,
+            gate,
+        },
     };
-    let (passes, taken) = run_round(rt, &crew, passes);
+    let (passes, taken) = run_round(rt, &workers, passes);
     let left = round.finish(passes);
     let events = serve_left(rt, served, left.as_slice(), collector, gate);
     taken.saturating_add(events)

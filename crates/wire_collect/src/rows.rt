@@ -25,7 +25,7 @@ pub(crate) fn trail_of(trails: &[Vec<Fate>], proc: Proc) -> &[Fate]
     }
 }
 
-// How many calls a process has.
+/// How many calls a process has.
 fn call_count(plan: &Plan, proc: Proc) -> usize
     requires { proc.number < process_count (plan_of plan.now) }
     ensures { result ≡ length (calls_of (plan_of plan.now) proc.number) }
@@ -33,7 +33,7 @@ fn call_count(plan: &Plan, proc: Proc) -> usize
     plan.scripts().processes()[proc.index()].calls().len()
 }
 
-// The calls that get the replies of this trail, with room for so many calls.
+/// The calls that get the replies of this trail, with room for so many calls.
 fn ends_of_trail(alloc: Global, trail: &[Fate], calls: usize) -> Result<Vec<CallEnd>, AllocError>
     ensures { IfOk result (λ ends. ends.items ≡ map Replied (said_in trail.now)) }
 {
@@ -46,7 +46,7 @@ fn ends_of_trail(alloc: Global, trail: &[Fate], calls: usize) -> Result<Vec<Call
     Ok(ends)
 }
 
-// What became of so many calls of a process with this trail.
+/// What became of so many calls of a process with this trail.
 fn row_of_trail(alloc: Global, trail: &[Fate], calls: usize) -> Result<Vec<CallEnd>, Fault>
     ensures ok { IfOk result (λ ends. ends.items ≡ told_row trail.now calls) }
     ensures memory { IsOkUnless result Memory }
@@ -57,7 +57,7 @@ fn row_of_trail(alloc: Global, trail: &[Fate], calls: usize) -> Result<Vec<CallE
     Ok(ends)
 }
 
-// Whether a process has events that its trail doesn't have.
+/// Whether a process has events that its trail doesn't have.
 fn is_short(plan: &Plan, proc: Proc, trail: &[Fate]) -> bool
     ensures { result ≡ nat_lt (length trail.now) (event_count (plan_of plan.now) proc.number) }
 {

@@ -24,7 +24,7 @@ impl Promise<(Pass, usize)> for Returned {
     ghost kept_by = { λ p r. IsPassOf p.round.value r.0 × (worker_of r.0 ≡ p.worker) };
 }
 
-// What a worker does. Gives its pass back, with the number of steps taken.
+/// What a worker does. Gives its pass back, with the number of steps taken.
 fn do_work<R: Wait, W: Works>(rt: &R, works: &W, pass: Pass) -> (Pass, usize)
     requires { IsPassOf (W.dealt works.now) pass }
     ensures { IsPassOf (W.dealt works.now) result.0 × (worker_of result.0 ≡ worker_of pass) }
@@ -34,8 +34,8 @@ fn do_work<R: Wait, W: Works>(rt: &R, works: &W, pass: Pass) -> (Pass, usize)
     (pass, steps)
 }
 
-// What a worker's thread does. If no thread could be started, the thread that tried calls this, and it only gives the pass
-// back.
+/// What a worker's thread does. If no thread could be started, the thread that tried calls this, and it only gives the pass
+/// back.
 fn do_thread_work<R: Wait, W: Works>(
     rt: &R,
     works: &W,
@@ -51,7 +51,7 @@ fn do_thread_work<R: Wait, W: Works>(
     do_work(rt, works, pass)
 }
 
-// Starts one worker. Where no thread can be started, its pass comes back.
+/// Starts one worker. Where no thread can be started, its pass comes back.
 fn start_worker<'s, E, R: Threads + Wait + Sync, W: Works + Sync>(
     scope: &Scope<'s, E>,
     rt: &'s R,
@@ -78,7 +78,7 @@ fn start_worker<'s, E, R: Threads + Wait + Sync, W: Works + Sync>(
     }
 }
 
-// Takes the last pass off.
+/// Takes the last pass off.
 fn take_last_pass<W: Works>(works: &W, passes: &mut Vec<Pass>) -> Option<Pass>
     requires { AreFirstPasses (W.dealt works.now) passes.old.items }
     ensures none { IfNone result (vec_len passes.new ≡ vec_len passes.old) }
@@ -90,7 +90,7 @@ fn take_last_pass<W: Works>(works: &W, passes: &mut Vec<Pass>) -> Option<Pass>
     passes.pop()
 }
 
-// Puts the last pass back.
+/// Puts the last pass back.
 fn put_back<W: Works>(works: &W, passes: Vec<Pass>, pass: Pass) -> Vec<Pass>
     requires passes { AreFirstPasses (W.dealt works.now) passes.items }
     requires pass { IsPassOf (W.dealt works.now) pass × (worker_of pass ≡ vec_len passes) }
@@ -129,7 +129,7 @@ pub(crate) fn run_round<R: Threads + Wait + Sync, W: Works + Sync>(
     (put_back(works, passes, pass), steps)
 }
 
-// Starts the worker of the last pass, lets those before it serve pieces meanwhile, and joins it.
+/// Starts the worker of the last pass, lets those before it serve pieces meanwhile, and joins it.
 #[cycle(workers)]
 fn run_beside<R: Threads + Wait + Sync, W: Works + Sync>(
     rt: &R,

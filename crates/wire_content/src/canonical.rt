@@ -3,6 +3,7 @@
 ghost use Rattle.std.specs.Prelude.{◌≡◌, ◌++◌, ◌∷◌, [], map, flat_map, codes, OnOk, IfOk, IfErr};
 ghost use Rattle.wire_types.specs.Said as said;
 ghost use Rattle.wire_types.specs.Said.{spelled_scope, spelled_version};
+ghost use Rattle.wire_types.specs.Texts.{texts_of};
 ghost use Rattle.wire_content.specs.Scripts.{text_at, set_at};
 ghost use Rattle.wire_content.specs.Canonical.{process_at, process_text, words_text, line_text, set_said};
 ghost use Rattle.wire_content.specs.Canonical.{call_said, process_said, job_said, jobs_said, keep_said};
@@ -16,7 +17,7 @@ use wire_types::{Call, Fault, Proc, Scope, Version, proc_word};
 /// Writes a line: its words with a space between each two, and a line feed.
 fn write_line(out: &mut Vec<u8>, first: &[u8], others: &[&[u8]]) -> Result<(), AllocError>
     ensures { OnOk result (out.new.items ≡ out.old.items
-        ++ words_text (first.now ∷ map (λ w. w.now) others.now)) }
+        ++ words_text (first.now ∷ texts_of others.now)) }
 {
     out.extend_from_slice(first)?;
     for word in others {
@@ -27,6 +28,7 @@ fn write_line(out: &mut Vec<u8>, first: &[u8], others: &[&[u8]]) -> Result<(), A
     Ok(())
 }
 
+/// The word of a scope.
 fn scope_word(scope: Scope) -> &'static [u8]
     ensures { result.now ≡ spelled_scope scope }
 {
@@ -37,6 +39,7 @@ fn scope_word(scope: Scope) -> &'static [u8]
     }
 }
 
+/// The word of a version, in the header.
 fn version_word(version: Version) -> &'static [u8]
     ensures { result.now ≡ spelled_version version }
 {
@@ -156,6 +159,7 @@ fn write_call(out: &mut Vec<u8>, scripts: &Scripts, job: u32, call: &Call) -> Re
     }
 }
 
+/// Appends the lines of a process: its `rank` line, and those of its calls.
 fn write_process(out: &mut Vec<u8>, scripts: &Scripts, process: &Process) -> Result<(), AllocError>
     ensures { OnOk result (out.new.items ≡ out.old.items
         ++ flat_map line_text (process_said scripts.now process.now)) }
@@ -171,6 +175,7 @@ fn write_process(out: &mut Vec<u8>, scripts: &Scripts, process: &Process) -> Res
     Ok(())
 }
 
+/// Appends the lines of a job: its `job` line, and those of its processes.
 fn write_job(out: &mut Vec<u8>, scripts: &Scripts, job: u32) -> Result<(), AllocError>
     ensures { OnOk result (out.new.items ≡ out.old.items
         ++ flat_map line_text (job_said scripts.now job (text_at scripts.now.jobs job))) }
@@ -184,6 +189,7 @@ fn write_job(out: &mut Vec<u8>, scripts: &Scripts, job: u32) -> Result<(), Alloc
     Ok(())
 }
 
+/// Appends the lines of all nodes.
 fn write_nodes(out: &mut Vec<u8>, scripts: &Scripts) -> Result<(), AllocError>
     ensures { OnOk result (out.new.items ≡ out.old.items
         ++ flat_map line_text (map (λ n. said.Node n) scripts.now.nodes)) }
@@ -194,6 +200,7 @@ fn write_nodes(out: &mut Vec<u8>, scripts: &Scripts) -> Result<(), AllocError>
     Ok(())
 }
 
+/// Appends the lines of all jobs.
 fn write_jobs(out: &mut Vec<u8>, scripts: &Scripts) -> Result<(), AllocError>
     ensures { OnOk result (out.new.items ≡ out.old.items
         ++ flat_map line_text (jobs_said scripts.now 0 scripts.now.jobs)) }

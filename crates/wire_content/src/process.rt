@@ -34,6 +34,7 @@ impl Model for Process {
 }
 
 impl Process {
+    /// A process of this job, with its rank there, its node and its calls.
     pub fn new(job: u32, rank: u32, node: u32, calls: Vec<Call>) -> Process
         ensures { result ≡ record { job = job; rank = rank; node = node; calls = calls.items } }
     {
@@ -66,6 +67,7 @@ impl Process {
         self.node
     }
 
+    /// Its calls, in their order.
     pub fn calls(&self) -> &[Call]
         ensures { result.now ≡ self.now.calls }
     {

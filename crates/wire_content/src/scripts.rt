@@ -181,6 +181,7 @@ impl Scripts {
     ghost use Rattle.std.specs.Prelude.{◌≡◌};
     ghost use Rattle.wire_content.specs.Same.{same_scripts};
 
+    /// Whether both say the same, part by part.
     fn has_same_parts(&self, other: &Scripts) -> bool
         ensures { result ≡ same_scripts self.now other.now }
     {

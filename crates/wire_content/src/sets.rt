@@ -45,6 +45,7 @@ impl Sets {
         self.list.len() as u32
     }
 
+    /// Whether there is no set.
     pub fn is_empty(&self) -> bool
         ensures { result ≡ (length self.now == 0) }
     {

@@ -1,6 +1,7 @@
 //! Texts by number.
 
-ghost use Rattle.std.specs.Prelude.{◌≡◌, ◌==◌, ◌<◌, ◌^◌, [], length, map, slice_index_or};
+ghost use Rattle.std.specs.Prelude.{◌≡◌, ◌==◌, ◌<◌, ◌^◌, [], length, slice_index_or};
+ghost use Rattle.wire_types.specs.Texts.{lists_of};
 ghost use Rattle.wire_content.specs.Apart.{AreApart};
 
 use std::marker::Model;
@@ -18,22 +19,23 @@ impl Drop for Texts {
 }
 
 impl Model for Texts {
-    ghost use Rattle.std.specs.Prelude.{List, ℕ, map, length, ◌<◌, ◌^◌};
+    ghost use Rattle.std.specs.Prelude.{List, ℕ, length, ◌<◌, ◌^◌};
+    ghost use Rattle.wire_types.specs.Texts.{lists_of};
     ghost use Rattle.wire_content.specs.Apart.{AreApart};
 
     ghost Value = { List (List ℕ) };
 
-    ghost view = { λ t. map (λ v. v.items) t.list.items };
+    ghost view = { λ t. lists_of t.list.items };
 
-    ghost invariant = { λ t. (length t.list.items < 2 ^ 32) × AreApart (map (λ v. v.items) t.list.items) };
+    ghost invariant = { λ t. (length t.list.items < 2 ^ 32) × AreApart (lists_of t.list.items) };
 }
 
 impl Texts {
     /// These texts, each of which is there once, numbered in their order.
     pub fn new(list: Vec<Vec<u8>>) -> Texts
         requires few { length list.items < 2 ^ 32 }
-        requires apart { AreApart (map (λ v. v.items) list.items) }
-        ensures { result ≡ map (λ v. v.items) list.items }
+        requires apart { AreApart (lists_of list.items) }
+        ensures { result ≡ lists_of list.items }
     {
         Texts { list }
     }
@@ -45,6 +47,7 @@ impl Texts {
         self.list.len() as u32
     }
 
+    /// Whether there is no text.
     pub fn is_empty(&self) -> bool
         ensures { result ≡ (length self.now == 0) }
     {

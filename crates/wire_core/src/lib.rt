@@ -1,14 +1,14 @@
 //! The run of a plan, one event at a time.
 #![tactic(auto)]
 
+mod core_plan;
 mod ends;
 mod keeping;
 mod looks;
 mod lowest;
 mod met;
-mod names;
+mod name_changes;
 mod plain;
-mod plan;
 mod rank;
 mod replies;
 mod running;

@@ -30,12 +30,14 @@ impl Drop for Rank {
     }
 }
 
+/// Whether an event is a put.
 fn is_put(kind: Kind) -> bool
     ensures { (sets : List (List ℕ)) → result ≡ is_put_event (kind_of sets kind) }
 {
     matches!(kind, Kind::Put { .. })
 }
 
+/// How many of these events are puts.
 fn put_total(kinds: &[Kind]) -> usize
     ensures { (sets : List (List ℕ)) → result ≡ count_by is_put_event (map (kind_of sets) kinds.now) }
 {

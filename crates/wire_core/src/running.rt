@@ -21,7 +21,7 @@ use crate::ends::{add_unanswered, end_at, ends_of_replies};
 use crate::keeping::Keeping;
 use crate::looks::Looks;
 use crate::met::{find_fence, is_complete, note_arrival};
-use crate::names::note_name;
+use crate::name_changes::note_name;
 use crate::rank::Rank;
 use crate::replies::{
     is_shown, reply_to_get, reply_to_lookup, reply_to_publish, reply_to_unpublish,

@@ -7,7 +7,7 @@ ghost use Rattle.wire_runs.specs.Races.{IsPutOnce};
 ghost use Rattle.wire_plan.specs.Index.{AreGetDeliveries};
 ghost use Rattle.wire_fates.specs.Deliveries.{AreOfOne, EndsAt, IsSureByGet};
 
-use crate::deliveries::KeyRead;
+use crate::fence_deliveries::KeyRead;
 use wire_marks::MarkedPlan;
 use wire_types::{Event, Proc};
 

@@ -10,7 +10,7 @@ ghost use Rattle.wire_runs.specs.Races.{IsSettled};
 ghost use Rattle.wire_plan.specs.Index.{IsFirstPut};
 ghost use Rattle.wire_fates.specs.Pasts.{GivesSight, GivesGet, GivesGetNow, GivesServed, GivesBrought};
 
-use crate::deliveries::{KeyRead, comes_surely};
+use crate::fence_deliveries::{KeyRead, comes_surely};
 use wire_marks::MarkedPlan;
 use wire_plan::{Kind, Plan};
 use wire_types::{Event, Proc, Reply, Scope, Status, Value};

@@ -2,14 +2,14 @@
 //! ran before. And what brings a key to a node before a get.
 #![tactic(auto)]
 
-mod deliveries;
+mod fence_deliveries;
 mod fate;
 mod get_deliveries;
 mod key_fates;
 mod name_fates;
 mod settled;
 
-pub use deliveries::{KeyRead, comes_surely, late_source, may_be_late, next_arrival};
+pub use fence_deliveries::{KeyRead, comes_surely, late_source, may_be_late, next_arrival};
 pub use fate::Fate;
 pub use get_deliveries::process_end;
 pub use settled::{Settled, Unsettled};

@@ -39,7 +39,7 @@ impl Arrivals {
         })
     }
 
-    // How many members of a fence are missing.
+    /// How many members of a fence are missing.
     fn missing_at(&self, fence: FenceId) -> usize
         ensures { result ≡ how_many_missing self.now fence.number }
     {
@@ -49,7 +49,7 @@ impl Arrivals {
         }
     }
 
-    // One member fewer is missing.
+    /// One member fewer is missing.
     fn count_one(&mut self, fence: FenceId)
         requires { 0 < how_many_missing self.old fence.number }
         ensures { self.new ≡ one_arrived fence.number self.old }

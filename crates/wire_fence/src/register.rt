@@ -30,6 +30,7 @@ pub(crate) struct Register {
 }
 
 impl FenceDraft {
+    /// The fence with one call more, which collects or doesn't.
     fn with_call(self, collect: bool) -> FenceDraft
         ensures { result ≡ called collect self }
     {
@@ -42,7 +43,7 @@ impl FenceDraft {
     }
 }
 
-// The members of a set, none where the number has no set.
+/// The members of a set, none where the number has no set.
 pub(crate) fn members_of(sets: &[Vec<Proc>], set: usize) -> &[Proc]
     ensures { numbers_of result.now ≡ set_at (map (λ v. numbers_of v.items) sets.now) set }
 {
@@ -52,7 +53,7 @@ pub(crate) fn members_of(sets: &[Vec<Proc>], set: usize) -> &[Proc]
     }
 }
 
-// Sets the counts of the sets that are called back to 0.
+/// Sets the counts of the sets that are called back to 0.
 fn forget(counts: &mut Vec<usize>, calls: &[Call])
     requires { (c set : ℕ) (collect : _) → slice_get calls.now c ≡ Some (TheFence set collect) → set < length counts.old.items }
     ensures { AreForgotten counts.old.items calls.now (length calls.now) counts.new.items }
@@ -65,6 +66,7 @@ fn forget(counts: &mut Vec<usize>, calls: &[Call])
 }
 
 impl Register {
+    /// A register without fences.
     pub(crate) fn new(alloc: Global) -> Register
         ensures rows { result.rows.items ≡ [] }
         ensures keyed { IsKeyed result }
@@ -75,7 +77,7 @@ impl Register {
         }
     }
 
-    // Counts a call of the nth fence over a set of so many members, and says the number of the fence.
+    /// Counts a call of the nth fence over a set of so many members, and says the number of the fence.
     pub(crate) fn add(
         &mut self,
         set: u32,
@@ -103,8 +105,8 @@ impl Register {
         Ok(number)
     }
 
-    // Reads a call of a process that has so many fence calls over each set before, and says the number
-    // of its fence, where it is a fence call.
+    /// Reads a call of a process that has so many fence calls over each set before, and says the number
+    /// of its fence, where it is a fence call.
     fn read(
         &mut self,
         counts: &mut Vec<usize>,
@@ -128,8 +130,8 @@ impl Register {
         Ok(Some(number as u32))
     }
 
-    // Reads the calls of a process, and says the number of the fence of each that is a fence call. The counts
-    // are all 0 before and after.
+    /// Reads the calls of a process, and says the number of the fence of each that is a fence call. The counts
+    /// are all 0 before and after.
     fn read_calls(
         &mut self,
         alloc: Global,
@@ -159,7 +161,7 @@ impl Register {
         Ok(numbers)
     }
 
-    // Reads the calls of all processes. The rows are those of the fences then.
+    /// Reads the calls of all processes. The rows are those of the fences then.
     pub(crate) fn read_all(
         &mut self,
         alloc: Global,
@@ -184,7 +186,7 @@ impl Register {
     }
 }
 
-// The rows of the fences that processes call, and the number of the fence of each call.
+/// The rows of the fences that processes call, and the number of the fence of each call.
 pub(crate) fn read_rows(
     alloc: Global,
     sets: &[Vec<Proc>],

@@ -61,7 +61,7 @@ impl Model for Fences {
     } };
 }
 
-// A copy of each set, by number.
+/// A copy of each set, by number.
 fn copy_sets(alloc: Global, sets: &Sets) -> Result<Vec<Vec<Proc>>, AllocError>
     ensures { IfOk result (λ copy. map_list (λ v. numbers_of v.items) copy.items ≡ sets.now) }
 {
@@ -72,7 +72,7 @@ fn copy_sets(alloc: Global, sets: &Sets) -> Result<Vec<Vec<Proc>>, AllocError>
     Ok(copy)
 }
 
-// Notes the node of each member of a set, with the set.
+/// Notes the node of each member of a set, with the set.
 fn note_nodes(
     reached: &mut HashSet<(u32, u32)>,
     map: &ProcMap,
@@ -90,7 +90,7 @@ fn note_nodes(
     Ok(())
 }
 
-// Each set with the nodes of its members.
+/// Each set with the nodes of its members.
 #[tactic(auto, unfolding(crate::specs::FenceTable::is_noted))]
 fn nodes_of_sets(
     alloc: Global,
@@ -108,7 +108,7 @@ fn nodes_of_sets(
     Ok(Box::new(alloc, reached)?)
 }
 
-// Whether a set and a node are noted.
+/// Whether a set and a node are noted.
 #[tactic(auto, unfolding(crate::specs::FenceTable::is_noted))]
 fn is_reached(reached: &HashSet<(u32, u32)>, set: u32, node: u32) -> bool
     ensures { result ≡ is_noted reached.now.keys set node }
@@ -116,7 +116,7 @@ fn is_reached(reached: &HashSet<(u32, u32)>, set: u32, node: u32) -> bool
     reached.contains(&(set, node))
 }
 
-// How many members the fence of each row has.
+/// How many members the fence of each row has.
 fn sizes_of(
     alloc: Global,
     sets: &[Vec<Proc>],
@@ -150,6 +150,7 @@ impl Fences {
         })
     }
 
+    /// The number of the fence that a call is part of, if it is part of one.
     fn fence_number(&self, call: CallAt) -> Option<u32>
         ensures { result ≡ the_fence_number self.now call.proc.number call.call }
     {
@@ -215,7 +216,7 @@ impl Fences {
         }
     }
 
-    // How many members each fence has, by number.
+    /// How many members each fence has, by number.
     pub(crate) fn sizes(&self, alloc: Global) -> Result<Vec<usize>, AllocError>
         ensures { IfOk result (λ sizes. sizes.items ≡ map_list (λ (f : FenceInfo). length f.members) self.now.fences) }
     {

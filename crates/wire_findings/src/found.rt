@@ -29,7 +29,7 @@ struct Standing {
     then: CallAt,
 }
 
-// The standing of the finding that an entry stands for.
+/// The standing of the finding that an entry stands for.
 fn standing_of(subjects: &[Subject], entry: &Packed) -> Standing
     ensures { result ≡ standing (told_by subjects.now entry.now) }
 {
@@ -41,7 +41,7 @@ fn standing_of(subjects: &[Subject], entry: &Packed) -> Standing
     }
 }
 
-// The bytes of the name of a race on a name, none for other findings.
+/// The bytes of the name of a race on a name, none for other findings.
 fn name_of<'a>(names: &'a Texts, subjects: &[Subject], entry: &Packed) -> &'a [u8]
     ensures { result.now ≡ race_name names.now (told_by subjects.now entry.now) }
 {
@@ -51,7 +51,7 @@ fn name_of<'a>(names: &'a Texts, subjects: &[Subject], entry: &Packed) -> &'a [u
     }
 }
 
-// How the findings of two entries stand in the list. Names are looked at only where all else is the same.
+/// How the findings of two entries stand in the list. Names are looked at only where all else is the same.
 fn compare(names: &Texts, subjects: &[Subject], x: &Packed, y: &Packed) -> Ordering
     ensures { result ≡ entry_cmp names.now subjects.now x.now y.now }
 {
@@ -61,21 +61,21 @@ fn compare(names: &Texts, subjects: &[Subject], x: &Packed, y: &Packed) -> Order
     }
 }
 
-// Whether two entries stand for one finding.
+/// Whether two entries stand for one finding.
 fn is_same(names: &Texts, subjects: &[Subject], x: &Packed, y: &Packed) -> bool
     ensures { result ≡ is_eq (entry_cmp names.now subjects.now x.now y.now) }
 {
     compare(names, subjects, x, y) == Ordering::Equal
 }
 
-// Whether the finding of one entry stands before that of another.
+/// Whether the finding of one entry stands before that of another.
 fn stands_before(names: &Texts, subjects: &[Subject], x: &Packed, y: &Packed) -> bool
     ensures { result ≡ is_lt (entry_cmp names.now subjects.now x.now y.now) }
 {
     compare(names, subjects, x, y).is_lt()
 }
 
-// Whether each entry's finding stands before that of the next, so that none is there twice.
+/// Whether each entry's finding stands before that of the next, so that none is there twice.
 fn are_in_order(names: &Texts, subjects: &[Subject], entries: &[Packed]) -> bool
     ensures { IsTrue result → AreInOrder names.now subjects.now entries.now }
 {
@@ -121,7 +121,7 @@ impl Found {
         }
     }
 
-    // Puts a finding behind the others.
+    /// Puts a finding behind the others.
     fn push(&mut self, finding: Finding) -> Result<(), AllocError>
         ensures { OnOk result (self.new ≡ self.old ++ finding ∷ []) }
     {
@@ -139,7 +139,7 @@ impl Found {
         self.push(finding)
     }
 
-    // Puts the findings that these entries stand for behind the others, one by one.
+    /// Puts the findings that these entries stand for behind the others, one by one.
     fn push_all(&mut self, subjects: &[Subject], entries: &[Packed]) -> Result<(), AllocError>
         ensures { OnOk result (self.new ≡ self.old ++ all_told_by subjects.now entries.now) }
     {

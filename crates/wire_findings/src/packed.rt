@@ -28,7 +28,7 @@ pub(crate) struct Packed {
     pub subject: u32,
 }
 
-// Whether this is the last subject of the table.
+/// Whether this is the last subject of the table.
 fn is_last(subjects: &[Subject], subject: Subject) -> bool
     ensures { IsTrue result → IsLast subjects.now subject }
 {
@@ -38,7 +38,7 @@ fn is_last(subjects: &[Subject], subject: Subject) -> bool
     }
 }
 
-// How many subjects there are. More than 2^32 - 1 of them would take 48 GiB; they count as memory that ran out.
+/// How many subjects there are. More than 2^32 - 1 of them would take 48 GiB; they count as memory that ran out.
 fn count_of(subjects: &[Subject]) -> Result<u32, AllocError>
     ensures { IfOk result (λ count. count ≡ length subjects.now) }
 {
@@ -48,7 +48,7 @@ fn count_of(subjects: &[Subject]) -> Result<u32, AllocError>
     }
 }
 
-// The number of a subject in the table, to which it is added where it isn't the last one.
+/// The number of a subject in the table, to which it is added where it isn't the last one.
 fn number_of(subjects: &mut Vec<Subject>, subject: Subject) -> Result<u32, AllocError>
     ensures more { HasMore subjects.old.items subjects.new.items }
     ensures number { IfOk result (IsNumberOf subjects.new.items subject) }

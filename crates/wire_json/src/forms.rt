@@ -5,6 +5,7 @@ ghost use Rattle.serde_json.specs.Data.{Data};
 ghost use Rattle.serde_json.specs.View.{view};
 ghost use Rattle.serde_json.specs.Written.{compact_text, has_float};
 ghost use Rattle.wire_types.specs.Outcome.{ends_of};
+ghost use Rattle.wire_types.specs.Texts.{lists_of};
 ghost use Rattle.wire_content.specs.Scripts.{numbers_of};
 ghost use Rattle.wire_words.specs.Words.{name_of};
 ghost use Rattle.wire_json.specs.Json as spec;
@@ -34,7 +35,7 @@ pub fn report_json(
 
 /// The lines of findings, as JSON.
 pub fn findings_json(alloc: Global, lines: &[Vec<u8>]) -> Result<Vec<u8>, AllocError>
-    ensures { IfOk result (λ text. text.items ≡ spec.json_findings (map (λ line. line.items) lines.now)) }
+    ensures { IfOk result (λ text. text.items ≡ spec.json_findings (lists_of lines.now)) }
 {
     let findings = string_trees(alloc, lines)?;
     tree_line(alloc, findings_tree(alloc, findings))
@@ -71,7 +72,7 @@ pub(crate) fn name_trees(
 
 /// The names of these processes.
 fn names_of(alloc: Global, scripts: &Scripts, order: &[Proc]) -> Result<Vec<Vec<u8>>, AllocError>
-    ensures { IfOk result (λ names. map (λ name. name.items) names.items
+    ensures { IfOk result (λ names. lists_of names.items
         ≡ map (name_of scripts.now) (numbers_of order.now)) }
 {
     let mut names = Vec::new(alloc);

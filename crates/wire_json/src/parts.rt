@@ -1,6 +1,7 @@
 //! Parts of forms, as bytes: strings, lists, and calls with the lines of a file on which they stand.
 
 ghost use Rattle.std.specs.Prelude.{◌≡◌, ◌++◌, ◌∷◌, map, flat_map, codes, IfOk, OnOk};
+ghost use Rattle.wire_types.specs.Texts.{lists_of};
 ghost use Rattle.wire_json.specs.Json as spec;
 ghost use Rattle.wire_json.specs.Chains as chains;
 ghost use Rattle.wire_json.specs.Lined as lined;
@@ -45,7 +46,7 @@ fn push_byte(out: &mut Vec<u8>, byte: u8) -> Result<(), AllocError>
 
 /// Appends a list of these items, which are forms already.
 pub fn push_list(out: &mut Vec<u8>, items: &[Vec<u8>]) -> Result<(), AllocError>
-    ensures { OnOk result (out.new.items ≡ out.old.items ++ spec.bracketed (map (λ item. item.items) items.now)) }
+    ensures { OnOk result (out.new.items ≡ out.old.items ++ spec.bracketed (lists_of items.now)) }
 {
     out.extend_from_slice(b"[")?;
     push_items(out, items)?;
@@ -54,7 +55,7 @@ pub fn push_list(out: &mut Vec<u8>, items: &[Vec<u8>]) -> Result<(), AllocError>
 
 /// Appends these items, with a comma between each two.
 fn push_items(out: &mut Vec<u8>, items: &[Vec<u8>]) -> Result<(), AllocError>
-    ensures { OnOk result (out.new.items ≡ out.old.items ++ spec.joined (map (λ item. item.items) items.now)) }
+    ensures { OnOk result (out.new.items ≡ out.old.items ++ spec.joined (lists_of items.now)) }
 {
     let Some((first, others)) = items.split_first() else {
         return Ok(());
@@ -65,7 +66,7 @@ fn push_items(out: &mut Vec<u8>, items: &[Vec<u8>]) -> Result<(), AllocError>
 
 /// Appends these items, each behind a comma.
 fn push_others(out: &mut Vec<u8>, items: &[Vec<u8>]) -> Result<(), AllocError>
-    ensures { OnOk result (out.new.items ≡ out.old.items ++ flat_map (λ item. 44 ∷ item) (map (λ item. item.items) items.now)) }
+    ensures { OnOk result (out.new.items ≡ out.old.items ++ flat_map (λ item. 44 ∷ item) (lists_of items.now)) }
 {
     for item in items {
         push_other(out, item.as_slice())?;

@@ -2,6 +2,7 @@
 
 ghost use Rattle.std.specs.Prelude.{◌≡◌, ◌<◌, map, string_bytes, IfOk};
 ghost use Rattle.serde_json.specs.View.{view};
+ghost use Rattle.wire_types.specs.Texts.{lists_of};
 ghost use Rattle.wire_json.specs.Json as spec;
 ghost use Rattle.wire_json.specs.Trees.{strings_data, text_data};
 
@@ -35,7 +36,7 @@ pub fn printable_kept()
 
 /// Strings of these texts.
 pub fn string_trees(alloc: Global, texts: &[Vec<u8>]) -> Result<Vec<Value>, AllocError>
-    ensures { IfOk result (λ values. map view values.items ≡ strings_data (map (λ text. text.items) texts.now)) }
+    ensures { IfOk result (λ values. map view values.items ≡ strings_data (lists_of texts.now)) }
 {
     let mut values = Vec::new(alloc);
     for text in texts {

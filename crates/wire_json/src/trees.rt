@@ -3,6 +3,7 @@
 ghost use Rattle.std.specs.Prelude.{◌≡◌, codes, map, string_bytes, IfOk};
 ghost use Rattle.serde_json.specs.Data.{member, no_members, object, string};
 ghost use Rattle.serde_json.specs.View.{view};
+ghost use Rattle.wire_types.specs.Texts.{lists_of};
 ghost use Rattle.wire_content.specs.Canonical.{process_text};
 ghost use Rattle.wire_json.specs.Json.{printed};
 ghost use Rattle.wire_json.specs.Trees as spec;
@@ -22,7 +23,7 @@ pub fn rank_trees(
     rows: &[Vec<CallEnd>],
 ) -> Result<Vec<Value>, AllocError>
     ensures { IfOk result (λ values. map view values.items
-        ≡ spec.ranks_data scripts.now scripts.now.processes (map (λ row. row.items) rows.now)) }
+        ≡ spec.ranks_data scripts.now scripts.now.processes (lists_of rows.now)) }
 {
     let mut values = Vec::new(alloc);
     for (process, row) in scripts.processes().iter().zip(rows) {

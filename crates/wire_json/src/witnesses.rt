@@ -2,6 +2,7 @@
 
 ghost use Rattle.std.specs.Prelude.{◌≡◌, map, IfOk};
 ghost use Rattle.serde_json.specs.View.{view};
+ghost use Rattle.wire_types.specs.Texts.{lists_of};
 ghost use Rattle.wire_content.specs.Scripts.{numbers_of};
 ghost use Rattle.wire_json.specs.Json.{printed};
 ghost use Rattle.wire_words.specs.Words.{end_word, replied_value};
@@ -70,7 +71,7 @@ pub fn races_json(
     shown: &[Option<CallAt>],
     counts: RaceCounts,
 ) -> Result<Vec<u8>, AllocError>
-    ensures { IfOk result (λ text. text.items ≡ spec.json_races scripts.now (map (λ words. words.items) findings.now) shown.now counts) }
+    ensures { IfOk result (λ text. text.items ≡ spec.json_races scripts.now (lists_of findings.now) shown.now counts) }
 {
     let races = tried_trees(alloc, scripts, findings, shown)?;
     let numbers = counts_tree(alloc, counts)?;
@@ -187,7 +188,7 @@ fn tried_trees(
     shown: &[Option<CallAt>],
 ) -> Result<Vec<Value>, AllocError>
     ensures { IfOk result (λ values. map view values.items
-        ≡ trees.tried_data scripts.now (map (λ words. words.items) findings.now) shown.now) }
+        ≡ trees.tried_data scripts.now (lists_of findings.now) shown.now) }
 {
     let mut values = Vec::new(alloc);
     for (words, call) in findings.iter().zip(shown) {

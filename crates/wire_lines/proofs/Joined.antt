@@ -14,6 +14,7 @@ use Rattle.std.specs.Borrow.{Bor}
 use Rattle.wire_types.specs.Said.{is_name, is_name_byte, is_word_byte}
 use Rattle.wire_lines.proofs.Colon.{plain, names_plain, cut_once, and_left, and_right}
 use Rattle.wire_types.specs.Said.{Item, One, Every, Set, Own, Listed, spelled_item, IsLawfulItem, AreLawful, spelled_set, IsLawfulSet}
+use Rattle.wire_types.specs.Texts.{texts_of}
 
 abbrev pub no_comma : ℕ → Bool
 no_comma b = not (b == 44)
@@ -128,12 +129,12 @@ cut_items (i ∷ is) some h = cut_joined (spelled_item i) (map spelled_item is) 
 
 -- one part that is no item
 pub no_items : (ps : List (Bor (List ℕ))) (i : ℕ) (d : Bor (List ℕ)) → i < length ps → ((x : Item) → IsLawfulItem x → (get_or ps i d).now ≡ spelled_item x → ⊥)
-    → (is : List Item) → AreLawful is → map (λ w. w.now) ps ≡ map spelled_item is → ⊥
+    → (is : List Item) → AreLawful is → texts_of ps ≡ map spelled_item is → ⊥
 no_items [] i d h none is l e = absurd (omega arith)
 no_items (p ∷ ps) i d h none [] l e = cc
 no_items (p ∷ ps) zero d h none (x ∷ xs) l e = let first : p.now ≡ spelled_item x = cc in none x l.0 first
 no_items (p ∷ ps) (suc i) d h none (x ∷ xs) l e =
-    let rest : map (λ w. w.now) ps ≡ map spelled_item xs = cc in
+    let rest : texts_of ps ≡ map spelled_item xs = cc in
     no_items ps i d (omega arith) none xs l.1 rest
 
 pub lawful_push : (is : List Item) (i : Item) → AreLawful is → IsLawfulItem i → AreLawful (is ++ i ∷ [])

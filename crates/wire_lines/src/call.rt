@@ -1,6 +1,6 @@
 //! What one call line says.
 
-ghost use Rattle.std.specs.Prelude.{[], ◌≡◌, ◌≢◌, ℕ, ◌^◌, ◌<◌, ◌↔◌, List, ◌∷◌, Bool, IsTrue, map, codes, IfOk, IfSome, IfNone};
+ghost use Rattle.std.specs.Prelude.{[], ◌≡◌, ◌≢◌, ℕ, ◌^◌, ◌<◌, ◌↔◌, List, ◌∷◌, Bool, IsTrue, codes, IfOk, IfSome, IfNone};
 ghost use Rattle.wire_types.specs.declared.Scope.{Scope};
 ghost use Rattle.wire_types.specs.Said as spec;
 ghost use Rattle.wire_types.specs.Said.{spelled_proc, spelled_scope, spelled_set, collect_words, IsLawfulSet, IsLawfulCall};
@@ -8,6 +8,7 @@ ghost use Rattle.wire_types.specs.Said.{first_of_call, others_of_call};
 ghost use Rattle.wire_lines.specs.Shown.{call_by};
 ghost use Rattle.wire_types.specs.Verbs.{text_of_verb};
 ghost use Rattle.wire_types.specs.declared.verb.Verb.{Verb};
+ghost use Rattle.wire_types.specs.Texts.{texts_of};
 
 use crate::sets::{Set, set_of};
 use crate::word::{ProcName, is_key, is_text, is_word, proc_of, scope_of};
@@ -102,9 +103,9 @@ pub fn verb_of(word: &[u8]) -> Option<Verb>
 /// A key that stands alone.
 fn key_of<'a>(words: &[&'a [u8]]) -> Option<&'a [u8]>
     ensures found { IfSome result
-        (λ k. (map (λ w. w.now) words.now ≡ k.now ∷ []) × IsTrue (spec.is_key k.now)) }
+        (λ k. (texts_of words.now ≡ k.now ∷ []) × IsTrue (spec.is_key k.now)) }
     ensures none { IfNone result
-        ((key : List ℕ) → IsTrue (spec.is_key key) → map (λ w. w.now) words.now ≢ key ∷ []) }
+        ((key : List ℕ) → IsTrue (spec.is_key key) → texts_of words.now ≢ key ∷ []) }
 {
     match words {
         [key] if is_key(key) => Some(key),
@@ -114,10 +115,10 @@ fn key_of<'a>(words: &[&'a [u8]]) -> Option<&'a [u8]>
 
 /// A key and a value.
 fn pair_of<'a>(words: &[&'a [u8]]) -> Option<(&'a [u8], &'a [u8])>
-    ensures found { IfSome result (λ p. (map (λ w. w.now) words.now ≡ p.0.now ∷ p.1.now ∷ [])
+    ensures found { IfSome result (λ p. (texts_of words.now ≡ p.0.now ∷ p.1.now ∷ [])
         × IsTrue (spec.is_key p.0.now) × IsTrue (spec.is_word p.1.now)) }
     ensures none { IfNone result ((key value : List ℕ) → IsTrue (spec.is_key key) → IsTrue (spec.is_word value)
-        → map (λ w. w.now) words.now ≢ key ∷ value ∷ []) }
+        → texts_of words.now ≢ key ∷ value ∷ []) }
 {
     let [key, value] = words else {
         return None;
@@ -135,10 +136,10 @@ fn pair_of<'a>(words: &[&'a [u8]]) -> Option<(&'a [u8], &'a [u8])>
 /// The put, by the words after its verb.
 fn put_of<'a>(words: &[&'a [u8]]) -> Option<CallLine<'a>>
     ensures found { IfSome result (λ c. (first_of_call (call_by c) ≡ codes "put")
-        × (map (λ w. w.now) words.now ≡ others_of_call (call_by c)) × IsLawfulCall (call_by c)) }
+        × (texts_of words.now ≡ others_of_call (call_by c)) × IsLawfulCall (call_by c)) }
     ensures none { IfNone result ((scope : Scope) (key value : List ℕ) → IsTrue (spec.is_key key)
         → IsTrue (spec.is_word value)
-        → map (λ w. w.now) words.now ≢ spelled_scope scope ∷ key ∷ value ∷ []) }
+        → texts_of words.now ≢ spelled_scope scope ∷ key ∷ value ∷ []) }
 {
     let [scope, others @ ..] = words else {
         return None;
@@ -154,12 +155,12 @@ fn put_of<'a>(words: &[&'a [u8]]) -> Option<CallLine<'a>>
 
 /// The owner and the key of a get, of either kind.
 fn target_of<'a>(words: &[&'a [u8]]) -> Option<(ProcName<'a>, &'a [u8])>
-    ensures found { IfSome result (λ g. (map (λ w. w.now) words.now
+    ensures found { IfSome result (λ g. (texts_of words.now
         ≡ spelled_proc g.0.job.now g.0.rank ∷ g.1.now ∷ [])
         × IsTrue (spec.is_name g.0.job.now) × (g.0.rank < 10 ^ 9) × IsTrue (spec.is_key g.1.now)) }
     ensures none { IfNone result ((job : List ℕ) (rank : ℕ) (key : List ℕ) → IsTrue (spec.is_name job)
         → rank < 10 ^ 9
-        → IsTrue (spec.is_key key) → map (λ w. w.now) words.now ≢ spelled_proc job rank ∷ key ∷ []) }
+        → IsTrue (spec.is_key key) → texts_of words.now ≢ spelled_proc job rank ∷ key ∷ []) }
 {
     let [target, key] = words else {
         return None;
@@ -175,8 +176,8 @@ fn target_of<'a>(words: &[&'a [u8]]) -> Option<(ProcName<'a>, &'a [u8])>
 
 /// Whether a fence collects, by the words after its set.
 fn collect_of(words: &[&[u8]]) -> Option<bool>
-    ensures found { IfSome result (λ c. map (λ w. w.now) words.now ≡ collect_words c) }
-    ensures none { IfNone result ((collect : Bool) → map (λ w. w.now) words.now ≢ collect_words collect) }
+    ensures found { IfSome result (λ c. texts_of words.now ≡ collect_words c) }
+    ensures none { IfNone result ((collect : Bool) → texts_of words.now ≢ collect_words collect) }
 {
     match words {
         [] => Some(false),
@@ -187,7 +188,7 @@ fn collect_of(words: &[&[u8]]) -> Option<bool>
 
 /// Whether the only word is a star.
 fn is_star_alone(words: &[&[u8]]) -> bool
-    ensures { IsTrue result ↔ (map (λ w. w.now) words.now ≡ codes "*" ∷ []) }
+    ensures { IsTrue result ↔ (texts_of words.now ≡ codes "*" ∷ []) }
 {
     match words {
         [word] => is_text(word, b"*"),
@@ -198,9 +199,9 @@ fn is_star_alone(words: &[&[u8]]) -> bool
 /// The fence, by the words after its verb.
 fn fence_of<'a>(alloc: Global, words: &[&'a [u8]]) -> Result<Option<CallLine<'a>>, AllocError>
     ensures found { IfOk result (λ o. IfSome o (λ c. (first_of_call (call_by c) ≡ codes "fence")
-        × (map (λ w. w.now) words.now ≡ others_of_call (call_by c)) × IsLawfulCall (call_by c))) }
+        × (texts_of words.now ≡ others_of_call (call_by c)) × IsLawfulCall (call_by c))) }
     ensures none { IfOk result (λ o. IfNone o ((set : spec.Set) (collect : Bool) → IsLawfulSet set
-        → map (λ w. w.now) words.now ≢ spelled_set set ∷ collect_words collect)) }
+        → texts_of words.now ≢ spelled_set set ∷ collect_words collect)) }
 {
     let [set, others @ ..] = words else {
         return Ok(None);
@@ -217,9 +218,9 @@ fn fence_of<'a>(alloc: Global, words: &[&'a [u8]]) -> Result<Option<CallLine<'a>
 /// The end of one publish, or of all, by the words after its verb.
 fn unpublish_of<'a>(words: &[&'a [u8]]) -> Option<CallLine<'a>>
     ensures found { IfSome result (λ c. (first_of_call (call_by c) ≡ codes "unpublish")
-        × (map (λ w. w.now) words.now ≡ others_of_call (call_by c)) × IsLawfulCall (call_by c)) }
+        × (texts_of words.now ≡ others_of_call (call_by c)) × IsLawfulCall (call_by c)) }
     ensures none { IfNone result ((call : spec.Call) → first_of_call call ≡ codes "unpublish"
-        → IsLawfulCall call → map (λ w. w.now) words.now ≢ others_of_call call) }
+        → IsLawfulCall call → texts_of words.now ≢ others_of_call call) }
 {
     if is_star_alone(words) {
         return Some(CallLine::UnpublishAll);
@@ -237,10 +238,10 @@ pub fn call_of<'a>(
     words: &[&'a [u8]],
 ) -> Result<Option<CallLine<'a>>, AllocError>
     ensures found { IfOk result (λ o. IfSome o (λ c. (first_of_call (call_by c) ≡ text_of_verb verb)
-        × (map (λ w. w.now) words.now ≡ others_of_call (call_by c)) × IsLawfulCall (call_by c))) }
+        × (texts_of words.now ≡ others_of_call (call_by c)) × IsLawfulCall (call_by c))) }
     ensures none { IfOk result (λ o. IfNone o ((call : spec.Call) → first_of_call call ≡ text_of_verb verb
         → IsLawfulCall call
-        → map (λ w. w.now) words.now ≢ others_of_call call)) }
+        → texts_of words.now ≢ others_of_call call)) }
 {
     match verb {
         Verb::Put => Ok(put_of(words)),

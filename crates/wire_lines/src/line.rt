@@ -9,6 +9,7 @@ ghost use Rattle.wire_lines.specs.Kind.{text_of};
 ghost use Rattle.wire_lines.specs.Once.{SaysOnce};
 ghost use Rattle.wire_lines.specs.declared.line.Kind.{Kind};
 ghost use Rattle.wire_types.specs.declared.version.Version.{Version};
+ghost use Rattle.wire_types.specs.Texts.{texts_of};
 
 use crate::call::{CallLine, call_of, verb_of};
 use crate::word::{is_name, is_text};
@@ -31,9 +32,9 @@ pub enum Line<'a> {
 /// A name that stands alone.
 fn name_of<'a>(words: &[&'a [u8]]) -> Option<&'a [u8]>
     ensures found { IfSome result
-        (λ n. (map (λ w. w.now) words.now ≡ n.now ∷ []) × IsTrue (spec.is_name n.now)) }
+        (λ n. (texts_of words.now ≡ n.now ∷ []) × IsTrue (spec.is_name n.now)) }
     ensures none { IfNone result
-        ((name : List ℕ) → IsTrue (spec.is_name name) → map (λ w. w.now) words.now ≢ name ∷ []) }
+        ((name : List ℕ) → IsTrue (spec.is_name name) → texts_of words.now ≢ name ∷ []) }
 {
     match words {
         [name] if is_name(name) => Some(name),
@@ -57,8 +58,8 @@ fn version_said(word: &[u8]) -> Option<Version>
 
 /// The version of a header, by the words after its first.
 fn version_in(words: &[&[u8]]) -> Option<Version>
-    ensures found { IfSome result (λ v. map (λ w. w.now) words.now ≡ spec.spelled_version v ∷ []) }
-    ensures none { IfNone result ((v : Version) → map (λ w. w.now) words.now ≢ spec.spelled_version v ∷ []) }
+    ensures found { IfSome result (λ v. texts_of words.now ≡ spec.spelled_version v ∷ []) }
+    ensures none { IfNone result ((v : Version) → texts_of words.now ≢ spec.spelled_version v ∷ []) }
 {
     match words {
         [version] => version_said(version),
@@ -89,6 +90,7 @@ enum Kind {
     Calls(Verb),
 }
 
+/// The kind of a line by its first word, if there is one.
 fn kind_of(word: &[u8]) -> Option<Kind>
     ensures found { IfSome result (λ k. word.now ≡ text_of k) }
     ensures none { IfNone result ((k : Kind) → word.now ≢ text_of k) }
@@ -110,8 +112,8 @@ fn kind_of(word: &[u8]) -> Option<Kind>
 
 /// The version of the header whose words these are, or nothing where they are none. Takes no memory.
 pub fn header_version(words: &[&[u8]]) -> Option<Version>
-    ensures found { IfSome result (λ v. Says (map (λ w. w.now) words.now) (Header v)) }
-    ensures none { IfNone result ((v : Version) → Says (map (λ w. w.now) words.now) (Header v) → ⊥) }
+    ensures found { IfSome result (λ v. Says (texts_of words.now) (Header v)) }
+    ensures none { IfNone result ((v : Version) → Says (texts_of words.now) (Header v) → ⊥) }
 {
     let [first, others @ ..] = words else {
         return None;
@@ -130,9 +132,9 @@ fn call_in<'a>(
     words: &[&'a [u8]],
 ) -> Result<Option<Line<'a>>, AllocError>
     ensures found { IfOk result (λ o. IfSome o (λ l. (first_word (said_by l) ≡ text_of_verb verb)
-        × (map (λ w. w.now) words.now ≡ other_words (said_by l)) × IsLawful (said_by l))) }
+        × (texts_of words.now ≡ other_words (said_by l)) × IsLawful (said_by l))) }
     ensures none { IfOk result (λ o. IfNone o ((said : Said) → first_word said ≡ text_of_verb verb
-        → IsLawful said → map (λ w. w.now) words.now ≢ other_words said)) }
+        → IsLawful said → texts_of words.now ≢ other_words said)) }
 {
     match call_of(alloc, verb, words)? {
         Some(call) => Ok(Some(Line::Calls(call))),
@@ -147,9 +149,9 @@ fn line_of<'a>(
     words: &[&'a [u8]],
 ) -> Result<Option<Line<'a>>, AllocError>
     ensures found { IfOk result (λ o. IfSome o (λ l. (first_word (said_by l) ≡ text_of kind)
-        × (map (λ w. w.now) words.now ≡ other_words (said_by l)) × IsLawful (said_by l))) }
+        × (texts_of words.now ≡ other_words (said_by l)) × IsLawful (said_by l))) }
     ensures none { IfOk result (λ o. IfNone o ((said : Said) → first_word said ≡ text_of kind
-        → IsLawful said → map (λ w. w.now) words.now ≢ other_words said)) }
+        → IsLawful said → texts_of words.now ≢ other_words said)) }
 {
     match kind {
         Kind::Header => match version_in(words) {
@@ -166,8 +168,8 @@ fn line_of<'a>(
 
 /// What the words of a line say, or nothing where they are none of the lines of a file.
 pub fn read_line<'a>(alloc: Global, words: &[&'a [u8]]) -> Result<Option<Line<'a>>, AllocError>
-    ensures found { IfOk result (λ o. IfSome o (λ l. Says (map (λ w. w.now) words.now) (said_by l))) }
-    ensures none { IfOk result (λ o. IfNone o ((said : Said) → Says (map (λ w. w.now) words.now) said → ⊥)) }
+    ensures found { IfOk result (λ o. IfSome o (λ l. Says (texts_of words.now) (said_by l))) }
+    ensures none { IfOk result (λ o. IfNone o ((said : Said) → Says (texts_of words.now) said → ⊥)) }
 {
     let [first, others @ ..] = words else {
         return Ok(None);

@@ -4,6 +4,7 @@ ghost use Rattle.std.specs.Prelude.{◌≡◌, ◌≢◌, ◌==◌, List, map, [
 ghost use Rattle.std.specs.List.{slice_split};
 ghost use Rattle.wire_types.specs.Said as spec;
 ghost use Rattle.wire_types.specs.Said.{spelled_item, spelled_set, IsLawfulItem, AreLawful, IsLawfulSet};
+ghost use Rattle.wire_types.specs.Texts.{texts_of};
 ghost use Rattle.wire_lines.specs.Shown.{item_by, set_by};
 
 use crate::word::{ProcName, cut_at_colon, is_name, is_text, number_of};
@@ -57,7 +58,7 @@ fn item_of(word: &[u8]) -> Option<Item<'_>>
 
 /// The parts of a word between its commas.
 fn parts(alloc: Global, word: &[u8]) -> Result<Vec<&[u8]>, AllocError>
-    ensures { IfOk result (λ v. map (λ w. w.now) v.items ≡ slice_split (λ b. b == 44) word.now) }
+    ensures { IfOk result (λ v. texts_of v.items ≡ slice_split (λ b. b == 44) word.now) }
 {
     word.split(
         |b| -> bool
@@ -70,10 +71,10 @@ fn parts(alloc: Global, word: &[u8]) -> Result<Vec<&[u8]>, AllocError>
 /// The items that the parts are, where each is one.
 fn items_of<'a>(alloc: Global, parts: &[&'a [u8]]) -> Result<Option<Vec<Item<'a>>>, AllocError>
     ensures found { IfOk result (λ o. IfSome o (λ v. (map spelled_item (map item_by v.items)
-        ≡ map (λ w. w.now) parts.now)
+        ≡ texts_of parts.now)
         × AreLawful (map item_by v.items))) }
     ensures none { IfOk result (λ o. IfNone o
-        ((items : List spec.Item) → AreLawful items → map (λ w. w.now) parts.now ≢ map spelled_item items)) }
+        ((items : List spec.Item) → AreLawful items → texts_of parts.now ≢ map spelled_item items)) }
 {
     let mut items = Vec::with_capacity(alloc, parts.len())?;
     for part in parts {

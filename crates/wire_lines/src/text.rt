@@ -1,7 +1,8 @@
 //! Lines and words.
 
-ghost use Rattle.std.specs.Prelude.{◌≡◌, ◌+◌, ◌<◌, ◌≤◌, ◌==◌, ◌⊎◌, ◌++◌, ◌∷◌, [], count_by, length, map, position, take, OnOk};
+ghost use Rattle.std.specs.Prelude.{◌≡◌, ◌+◌, ◌<◌, ◌≤◌, ◌==◌, ◌⊎◌, ◌++◌, ◌∷◌, [], count_by, length, position, take, OnOk};
 ghost use Rattle.std.specs.Str.Lines.{strip_carriage_return};
+ghost use Rattle.wire_types.specs.Texts.{texts_of};
 ghost use Rattle.wire_lines.specs.Text.{pieces_of, words_of, is_blank};
 
 use std::alloc::AllocError;
@@ -50,7 +51,7 @@ pub fn trim_return(line: &[u8]) -> &[u8]
 /// Puts the words of a line in the place of what the list held. It takes memory only where the line has
 /// more words than the list has room for. If memory runs out, some of them may stand there.
 pub fn cut_words<'a>(words: &mut Vec<&'a [u8]>, line: &'a [u8]) -> Result<(), AllocError>
-    ensures { OnOk result (map (λ w. w.now) words.new.items ≡ words_of line.now) }
+    ensures { OnOk result (texts_of words.new.items ≡ words_of line.now) }
 {
     words.clear();
     words.extend(

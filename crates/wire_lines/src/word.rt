@@ -24,42 +24,49 @@ pub fn is_text(word: &[u8], text: &[u8]) -> bool
     word == text
 }
 
+/// Whether a byte may stand in a word.
 fn is_word_byte(byte: u8) -> bool
     ensures { result ≡ spec.is_word_byte byte }
 {
     33 <= byte && byte <= 126
 }
 
+/// Whether a byte may stand in a name.
 fn is_name_byte(byte: u8) -> bool
     ensures { result ≡ spec.is_name_byte byte }
 {
     is_word_byte(byte) && !(byte == b':' || byte == b',' || byte == b'#' || byte == b'*')
 }
 
+/// Whether each byte may stand in a word.
 fn has_word_bytes(word: &[u8]) -> bool
     ensures { result ≡ list_all spec.is_word_byte word.now }
 {
     word.iter().all(|b| is_word_byte(*b))
 }
 
+/// Whether each byte may stand in a name.
 fn has_name_bytes(word: &[u8]) -> bool
     ensures { result ≡ list_all spec.is_name_byte word.now }
 {
     word.iter().all(|b| is_name_byte(*b))
 }
 
+/// Whether it is a word: not empty, and each byte may stand in a word.
 pub fn is_word(word: &[u8]) -> bool
     ensures { result ≡ spec.is_word word.now }
 {
     !word.is_empty() && has_word_bytes(word)
 }
 
+/// Whether it is a name: not empty, and each byte may stand in a name.
 pub fn is_name(word: &[u8]) -> bool
     ensures { result ≡ spec.is_name word.now }
 {
     !word.is_empty() && has_name_bytes(word)
 }
 
+/// Whether it is a key.
 pub fn is_key(word: &[u8]) -> bool
     ensures { result ≡ spec.is_key word.now }
 {

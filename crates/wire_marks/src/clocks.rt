@@ -37,7 +37,7 @@ impl Drop for Clocks {
     }
 }
 
-// How many events of a process are this one or stand before it in its process.
+/// How many events of a process are this one or stand before it in its process.
 fn own_count(event: Event, proc: Proc) -> u32
     requires { event.at + 1 < 2 ^ 32 }
     ensures { result ≡ own_of (event_of event) proc.number }
@@ -77,7 +77,7 @@ impl Clocks {
         }
     }
 
-    // The root of the base of an event, if it is marked.
+    /// The root of the base of an event, if it is marked.
     fn root(&self, event: Event) -> Option<u32>
         ensures { result ≡ root_at self.now (event_of event) }
     {
@@ -101,7 +101,7 @@ impl Clocks {
         }
     }
 
-    // The root of the base of the event before, that of zeros where there is none.
+    /// The root of the base of the event before, that of zeros where there is none.
     fn root_before(&self, previous: Option<Event>) -> u32
         ensures { result ≡ root_before self.now (option_map event_of previous) }
     {
@@ -111,7 +111,7 @@ impl Clocks {
         }
     }
 
-    // Whether the clock of the event before, if there is one, counts an event.
+    /// Whether the clock of the event before, if there is one, counts an event.
     fn counts(&self, previous: Option<Event>, event: Event) -> bool
         requires { (p : ℕ) → marked_count self.now p < 2 ^ 32 }
         ensures { IsTrue result ↔ Counts self.now (option_map event_of previous) (event_of event) }
@@ -122,7 +122,7 @@ impl Clocks {
         }
     }
 
-    // Joins the base of this root into a clock, unless it is the one that was joined last.
+    /// Joins the base of this root into a clock, unless it is the one that was joined last.
     fn join_base(&mut self, rising: &mut Rising, root: u32, last: u32) -> Result<(), AllocError>
         requires based { AreBased self.old }
         requires rising { IsRising self.old.trees rising.old }
@@ -141,8 +141,8 @@ impl Clocks {
         Ok(())
     }
 
-    // Raises a clock to that of a marked event, where it is raised to the base of the root `last` before. The
-    // root of the base that it is then raised to.
+    /// Raises a clock to that of a marked event, where it is raised to the base of the root `last` before. The
+    /// root of the base that it is then raised to.
     fn raise_to(&mut self, rising: &mut Rising, event: Event, last: u32) -> Result<u32, AllocError>
         requires based { AreBased self.old }
         requires marked { event.at < marked_count self.old event.proc.number }
@@ -179,7 +179,7 @@ impl Clocks {
         Ok(root)
     }
 
-    // The root of the base of a root, raised to the clock of a marked event.
+    /// The root of the base of a root, raised to the clock of a marked event.
     fn raise_root(&mut self, root: u32, event: Event) -> Result<u32, AllocError>
         requires based { AreBased self.old }
         requires root { IsRoot self.old.trees root }

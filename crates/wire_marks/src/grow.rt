@@ -17,7 +17,7 @@ use wire_clocks::ClockTrees;
 use wire_plan::Plan;
 use wire_types::{Event, Proc};
 
-// For each process no root, with room for one for each of its events.
+/// For each process no root, with room for one for each of its events.
 fn no_roots(alloc: Global, plan: &Plan) -> Result<Vec<Vec<u32>>, AllocError>
     ensures count { IfOk result (λ v. length v.items ≡ process_count (plan_of plan.now)) }
     ensures none { IfOk result (λ v. (p : ℕ) → items_at v.items p ≡ []) }
@@ -30,7 +30,7 @@ fn no_roots(alloc: Global, plan: &Plan) -> Result<Vec<Vec<u32>>, AllocError>
     Ok(roots)
 }
 
-// No event is marked.
+/// No event is marked.
 fn no_clocks(alloc: Global, plan: &Plan) -> Result<Clocks, AllocError>
     ensures { IfOk result (λ clocks. AreClocks (plan_of plan.now) clocks) }
 {
@@ -43,7 +43,7 @@ fn no_clocks(alloc: Global, plan: &Plan) -> Result<Clocks, AllocError>
     })
 }
 
-// The root of a base for the process's next event, if it is ready.
+/// The root of a base for the process's next event, if it is ready.
 fn next_base(growth: &mut Growth<'_>, proc: Proc) -> Result<Option<u32>, AllocError>
     requires { IsGrowing growth.old }
     ensures growing { OnOk result (IsGrowing growth.new) }
@@ -82,7 +82,7 @@ fn next_base(growth: &mut Growth<'_>, proc: Proc) -> Result<Option<u32>, AllocEr
     Ok(met)
 }
 
-// Marks the next event of a process, where it is ready. Whether it was.
+/// Marks the next event of a process, where it is ready. Whether it was.
 fn mark_next(alloc: Global, growth: &mut Growth<'_>, proc: Proc) -> Result<bool, AllocError>
     requires { IsGrowing growth.old }
     ensures growing { OnOk result (IsGrowing growth.new) }
@@ -101,7 +101,7 @@ fn mark_next(alloc: Global, growth: &mut Growth<'_>, proc: Proc) -> Result<bool,
     Ok(true)
 }
 
-// Marks the events of a process as long as they are ready. Whether any was.
+/// Marks the events of a process as long as they are ready. Whether any was.
 fn mark_run(alloc: Global, growth: &mut Growth<'_>, proc: Proc) -> Result<bool, AllocError>
     requires { IsGrowing growth.old }
     ensures growing { OnOk result (IsGrowing growth.new) }
@@ -118,7 +118,7 @@ fn mark_run(alloc: Global, growth: &mut Growth<'_>, proc: Proc) -> Result<bool, 
     Ok(moved)
 }
 
-// Passes over the processes, each with its run of ready events. Whether any event was marked.
+/// Passes over the processes, each with its run of ready events. Whether any event was marked.
 fn mark_once(alloc: Global, growth: &mut Growth<'_>) -> Result<bool, AllocError>
     requires { IsGrowing growth.old }
     ensures growing { OnOk result (IsGrowing growth.new) }
@@ -136,8 +136,8 @@ fn mark_once(alloc: Global, growth: &mut Growth<'_>) -> Result<bool, AllocError>
     Ok(moved)
 }
 
-// Marks what is ready in a process, then in the one that it waits for, and so on, as long as they are new to
-// the way.
+/// Marks what is ready in a process, then in the one that it waits for, and so on, as long as they are new to
+/// the way.
 fn mark_way_down(
     alloc: Global,
     growth: &mut Growth<'_>,
@@ -163,7 +163,7 @@ fn mark_way_down(
     Ok(())
 }
 
-// Marks what is ready along a way through all processes, and then in the processes of the way, the last one first.
+/// Marks what is ready along a way through all processes, and then in the processes of the way, the last one first.
 fn mark_way(alloc: Global, growth: &mut Growth<'_>, way: &mut Way) -> Result<(), AllocError>
     requires { IsGrowing growth.old }
     ensures growing { OnOk result (IsGrowing growth.new) }
@@ -180,8 +180,8 @@ fn mark_way(alloc: Global, growth: &mut Growth<'_>, way: &mut Way) -> Result<(),
     Ok(())
 }
 
-// Marks what is ready, each process after the one that it waits for, as far as that goes in one round: the
-// passes are then few.
+/// Marks what is ready, each process after the one that it waits for, as far as that goes in one round: the
+/// passes are then few.
 fn mark_along_waits(alloc: Global, growth: &mut Growth<'_>) -> Result<(), AllocError>
     requires { IsGrowing growth.old }
     ensures growing { OnOk result (IsGrowing growth.new) }
@@ -192,7 +192,7 @@ fn mark_along_waits(alloc: Global, growth: &mut Growth<'_>) -> Result<(), AllocE
     mark_way(alloc, growth, &mut way)
 }
 
-// Marks what is ready in all processes, until nothing more is ready.
+/// Marks what is ready in all processes, until nothing more is ready.
 fn mark_ready(alloc: Global, growth: &mut Growth<'_>) -> Result<(), AllocError>
     requires { IsGrowing growth.old }
     ensures growing { OnOk result (IsGrowing growth.new) }

@@ -41,7 +41,7 @@ impl Held {
         }
     }
 
-    // Gives each process up to this one a list, at first an empty one.
+    /// Gives each process up to this one a list, at first an empty one.
     fn reach(&mut self, alloc: Global, proc: Proc) -> Result<(), AllocError>
         ensures same { (p : ℕ) → names_at self.new p ≡ names_at self.old p }
         ensures there { OnOk result (proc.number < length self.new) }

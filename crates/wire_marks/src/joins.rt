@@ -23,7 +23,7 @@ pub(crate) struct Meeting {
     pub base: Option<u32>,
 }
 
-// The arrival of a number.
+/// The arrival of a number.
 fn arrival_at(arrivals: &[Event], k: usize) -> Event
     requires { k < length arrivals.now }
     ensures { slice_get arrivals.now k ≡ Some result }
@@ -42,7 +42,7 @@ pub(crate) struct Growth<'a> {
 }
 
 impl Meeting {
-    // Counts further arrivals, as far as they are marked. Whether all of them are.
+    /// Counts further arrivals, as far as they are marked. Whether all of them are.
     fn count_on(&mut self, clocks: &Clocks, arrivals: &[Event]) -> bool
         requires { IsMeeting clocks.now (map event_of arrivals.now) self.old }
         ensures kept { IsMeeting clocks.now (map event_of arrivals.now) self.new }
@@ -58,7 +58,7 @@ impl Meeting {
         true
     }
 
-    // The root of the join of the clocks of the arrivals, all of them marked.
+    /// The root of the join of the clocks of the arrivals, all of them marked.
     fn join_arrivals(&mut self, clocks: &mut Clocks, arrivals: &[Event]) -> Result<u32, AllocError>
         requires based { AreBased clocks.old }
         requires kept { IsMeeting clocks.old (map event_of arrivals.now) self.old }
@@ -76,7 +76,7 @@ impl Meeting {
         Ok(root)
     }
 
-    // Counts further arrivals. The root of the join of their clocks, once all of them are marked.
+    /// Counts further arrivals. The root of the join of their clocks, once all of them are marked.
     fn meet(&mut self, clocks: &mut Clocks, arrivals: &[Event]) -> Result<Option<u32>, AllocError>
         requires based { AreBased clocks.old }
         requires kept { IsMeeting clocks.old (map event_of arrivals.now) self.old }
@@ -94,7 +94,7 @@ impl Meeting {
     }
 }
 
-// Adds meetings up to the one of a fence, where it isn't there: nobody is met.
+/// Adds meetings up to the one of a fence, where it isn't there: nobody is met.
 fn add_meetings(meetings: &mut Vec<Meeting>, fence: FenceId) -> Result<(), AllocError>
     ensures there { OnOk result (fence.number < length meetings.new.items) }
     ensures kept { OnOk result (AreAdded meetings.old.items meetings.new.items) }

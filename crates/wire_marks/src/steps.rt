@@ -20,14 +20,14 @@ pub(crate) fn is_same(x: Event, y: Event) -> bool
     x.proc.number == y.proc.number && x.at == y.at
 }
 
-// Whether x stands at y or below it.
+/// Whether x stands at y or below it.
 fn is_at_most(x: Event, y: Event) -> bool
     ensures { IsTrue result ↔ AtMost (event_of x) (event_of y) }
 {
     x.proc.number < y.proc.number || (x.proc.number == y.proc.number && x.at <= y.at)
 }
 
-// The lower of two events.
+/// The lower of two events.
 fn lower(x: Option<Event>, y: Event) -> Event
     ensures one { (option_map event_of x ≡ Some (event_of result)) ⊎ (event_of result ≡ event_of y) }
     ensures first { (z : runs.Event) → option_map event_of x ≡ Some z → AtMost (event_of result) z }
@@ -39,14 +39,14 @@ fn lower(x: Option<Event>, y: Event) -> Event
     }
 }
 
-// Whether y is x or after x.
+/// Whether y is x or after x.
 fn leads_to(marks: &Marks, x: Event, y: Event) -> bool
     ensures { (plan : runs.Plan) → AreMarks plan marks.now → (IsTrue result ↔ LeadsTo plan (event_of x) (event_of y)) }
 {
     is_same(x, y) || marks.before(x, y)
 }
 
-// The lowest event so far that is x or after x, with one more looked at.
+/// The lowest event so far that is x or after x, with one more looked at.
 fn lowest_with(marks: &Marks, x: Event, lowest: Option<Event>, z: Event) -> Option<Event>
     ensures { (plan : runs.Plan) (places : List runs.Event) → AreMarks plan marks.now → Lowest plan (event_of x) places (option_map event_of lowest)
         → Lowest plan (event_of x) (places ++ event_of z ∷ []) (option_map event_of result) }
@@ -58,7 +58,7 @@ fn lowest_with(marks: &Marks, x: Event, lowest: Option<Event>, z: Event) -> Opti
     }
 }
 
-// The lowest event so far that is x or after x, with a source looked at, if there is one.
+/// The lowest event so far that is x or after x, with a source looked at, if there is one.
 fn lowest_of(marks: &Marks, x: Event, lowest: Option<Event>, source: Option<Event>) -> Option<Event>
     ensures { (plan : runs.Plan) (places : List runs.Event) → AreMarks plan marks.now → Lowest plan (event_of x) places (option_map event_of lowest)
         → Lowest plan (event_of x) (places ++ option_to_list (option_map event_of source)) (option_map event_of result) }
@@ -69,7 +69,7 @@ fn lowest_of(marks: &Marks, x: Event, lowest: Option<Event>, source: Option<Even
     }
 }
 
-// The lowest event so far that is x or after x, with further ones looked at.
+/// The lowest event so far that is x or after x, with further ones looked at.
 fn lowest_among(marks: &Marks, x: Event, first: Option<Event>, events: &[Event]) -> Option<Event>
     ensures { (plan : runs.Plan) (places : List runs.Event) → AreMarks plan marks.now → Lowest plan (event_of x) places (option_map event_of first)
         → Lowest plan (event_of x) (places ++ map event_of events.now) (option_map event_of result) }
@@ -81,7 +81,7 @@ fn lowest_among(marks: &Marks, x: Event, first: Option<Event>, events: &[Event])
     lowest
 }
 
-// The lowest of the sources of y that is x or that x is before.
+/// The lowest of the sources of y that is x or that x is before.
 fn step_back(marks: &Marks, plan: &Plan, x: Event, y: Event) -> Event
     requires marks { AreMarks (plan_of plan.now) marks.now }
     requires before { Before (plan_of plan.now) (event_of x) (event_of y) }

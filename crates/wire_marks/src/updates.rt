@@ -38,7 +38,7 @@ impl Model for UpdateLists {
     ghost view = { λ t. map (λ v. v.items) t.by_name.items };
 }
 
-// What stands under a name after a publish of it.
+/// What stands under a name after a publish of it.
 fn after_publish(standing: Option<Event>, publish: Event) -> Option<Event>
     ensures { option_map event_of result ≡ spec.after_publish (event_of publish) (option_map event_of standing) }
 {
@@ -48,7 +48,7 @@ fn after_publish(standing: Option<Event>, publish: Event) -> Option<Event>
     }
 }
 
-// Whether a publish of this process stands there.
+/// Whether a publish of this process stands there.
 fn is_published_by(standing: Option<Event>, proc: Proc) -> bool
     ensures { result ≡ is_publisher proc.number (option_map event_of standing) }
 {
@@ -58,7 +58,7 @@ fn is_published_by(standing: Option<Event>, proc: Proc) -> bool
     }
 }
 
-// What stands under a name after a process's unpublish of it.
+/// What stands under a name after a process's unpublish of it.
 fn after_unpublish(standing: Option<Event>, proc: Proc) -> Option<Event>
     ensures { option_map event_of result ≡ spec.after_unpublish proc.number (option_map event_of standing) }
 {
@@ -89,7 +89,7 @@ impl UpdateLists {
         }
     }
 
-    // What stands under a name after those of it.
+    /// What stands under a name after those of it.
     fn standing(&self, name: u32) -> Option<Event>
         ensures { option_map event_of result ≡ standing_in (updates_at self.now name) }
     {
@@ -100,7 +100,7 @@ impl UpdateLists {
         list[list.len() - 1].standing
     }
 
-    // Gives each name up to this one a list, at first an empty one.
+    /// Gives each name up to this one a list, at first an empty one.
     fn reach(&mut self, alloc: Global, name: u32) -> Result<(), AllocError>
         ensures same { (n : ℕ) → updates_at self.new n ≡ updates_at self.old n }
         ensures there { OnOk result (name < length self.new) }
@@ -111,7 +111,7 @@ impl UpdateLists {
         Ok(())
     }
 
-    // Adds one to the list of a name.
+    /// Adds one to the list of a name.
     fn add(&mut self, alloc: Global, name: u32, update: Update) -> Result<(), AllocError>
         ensures here { OnOk result (updates_at self.new name ≡ updates_at self.old name ++ update ∷ []) }
         ensures others { OnOk result ((n : ℕ) → n ≢ name → updates_at self.new n ≡ updates_at self.old n) }
@@ -122,8 +122,8 @@ impl UpdateLists {
         Ok(())
     }
 
-    // Notes that a call took away all names of its process: where a publish of it stands under this name, it
-    // is added.
+    /// Notes that a call took away all names of its process: where a publish of it stands under this name, it
+    /// is added.
     fn sweep(&mut self, alloc: Global, name: u32, event: Event) -> Result<(), AllocError>
         ensures each { (n : ℕ) → IsSwept (event_of event) (updates_at self.old n) (updates_at self.new n) }
         ensures cleared { OnOk result (IsCleared event.proc.number (updates_at self.new name)) }
@@ -141,7 +141,7 @@ impl UpdateLists {
         )
     }
 
-    // The same for each of these names.
+    /// The same for each of these names.
     fn sweep_all(&mut self, alloc: Global, names: &[u32], event: Event) -> Result<(), AllocError>
         ensures each { (n : ℕ) → IsSwept (event_of event) (updates_at self.old n) (updates_at self.new n) }
         ensures cleared { OnOk result ((k n : ℕ) → slice_get names.now k ≡ Some n → IsCleared event.proc.number (updates_at self.new n)) }
@@ -198,7 +198,7 @@ impl Updates {
         self.lists.list(name)
     }
 
-    // Notes a publish of a name.
+    /// Notes a publish of a name.
     fn note_publish(&mut self, alloc: Global, name: u32, event: Event) -> Result<(), AllocError>
         ensures { OnOk result (IsAppended (event_of event) name
             (spec.after_publish (event_of event) (standing_in (updates_at self.old name))) self.old self.new) }
@@ -208,7 +208,7 @@ impl Updates {
         self.lists.add(alloc, name, Update { event, standing })
     }
 
-    // Notes an unpublish of a name.
+    /// Notes an unpublish of a name.
     fn note_unpublish(&mut self, alloc: Global, name: u32, event: Event) -> Result<(), AllocError>
         ensures { OnOk result (IsAppended (event_of event) name
             (spec.after_unpublish event.proc.number (standing_in (updates_at self.old name))) self.old self.new) }
@@ -217,7 +217,7 @@ impl Updates {
         self.lists.add(alloc, name, Update { event, standing })
     }
 
-    // Notes a call that takes away all names of its process.
+    /// Notes a call that takes away all names of its process.
     fn note_sweep(&mut self, alloc: Global, event: Event) -> Result<(), AllocError>
         ensures each { (n : ℕ) → IsSwept (event_of event) (updates_at self.old n) (updates_at self.new n) }
         ensures cleared { OnOk result ((n : ℕ) → IsCleared event.proc.number (updates_at self.new n)) }

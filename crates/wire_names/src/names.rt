@@ -22,7 +22,7 @@ impl Model for Names {
     ghost view = { λ s. s.table.items };
 }
 
-// Whether something stands there, and this process published it.
+/// Whether something stands there, and this process published it.
 fn is_published_by(standing: Option<CallAt>, proc: Proc) -> bool
     ensures { result ≡ names.is_published_by proc.number standing }
 {
@@ -32,7 +32,7 @@ fn is_published_by(standing: Option<CallAt>, proc: Proc) -> bool
     }
 }
 
-// What stands under a name after this process has unpublished what it published there.
+/// What stands under a name after this process has unpublished what it published there.
 fn after_unpublish(standing: Option<CallAt>, proc: Proc) -> Option<CallAt>
     ensures { result ≡ names.after_unpublish proc.number standing }
 {
@@ -43,7 +43,7 @@ fn after_unpublish(standing: Option<CallAt>, proc: Proc) -> Option<CallAt>
     }
 }
 
-// Removes all that this process published.
+/// Removes all that this process published.
 fn unpublish_each(table: &mut [Option<CallAt>], proc: Proc)
     ensures { table.new ≡ names.names_after_unpublish_all proc.number table.old }
 {

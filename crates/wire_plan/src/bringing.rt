@@ -14,14 +14,14 @@ use std::alloc::{AllocError, Global};
 use wire_fence::{FenceId, Fences};
 use wire_types::{Event, Proc};
 
-// Whether a fence is called by each member, and says in each call that data is collected.
+/// Whether a fence is called by each member, and says in each call that data is collected.
 fn brings(fences: &Fences, fence: FenceId) -> bool
     ensures { result ≡ (full_in (the_fence_at fences.now fence.number) && collects_in (the_fence_at fences.now fence.number)) }
 {
     fences.full(fence) && fences.collects(fence)
 }
 
-// How many events of a list in process order are lower than an event, by bisection.
+/// How many events of a list in process order are lower than an event, by bisection.
 fn count_lower(list: &[Event], event: Event) -> usize
     ensures { IsRising (map event_of list.now) → (k : ℕ) (x : runs.Event) → slice_get (map event_of list.now) k ≡ Some x →
         is_below x (event_of event) ≡ nat_lt k result }
@@ -38,7 +38,7 @@ pub(crate) struct BringingArrivals {
 }
 
 impl BringingArrivals {
-    // Adds an event of the plan, where it is an arrival at a fence that brings data.
+    /// Adds an event of the plan, where it is an arrival at a fence that brings data.
     fn add_event(
         &mut self,
         events: &Events,
@@ -59,7 +59,7 @@ impl BringingArrivals {
         Ok(())
     }
 
-    // Adds the arrivals of a process at fences that bring data.
+    /// Adds the arrivals of a process at fences that bring data.
     fn add_process(
         &mut self,
         events: &Events,

@@ -27,7 +27,7 @@ pub(crate) enum Listing {
 }
 
 impl Listing {
-    // The number that an event of a process is listed under, if it is listed.
+    /// The number that an event of a process is listed under, if it is listed.
     fn number_of(self, proc: Proc, kind: Kind) -> Option<u32>
         ensures { (plan : runs.Plan) (sets : List (List ℕ)) (number at : ℕ) →
             is_listed plan self number (record { proc = proc.number; at = at }) (Some (kind_of sets kind)) ≡ is_number result number }
@@ -41,7 +41,7 @@ impl Listing {
     }
 }
 
-// The name of a call on one name.
+/// The name of a call on one name.
 fn name_called(kind: Kind) -> Option<u32>
     ensures { (plan : runs.Plan) (sets : List (List ℕ)) (number : ℕ) (x : runs.Event) →
         is_listed plan Listing.NameCalls number x (Some (kind_of sets kind)) ≡ is_number result number }
@@ -55,7 +55,7 @@ fn name_called(kind: Kind) -> Option<u32>
     }
 }
 
-// The name of a publish.
+/// The name of a publish.
 fn name_published(kind: Kind) -> Option<u32>
     ensures { (plan : runs.Plan) (sets : List (List ℕ)) (number : ℕ) (x : runs.Event) →
         is_listed plan Listing.Publishes number x (Some (kind_of sets kind)) ≡ is_number result number }
@@ -66,7 +66,7 @@ fn name_published(kind: Kind) -> Option<u32>
     }
 }
 
-// The name of an unpublish of one name.
+/// The name of an unpublish of one name.
 fn name_taken(kind: Kind) -> Option<u32>
     ensures { (plan : runs.Plan) (sets : List (List ℕ)) (number : ℕ) (x : runs.Event) →
         is_listed plan Listing.Takes number x (Some (kind_of sets kind)) ≡ is_number result number }
@@ -77,7 +77,7 @@ fn name_taken(kind: Kind) -> Option<u32>
     }
 }
 
-// The process whose names a call takes away.
+/// The process whose names a call takes away.
 fn proc_swept(proc: Proc, kind: Kind) -> Option<u32>
     ensures { (plan : runs.Plan) (sets : List (List ℕ)) (number at : ℕ) →
         is_listed plan Listing.Sweeps number (record { proc = proc.number; at = at }) (Some (kind_of sets kind)) ≡ is_number result number }
@@ -114,7 +114,7 @@ impl ByNumber {
         }
     }
 
-    // Gives each number up to this one a list, at first an empty one.
+    /// Gives each number up to this one a list, at first an empty one.
     fn reach(&mut self, alloc: Global, number: u32) -> Result<(), AllocError>
         ensures same { OnOk result ((n : ℕ) → events_listed self.new n ≡ events_listed self.old n) }
         ensures there { OnOk result (number < length self.new) }
@@ -125,7 +125,7 @@ impl ByNumber {
         Ok(())
     }
 
-    // Adds an event to a list that is there.
+    /// Adds an event to a list that is there.
     fn append(&mut self, number: u32, event: Event) -> Result<(), AllocError>
         requires { number < length self.old }
         ensures here { OnOk result (events_listed self.new number ≡ events_listed self.old number ++ event_of event ∷ []) }
@@ -144,7 +144,7 @@ impl ByNumber {
         self.append(number, event)
     }
 
-    // Adds an event, where it is listed.
+    /// Adds an event, where it is listed.
     fn read(
         &mut self,
         alloc: Global,
@@ -161,7 +161,7 @@ impl ByNumber {
         Ok(())
     }
 
-    // Adds the events of a process that are listed.
+    /// Adds the events of a process that are listed.
     fn read_all(
         &mut self,
         alloc: Global,

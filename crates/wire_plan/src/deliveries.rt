@@ -26,7 +26,7 @@ pub(crate) struct Delivery {
     pub node: u32,
 }
 
-// The higher of two numbers.
+/// The higher of two numbers.
 fn higher(a: u32, b: u32) -> u32
     ensures first { a ≤ result }
     ensures second { b ≤ result }

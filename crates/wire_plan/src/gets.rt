@@ -27,7 +27,7 @@ impl Drop for GetTable {
 }
 
 impl GetTable {
-    // Adds a get to the list of the owner, the key and the node.
+    /// Adds a get to the list of the owner, the key and the node.
     fn add(&mut self, alloc: Global, asked: (u32, u32, u32), event: Event) -> Result<(), AllocError>
         ensures here { OnOk result (gets_under self.new asked ≡ gets_under self.old asked ++ event_of event ∷ []) }
         ensures others { OnOk result ((other : ℕ × ℕ × ℕ) → asked ≢ other → gets_under self.new other ≡ gets_under self.old other) }
@@ -43,7 +43,7 @@ impl GetTable {
         Ok(())
     }
 
-    // Adds an event of the plan, where it is a get.
+    /// Adds an event of the plan, where it is a get.
     fn add_event(&mut self, alloc: Global, events: &Events, event: Event) -> Result<(), AllocError>
         requires keeps { events.now.keeps ≡ true }
         requires there { event.at < event_count (plan_of events.now) event.proc.number }
@@ -57,7 +57,7 @@ impl GetTable {
         Ok(())
     }
 
-    // Adds the gets of a process.
+    /// Adds the gets of a process.
     fn add_process(&mut self, alloc: Global, events: &Events, proc: Proc) -> Result<(), AllocError>
         requires { events.now.keeps ≡ true }
         ensures { OnOk result (AreGetsTo (plan_of events.now) proc.number 0 self.old →
@@ -69,7 +69,7 @@ impl GetTable {
         Ok(())
     }
 
-    // Adds the gets of all processes.
+    /// Adds the gets of all processes.
     fn add_all(&mut self, alloc: Global, events: &Events) -> Result<(), AllocError>
         requires { events.now.keeps ≡ true }
         ensures { OnOk result (AreGetsTo (plan_of events.now) 0 0 self.old → AreGetLists (plan_of events.now) self.new) }

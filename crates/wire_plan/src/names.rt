@@ -34,7 +34,7 @@ impl Drop for NameTable {
     }
 }
 
-// The publish of a name, where there is one and no unpublish of the name alone.
+/// The publish of a name, where there is one and no unpublish of the name alone.
 fn only_publish(publishes: &[Event], takes: &[Event]) -> Option<Event>
     ensures { result ≡ only_of publishes.now takes.now }
 {
@@ -82,7 +82,7 @@ impl NameTable {
         self.sweeps.list(proc.number)
     }
 
-    // A publish, where its process never takes away all its names.
+    /// A publish, where its process never takes away all its names.
     fn find_unswept(&self, publish: Event) -> Option<Event>
         ensures { (plan : runs.Plan) → AreNamesOf plan self.now → IsUnswept plan publish result }
     {

@@ -197,7 +197,7 @@ impl Plan {
         self.tables.events.node_of(proc)
     }
 
-    // Whether a get of a key isn't ruled out by the scripts.
+    /// Whether a get of a key isn't ruled out by the scripts.
     fn may_get(&self, event: Event, owner: Proc, key: u32) -> bool
         ensures { result ≡ may_come (plan_of self.now) (event_of event) (Some (Get owner.number key)) }
     {
@@ -222,7 +222,7 @@ impl Plan {
         }
     }
 
-    // The commit or the publish that an event of the plan waits for.
+    /// The commit or the publish that an event of the plan waits for.
     fn awaited(&self, event: Event) -> Option<Event>
         requires { event.at < event_count (plan_of self.now) event.proc.number }
         ensures { IsAwaited (plan_of self.now) (event_of event) (option_map event_of result) }
@@ -240,7 +240,7 @@ impl Plan {
         }
     }
 
-    // The arrivals at the fence that an event of the plan ends; none where it ends none.
+    /// The arrivals at the fence that an event of the plan ends; none where it ends none.
     fn arrivals_before(&self, event: Event) -> &[Event]
         requires { event.at < event_count (plan_of self.now) event.proc.number }
         ensures leave { (members : List ℕ) → kind (plan_of self.now) (event_of event) ≡ Some (Leave members)

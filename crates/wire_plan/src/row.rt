@@ -32,7 +32,7 @@ impl Drop for ProcessEvents {
 }
 
 impl ProcessEvents {
-    // No event, with room for one event of each of so many calls.
+    /// No event, with room for one event of each of so many calls.
     fn with_room(alloc: Global, count: usize) -> Result<ProcessEvents, AllocError>
         ensures kinds { IfOk result (λ row. row.kinds.items ≡ []) }
         ensures calls { IfOk result (λ row. row.calls.items ≡ []) }
@@ -45,6 +45,7 @@ impl ProcessEvents {
         })
     }
 
+    /// Adds an event of this kind, the first of the call of this number.
     fn add(&mut self, kind: Kind, call: u32) -> Result<(), AllocError>
         ensures kinds { OnOk result (self.new.kinds.items ≡ self.old.kinds.items ++ kind ∷ []) }
         ensures calls { OnOk result (self.new.calls.items ≡ self.old.calls.items ++ call ∷ []) }
@@ -56,7 +57,7 @@ impl ProcessEvents {
     }
 }
 
-// Adds the event of a call after its first, if there is one.
+/// Adds the event of a call after its first, if there is one.
 fn add_rest(row: &mut ProcessEvents, call: Call, number: u32) -> Result<(), AllocError>
     ensures kinds { OnOk result ((sets : List (List ℕ)) → map (kind_of sets) row.new.kinds.items ≡ map (kind_of sets) row.old.kinds.items
         ++ kinds_after sets call) }

@@ -22,6 +22,7 @@ pub(crate) enum KeyKind {
 }
 
 impl KeyKind {
+    /// Whether keys of this kind are reserved.
     pub(crate) fn is_reserved(self) -> bool
         ensures { result ≡ keys.is_reserved_kind self }
     {
@@ -29,6 +30,7 @@ impl KeyKind {
     }
 }
 
+/// The kind of a key, by its text.
 #[tactic(auto, unfolding(crate::specs::Keys::key_kind))]
 fn kind_of(text: &[u8]) -> KeyKind
     ensures { result ≡ keys.key_kind text.now }

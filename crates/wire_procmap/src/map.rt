@@ -54,6 +54,7 @@ impl ProcMap {
         })
     }
 
+    /// The numbers of a process.
     fn numbers(&self, proc: Proc) -> ProcessNumbers
         requires { proc.number < row_count self.now }
         ensures { (s : Scripts) → self.now ≡ map_of s → result ≡ rows.row_of s.processes proc.number }
@@ -62,6 +63,7 @@ impl ProcMap {
         rows[proc.index()]
     }
 
+    /// The kind of the key of this number.
     fn kind(&self, key: u32) -> KeyKind
         ensures { (s : Scripts) → self.now ≡ map_of s → result ≡ keys.key_kind (text_at s.keys key) }
     {

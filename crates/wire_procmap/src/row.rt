@@ -38,6 +38,7 @@ impl ProcessNumbers {
     }
 }
 
+/// The reply of a success that brings this value.
 fn success_with(value: Value) -> Reply
     ensures { result ≡ replies.success_with value }
 {

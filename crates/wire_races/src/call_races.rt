@@ -32,7 +32,7 @@ pub(crate) struct NameCall {
     pub(crate) event: Event,
 }
 
-// The race of a call with one of another process on the same name.
+/// The race of a call with one of another process on the same name.
 fn race_of(plan: &Plan, x: NameCall, y: Event) -> Finding
     requires x { calls_name (plan_of plan.now) x.name (event_of x.event) (kind (plan_of plan.now) (event_of x.event)) ≡ true }
     requires y { calls_name (plan_of plan.now) x.name (event_of y) (kind (plan_of plan.now) (event_of y)) ≡ true }
@@ -46,7 +46,7 @@ fn race_of(plan: &Plan, x: NameCall, y: Event) -> Finding
     }
 }
 
-// Whether a call stands below a border of the calls that may race with x.
+/// Whether a call stands below a border of the calls that may race with x.
 fn is_below(marked: &MarkedPlan<'_>, x: Event, border: Border, y: Event) -> bool
     ensures { IsTrue result ↔ IsBelow (plan_of marked.now) (event_of x) border (event_of y) }
 {
@@ -56,7 +56,7 @@ fn is_below(marked: &MarkedPlan<'_>, x: Event, border: Border, y: Event) -> bool
     }
 }
 
-// How many of these calls of one process stand below the border, by bisection.
+/// How many of these calls of one process stand below the border, by bisection.
 fn count_below(marked: &MarkedPlan<'_>, x: Event, border: Border, run: &[Event]) -> usize
     ensures within { result ≤ length run.now }
     ensures cut { (p : ℕ) → AreRising (map event_of run.now) → AreOf p (map event_of run.now)

@@ -16,7 +16,7 @@ ghost use Rattle.wire_races.specs.Pieces.{IsPiece, ArePieces};
 ghost use Rattle.wire_races.specs.KeyRaces.{IsRaceOf, IsKeyRaceBy, IsKeyRaceOf, IsOpen, IsLateBy, AreLateBelow, IsUnsure};
 
 use crate::get_races::add_get_races;
-use crate::pieces::add_pieces;
+use crate::search_pieces::add_pieces;
 use rayon::prelude::*;
 use std::alloc::{AllocError, Global};
 use std::thread::Threads;

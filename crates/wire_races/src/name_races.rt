@@ -20,7 +20,7 @@ ghost use Rattle.wire_races.specs.NameRaces.{AreFacing, IsOneOf, AreSweepers, Is
 ghost use Rattle.wire_content.specs.Scripts.{numbers_of};
 
 use crate::call_races::{NameCall, add_races, find_unordered};
-use crate::pieces::add_pieces;
+use crate::search_pieces::add_pieces;
 use crate::sweep_races::{add_sweep_races, is_publisher, sweepers_of};
 use rayon::prelude::*;
 use std::alloc::{AllocError, Global};
@@ -43,9 +43,9 @@ pub(crate) fn is_write(plan: &Plan, x: NameCall) -> bool
     }
 }
 
-// Adds the races of a live call with calls of another process. The one publish of a name and a
-// lookup that waits for it are in order where both are live, so the one isn't among those that no chain
-// orders with the other.
+/// Adds the races of a live call with calls of another process. The one publish of a name and a
+/// lookup that waits for it are in order where both are live, so the one isn't among those that no chain
+/// orders with the other.
 fn add_between(
     marked: &MarkedPlan<'_>,
     found: &mut Found,
@@ -63,7 +63,7 @@ fn add_between(
     add_races(marked.plan(), found, x, those)
 }
 
-// How many of these calls in process order are of processes up to this one, by bisection.
+/// How many of these calls in process order are of processes up to this one, by bisection.
 fn count_upto(calls: &[Event], proc: Proc) -> usize
     ensures within { result ≤ length calls.now }
     ensures cut { (plan : runs.Plan) (name : ℕ) → AreCallsOn plan name (map event_of calls.now) →
@@ -72,7 +72,7 @@ fn count_upto(calls: &[Event], proc: Proc) -> usize
     calls.partition_point(|call| call.proc.number <= proc.number)
 }
 
-// How many of the first of these calls in process order are of this process, which is that of the first one.
+/// How many of the first of these calls in process order are of this process, which is that of the first one.
 fn stretch_length(calls: &[Event], proc: Proc) -> usize
     ensures within { result ≤ length calls.now }
     ensures stretch { (plan : runs.Plan) (name : ℕ) (x : Event) → AreCallsOn plan name (map event_of calls.now) → slice_get calls.now 0 ≡ Some x →
@@ -83,7 +83,7 @@ fn stretch_length(calls: &[Event], proc: Proc) -> usize
     count_upto(calls, proc)
 }
 
-// Adds the races of a live call with higher calls, which are cut into stretches of one process each.
+/// Adds the races of a live call with higher calls, which are cut into stretches of one process each.
 fn add_rivals(
     marked: &MarkedPlan<'_>,
     found: &mut Found,
@@ -106,7 +106,7 @@ fn add_rivals(
     Ok(())
 }
 
-// Adds the races of a call with all higher ones.
+/// Adds the races of a call with all higher ones.
 fn add_call(
     marked: &MarkedPlan<'_>,
     found: &mut Found,
@@ -127,7 +127,7 @@ fn add_call(
     }
 }
 
-// The calls of processes above this one.
+/// The calls of processes above this one.
 fn calls_above(calls: &[Event], proc: Proc) -> &[Event]
     ensures { (plan : runs.Plan) (name : ℕ) → AreCallsOn plan name (map event_of calls.now) →
         IsAbove proc.number (map event_of calls.now) (map event_of result.now) }
@@ -135,8 +135,8 @@ fn calls_above(calls: &[Event], proc: Proc) -> &[Event]
     calls.split_at(count_upto(calls, proc)).1
 }
 
-// The calls with which a call on a name may race as the lower one: those of higher processes, and if it
-// can't change the name, only such as can.
+/// The calls with which a call on a name may race as the lower one: those of higher processes, and if it
+/// can't change the name, only such as can.
 fn rivals_of<'a>(plan: &Plan, x: NameCall, calls: &'a [Event], writers: &'a [Event]) -> &'a [Event]
     requires x { is_plain_call x.name (kind (plan_of plan.now) (event_of x.event)) ≡ true }
     requires calls { AreNameCalls (plan_of plan.now) x.name (map event_of calls.now) }
@@ -152,7 +152,7 @@ fn rivals_of<'a>(plan: &Plan, x: NameCall, calls: &'a [Event], writers: &'a [Eve
     }
 }
 
-// The calls on a name alone that can change it.
+/// The calls on a name alone that can change it.
 fn writers_of(alloc: Global, plan: &Plan, name: u32) -> Result<Vec<Event>, AllocError>
     ensures { IfOk result (λ writers. AreWriters (plan_of plan.now) name (map event_of writers.items)) }
 {
@@ -167,7 +167,7 @@ fn writers_of(alloc: Global, plan: &Plan, name: u32) -> Result<Vec<Event>, Alloc
     Ok(writers)
 }
 
-// Adds the races between calls on a name alone, from the lower call of each.
+/// Adds the races between calls on a name alone, from the lower call of each.
 fn add_races_on(
     marked: &MarkedPlan<'_>,
     found: &mut Found,
@@ -190,7 +190,7 @@ fn add_races_on(
     Ok(())
 }
 
-// The calls of a process that take away all its names, none where it is that of the other call.
+/// The calls of a process that take away all its names, none where it is that of the other call.
 fn find_facing<'a>(plan: &'a Plan, x: Event, proc: Proc) -> &'a [Event]
     ensures { AreFacing (plan_of plan.now) (event_of x) proc.number (map event_of result.now) }
 {
@@ -201,7 +201,7 @@ fn find_facing<'a>(plan: &'a Plan, x: Event, proc: Proc) -> &'a [Event]
     }
 }
 
-// Adds the races of a call on one name with those calls of these processes that take away all their names.
+/// Adds the races of a call on one name with those calls of these processes that take away all their names.
 fn add_swept(
     marked: &MarkedPlan<'_>,
     found: &mut Found,
@@ -223,7 +223,7 @@ fn add_swept(
     Ok(())
 }
 
-// Adds the races on a name of the calls on it alone with those calls of these processes that take away all their names.
+/// Adds the races on a name of the calls on it alone with those calls of these processes that take away all their names.
 fn add_races_swept(
     marked: &MarkedPlan<'_>,
     found: &mut Found,
@@ -245,7 +245,7 @@ fn add_races_swept(
     Ok(())
 }
 
-// The races on a name in which one call at least is on this name alone: a piece of the search.
+/// The races on a name in which one call at least is on this name alone: a piece of the search.
 fn make_piece(alloc: Global, marked: &MarkedPlan<'_>, name: u32) -> Result<Found, AllocError>
     ensures { IfOk result (IsPiece (plan_of marked.now) (IsRaceOn (plan_of marked.now) name)) }
 {
@@ -257,8 +257,8 @@ fn make_piece(alloc: Global, marked: &MarkedPlan<'_>, name: u32) -> Result<Found
     Ok(found)
 }
 
-// A piece for each name, in their order, made by several threads. Most names have few calls, so
-// that fewer than sixteen of them aren't worth a thread of their own.
+/// A piece for each name, in their order, made by several threads. Most names have few calls, so
+/// that fewer than sixteen of them aren't worth a thread of their own.
 fn make_pieces(
     rt: &(impl Threads + Sync),
     alloc: Global,

@@ -20,7 +20,7 @@ use wire_marks::MarkedPlan;
 use wire_plan::{Kind, Plan};
 use wire_types::{CallAt, Event};
 
-// Whether two calls race on a key. The races of each of them as the get are looked through.
+/// Whether two calls race on a key. The races of each of them as the get are looked through.
 fn race_on_key(
     alloc: Global,
     marked: &MarkedPlan<'_>,
@@ -39,7 +39,7 @@ fn race_on_key(
     Ok(is_reported(&list, x, y))
 }
 
-// Whether an event is a call on a name.
+/// Whether an event is a call on a name.
 fn is_call(plan: &Plan, x: NameCall) -> bool
     requires { x.event.at < event_count (plan_of plan.now) x.event.proc.number }
     ensures { result ≡ calls_name (plan_of plan.now) x.name (event_of x.event) (kind (plan_of plan.now) (event_of x.event)) }
@@ -51,7 +51,7 @@ fn is_call(plan: &Plan, x: NameCall) -> bool
     }
 }
 
-// Whether an event can change a name on which another is a call.
+/// Whether an event can change a name on which another is a call.
 fn is_disturbed(plan: &Plan, name: u32, x: Event, y: Event) -> bool
     requires x_there { x.at < event_count (plan_of plan.now) x.proc.number }
     requires y_there { y.at < event_count (plan_of plan.now) y.proc.number }
@@ -60,7 +60,7 @@ fn is_disturbed(plan: &Plan, name: u32, x: Event, y: Event) -> bool
     is_write(plan, NameCall { name, event: x }) && is_call(plan, NameCall { name, event: y })
 }
 
-// Whether one of two events can change a name, and the other is a call on it.
+/// Whether one of two events can change a name, and the other is a call on it.
 fn is_contested(plan: &Plan, name: u32, x: Event, y: Event) -> bool
     requires x_there { x.at < event_count (plan_of plan.now) x.proc.number }
     requires y_there { y.at < event_count (plan_of plan.now) y.proc.number }
@@ -69,7 +69,7 @@ fn is_contested(plan: &Plan, name: u32, x: Event, y: Event) -> bool
     is_disturbed(plan, name, x, y) || is_disturbed(plan, name, y, x)
 }
 
-// Whether one of these names is such.
+/// Whether one of these names is such.
 fn is_one_contested(plan: &Plan, names: &[u32], x: Event, y: Event) -> bool
     requires x_there { x.at < event_count (plan_of plan.now) x.proc.number }
     requires y_there { y.at < event_count (plan_of plan.now) y.proc.number }
@@ -83,7 +83,7 @@ fn is_one_contested(plan: &Plan, names: &[u32], x: Event, y: Event) -> bool
     false
 }
 
-// One name.
+/// One name.
 fn one_name(alloc: Global, name: u32) -> Result<Vec<u32>, AllocError>
     ensures { IfOk result (λ names. names.items ≡ name ∷ []) }
 {
@@ -92,8 +92,8 @@ fn one_name(alloc: Global, name: u32) -> Result<Vec<u32>, AllocError>
     Ok(names)
 }
 
-// The names on which an event is a call. Those of a call that takes away all names of its process are gathered, each
-// once.
+/// The names on which an event is a call. Those of a call that takes away all names of its process are gathered, each
+/// once.
 fn names_called(alloc: Global, plan: &Plan, event: Event) -> Result<Vec<u32>, AllocError>
     requires { event.at < event_count (plan_of plan.now) event.proc.number }
     ensures { IfOk result (λ names. HasNamesOf (plan_of plan.now) (event_of event) names.items) }
@@ -108,8 +108,8 @@ fn names_called(alloc: Global, plan: &Plan, event: Event) -> Result<Vec<u32>, Al
     }
 }
 
-// Whether two events race on a name. The one publish of a name and a lookup that waits for it are in order where
-// both are live, so they aren't among the events that no chain orders.
+/// Whether two events race on a name. The one publish of a name and a lookup that waits for it are in order where
+/// both are live, so they aren't among the events that no chain orders.
 fn race_on_name(
     alloc: Global,
     marked: &MarkedPlan<'_>,

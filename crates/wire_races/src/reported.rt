@@ -18,7 +18,7 @@ pub fn race_calls(finding: Finding) -> Option<(CallAt, CallAt)>
     }
 }
 
-// Whether a finding is a race of these calls, in either order.
+/// Whether a finding is a race of these calls, in either order.
 fn is_of_calls(finding: Finding, x: CallAt, y: CallAt) -> bool
     ensures { IsTrue result ↔ IsOfCalls finding x y }
 {

@@ -29,7 +29,7 @@ struct Share {
     name: u32,
 }
 
-// Whether this process is the last of these.
+/// Whether this process is the last of these.
 fn is_last(procs: &[Proc], proc: Proc) -> bool
     ensures { IsTrue result → IsOneOf proc.number (numbers_of procs.now) }
 {
@@ -39,7 +39,7 @@ fn is_last(procs: &[Proc], proc: Proc) -> bool
     }
 }
 
-// Whether a process can take away all its names, and isn't the last of these.
+/// Whether a process can take away all its names, and isn't the last of these.
 fn is_new(plan: &Plan, procs: &[Proc], proc: Proc) -> bool
     ensures { result ≡ false → (z : runs.Event) → z.proc ≡ proc.number → kind (plan_of plan.now) z ≡ Some runs.UnpublishAll →
         IsOneOf proc.number (numbers_of procs.now) }
@@ -77,7 +77,7 @@ pub(crate) fn is_publisher(plan: &Plan, proc: Proc, name: u32) -> bool
     false
 }
 
-// The name that an event of the plan publishes, if it is a publish.
+/// The name that an event of the plan publishes, if it is a publish.
 fn name_published(plan: &Plan, event: Event) -> Option<u32>
     requires { event.at < event_count (plan_of plan.now) event.proc.number }
     ensures { (name : ℕ) → (is_publish name (kind (plan_of plan.now) (event_of event)) ≡ true) ↔ (result ≡ Some name) }
@@ -104,7 +104,7 @@ pub(crate) fn names_of(alloc: Global, plan: &Plan, proc: Proc) -> Result<Vec<u32
     Ok(names)
 }
 
-// Adds the shares in a name of those of these processes that are higher than this one.
+/// Adds the shares in a name of those of these processes that are higher than this one.
 fn add_shares(
     shares: &mut Vec<Share>,
     proc: Proc,
@@ -122,8 +122,8 @@ fn add_shares(
     Ok(())
 }
 
-// What a process shares of these names with higher ones that can take away all their names. The shares of each
-// process stand side by side.
+/// What a process shares of these names with higher ones that can take away all their names. The shares of each
+/// process stand side by side.
 fn shares_of(
     alloc: Global,
     plan: &Plan,
@@ -143,7 +143,7 @@ fn shares_of(
     Ok(shares)
 }
 
-// Adds the races of a call with these on the name of each of these shares.
+/// Adds the races of a call with these on the name of each of these shares.
 fn add_on_names(
     plan: &Plan,
     found: &mut Found,
@@ -165,8 +165,8 @@ fn add_on_names(
     Ok(())
 }
 
-// Adds the races of a sweep with those of a higher process, on the names that both publish. Which of those race
-// with it depends on no name, so that names are looked at only where there are such.
+/// Adds the races of a sweep with those of a higher process, on the names that both publish. Which of those race
+/// with it depends on no name, so that names are looked at only where there are such.
 fn add_sweep(
     marked: &MarkedPlan<'_>,
     found: &mut Found,
@@ -191,7 +191,7 @@ fn add_sweep(
     add_on_names(plan, found, x, those, shares)
 }
 
-// Adds the races of the sweeps of one process with those of a higher one, on the names that both publish.
+/// Adds the races of the sweeps of one process with those of a higher one, on the names that both publish.
 fn add_stretch(
     marked: &MarkedPlan<'_>,
     found: &mut Found,
@@ -211,7 +211,7 @@ fn add_stretch(
     Ok(())
 }
 
-// How many of the first of these shares are of this process.
+/// How many of the first of these shares are of this process.
 fn stretch_size(shares: &[Share], proc: Proc) -> usize
     ensures within { result ≤ length shares.now }
     ensures stretch { AreSharesOf proc.number (take result shares.now) }
@@ -225,8 +225,8 @@ fn stretch_size(shares: &[Share], proc: Proc) -> usize
     shares.len()
 }
 
-// Adds the races of the sweeps of a process with those of higher ones, on the names that it shares with them. The shares
-// are cut into stretches of one process each.
+/// Adds the races of the sweeps of a process with those of higher ones, on the names that it shares with them. The shares
+/// are cut into stretches of one process each.
 fn add_shared(
     marked: &MarkedPlan<'_>,
     found: &mut Found,
@@ -246,7 +246,7 @@ fn add_shared(
     Ok(())
 }
 
-// Adds the races of the sweeps of a process with those of higher ones.
+/// Adds the races of the sweeps of a process with those of higher ones.
 fn add_process(
     alloc: Global,
     marked: &MarkedPlan<'_>,

@@ -3,13 +3,14 @@
 ghost use Rattle.std.specs.Prelude.{◌≡◌, ◌⊎◌, ◌+◌, ◌<◌, ◌≤◌, ◌++◌, codes, decimal, length, map, vec_capacity, OnOk, OnErr, IfOk, IfErr};
 ghost use Rattle.std.specs.List.{flat_map};
 ghost use Rattle.wire_types.specs.declared.Fault.TheVariants.{Memory};
+ghost use Rattle.wire_types.specs.Texts.{lists_of};
 ghost use Rattle.wire_content.specs.Scripts.{call_at};
 ghost use Rattle.wire_words.specs.Words.{call_text};
 ghost use Rattle.wire_report.specs.Findings as spec;
 ghost use Rattle.wire_report.specs.FindingLines.{AreNumbered, IsNumbered, AreWordsOf, race_start, key_race_rest, name_race_rest};
 
+use crate::line_pieces::push_spaced;
 use crate::lower_call::LowerCall;
-use crate::pieces::push_spaced;
 use std::alloc::{AllocError, Global};
 use wire_content::Scripts;
 use wire_findings::Finding;
@@ -45,7 +46,7 @@ fn finding_lines(
     scripts: &Scripts,
     findings: &[Finding],
 ) -> Result<Vec<Vec<u8>>, AllocError>
-    ensures { IfOk result (λ lines. map (λ line. line.items) lines.items
+    ensures { IfOk result (λ lines. lists_of lines.items
         ≡ map (spec.finding_words scripts.now) findings.now) }
 {
     let mut lines = Vec::new(alloc);

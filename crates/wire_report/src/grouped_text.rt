@@ -1,14 +1,15 @@
 //! The text of findings in groups.
 
-ghost use Rattle.std.specs.Prelude.{◌≡◌, ◌++◌, codes, map, OnOk, IfOk, IfErr};
+ghost use Rattle.std.specs.Prelude.{◌≡◌, ◌++◌, codes, OnOk, IfOk, IfErr};
 ghost use Rattle.std.specs.List.{flat_map};
 ghost use Rattle.wire_types.specs.declared.Fault.TheVariants.{Memory};
+ghost use Rattle.wire_types.specs.Texts.{lists_of};
 ghost use Rattle.wire_report.specs.GroupedText as spec;
 ghost use Rattle.wire_report.specs.GroupedText.{IsLocatedText};
 
+use crate::call_places::{Places, push_place};
 use crate::grouping::group_findings;
 use crate::label::{Subject, pair_of, subject_of};
-use crate::place::{Places, push_place};
 use crate::tally::Group;
 use std::alloc::{AllocError, Global};
 use wire_content::Scripts;
@@ -77,7 +78,7 @@ fn push_first(
     count: usize,
 ) -> Result<(), AllocError>
     ensures { OnOk result (out.new.items ≡ out.old.items
-        ++ spec.first_line places.entry.name.now scripts.now (map (λ row. row.items) places.entry.rows.now) finding count) }
+        ++ spec.first_line places.entry.name.now scripts.now (lists_of places.entry.rows.now) finding count) }
 {
     let lower = pair_of(finding).lower;
     push_place(out, places, lower)?;
@@ -94,7 +95,7 @@ pub fn push_second(
     finding: Finding,
 ) -> Result<(), AllocError>
     ensures { OnOk result (out.new.items ≡ out.old.items
-        ++ spec.second_line places.entry.name.now scripts.now (map (λ row. row.items) places.entry.rows.now) finding) }
+        ++ spec.second_line places.entry.name.now scripts.now (lists_of places.entry.rows.now) finding) }
 {
     push_note(out, places, scripts, pair_of(finding).higher)
 }
@@ -107,7 +108,7 @@ pub fn push_note(
     call: CallAt,
 ) -> Result<(), AllocError>
     ensures { OnOk result (out.new.items ≡ out.old.items
-        ++ spec.note_line places.entry.name.now scripts.now (map (λ row. row.items) places.entry.rows.now) call) }
+        ++ spec.note_line places.entry.name.now scripts.now (lists_of places.entry.rows.now) call) }
 {
     push_place(out, places, call)?;
     out.extend_from_slice(b"note: ")?;
@@ -123,7 +124,7 @@ fn push_group(
     group: Group,
 ) -> Result<(), AllocError>
     ensures { OnOk result (out.new.items ≡ out.old.items
-        ++ spec.group_text places.entry.name.now scripts.now (map (λ row. row.items) places.entry.rows.now) findings.now group) }
+        ++ spec.group_text places.entry.name.now scripts.now (lists_of places.entry.rows.now) findings.now group) }
 {
     match findings.get(group.first) {
         Some(finding) => {
@@ -165,7 +166,7 @@ fn push_all_groups(
     groups: &[Group],
 ) -> Result<(), AllocError>
     ensures { OnOk result (out.new.items ≡ out.old.items
-        ++ flat_map (spec.group_text places.entry.name.now scripts.now (map (λ row. row.items) places.entry.rows.now) findings.now) groups.now) }
+        ++ flat_map (spec.group_text places.entry.name.now scripts.now (lists_of places.entry.rows.now) findings.now) groups.now) }
 {
     for group in groups {
         push_group(out, places, scripts, findings, *group)?;
@@ -182,7 +183,7 @@ fn groups_text(
     groups: &[Group],
 ) -> Result<Vec<u8>, AllocError>
     ensures { IfOk result (λ text. text.items
-        ≡ spec.groups_report places.entry.name.now scripts.now (map (λ row. row.items) places.entry.rows.now) findings.now groups.now) }
+        ≡ spec.groups_report places.entry.name.now scripts.now (lists_of places.entry.rows.now) findings.now groups.now) }
 {
     let mut text = Vec::new(alloc);
     push_all_groups(&mut text, places, scripts, findings, groups)?;
@@ -199,7 +200,7 @@ pub fn grouped_lines(
     scripts: &Scripts,
     findings: &FindingList,
 ) -> Result<Vec<u8>, Fault>
-    ensures ok { IfOk result (λ text. IsLocatedText places.entry.name.now scripts.now (map (λ row. row.items) places.entry.rows.now) findings.now
+    ensures ok { IfOk result (λ text. IsLocatedText places.entry.name.now scripts.now (lists_of places.entry.rows.now) findings.now
         text.items) }
     ensures err { IfErr result (λ e. e ≡ Memory) }
 {

@@ -6,25 +6,8 @@ ghost use Rattle.wire_report.specs.Label as spec;
 
 use wire_content::Scripts;
 use wire_findings::Finding;
-use wire_types::{Call, CallAt};
-use wire_words::find_call;
-
-/// What a call does.
-#[derive(Clone, Copy, PartialEq, Eq, Hash)]
-pub enum Deed {
-    Put,
-    Commit,
-    Fence,
-    Get,
-    GetNow,
-    Publish,
-    Lookup,
-    LookupWait,
-    /// It takes away a name, or all names of its process.
-    Unpublish,
-    /// There is no call.
-    Nothing,
-}
+use wire_types::{Call, CallAt, Verb};
+use wire_words::{find_call, verb_of};
 
 /// What a finding is, and the number of the key or the name that it is on. Who owns the key isn't part of it.
 #[derive(Clone, Copy, PartialEq, Eq, Hash)]
@@ -34,14 +17,14 @@ pub enum Subject {
     NameRace(u32),
 }
 
-/// What findings share that are one mistake: what they are on, and what their two calls do, whichever of them
-/// stands first in rank order.
+/// What findings share that are one mistake: what they are on, and the verbs of their two calls, whichever of them
+/// stands first in rank order. A call that isn't there has no verb.
 #[derive(Clone, Copy, PartialEq, Eq, Hash)]
 pub struct Label {
     pub subject: Subject,
-    /// That of the two which `Deed` names first.
-    pub one: Deed,
-    pub other: Deed,
+    /// That of the two which `Verb` names first.
+    pub one: Option<Verb>,
+    pub other: Option<Verb>,
 }
 
 /// The two calls of a finding, as it names them.
@@ -62,21 +45,13 @@ pub fn pair_of(finding: Finding) -> Pair
     }
 }
 
-/// What the call at a place does.
-fn deed_at(scripts: &Scripts, place: CallAt) -> Deed
-    ensures { result ≡ spec.deed_of (call_at scripts.now.processes place.proc.number place.call) }
+/// The verb of the call at a place, if there is one.
+fn find_verb(scripts: &Scripts, place: CallAt) -> Option<Verb>
+    ensures { result ≡ spec.verb_found (call_at scripts.now.processes place.proc.number place.call) }
 {
     match find_call(scripts, place) {
-        Some(Call::Put { .. }) => Deed::Put,
-        Some(Call::Commit) => Deed::Commit,
-        Some(Call::Fence { .. }) => Deed::Fence,
-        Some(Call::Get { .. }) => Deed::Get,
-        Some(Call::GetNow { .. }) => Deed::GetNow,
-        Some(Call::Publish { .. }) => Deed::Publish,
-        Some(Call::Lookup { .. }) => Deed::Lookup,
-        Some(Call::LookupWait { .. }) => Deed::LookupWait,
-        Some(Call::Unpublish { .. } | Call::UnpublishAll) => Deed::Unpublish,
-        None => Deed::Nothing,
+        Some(call) => Some(verb_of(call)),
+        None => None,
     }
 }
 
@@ -101,26 +76,26 @@ pub(crate) fn subject_of(scripts: &Scripts, finding: Finding) -> Subject
     }
 }
 
-/// The number of a deed, in the order in which they are named.
-fn number_of(deed: Deed) -> u8
-    ensures { result ≡ spec.deed_number deed }
+/// The number of a verb, in the order in which `Verb` names them; that of no verb comes last.
+fn number_of(verb: Option<Verb>) -> u8
+    ensures { result ≡ spec.verb_number verb }
 {
-    match deed {
-        Deed::Put => 0,
-        Deed::Commit => 1,
-        Deed::Fence => 2,
-        Deed::Get => 3,
-        Deed::GetNow => 4,
-        Deed::Publish => 5,
-        Deed::Lookup => 6,
-        Deed::LookupWait => 7,
-        Deed::Unpublish => 8,
-        Deed::Nothing => 9,
+    match verb {
+        Some(Verb::Put) => 0,
+        Some(Verb::Commit) => 1,
+        Some(Verb::Fence) => 2,
+        Some(Verb::Get) => 3,
+        Some(Verb::GetNow) => 4,
+        Some(Verb::Publish) => 5,
+        Some(Verb::Lookup) => 6,
+        Some(Verb::LookupWait) => 7,
+        Some(Verb::Unpublish) => 8,
+        None => 9,
     }
 }
 
-/// The label of findings on this, whose calls do these two.
-fn label_with(subject: Subject, x: Deed, y: Deed) -> Label
+/// The label of findings on this, whose calls have these two verbs.
+fn label_with(subject: Subject, x: Option<Verb>, y: Option<Verb>) -> Label
     ensures { result ≡ spec.label_with subject x y }
 {
     if number_of(x) <= number_of(y) {
@@ -145,7 +120,7 @@ pub(crate) fn label_of(scripts: &Scripts, finding: Finding) -> Label
     let pair = pair_of(finding);
     label_with(
         subject_of(scripts, finding),
-        deed_at(scripts, pair.lower),
-        deed_at(scripts, pair.higher),
+        find_verb(scripts, pair.lower),
+        find_verb(scripts, pair.higher),
     )
 }

@@ -27,7 +27,7 @@ impl LowerCall {
         })
     }
 
-    // Makes the words anew, for this call. Fails only where there is no room for them.
+    /// Makes the words anew, for this call. Fails only where there is no room for them.
     fn make_words(&mut self, scripts: &Scripts, call: CallAt) -> Result<(), AllocError>
         ensures ok { OnOk result (self.new.words.items ≡ race_start scripts.now call) }
         ensures call { AreWordsOf scripts.now self.new.call self.new.words.items }

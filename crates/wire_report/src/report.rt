@@ -8,7 +8,7 @@ ghost use Rattle.wire_types.specs.Front.{WritesFront};
 ghost use Rattle.wire_types.specs.Outcome.{ends_of};
 ghost use Rattle.wire_report.specs.Report.{report, report_form};
 
-use crate::lines::push_all;
+use crate::report_lines::push_all;
 use std::alloc::{AllocError, Global};
 use wire_content::Scripts;
 use wire_json::report_json;
@@ -48,7 +48,8 @@ pub fn push_report(
     out.extend_from_slice(b"\n")
 }
 
-/// Writes the report to the sink, once all of it is made: where memory runs out, nothing is written.
+/// Writes the report to the sink, once all of it is made: where memory runs out, nothing is written. No command
+/// calls this.
 pub fn write_report<S: Sink>(
     alloc: Global,
     scripts: &Scripts,

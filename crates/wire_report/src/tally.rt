@@ -24,6 +24,7 @@ pub(crate) struct Tally<K: Copy + Eq + Hash + Drop> {
 }
 
 impl Group {
+    /// The group with one finding more.
     fn with_one_more(self) -> Group
         requires { self.count + 1 < 2 ^ 64 }
         ensures { result ≡ record { first = self.first; count = self.count + 1 } }
@@ -43,6 +44,7 @@ fn group_cmp(x: &Group, y: &Group) -> Ordering
 }
 
 impl<K: Copy + Eq + Hash + Drop> Tally<K> {
+    /// A tally in which nothing is counted yet.
     fn new(alloc: Global) -> Tally<K>
         ensures { IsTally K.eq [] result }
     {
@@ -52,7 +54,7 @@ impl<K: Copy + Eq + Hash + Drop> Tally<K> {
         }
     }
 
-    // Counts the label at a place, after all before it.
+    /// Counts the label at a place, after all before it.
     fn note(&mut self, labels: &[K], place: usize) -> Result<(), AllocError>
         requires within { place < length labels.now }
         requires before { IsTally K.eq (take place labels.now) self.old }
@@ -71,7 +73,7 @@ impl<K: Copy + Eq + Hash + Drop> Tally<K> {
         Ok(())
     }
 
-    // The groups of the labels that were seen.
+    /// The groups of the labels that were seen.
     fn of(alloc: Global, labels: &[K]) -> Result<Tally<K>, AllocError>
         ensures { IfOk result (λ tally. IsTally K.eq labels.now tally) }
     {

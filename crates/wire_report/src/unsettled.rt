@@ -39,7 +39,8 @@ pub fn unsettled_text(
     Ok(text)
 }
 
-/// Writes the text to the sink, once all of it is made: where memory runs out, nothing is written.
+/// Writes the text to the sink, once all of it is made: where memory runs out, nothing is written. No command
+/// calls this.
 pub fn write_unsettled<S: Sink>(
     alloc: Global,
     scripts: &Scripts,

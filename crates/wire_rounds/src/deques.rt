@@ -19,7 +19,7 @@ use std::alloc::Global;
 use std::mem;
 use wire_types::{Fault, Proc};
 
-// A deque with the pieces of one worker. It has room for them from the start.
+/// A deque with the pieces of one worker. It has room for them from the start.
 fn fill_deque(
     alloc: Global,
     round: u64,
@@ -45,7 +45,7 @@ fn fill_deque(
     Ok(own)
 }
 
-// Cuts one permit of a deque from its owner.
+/// Cuts one permit of a deque from its owner.
 fn cut_permit(own: &mut Owner) -> Permit
     requires { 1 < (worker_view own.old).parts }
     ensures permit { IsPermitOf own.old result }
@@ -56,7 +56,7 @@ fn cut_permit(own: &mut Owner) -> Permit
     own.another::<Splits>()
 }
 
-// Cuts one permit of each deque from the passes.
+/// Cuts one permit of each deque from the passes.
 fn cut_permits(alloc: Global, passes: &mut Vec<Pass>) -> Result<Vec<Permit>, Fault>
     requires { (k : ℕ) (p : Pass) → get_elem? passes.old.items k ≡ some p → 1 < (own_view p).parts }
     ensures cut { OnOk result (EachPair IsCut passes.old.items passes.new.items) }
@@ -70,7 +70,7 @@ fn cut_permits(alloc: Global, passes: &mut Vec<Pass>) -> Result<Vec<Permit>, Fau
     Ok(permits)
 }
 
-// A worker's pass with no permit yet, and a handle with which others steal from it.
+/// A worker's pass with no permit yet, and a handle with which others steal from it.
 fn start(
     alloc: Global,
     round: u64,
@@ -92,7 +92,7 @@ fn start(
     Ok((pass, thief))
 }
 
-// The passes of all workers, with no permit yet, and handles with which others steal from their deques.
+/// The passes of all workers, with no permit yet, and handles with which others steal from their deques.
 pub(crate) fn start_all(
     alloc: Global,
     round: u64,
@@ -112,7 +112,7 @@ pub(crate) fn start_all(
     Ok((passes, thieves))
 }
 
-// Gives each pass a permit of each deque. No permit was cut before.
+/// Gives each pass a permit of each deque. No permit was cut before.
 pub(crate) fn give_permits(alloc: Global, passes: &mut Vec<Pass>) -> Result<(), Fault>
     requires { Cutting passes.old.items passes.old.items 0 }
     ensures cut { OnOk result (Cutting passes.old.items passes.new.items (length passes.old.items)) }
@@ -126,7 +126,7 @@ pub(crate) fn give_permits(alloc: Global, passes: &mut Vec<Pass>) -> Result<(), 
     Ok(())
 }
 
-// Takes the front piece of a deque.
+/// Takes the front piece of a deque.
 pub(crate) fn take_front(own: &mut Owner) -> Option<Piece>
     requires fifo { worker_flavor own.old ≡ 0 }
     requires part { 0 < (worker_view own.old).parts }
@@ -137,7 +137,7 @@ pub(crate) fn take_front(own: &mut Owner) -> Option<Piece>
     own.pop_as::<TakesOne>()
 }
 
-// Joins a permit of a deque into the deque's owner.
+/// Joins a permit of a deque into the deque's owner.
 fn join_one(own: &mut Owner, permit: Permit)
     requires permit { deque.IsPassOf (worker_deque own.old) permit }
     requires part { 0 < (worker_view own.old).parts }
@@ -147,7 +147,7 @@ fn join_one(own: &mut Owner, permit: Permit)
     own.absorb::<Splits>(permit);
 }
 
-// Joins permits, one of each deque, into the owners of their deques.
+/// Joins permits, one of each deque, into the owners of their deques.
 fn join_permits(passes: &mut Vec<Pass>, permits: Vec<Permit>)
     requires { EachPair CanTake passes.old.items permits.items }
     ensures { AreJoined passes.old.items permits.items passes.new.items }
@@ -159,7 +159,7 @@ fn join_permits(passes: &mut Vec<Pass>, permits: Vec<Permit>)
     }
 }
 
-// Joins the permits of all passes into the owners of their deques, which then know all that was taken.
+/// Joins the permits of all passes into the owners of their deques, which then know all that was taken.
 pub(crate) fn join_all(passes: &mut Vec<Pass>)
     requires { CanJoinAll passes.old.items }
     ensures { AreGathered passes.old.items passes.new.items }
@@ -171,7 +171,7 @@ pub(crate) fn join_all(passes: &mut Vec<Pass>)
     }
 }
 
-// Moves what is left in a deque, front to back.
+/// Moves what is left in a deque, front to back.
 pub(crate) fn drain(own: &mut Owner, left: &mut Vec<Piece>)
     requires fifo { worker_flavor own.old ≡ 0 }
     requires part { 0 < (worker_view own.old).parts }
@@ -185,7 +185,7 @@ pub(crate) fn drain(own: &mut Owner, left: &mut Vec<Piece>)
     }
 }
 
-// Steals the front piece of a deque.
+/// Steals the front piece of a deque.
 pub(crate) fn steal_from(thief: &Thief, permit: &mut Permit) -> Take
     requires fifo { stealer_flavor thief.now ≡ 0 }
     requires permit { deque.IsPassOf (stealer_deque thief.now) permit.old }

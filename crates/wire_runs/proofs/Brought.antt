@@ -101,7 +101,7 @@ differs f g (x ∷ xs) h t = elim (cases_Bool (f x)) [
   | inr fx ↦ (x, or_left _ _ (eq-eqb x x refl), fx, (and_parts _ _ t).0)
 ]
 
-list_all_of_members : (f : ℕ → Bool) (xs : List ℕ) → ((m : ℕ) → is_member xs m ≡ true → f m ≡ true) → list_all f xs ≡ true
+pub list_all_of_members : (f : ℕ → Bool) (xs : List ℕ) → ((m : ℕ) → is_member xs m ≡ true → f m ≡ true) → list_all f xs ≡ true
 list_all_of_members f [] all = refl
 list_all_of_members f (x ∷ xs) all = and_from _ _ (all x (or_left _ _ (eq-eqb x x refl))) (list_all_of_members f xs (λ m i. all m (or_right _ _ i)))
 

@@ -31,3 +31,5 @@ pub mod LiveNext
 pub mod KeepRows
 pub mod AllNamesRows
 pub mod SettledRow
+pub mod Collecting
+pub mod Delivered

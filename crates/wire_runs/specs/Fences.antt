@@ -36,7 +36,7 @@ collects plan p members j zero = true
 collects plan p members j (suc n) =
     collects_with members j (arrivals plan p members n) (collects plan p members j n) (kind_at plan p n)
 
--- whether every call of the j-th fence over these members says collect
+-- whether every call of the j-th fence over these members says collect; the law `collects_by_all` says so by the calls
 abbrev pub is_collecting : Plan → List ℕ → ℕ → Bool
 is_collecting plan members j = list_all (λ m. collects plan m members j (event_count plan m)) members
 

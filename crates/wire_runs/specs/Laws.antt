@@ -1,14 +1,15 @@
 -- The laws of runs: what the definitions before this file entail, for every plan. Each is the contract of a function of src/laws.rt.
-use Rattle.std.specs.Prelude.{slice_get, ◌↔◌, Some, ◌≡◌, ◌≢◌, ℕ, suc, ◌≤◌, ◌<◌, List, [], Bool, true, false, ◌==◌, if◌then◌else◌, length, take}
-use Rattle.wire_runs.specs.Plan.{Plan, Event, event_total, event_count, node_of, same_node, update}
+use Rattle.std.specs.Prelude.{slice_get, ◌↔◌, Option, Some, None, ◌≡◌, ◌≢◌, ℕ, suc, ◌≤◌, ◌<◌, List, [], Bool, true, false, ◌==◌, if◌then◌else◌, length, take}
+use Rattle.wire_runs.specs.Plan.{Plan, Event, Arrive, kind_at, event_total, event_count, node_of, same_node, update}
 use Rattle.wire_runs.specs.Puts.{own, stored}
-use Rattle.wire_runs.specs.Sight.{held, served, for_others, delivered, get_now_sees}
+use Rattle.wire_runs.specs.Fences.{arrivals, is_collecting}
+use Rattle.wire_runs.specs.Sight.{held, served, for_others, has_brought, delivered, get_now_sees}
 use Rattle.wire_runs.specs.State.{Answer, State, start, next_event, IsDone}
 use Rattle.wire_runs.specs.Step.{is_enabled, step, IsInterleaving, run, IsEnd, IsReachable}
 use Rattle.wire_runs.specs.PlainRun.{plain_run}
 use Rattle.wire_runs.specs.Ends.{row, calls_of}
 use Rattle.wire_runs.specs.Fate.{Fate, Waits, Says, HasFate, IsSoundCut}
-use Rattle.wire_runs.specs.Order.{Edge, Live, Before}
+use Rattle.wire_runs.specs.Order.{IsArrival, Edge, Live, Before}
 use Rattle.wire_runs.specs.Races.{ByGet, Delivers, IsUnordered, IsSettled}
 use Rattle.wire_runs.specs.Findings.{Finding, Rewrite, KeyRace, NameRace, IsFound, IsFindings}
 
@@ -185,3 +186,30 @@ pub record IsPlainSoFar (plan : Plan) (s : State) : Type 0 where
 -- so it is in each state of a settled plan that a run can reach
 abbrev pub RepliesArePlain : Type 0
 RepliesArePlain = (plan : Plan) (s : State) → IsSettled plan → IsReachable plan s → IsPlainSoFar plan s
+
+-- a fence collects exactly where each of its calls says collect
+abbrev pub CollectsByAll : Type 0
+CollectsByAll =
+    (plan : Plan) (members : List ℕ) (j : ℕ) → (is_collecting plan members j ≡ true) ↔ ((z : Event) (call : IsArrival plan members j z) → call.collect ≡ true)
+
+-- p's event of this number, one of its first n, is its arrival at a fence that in this cut has brought p's data to the node
+pub record IsBringing (plan : Plan) (cut : ℕ → ℕ) (p node n at : ℕ) : Type 0 where
+  pub members : List ℕ
+  pub collect : Bool
+  pub is : kind_at plan p at ≡ Some (Arrive members collect)
+  pub brings_it : has_brought plan cut p node members (arrivals plan p members (suc at)) ≡ true
+  pub among : at < n
+
+-- of such arrivals it is the one with the greatest number
+pub record IsLastBringing (plan : Plan) (cut : ℕ → ℕ) (p node n at : ℕ) : Type 0 where
+  pub one : IsBringing plan cut p node n at
+  pub greatest : (other : ℕ) → IsBringing plan cut p node n other → other ≤ at
+
+-- what fences have brought to the node: what p had stored under the key at the last such arrival, and nothing where there is none
+pub data IsBrought (plan : Plan) (cut : ℕ → ℕ) (p node key n : ℕ) (brought : Option ℕ) : Type 0 where
+  ByLast : (at : ℕ) → IsLastBringing plan cut p node n at → brought ≡ stored plan p key at → IsBrought plan cut p node key n brought
+  ByNone : ((at : ℕ) → ¬ (IsBringing plan cut p node n at)) → brought ≡ None → IsBrought plan cut p node key n brought
+
+-- the last arrival that brings p's data tells what is delivered
+abbrev pub DeliveredByLast : Type 0
+DeliveredByLast = (plan : Plan) (cut : ℕ → ℕ) (p node key n : ℕ) → IsBrought plan cut p node key n (delivered plan cut p node key n)

@@ -42,7 +42,8 @@ delivered_with plan cut p node key n before (Some (Arrive members collect)) =
     stored_at_with (has_brought plan cut p node members (arrivals plan p members (suc n))) (stored plan p key n) before
 delivered_with plan cut p node key n before _ = before
 
--- what p had stored under the key at its last arrival, among its first n events, at a fence that has brought p's data to the node
+-- what p had stored under the key at its last arrival, among its first n events, at a fence that has brought p's data to the node; the
+-- law `delivered_by_last` says so by the arrival's number
 abbrev pub delivered : Plan → (ℕ → ℕ) → ℕ → ℕ → ℕ → ℕ → Option ℕ
 delivered plan cut p node key zero = None
 delivered plan cut p node key (suc n) =

@@ -3,7 +3,7 @@
 ghost use Rattle.wire_runs.specs.Plan.{Plan};
 ghost use Rattle.wire_runs.specs.Laws.{PlainRuns, RacesAreUnordered, RowsAreWhole, RunsEnd, EnabledIsDue, EnabledCommute, OneEnd, FatesTell, OneFate};
 ghost use Rattle.wire_runs.specs.Laws.{RunsAreSound, NoFindings, OneList, HaveFates, SoundIsReached};
-ghost use Rattle.wire_runs.specs.Laws.{StepsMoveCuts, CutsTellSteps, OneState, OneEventBetween, RepliesArePlain, WithoutKeep};
+ghost use Rattle.wire_runs.specs.Laws.{StepsMoveCuts, CutsTellSteps, OneState, OneEventBetween, RepliesArePlain, WithoutKeep, CollectsByAll, DeliveredByLast};
 
 /// No run is longer than the number of events.
 pub fn runs_end()
@@ -121,4 +121,15 @@ pub fn one_event_between()
 #[tactic(auto, using(crate::proofs::SoFar::replies_are_plain))]
 pub fn replies_are_plain()
     ensures { RepliesArePlain }
+{}
+
+/// A fence collects exactly where each of its calls says collect.
+pub fn collects_by_all()
+    ensures { CollectsByAll }
+{}
+
+/// What fences have brought of a process's key to a node is what the process had stored under it at its last
+/// arrival that has brought its data there, and nothing where there is no such arrival.
+pub fn delivered_by_last()
+    ensures { DeliveredByLast }
 {}

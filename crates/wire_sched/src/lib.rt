@@ -1,12 +1,12 @@
-//! What a worker does with the pieces of a round: it serves its own, and then those that it steals.
+//! What a worker does in a round: it serves its own pieces and those that it steals, and then takes turns.
 #![tactic(auto)]
 
 mod gate;
 mod serve;
-mod shift;
+mod turns;
 
 pub use gate::{Gate, OpenGate};
-pub use serve::{Serves, serve_pieces, work, work_locked};
-pub use shift::{Crew, take_turns};
+pub use serve::{Crew, Serves, work, work_locked};
+pub use turns::take_turns;
 pub use wire_board::{Lane, Lanes, Served};
 pub use wire_rounds::{Pass, Piece, Round, Take};

@@ -1,5 +1,6 @@
 -- What a cursor still has before it.
-use Rattle.std.specs.Prelude.{ℕ, ◌+◌, List, length, map}
+use Rattle.std.specs.Prelude.{ℕ, ◌+◌, List, length}
+use Rattle.wire_types.specs.Texts.{texts_of}
 use Rattle.wire_lines.specs.Text.{lines_of}
 use Rattle.wire_script.specs.Statements.{Statement, statements_from}
 use Rattle.wire_script.specs.declared.lines.Cursor.{Cursor}
@@ -14,4 +15,4 @@ end_of c = c.line + length (lines_of c.rest.now)
 
 -- what a line of the code states
 abbrev pub stated : Shown → Statement
-stated l = (l.number, map (λ w. w.now) l.words.items)
+stated l = (l.number, texts_of l.words.items)

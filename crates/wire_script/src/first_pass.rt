@@ -1,7 +1,8 @@
 //! The first pass: each line by itself and by those before it.
 
-ghost use Rattle.std.specs.Prelude.{◌≡◌, ◌+◌, ◌<◌, ◌≤◌, ◌⊎◌, true, false, Ok, Err, map, length, ◌^◌, OnOk, IfOk, IfErr, MatchResult};
+ghost use Rattle.std.specs.Prelude.{◌≡◌, ◌+◌, ◌<◌, ◌≤◌, ◌⊎◌, true, false, Ok, Err, length, ◌^◌, OnOk, IfOk, IfErr, MatchResult};
 ghost use Rattle.std.specs.List.{list_all};
+ghost use Rattle.wire_types.specs.Texts.{texts_of};
 ghost use Rattle.wire_lines.specs.Text.{lines_of};
 ghost use Rattle.wire_lines.specs.Said.{Keep};
 ghost use Rattle.wire_lines.specs.Shown.{said_by, call_by, item_by, set_by};
@@ -20,18 +21,21 @@ use std::alloc::{AllocError, Global};
 use wire_lines::{CallLine, Item, Line, Set, header_version, read_line};
 use wire_types::{Fault, Version};
 
+/// Whether a name is within its limit.
 fn is_short_name(name: &[u8]) -> bool
     ensures { result ≡ spec.is_short_name name.now }
 {
     name.len() <= NAME_BYTES
 }
 
+/// Whether a value is within its limit.
 fn is_short_value(value: &[u8]) -> bool
     ensures { result ≡ spec.is_short_value value.now }
 {
     value.len() <= VALUE_BYTES
 }
 
+/// Whether the name in an item of a set is within its limit.
 fn is_short_item(item: &Item) -> bool
     ensures { result ≡ spec.is_short_item (item_by item.now) }
 {
@@ -41,12 +45,14 @@ fn is_short_item(item: &Item) -> bool
     }
 }
 
+/// Whether the names in these items are within their limit.
 fn are_short_items(items: &[Item]) -> bool
     ensures { result ≡ list_all (λ i. spec.is_short_item (item_by i)) items.now }
 {
     items.iter().all(|item| is_short_item(item))
 }
 
+/// Whether the names in a set are within their limit.
 #[tactic(auto, using(crate::proofs::Lists::all_of))]
 fn is_short_set(set: &Set) -> bool
     ensures { result ≡ spec.is_short_set (set_by set.now) }
@@ -57,6 +63,7 @@ fn is_short_set(set: &Set) -> bool
     }
 }
 
+/// Whether the names, the key and the value of a call are within their limits.
 fn is_short_call(call: &CallLine) -> bool
     ensures { result ≡ spec.is_short_call (call_by call.now) }
 {
@@ -72,6 +79,7 @@ fn is_short_call(call: &CallLine) -> bool
     }
 }
 
+/// Whether the names, keys and values of a line are within their limits.
 fn is_short(said: &Line) -> bool
     ensures { result ≡ spec.is_short (said_by said.now) }
 {
@@ -118,6 +126,7 @@ fn may_call(version: Version, call: &CallLine) -> bool
     }
 }
 
+/// Whether a line may stand where it stands.
 fn is_in_place(draft: &Draft, said: &Line) -> bool
     ensures { result ≡ spec.is_in_place (declared_of draft.now) (said_by said.now) }
 {
@@ -131,6 +140,7 @@ fn is_in_place(draft: &Draft, said: &Line) -> bool
     }
 }
 
+/// Whether a line names what is declared.
 fn is_known(draft: &Draft, said: &Line) -> bool
     ensures { result ≡ spec.is_known (declared_of draft.now) (said_by said.now) }
 {
@@ -140,6 +150,7 @@ fn is_known(draft: &Draft, said: &Line) -> bool
     }
 }
 
+/// Whether a line declares what is declared already.
 fn is_again(draft: &Draft, said: &Line) -> bool
     ensures { result ≡ spec.is_again (declared_of draft.now) (said_by said.now) }
 {
@@ -150,6 +161,7 @@ fn is_again(draft: &Draft, said: &Line) -> bool
     }
 }
 
+/// Whether there is room for what a line declares.
 fn has_room(draft: &Draft, said: &Line) -> bool
     ensures { result ≡ spec.has_room (declared_of draft.now) (said_by said.now) }
 {
@@ -243,9 +255,9 @@ fn take<'a>(
     words: &[&'a [u8]],
 ) -> Result<(), Fault>
     ensures ok { OnOk result
-        (Judges (declared_of draft.old) (line, map (λ w. w.now) words.now) (Ok (declared_of draft.new))) }
+        (Judges (declared_of draft.old) (line, texts_of words.now) (Ok (declared_of draft.new))) }
     ensures err { IfErr result
-        (λ e. (e ≡ Fault.Memory) ⊎ Judges (declared_of draft.old) (line, map (λ w. w.now) words.now) (Err e)) }
+        (λ e. (e ≡ Fault.Memory) ⊎ Judges (declared_of draft.old) (line, texts_of words.now) (Err e)) }
 {
     let Some(said) = read_line(alloc, words)? else {
         return Err(Fault::BadLine(line));

@@ -22,7 +22,7 @@ mod second_pass;
 pub use limits::{Limits, Size};
 pub use lines::{Cursor, Statement};
 pub use located::read_located;
-pub use order::{read_order, read_order_sized};
+pub use order::read_order_sized;
 pub use question::{Question, question_reads_once, read_question};
 pub use reader::{migrated_reads_back, one_canonical, read, read_sized, reads_back, reads_once};
 pub use wire_content::{Process, Scripts, Sets, Texts};

@@ -1,6 +1,7 @@
 //! The lines of a file that say something.
 
-ghost use Rattle.std.specs.Prelude.{◌≡◌, ◌+◌, ◌<◌, ◌≤◌, ◌^◌, ◌∷◌, [], length, map, MatchOption, OnOk, OnErr, IfOk};
+ghost use Rattle.std.specs.Prelude.{◌≡◌, ◌+◌, ◌<◌, ◌≤◌, ◌^◌, ◌∷◌, [], length, MatchOption, OnOk, OnErr, IfOk};
+ghost use Rattle.wire_types.specs.Texts.{texts_of};
 ghost use Rattle.wire_script.specs.Statements.{is_skipped, statements};
 ghost use Rattle.wire_script.specs.Left.{statements_left, end_of, stated};
 
@@ -21,8 +22,9 @@ pub struct Cursor<'a> {
     pub line: u64,
 }
 
+/// Whether a line says nothing: it has no word, or is a comment.
 fn is_skipped_line(words: &[&[u8]]) -> bool
-    ensures { result ≡ is_skipped (map (λ w. w.now) words.now) }
+    ensures { result ≡ is_skipped (texts_of words.now) }
 {
     match words.first() {
         None => true,
@@ -31,6 +33,7 @@ fn is_skipped_line(words: &[&[u8]]) -> bool
 }
 
 impl<'a> Cursor<'a> {
+    /// A cursor before the first line.
     pub fn new(bytes: &'a [u8]) -> Cursor<'a>
         ensures left { statements_left result ≡ statements bytes.now }
         ensures start { result.line ≡ 1 }
@@ -48,7 +51,7 @@ impl<'a> Cursor<'a> {
     pub fn next_words(&mut self, words: &mut Vec<&'a [u8]>) -> Result<Option<u64>, AllocError>
         requires { self.old.line + length self.old.rest.now < 2 ^ 64 }
         ensures left { IfOk result (λ next. MatchOption next (statements_left self.old ≡ []) (λ number. statements_left self.old
-            ≡ (number, map (λ w. w.now) words.new.items) ∷ statements_left self.new)) }
+            ≡ (number, texts_of words.new.items) ∷ statements_left self.new)) }
         ensures end { OnOk result (end_of self.new ≡ end_of self.old) }
         ensures last { IfOk result (λ next. MatchOption next (self.new.line
             ≡ end_of self.new) (λ number. number < self.new.line)) }

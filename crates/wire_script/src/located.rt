@@ -1,6 +1,7 @@
 //! The scripts of a file, with the lines on which their calls stand.
 
-ghost use Rattle.std.specs.Prelude.{◌≡◌, ◌≤◌, ◌⊎◌, Ok, Err, length, map, IfOk, IfErr};
+ghost use Rattle.std.specs.Prelude.{◌≡◌, ◌≤◌, ◌⊎◌, Ok, Err, length, IfOk, IfErr};
+ghost use Rattle.wire_types.specs.Texts.{lists_of};
 ghost use Rattle.wire_script.specs.Drafted.{declared_of, started_of};
 ghost use Rattle.wire_script.specs.Limits as limit;
 ghost use Rattle.wire_script.specs.Located.{AreCallLines, lines_in, lines_of_calls};
@@ -28,7 +29,7 @@ fn call_lines(alloc: Global, process: &Started) -> Result<Vec<u64>, AllocError>
 
 /// The lines of the calls of all processes.
 fn all_lines(alloc: Global, draft: &Draft) -> Result<Vec<Vec<u64>>, AllocError>
-    ensures { IfOk result (λ rows. map (λ row. row.items) rows.items ≡ lines_in (declared_of draft.now)) }
+    ensures { IfOk result (λ rows. lists_of rows.items ≡ lines_in (declared_of draft.now)) }
 {
     let mut rows = Vec::with_capacity(alloc, draft.processes.len())?;
     for process in &draft.processes {
@@ -45,7 +46,7 @@ pub fn read_located(
     bytes: &[u8],
 ) -> Result<(Scripts, Vec<Vec<u64>>), Fault>
     ensures ok { IfOk result (λ r. Reads size bytes.now (Ok r.0)) }
-    ensures lines { IfOk result (λ r. AreCallLines size bytes.now (map (λ row. row.items) r.1.items)) }
+    ensures lines { IfOk result (λ r. AreCallLines size bytes.now (lists_of r.1.items)) }
     ensures err { IfErr result (λ e. (e ≡ Fault.Memory) ⊎ Reads size bytes.now (Err e)) }
 {
     let most = size.file_bytes();
@@ -55,6 +56,7 @@ pub fn read_located(
     read_short_located(alloc, size, bytes)
 }
 
+/// The same, of a text within the limit of a file.
 fn read_short_located(
     alloc: Global,
     size: Size,
@@ -62,7 +64,7 @@ fn read_short_located(
 ) -> Result<(Scripts, Vec<Vec<u64>>), Fault>
     requires { length bytes.now ≤ limit.file_bytes size }
     ensures ok { IfOk result (λ r. ReadsShort size bytes.now (Ok r.0)) }
-    ensures lines { IfOk result (λ r. AreCallLines size bytes.now (map (λ row. row.items) r.1.items)) }
+    ensures lines { IfOk result (λ r. AreCallLines size bytes.now (lists_of r.1.items)) }
     ensures err { IfErr result (λ e. (e ≡ Fault.Memory) ⊎ ReadsShort size bytes.now (Err e)) }
 {
     let draft = first_pass(alloc, size, bytes)?;

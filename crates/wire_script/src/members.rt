@@ -23,6 +23,7 @@ pub enum Target {
     Every { job: u32 },
 }
 
+/// Whether a process is that of this job and rank.
 fn is_proc(job: u32, rank: u32, process: &Started) -> bool
     ensures { result ≡ spec.is_proc job rank (started_of process.now) }
 {
@@ -104,6 +105,7 @@ pub fn find_targets(alloc: Global, draft: &Draft, items: &[Item]) -> Result<Vec<
     Ok(targets)
 }
 
+/// Whether the target of a get is declared.
 fn is_declared(draft: &Draft, target: Target) -> bool
     requires within { IsWithinLimits (declared_of draft.now) }
     requires declared { IsDeclared (declared_of draft.now) }
@@ -129,6 +131,7 @@ pub fn are_declared(draft: &Draft, targets: &[Target]) -> bool
     true
 }
 
+/// Whether a process is the target of a get.
 fn is_target_of(target: Target, process: &Started) -> bool
     ensures { result ≡ is_target target (started_of process.now) }
 {

@@ -22,11 +22,12 @@ impl Drop for NumberedTexts {
 }
 
 impl Model for NumberedTexts {
-    ghost use Rattle.std.specs.Prelude.{List, ℕ, map, length, ◌<◌, ◌^◌};
+    ghost use Rattle.std.specs.Prelude.{List, ℕ, length, ◌<◌, ◌^◌};
+    ghost use Rattle.wire_types.specs.Texts.{lists_of};
 
     ghost Value = { List (List ℕ) };
 
-    ghost view = { λ t. map (λ v. v.items) t.set.keys };
+    ghost view = { λ t. lists_of t.set.keys };
 
     ghost invariant = { λ t. length t.set.keys < 2 ^ 32 };
 }
@@ -48,6 +49,7 @@ impl NumberedTexts {
         self.set.len() as u32
     }
 
+    /// Whether there is no text.
     pub fn is_empty(&self) -> bool
         ensures { result ≡ (length self.now == 0) }
     {
@@ -64,6 +66,7 @@ impl NumberedTexts {
         }
     }
 
+    /// Whether this text is among them.
     pub fn contains(&self, text: &[u8]) -> bool
         ensures { result ≡ list_any (bytes_eq text.now) self.now }
     {

@@ -1,6 +1,7 @@
 //! From bytes to an order of steps.
 
-ghost use Rattle.std.specs.Prelude.{◌≡◌, ◌≤◌, ◌⊎◌, ◌∷◌, ◌++◌, [], length, map, option_map, Ok, Err, OnOk, IfOk, IfErr};
+ghost use Rattle.std.specs.Prelude.{◌≡◌, ◌≤◌, ◌⊎◌, ◌∷◌, ◌++◌, [], length, option_map, Ok, Err, OnOk, IfOk, IfErr};
+ghost use Rattle.wire_types.specs.Texts.{texts_of};
 ghost use Rattle.wire_content.specs.Scripts.{Scripts as Said, numbers_of};
 ghost use Rattle.wire_script.specs.Statements.{statements};
 ghost use Rattle.wire_script.specs.Limits as limit;
@@ -18,16 +19,8 @@ use wire_types::{Fault, Proc};
 
 /// The steps that an order says: each line that isn't skipped is one step, and names its process by the
 /// name of its job, a colon and its rank. The first line of another form, or of a process that isn't
-/// there, is `BadOrder` with its number. An order of more than 8,388,608 bytes is `BadOrder` whatever it
-/// holds, with the line after as many as end among its first 8,388,608 bytes.
-pub fn read_order(alloc: Global, scripts: &Scripts, bytes: &[u8]) -> Result<Vec<Proc>, Fault>
-    ensures ok { IfOk result (λ order. order_read Size.OfVersion scripts.now bytes.now ≡ Ok (numbers_of order.items)) }
-    ensures err { IfErr result (λ e. (e ≡ Fault.Memory) ⊎ (order_read Size.OfVersion scripts.now bytes.now ≡ Err e)) }
-{
-    read_order_sized(alloc, Size::OfVersion, scripts, bytes)
-}
-
-/// The steps that an order says, as `read_order` does, within the limit of this size.
+/// there, is `BadOrder` with its number. An order of more bytes than this size allows is `BadOrder` whatever
+/// it holds, with the line after as many as end among the bytes that it allows.
 pub fn read_order_sized(
     alloc: Global,
     size: Size,
@@ -68,6 +61,7 @@ fn read_steps(
     Ok(order)
 }
 
+/// Appends a step.
 fn add_step(order: &mut Vec<Proc>, step: Proc) -> Result<(), AllocError>
     ensures { OnOk result (order.new.items ≡ order.old.items ++ step ∷ []) }
 {
@@ -78,7 +72,7 @@ fn add_step(order: &mut Vec<Proc>, step: Proc) -> Result<(), AllocError>
 /// The process that the words of a line name.
 fn step_of(table: &ProcWords, words: &[&[u8]]) -> Option<Proc>
     ensures { (s : Said) → IsTableOf s table.now
-        → option_map (λ p. p.number) result ≡ spec.step_of s (map (λ w. w.now) words.now) }
+        → option_map (λ p. p.number) result ≡ spec.step_of s (texts_of words.now) }
 {
     match words {
         [word] => table.proc_of(word),

@@ -15,7 +15,8 @@ use wire_types::Fault;
 
 /// What a file says: its nodes and jobs, and the scripts of its processes. Of the faults of a file the
 /// first is given, with its line: `TooLong`, `BadHeader`, `BadLine`, `UnknownName`, `Twice` or `TooMany`
-/// of the first pass over all lines, else `UnknownName` or `NotMember` of the second over the calls.
+/// of the first pass over all lines, else `UnknownName` or `NotMember` of the second over the calls. Only tests and
+/// `make bench` call this.
 pub fn read(alloc: Global, bytes: &[u8]) -> Result<Scripts, Fault>
     ensures ok { IfOk result (λ s. Reads Size.OfVersion bytes.now (Ok s)) }
     ensures err { IfErr result (λ e. (e ≡ Fault.Memory) ⊎ Reads Size.OfVersion bytes.now (Err e)) }
@@ -35,6 +36,7 @@ pub fn read_sized(alloc: Global, size: Size, bytes: &[u8]) -> Result<Scripts, Fa
     read_short(alloc, size, bytes)
 }
 
+/// The scripts of a text within the limit of a file.
 fn read_short(alloc: Global, size: Size, bytes: &[u8]) -> Result<Scripts, Fault>
     requires { length bytes.now ≤ limit.file_bytes size }
     ensures ok { IfOk result (λ s. ReadsShort size bytes.now (Ok s)) }

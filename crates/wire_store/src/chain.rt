@@ -20,7 +20,7 @@ pub(crate) struct Slot {
 }
 
 impl Slot {
-    // Whether a commit stored it before this event.
+    /// Whether a commit stored it before this event.
     fn is_stored_before(self, event: u32) -> bool
         ensures { result ≡ is_stored_before event self.stored_by }
     {
@@ -31,7 +31,7 @@ impl Slot {
     }
 }
 
-// The last stored slot of a key, told from the newest slot of the key.
+/// The last stored slot of a key, told from the newest slot of the key.
 pub(crate) fn last_stored(slots: &[Slot], newest: Option<usize>, committed: usize) -> Option<usize>
     requires linked { IsLinked slots.now committed }
     requires there { ForSome newest (λ i. i < length slots.now) }
@@ -44,7 +44,7 @@ pub(crate) fn last_stored(slots: &[Slot], newest: Option<usize>, committed: usiz
     }
 }
 
-// The last slot of a key that a commit before this event stored, told from the last stored slot of the key.
+/// The last slot of a key that a commit before this event stored, told from the last stored slot of the key.
 pub(crate) fn last_before(slots: &[Slot], stored: Option<usize>, event: u32) -> Option<usize>
     requires chained { IsChained slots.now }
     requires there { ForSome stored (λ i. i < length slots.now) }
@@ -63,7 +63,7 @@ pub(crate) fn last_before(slots: &[Slot], stored: Option<usize>, event: u32) -> 
     None
 }
 
-// What the slot of a number shows to a process that is, or isn't, on the owner's node.
+/// What the slot of a number shows to a process that is, or isn't, on the owner's node.
 pub(crate) fn show_slot(slots: &[Slot], number: Option<usize>, same_node: bool) -> Seen
     requires { ForSome number (λ i. i < length slots.now) }
     ensures { result ≡ seen same_node (put_at slots.now number) }
@@ -79,7 +79,7 @@ pub(crate) fn show_slot(slots: &[Slot], number: Option<usize>, same_node: bool) 
     }
 }
 
-// Marks each slot as stored by the commit of this number.
+/// Marks each slot as stored by the commit of this number.
 pub(crate) fn store_all(slots: &mut [Slot], at: u32)
     ensures { slots.new ≡ map (store_slot at) slots.old }
 {

@@ -14,7 +14,7 @@ pub enum Seen {
     Nothing,
 }
 
-// Whether a put of this scope is for a process that is, or isn't, on the owner's node.
+/// Whether a put of this scope is for a process that is, or isn't, on the owner's node.
 pub(crate) fn admits(scope: Scope, same_node: bool) -> bool
     ensures { result ≡ is_for scope same_node }
 {

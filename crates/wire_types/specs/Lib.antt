@@ -6,3 +6,4 @@ pub mod Outcome
 pub mod Replies
 pub mod Verbs
 pub mod Said
+pub mod Texts

@@ -98,6 +98,7 @@ impl Fault {
         }
     }
 
+    /// The word of the fault in its line.
     fn name(self) -> &'static str
         ensures text { result.now ≡ name_of self }
         ensures short { length result.now ≤ 11 }
@@ -150,6 +151,7 @@ impl Fault {
         put(buffer, len, "\n")
     }
 
+    /// The number that the fault carries, if it carries one.
     fn carried(self) -> Option<u64>
         ensures { result ≡ carried_by self }
     {

@@ -1,7 +1,7 @@
 //! The verbs of calls.
 
-/// The first word of a call line.
-#[derive(Clone, Copy)]
+/// What a call does: the first word of its line.
+#[derive(Clone, Copy, PartialEq, Eq, Hash)]
 pub enum Verb {
     Put,
     Commit,

@@ -2,3 +2,5 @@ pub mod Comes
 pub mod Fronts
 pub mod Laid
 pub mod Shown
+pub mod Made
+pub mod Alike

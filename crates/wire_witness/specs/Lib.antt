@@ -1,4 +1,5 @@
 pub mod Witness
+pub mod NotShown
 pub mod Runs
 pub mod Races
 pub mod Tried

@@ -1,13 +1,16 @@
 //! Runs in which one of two calls comes first.
 
-ghost use Rattle.std.specs.Prelude.{◌≡◌, ◌<◌, length, IfOk, IfSome, IfErr, IsTrue};
+ghost use Rattle.std.specs.Prelude.{◌≡◌, ◌<◌, ◌==◌, ◌↔◌, ◌++◌, ℕ, List, length, IfOk, IfSome, IfErr, IsTrue, if◌then◌else◌};
 ghost use Rattle.wire_types.specs.declared.Fault.TheVariants.{Memory};
-ghost use Rattle.wire_runs.specs.Plan.{event_of, Event as Spot};
+ghost use Rattle.wire_runs.specs.Plan.{event_of, event_count, Event as Spot};
+ghost use Rattle.wire_runs.specs.State.{IsDone};
 ghost use Rattle.wire_runs.specs.Ends.{calls_of, first_event};
 ghost use Rattle.wire_content.specs.Planned.{plan_of};
-ghost use Rattle.wire_core.specs.Course.{plan_in};
+ghost use Rattle.wire_core.specs.Course.{plan_in, state_of};
+ghost use Rattle.wire_core.specs.Within.{RunsWithin};
 ghost use Rattle.wire_witness.specs.Witness.{ComesFirst};
-ghost use Rattle.wire_witness.specs.Runs.{IsRunOf};
+ghost use Rattle.wire_witness.specs.NotShown.{IsHeldRun, IsNeededRun};
+ghost use Rattle.wire_witness.specs.Runs.{AreLimitsBefore, AreLimitsUpTo, GoesOn, HasOnly, IsAhead, IsRunOf, steps_of};
 
 use std::alloc::{AllocError, Global};
 use wire_core::Core;
@@ -35,30 +38,37 @@ impl Drop for Run<'_> {
     }
 }
 
-/// For each process no limit but one that it doesn't reach. The process of an event may take those before it.
-fn limits_before(alloc: Global, plan: &Plan, held: Event) -> Result<Vec<u32>, AllocError> {
+/// For each process how many events it may take before the held one.
+fn limits_before(alloc: Global, plan: &Plan, held: Event) -> Result<Vec<u32>, AllocError>
+    ensures { IfOk result (λ limits. AreLimitsBefore (plan_of plan.now) (event_of held) limits.items) }
+{
     let mut limits = Vec::with_capacity(alloc, plan.process_count() as usize)?;
     for number in 0..plan.process_count() {
-        let limit = if number == held.proc.number {
-            held.at
-        } else {
-            u32::MAX
-        };
-        limits.push(limit)?;
+        limits.push(limit_before(plan, held, number))?;
     }
     Ok(limits)
 }
 
+/// How many events a process may take: all that it has, and the process of the held event those before it.
+fn limit_before(plan: &Plan, held: Event, number: u32) -> u32
+    ensures { result ≡ (if number == held.proc.number then held.at else event_count (plan_of plan.now) number) }
+{
+    if number == held.proc.number {
+        held.at
+    } else {
+        plan.event_count(Proc::new(number))
+    }
+}
+
 /// For each process how many of its events are this one or before it.
-fn limits_upto(
-    alloc: Global,
-    marked: &MarkedPlan<'_>,
-    event: Event,
-) -> Result<Vec<u32>, AllocError> {
+fn limits_upto(alloc: Global, marked: &MarkedPlan<'_>, event: Event) -> Result<Vec<u32>, AllocError>
+    ensures { IfOk result (λ limits. AreLimitsUpTo (plan_of marked.now) (event_of event) limits.items) }
+{
     let count = marked.plan().process_count();
+    let marks = marked.marks();
     let mut limits = Vec::with_capacity(alloc, count as usize)?;
     for number in 0..count {
-        limits.push(marked.marks().clock(event, Proc::new(number)))?;
+        limits.push(marks.clock(event, Proc::new(number)))?;
     }
     Ok(limits)
 }
@@ -67,6 +77,8 @@ fn limits_upto(
 #[tactic(auto, using(crate::proofs::Comes::comes_now, crate::proofs::Comes::kept_scripts))]
 fn runs_ahead(core: &mut Core<'_>, limits: &[u32], x: Event, y: Event) -> bool
     ensures scripts { core.new.scripts ≡ core.old.scripts }
+    ensures within { RunsWithin limits.now core.old core.new }
+    ensures told { IsTrue result ↔ HasOnly core.new (event_of x) (event_of y) }
     ensures ahead { IsTrue result → ComesFirst (plan_in core.new) core.new.history (event_of x) (event_of y) }
 {
     core.run_within(limits);
@@ -77,6 +89,8 @@ fn runs_ahead(core: &mut Core<'_>, limits: &[u32], x: Event, y: Event) -> bool
 #[tactic(auto, using(crate::proofs::Comes::comes_within, crate::proofs::Comes::kept_scripts))]
 fn runs_to(core: &mut Core<'_>, limits: &[u32], y: Event) -> bool
     ensures scripts { core.new.scripts ≡ core.old.scripts }
+    ensures within { RunsWithin limits.now core.old core.new }
+    ensures told { IsTrue result ↔ IsDone (state_of core.new) (event_of y) }
     ensures kept { (a b : Spot) → ComesFirst (plan_in core.old) core.old.history a b → ComesFirst (plan_in core.new) core.new.history a b }
 {
     core.run_within(limits);
@@ -88,7 +102,8 @@ fn finish<'a>(core: Core<'a>, first: CallAt, other: CallAt) -> Run<'a>
     requires comes { ComesFirst (plan_in core) core.history (first_event (plan_in core) first) (first_event (plan_in core) other) }
     requires first_there { first.call < length (calls_of (plan_in core) first.proc.number) }
     requires other_there { other.call < length (calls_of (plan_in core) other.proc.number) }
-    ensures { IsRunOf core.entry.scripts first other result }
+    ensures run { IsRunOf core.entry.scripts first other result }
+    ensures later { (more : List ℕ) × (result.core.history ≡ core.entry.history ++ more) }
 {
     let mut core = core;
     core.run_lowest();
@@ -110,6 +125,7 @@ fn core_ahead<'a>(
     y: Event,
 ) -> Result<Option<Core<'a>>, Fault>
     ensures scripts { IfOk result (λ o. IfSome o (λ core. core.scripts ≡ plan.now)) }
+    ensures within { IfOk result (IsAhead plan.now limits.now (event_of x) (event_of y)) }
     ensures ahead { IfOk result (λ o. IfSome o (λ core. ComesFirst (plan_in core) core.history (event_of x) (event_of y))) }
     ensures err { IfErr result (λ e. e ≡ Memory) }
 {
@@ -134,7 +150,8 @@ fn finish_after<'a>(
     requires comes { ComesFirst (plan_in core) core.history (first_event (plan_in core) first) (first_event (plan_in core) other) }
     requires first_there { first.call < length (calls_of (plan_in core) first.proc.number) }
     requires other_there { other.call < length (calls_of (plan_in core) other.proc.number) }
-    ensures { IfSome result (IsRunOf core.entry.scripts first other) }
+    ensures run { IfSome result (IsRunOf core.entry.scripts first other) }
+    ensures goes_on { GoesOn core.entry limits.now (event_of y) result }
 {
     let mut core = core;
     if runs_to(&mut core, limits, y) {
@@ -155,6 +172,7 @@ pub(crate) fn make_held_run<'a>(
     requires first_there { first.call < length (calls_of (plan_of plan.now) first.proc.number) }
     requires other_there { other.call < length (calls_of (plan_of plan.now) other.proc.number) }
     ensures ok { IfOk result (λ o. IfSome o (IsRunOf plan.now first other)) }
+    ensures made { IfOk result (λ o. IsHeldRun (plan_of plan.now) (first_event (plan_of plan.now) first) (first_event (plan_of plan.now) other) (steps_of o)) }
     ensures err { IfErr result (λ e. e ≡ Memory) }
 {
     let x = plan.first_event(first);
@@ -177,6 +195,7 @@ pub(crate) fn make_needed_run<'a>(
     requires first_there { first.call < length (calls_of (plan_of marked.now) first.proc.number) }
     requires other_there { other.call < length (calls_of (plan_of marked.now) other.proc.number) }
     ensures ok { IfOk result (λ o. IfSome o (IsRunOf marked.now first other)) }
+    ensures made { IfOk result (λ o. IsNeededRun (plan_of marked.now) (first_event (plan_of marked.now) first) (first_event (plan_of marked.now) other) (steps_of o)) }
     ensures err { IfErr result (λ e. e ≡ Memory) }
 {
     let plan = marked.plan();

@@ -1,13 +1,14 @@
 //! The search for a witness.
 
-ghost use Rattle.std.specs.Prelude.{◌≡◌, ◌<◌, ◌↔◌, length, IfOk, IfSome, IfErr, IsTrue};
+ghost use Rattle.std.specs.Prelude.{◌≡◌, ◌<◌, ◌↔◌, length, IfOk, IfSome, IfNone, IfErr, IsTrue};
 ghost use Rattle.wire_types.specs.declared.Fault.TheVariants.{Memory};
 ghost use Rattle.wire_runs.specs.Ends.{calls_of};
 ghost use Rattle.wire_content.specs.Planned.{plan_of};
 ghost use Rattle.wire_content.specs.Scripts.{numbers_of};
 ghost use Rattle.wire_words.specs.Words.{end_text};
 ghost use Rattle.wire_witness.specs.Witness.{IsWitness};
-ghost use Rattle.wire_witness.specs.Runs.{AreApart, AreRunsOf, IsRunOf};
+ghost use Rattle.wire_witness.specs.NotShown.{AreAlike, EndAlike, IsNotShown, NoneDiffers, ShowsNothing};
+ghost use Rattle.wire_witness.specs.Runs.{AreAlikeBeside, AreApart, AreHeldRuns, AreNeededRuns, AreRunsOf, IsRunOf, steps_of};
 
 use crate::runs::{Run, make_held_run, make_needed_run};
 use crate::witness::Witness;
@@ -68,6 +69,7 @@ fn read_alike(
 
 /// The call whose ends are written differently in two runs of a plan: the first in which x comes first, the second
 /// in which y does.
+#[tactic(auto, using(crate::proofs::Alike::end_alike))]
 fn find_difference(
     alloc: Global,
     plan: &Plan,
@@ -77,7 +79,8 @@ fn find_difference(
 ) -> Result<Option<Difference>, AllocError>
     requires first { IsRunOf plan.now pair.x pair.y first.now }
     requires second { IsRunOf plan.now pair.y pair.x second.now }
-    ensures { IfOk result (λ o. IfSome o (AreApart plan.now pair.x pair.y first.now second.now)) }
+    ensures apart { IfOk result (λ o. IfSome o (AreApart plan.now pair.x pair.y first.now second.now)) }
+    ensures alike { IfOk result (λ o. IfNone o (EndAlike plan.now pair.x pair.y first.now.core.history second.now.core.history)) }
 {
     let scripts = plan.scripts();
     if !read_alike(alloc, scripts, &first.first_end, &second.other_end)? {
@@ -133,7 +136,8 @@ fn lay(
 ) -> Result<Option<Witness>, AllocError>
     requires first { IsRunOf plan.now pair.x pair.y first.now }
     requires second { IsRunOf plan.now pair.y pair.x second.now }
-    ensures { IfOk result (λ o. IfSome o (IsWitness plan.now pair.x pair.y)) }
+    ensures shown { IfOk result (λ o. IfSome o (IsWitness plan.now pair.x pair.y)) }
+    ensures alike { IfOk result (λ o. IfNone o (EndAlike plan.now pair.x pair.y first.now.core.history second.now.core.history)) }
 {
     let Some(apart) = find_difference(alloc, plan, pair, first, second)? else {
         return Ok(None);
@@ -152,12 +156,16 @@ fn lay_both(
 ) -> Result<Option<Witness>, AllocError>
     requires first { IfSome first.now (IsRunOf plan.now pair.x pair.y) }
     requires second { IfSome second.now (IsRunOf plan.now pair.y pair.x) }
-    ensures { IfOk result (λ o. IfSome o (IsWitness plan.now pair.x pair.y)) }
+    ensures shown { IfOk result (λ o. IfSome o (IsWitness plan.now pair.x pair.y)) }
+    ensures alike { IfOk result (λ o. IfNone o (AreAlike plan.now pair.x pair.y (steps_of first.now) (steps_of second.now))) }
 {
-    match (first, second) {
-        (Some(first), Some(second)) => lay(alloc, plan, pair, first, second),
-        _ => Ok(None),
-    }
+    let Some(first) = first else {
+        return Ok(None);
+    };
+    let Some(second) = second else {
+        return Ok(None);
+    };
+    lay(alloc, plan, pair, first, second)
 }
 
 /// The runs in which one of the calls is held back.
@@ -165,10 +173,12 @@ fn make_held_runs<'a>(alloc: Global, marked: &MarkedPlan<'a>, pair: Pair) -> Res
     requires x_there { pair.x.call < length (calls_of (plan_of marked.now) pair.x.proc.number) }
     requires y_there { pair.y.call < length (calls_of (plan_of marked.now) pair.y.proc.number) }
     ensures ok { IfOk result (AreRunsOf marked.now pair.x pair.y) }
+    ensures made { IfOk result (AreHeldRuns marked.now pair.x pair.y) }
     ensures err { IfErr result (λ e. e ≡ Memory) }
 {
-    let first = make_held_run(alloc, marked.plan(), pair.x, pair.y)?;
-    match make_held_run(alloc, marked.plan(), pair.y, pair.x) {
+    let plan = marked.plan();
+    let first = make_held_run(alloc, plan, pair.x, pair.y)?;
+    match make_held_run(alloc, plan, pair.y, pair.x) {
         Ok(second) => Ok(Runs { first, second }),
         Err(fault) => {
             drop(first);
@@ -186,6 +196,7 @@ fn make_needed_runs<'a>(
     requires x_there { pair.x.call < length (calls_of (plan_of marked.now) pair.x.proc.number) }
     requires y_there { pair.y.call < length (calls_of (plan_of marked.now) pair.y.proc.number) }
     ensures ok { IfOk result (AreRunsOf marked.now pair.x pair.y) }
+    ensures made { IfOk result (AreNeededRuns marked.now pair.x pair.y) }
     ensures err { IfErr result (λ e. e ≡ Memory) }
 {
     let first = make_needed_run(alloc, marked, pair.x, pair.y)?;
@@ -208,15 +219,21 @@ fn lay_all(
 ) -> Result<Option<Witness>, AllocError>
     requires held { AreRunsOf plan.now pair.x pair.y held.now }
     requires needed { AreRunsOf plan.now pair.x pair.y needed.now }
-    ensures { IfOk result (λ o. IfSome o (IsWitness plan.now pair.x pair.y)) }
+    ensures shown { IfOk result (λ o. IfSome o (IsWitness plan.now pair.x pair.y)) }
+    ensures alike { IfOk result (λ o. IfNone o (AreAlikeBeside plan.now pair.x pair.y held.now needed.now)) }
 {
-    if let Some(witness) = lay_both(alloc, plan, pair, &needed.first, &needed.second)? {
-        return Ok(Some(witness));
+    match lay_both(alloc, plan, pair, &needed.first, &needed.second)? {
+        Some(witness) => return Ok(Some(witness)),
+        None => {}
     }
-    if let Some(witness) = lay_both(alloc, plan, pair, &held.first, &needed.second)? {
-        return Ok(Some(witness));
+    match lay_both(alloc, plan, pair, &held.first, &needed.second)? {
+        Some(witness) => return Ok(Some(witness)),
+        None => {}
     }
-    lay_both(alloc, plan, pair, &needed.first, &held.second)
+    match lay_both(alloc, plan, pair, &needed.first, &held.second)? {
+        Some(witness) => Ok(Some(witness)),
+        None => Ok(None),
+    }
 }
 
 /// The witness among the runs in which one of the calls is held back, or among those and the others.
@@ -230,16 +247,21 @@ fn find_beside(
     requires y_there { pair.y.call < length (calls_of (plan_of marked.now) pair.y.proc.number) }
     requires held { AreRunsOf marked.now pair.x pair.y held.now }
     ensures shown { IfOk result (λ o. IfSome o (IsWitness marked.now pair.x pair.y)) }
+    ensures not_shown { IfOk result (λ o. IfNone o (NoneDiffers marked.now pair.x pair.y (steps_of held.now.first) (steps_of held.now.second))) }
     ensures err { IfErr result (λ e. e ≡ Memory) }
 {
     let plan = marked.plan();
-    if let Some(witness) = lay_both(alloc, plan, pair, &held.first, &held.second)? {
-        return Ok(Some(witness));
+    match lay_both(alloc, plan, pair, &held.first, &held.second)? {
+        Some(witness) => return Ok(Some(witness)),
+        None => {}
     }
     let needed = make_needed_runs(alloc, marked, pair)?;
     let found = lay_all(alloc, plan, pair, held, &needed);
     drop(needed);
-    Ok(found?)
+    match found? {
+        Some(witness) => Ok(Some(witness)),
+        None => Ok(None),
+    }
 }
 
 /// A witness of two calls that are the plan's.
@@ -247,12 +269,16 @@ fn find_among(alloc: Global, marked: &MarkedPlan<'_>, pair: Pair) -> Result<Opti
     requires x_there { pair.x.call < length (calls_of (plan_of marked.now) pair.x.proc.number) }
     requires y_there { pair.y.call < length (calls_of (plan_of marked.now) pair.y.proc.number) }
     ensures shown { IfOk result (λ o. IfSome o (IsWitness marked.now pair.x pair.y)) }
+    ensures not_shown { IfOk result (λ o. IfNone o (ShowsNothing marked.now pair.x pair.y)) }
     ensures err { IfErr result (λ e. e ≡ Memory) }
 {
     let held = make_held_runs(alloc, marked, pair)?;
     let found = find_beside(alloc, marked, pair, &held);
     drop(held);
-    found
+    match found? {
+        Some(witness) => Ok(Some(witness)),
+        None => Ok(None),
+    }
 }
 
 /// Whether a call is one of the plan.
@@ -269,7 +295,8 @@ fn is_there(plan: &Plan, call: CallAt) -> bool
 /// A witness of two calls of a plan, where one is found among four runs, each of which takes at each step the
 /// lowest process that can go on, but for one change: in two of them one of the calls is held back as long as
 /// anything else can happen; in the others only what a chain demands comes before the one call, and then
-/// before the other. `None` doesn't mean that there is none; of a call that isn't the plan's it is the answer. The one fault is `Fault::Memory`.
+/// before the other. `None` is the answer where none of these runs shows a difference, which doesn't mean that there is no witness;
+/// and of a call that isn't the plan's. The one fault is `Fault::Memory`.
 pub fn find_witness(
     alloc: Global,
     marked: &MarkedPlan<'_>,
@@ -277,10 +304,14 @@ pub fn find_witness(
     y: CallAt,
 ) -> Result<Option<Witness>, Fault>
     ensures shown { IfOk result (λ o. IfSome o (IsWitness marked.now x y)) }
+    ensures not_shown { IfOk result (λ o. IfNone o (IsNotShown marked.now x y)) }
     ensures err { IfErr result (λ e. e ≡ Memory) }
 {
     if !is_there(marked.plan(), x) || !is_there(marked.plan(), y) {
         return Ok(None);
     }
-    find_among(alloc, marked, Pair { x, y })
+    match find_among(alloc, marked, Pair { x, y })? {
+        Some(witness) => Ok(Some(witness)),
+        None => Ok(None),
+    }
 }

@@ -1,6 +1,7 @@
 //! Calls and processes, and what they are called.
 
 ghost use Rattle.std.specs.Prelude.{◌≡◌, ◌+◌, ◌<◌, ◌≤◌, ◌++◌, decimal, length, OnOk, OnErr, option_copied, vec_capacity};
+ghost use Rattle.wire_types.specs.Verbs as verbs;
 ghost use Rattle.wire_content.specs.Scripts.{call_at};
 ghost use Rattle.wire_content.specs.Canonical.{process_text};
 ghost use Rattle.wire_words.specs.Words as spec;
@@ -8,7 +9,7 @@ ghost use Rattle.wire_words.specs.Words as spec;
 use itoa::Buffer;
 use std::alloc::AllocError;
 use wire_content::{Process, Scripts};
-use wire_types::{Call, CallAt, Proc};
+use wire_types::{Call, CallAt, Proc, Verb};
 
 /// Appends a number in decimal. It takes memory only where there is no room for it; the one error is that this
 /// ran out.
@@ -62,21 +63,45 @@ pub fn push_call(out: &mut Vec<u8>, scripts: &Scripts, call: CallAt) -> Result<(
     push_number(out, u64::from(call.call) + 1)
 }
 
+/// The verb of a call.
+pub fn verb_of(call: &Call) -> Verb
+    ensures { result ≡ spec.verb_of call.now }
+{
+    match call {
+        Call::Put { .. } => Verb::Put,
+        Call::Commit => Verb::Commit,
+        Call::Get { .. } => Verb::Get,
+        Call::GetNow { .. } => Verb::GetNow,
+        Call::Fence { .. } => Verb::Fence,
+        Call::Publish { .. } => Verb::Publish,
+        Call::Lookup { .. } => Verb::Lookup,
+        Call::LookupWait { .. } => Verb::LookupWait,
+        Call::Unpublish { .. } | Call::UnpublishAll => Verb::Unpublish,
+    }
+}
+
+/// How a verb is spelled.
+fn text_of_verb(verb: Verb) -> &'static str
+    ensures { result.now ≡ verbs.text_of_verb verb }
+{
+    match verb {
+        Verb::Put => "put",
+        Verb::Commit => "commit",
+        Verb::Get => "get",
+        Verb::GetNow => "get-now",
+        Verb::Fence => "fence",
+        Verb::Publish => "publish",
+        Verb::Lookup => "lookup",
+        Verb::LookupWait => "lookup-wait",
+        Verb::Unpublish => "unpublish",
+    }
+}
+
 /// What a call is called.
 pub fn verb(call: &Call) -> &'static str
     ensures { result.now ≡ spec.verb_text call.now }
 {
-    match call {
-        Call::Put { .. } => "put",
-        Call::Commit => "commit",
-        Call::Get { .. } => "get",
-        Call::GetNow { .. } => "get-now",
-        Call::Fence { .. } => "fence",
-        Call::Publish { .. } => "publish",
-        Call::Lookup { .. } => "lookup",
-        Call::LookupWait { .. } => "lookup-wait",
-        Call::Unpublish { .. } | Call::UnpublishAll => "unpublish",
-    }
+    text_of_verb(verb_of(call))
 }
 
 /// What the call at a place is called, empty where there is none.

@@ -6,6 +6,8 @@ mod calls;
 mod chunks;
 mod ends;
 
-pub use calls::{find_call, push_call, push_number, push_proc, push_process, verb, verb_at};
+pub use calls::{
+    find_call, push_call, push_number, push_proc, push_process, verb, verb_at, verb_of,
+};
 pub use chunks::Chunk;
 pub use ends::{end_word, push_end, push_value, replied_value};

@@ -1,6 +1,7 @@
-use Rattle.std.proofs.Common.{◌≡◌, ◌∙◌, ◌+◌, ap, sym, suc, length, arith, ◌∷◌, [], ◌++◌, map, cond}
+use Rattle.std.proofs.Common.{◌≡◌, ◌∙◌, ◌+◌, ap, sym, suc, length, arith, ◌∷◌, [], ◌++◌, cond}
 use Rattle.std.proofs.lemmas.List.{map_push}
 use Rattle.std.specs.Prelude.{nat_lt}
+use Rattle.wire_types.specs.Texts.{lists_of}
 use Rattle.wire_content.specs.Planned.{plan_of}
 use Rattle.wire_runs.specs.Plan.{event_count}
 use Rattle.wire_runs.specs.Ends.{calls_of}
@@ -22,7 +23,7 @@ loop-number-preserved c =
     let short : nat_lt (length (trail_of trails n)) (event_count plan n) ≡ c.is_short.result =
     sym (c.is_short.ensures ∙ (λ i. nat_lt (length (trail i)) (event_count plan (number i)))) in
     record {
-      rows = ap (map (λ row. row.items)) c.push_reserved.ensures.items
+      rows = ap lists_of c.push_reserved.ensures.items
           ∙ map_push (λ row. row.items) c.loop-number.rows.items c.in_ok-row.row
           ∙ ap (λ rows. rows ++ c.in_ok-row.row.items ∷ []) c.loop-number.invariant.rows
           ∙ ap (λ row. told_rows plan trails n ++ row ∷ [])

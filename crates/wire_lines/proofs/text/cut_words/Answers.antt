@@ -5,6 +5,7 @@ use Rattle.std.proofs.lemmas.Iterator.{YieldsList}
 use Rattle.std.proofs.lemmas.Iterator.Adapters.{fact_from_extend}
 use Rattle.std.proofs.lemmas.Iterator.Consumers.{YieldsList-at, YieldsList-from_filter}
 use Rattle.std.proofs.lemmas.Iterator.Splits.{YieldsList-from_slice_split}
+use Rattle.wire_types.specs.Texts.{texts_of}
 use Rattle.wire_lines.specs.Text.{is_blank, words_of}
 use Rattle.wire_lines.proofs.text.cut_words.Goals as goal
 
@@ -19,4 +20,4 @@ returns c = extended {all = words_of c.args.line.now} (λ w. w.now) c.extend.res
     (YieldsList-from_filter _ (λ w. not (length w == 0))
     (YieldsList-from_slice_split _ is_blank c.args.line.now (search rules) (search rules) (search rules) (λ x b q k. search (rules, tests)))
     c.filter.ensures.closure (λ x b q k. search (rules, tests)))
-    (λ xs given held. ap (map (λ w. w.now)) (held.0 ∙ ap (λ ws. ws ++ xs) c.clear.ensures.items) ∙ given)
+    (λ xs given held. ap texts_of (held.0 ∙ ap (λ ws. ws ++ xs) c.clear.ensures.items) ∙ given)

@@ -1,14 +1,15 @@
-use Rattle.std.proofs.Common.{◌≡◌, ◌∙◌, ◌<◌, ◌≤◌, ap, ℕ, List, map, length, get_or}
+use Rattle.std.proofs.Common.{◌≡◌, ◌∙◌, ◌<◌, ◌≤◌, ap, ℕ, List, length, get_or}
 use Rattle.std.specs.Prelude.{Vec}
 use Rattle.std.specs.declared.alloc.Global.{Global}
 use Rattle.std.proofs.lemmas.List.{map_push}
+use Rattle.wire_types.specs.Texts.{lists_of}
 use Rattle.wire_script.specs.Drafted.{started_of}
 use Rattle.wire_script.specs.Located.{lines_of_calls}
 use Rattle.wire_script.proofs.Steps.{made_on, made_all}
 use Rattle.wire_script.proofs.located.all_lines.Goals as goal
 
 abbrev shown : List (Vec ℕ Global) → List (List ℕ)
-shown rows = map (λ row. row.items) rows
+shown rows = lists_of rows
 
 pub loop-process-init : goal.loop-process-init
 loop-process-init c = ap shown c.in_ok-rows.ensures.items

@@ -1,5 +1,6 @@
-use Rattle.std.proofs.Common.{◌≡◌, ◌∙◌, ◌+◌, ap, sym, suc, arith, ◌∷◌, [], ◌++◌, map, cond}
+use Rattle.std.proofs.Common.{◌≡◌, ◌∙◌, ◌+◌, ap, sym, suc, arith, ◌∷◌, [], ◌++◌, cond}
 use Rattle.std.proofs.lemmas.List.{map_push}
+use Rattle.wire_types.specs.Texts.{lists_of}
 use Rattle.wire_content.specs.Planned.{plan_of}
 use Rattle.wire_runs.specs.Ends.{is_waiting, row, rows_below, waiting_below}
 use Rattle.wire_core.specs.Course.{state_of}
@@ -17,7 +18,7 @@ loop-number-preserved c =
     let few = c.loop-number.invariant.few in
     let stands : is_waiting plan s n ≡ c.is_waiting.result = sym (c.is_waiting.ensures ∙ ap (is_waiting plan s) number) in
     record {
-      rows = ap (map (λ row. row.items)) c.push_reserved.ensures.items
+      rows = ap lists_of c.push_reserved.ensures.items
           ∙ map_push (λ row. row.items) c.loop-number.rows.items c.in_ok-row.row
           ∙ ap (λ xs. xs ++ c.in_ok-row.row.items ∷ []) c.loop-number.invariant.rows
           ∙ ap (λ r. rows_below plan s n ++ r ∷ []) (c.in_ok-row.ensures.ok ∙ ap (row plan s) number)

@@ -1,5 +1,6 @@
-use Rattle.std.proofs.Common.{◌≡◌, ◌≤◌, map, vec_len}
+use Rattle.std.proofs.Common.{◌≡◌, ◌≤◌, vec_len}
 use Rattle.std.specs.Prelude.{vec_capacity}
+use Rattle.wire_types.specs.Texts.{lists_of}
 use Rattle.wire_content.specs.Planned.{plan_of}
 use Rattle.wire_runs.specs.Ends.{rows_below, waiting_below}
 use Rattle.wire_core.specs.Course.{state_of}
@@ -7,7 +8,7 @@ use Rattle.wire_core.proofs.running.Core.outcome.Given as goal
 
 abbrev pub invariant-loop-number : goal.invariant-loop-number
 invariant-loop-number l = record {
-  rows : map (λ row. row.items) l.rows.items ≡ rows_below (plan_of l.self.scripts) (state_of l.self) l.number;
+  rows : lists_of l.rows.items ≡ rows_below (plan_of l.self.scripts) (state_of l.self) l.number;
   count : vec_len l.rows ≡ l.number;
   space : vec_capacity l.rows ≡ l.number-end;
   waiting : l.waiting ≡ waiting_below (plan_of l.self.scripts) (state_of l.self) l.number;

@@ -1,5 +1,6 @@
-use Rattle.std.proofs.Common.{◌≡◌, ◌∙◌, sym, subst, map}
+use Rattle.std.proofs.Common.{◌≡◌, ◌∙◌, sym, subst}
 use Rattle.indexmap.proofs.CallerLemmas.{Drains-YieldsInOrder}
+use Rattle.wire_types.specs.Texts.{lists_of}
 use Rattle.wire_content.specs.Apart.{AreApart}
 use Rattle.wire_script.proofs.Apart.{keys_apart}
 use Rattle.wire_script.proofs.numbered_texts.NumberedTexts.into_texts.Goals as goal
@@ -11,4 +12,4 @@ new-requires-clause-apart c =
     let last = ran.1.2 tt in
     let all = Drains-YieldsInOrder _ _ _ ran.0 gave.2 (last.0, (ran.1.0, ran.1.1, last.1)) in
     let same : c.in_ok-list.list.items ≡ c.self.inside.set.keys = ran.2.0 ∙ all ∙ gave.0 in
-    subst (λ texts. AreApart (map (λ v. v.items) texts)) (sym same) (keys_apart (λ v. v.items) c.self.inside.set.keys gave.3)
+    subst (λ texts. AreApart (lists_of texts)) (sym same) (keys_apart (λ v. v.items) c.self.inside.set.keys gave.3)

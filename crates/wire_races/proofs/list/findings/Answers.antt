@@ -1,4 +1,0 @@
-use Rattle.wire_races.proofs.list.findings.Goals as goal
-
-pub returns-clause-ok : goal.returns-clause-ok
-returns-clause-ok g c = rw c.with-marked.ensures at c.in_ok-found.ensures
