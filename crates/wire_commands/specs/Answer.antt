@@ -7,7 +7,7 @@ use Rattle.wire_types.specs.declared.Form.{Form}
 use Rattle.wire_types.specs.Forms.{has_places}
 use Rattle.wire_types.specs.Front.{WritesFront}
 use Rattle.wire_content.specs.Scripts.{Scripts, Process}
-use Rattle.wire_report.specs.declared.place.Places.{Places}
+use Rattle.wire_report.specs.declared.call_places.Places.{Places}
 use Rattle.wire_script.specs.declared.Size.{Size}
 use Rattle.wire_script.specs.Reads.{Reads}
 use Rattle.wire_script.specs.Located.{AreCallLines}
