@@ -1,5 +1,5 @@
-/* Stands before the C library in a run of the program (LD_PRELOAD), and refuses what the environment tells it to. tests/refuse.py and
-   tests/hostile.py build it and use it.
+/* Stands before the C library in a run of the program (LD_PRELOAD), and refuses what the environment tells it to. tests/refusing.py
+   builds it, for tests/test_refuse.py and tests/test_streams.py.
 
    WIRE_UP_REFUSE=N         refuses the N-th request for memory, counted from 1. A request is a call of malloc, calloc, realloc or one of
                             their kin, whoever makes it, the C library too, and a start of a thread, which needs a stack.
