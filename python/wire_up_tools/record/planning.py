@@ -5,10 +5,10 @@ from dataclasses import dataclass
 from wire_up_tools.failures import Refused
 from wire_up_tools.limits import VERSION_1, Limits
 from wire_up_tools.record.draft import Draft, Part, Step, make_draft, walk
-from wire_up_tools.record.notes import Notes
 from wire_up_tools.record.meetings import Sets
 from wire_up_tools.record.mpi_order import MpiOrder, order_by_mpi
 from wire_up_tools.record.names import Spelling, find_spelling
+from wire_up_tools.record.notes import Notes
 from wire_up_tools.record.open_groups import order_open_groups
 from wire_up_tools.record.pmix_calls import make_lines
 from wire_up_tools.record.pmix_fences import PmixFences, make_fences
