@@ -4,8 +4,8 @@ from dataclasses import dataclass
 
 from wire_up_tools.record.calls import Call, Collective, CollectiveEnd, Sources
 from wire_up_tools.record.communicators import Communicator, Communicators
-from wire_up_tools.record.notes import Notes
 from wire_up_tools.record.meetings import JointCalls, Members, join_calls
+from wire_up_tools.record.notes import Notes
 from wire_up_tools.record.processes import Process, Processes
 
 

@@ -6,6 +6,7 @@ from dataclasses import dataclass, field
 from typing import Optional, Union
 
 from wire_up_tools.record.calls import Call, Value, ValueKind
+from wire_up_tools.record.notes import Notes
 from wire_up_tools.record.processes import Process, Processes
 
 # Values and keys say nothing of these calls: they race only by what others do.
@@ -97,6 +98,24 @@ class Part:
         line = Line(target, at, f"lookup-wait {name}", ended, SENT_VALUE, name, None)
         self.lines.append(line)
         self.awaited[line] = published
+
+
+@dataclass
+class Ordered:
+    """Lines that order processes as MPI does: those of `count` messages or collectives, of which
+    so many ends were left to luck, and what is noted of them."""
+
+    part: Part = field(default_factory=Part)
+    notes: Notes = field(default_factory=Notes)
+    count: int = 0
+    left_to_luck: int = 0
+
+    def add(self, other: "Ordered") -> None:
+        """Takes the lines of others too."""
+        self.part.add(other.part)
+        self.notes.add(other.notes)
+        self.count += other.count
+        self.left_to_luck += other.left_to_luck
 
 
 def make_publish(name: str, source: Process, begun: Call) -> Line:

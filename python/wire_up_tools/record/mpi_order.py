@@ -15,7 +15,7 @@ ordered, and the head of the plan says so.
 """
 import re
 from collections.abc import Iterable, Sequence
-from dataclasses import dataclass, field
+from dataclasses import dataclass
 
 from wire_up_tools.record.calls import MPI_CALLS, Call
 from wire_up_tools.record.collectives import (
@@ -27,10 +27,9 @@ from wire_up_tools.record.collectives import (
     find_name,
 )
 from wire_up_tools.record.communicators import Communicators, find_communicators
-from wire_up_tools.record.draft import Line, Part
-from wire_up_tools.record.notes import Notes
+from wire_up_tools.record.draft import Line, Ordered
 from wire_up_tools.record.meetings import MOST_NAMED, JointCalls, Sets, is_any_inside
-from wire_up_tools.record.messages import Group, Inbox, find_inboxes
+from wire_up_tools.record.messages import find_inboxes
 from wire_up_tools.record.names import MessageNames, Spelling
 from wire_up_tools.record.open_groups import OpenGroup
 from wire_up_tools.record.pmix_fences import PmixFences
@@ -43,19 +42,22 @@ SENDS_UNKNOWN = re.compile(r"MPI_(Isendrecv\w*|Psend\w*|\w*send\w*_c)")
 BARRIERS = ("barrier", "ibarrier")
 
 
-@dataclass
-class MpiOrder:
-    """The lines that order processes as MPI does, and what the head of the plan says of them:
-    how many messages and collectives are ordered, and how many ends were left to luck.
-    `open_groups` are messages that aren't ordered yet."""
+@dataclass(frozen=True)
+class MessageOrder:
+    """The order of messages, without `open_groups`, which aren't ordered yet: their names come
+    from `names`."""
 
-    message_names: MessageNames
-    part: Part = field(default_factory=Part)
-    notes: Notes = field(default_factory=Notes)
-    open_groups: list[OpenGroup] = field(default_factory=list)
-    message_count: int = 0
-    collective_count: int = 0
-    left_to_luck: int = 0
+    ordered: Ordered
+    open_groups: Sequence[OpenGroup]
+    names: MessageNames
+
+
+@dataclass(frozen=True)
+class MpiOrder:
+    """The order that MPI gives, by messages and by collectives."""
+
+    messages: MessageOrder
+    collectives: Ordered
 
 
 # --- messages ---
@@ -67,46 +69,49 @@ def may_lack_sends(recording: Recording) -> bool:
 
 
 def order_messages(
-    processes: Processes, communicators: Communicators, order: MpiOrder, is_strict: bool
-) -> None:
-    """Adds the order of messages, and the groups whose order isn't certain."""
+    processes: Processes, communicators: Communicators, names: MessageNames, is_strict: bool
+) -> MessageOrder:
+    """The order of messages, and the groups whose order isn't certain."""
     lacking = {it for it in processes.all if may_lack_sends(it.recording)}
     inboxes = find_inboxes(processes, communicators)
-    order.notes.add(inboxes.notes)
+    open_groups: list[OpenGroup] = []
+    ordered = Ordered(notes=inboxes.notes)
     for (_, target), inbox in inboxes.found.items():
         is_cut = any(it in lacking for it in inbox.peers)
         for group in inbox.groups():
+            found = OpenGroup(group, target, inbox.peers)
             if not group.is_matched(is_cut) or (group.is_from_any and is_cut):
-                left_out = order.notes.left_out
+                left_out = ordered.notes.left_out
                 left_out["messages that can't be matched for certain"] += group.receive_count
             elif group.is_certain:
-                order_group(group, target, inbox, order, is_strict)
+                ordered.add(order_pairs(found, names, is_strict))
             else:
-                order.open_groups.append(OpenGroup(group, target, inbox.peers))
+                open_groups.append(found)
+    return MessageOrder(ordered, open_groups, names)
 
 
-def order_group(
-    group: Group, target: Process, inbox: Inbox, order: MpiOrder, is_strict: bool
-) -> None:
+def order_pairs(found: OpenGroup, names: MessageNames, is_strict: bool) -> Ordered:
     """Orders messages and receives that are the same pairs in every run.
 
     Where a receive isn't there (one that failed), the next ones get a message that was sent
     before theirs. That is less order for the receiver, but would be more for a sender that waited
     for its receive: so then it has none.
     """
+    ordered, group, target = Ordered(), found.group, found.target
     is_all = group.message_count == group.receive_count and not group.lacks
     for send, got in group.pairs():
-        source = inbox.peers[got.stream.source]
+        source = found.peers[got.stream.source]
         if source is target:
             continue
-        order.left_to_luck += got.call.is_left_to_luck
+        ordered.left_to_luck += got.call.is_left_to_luck
         if got.call.is_left_to_luck and is_strict:
             continue
-        name = order.message_names.next(source, target)
-        order.part.add_order(name, source, send, {target: got.call})
+        name = names.next(source, target)
+        ordered.part.add_order(name, source, send, {target: got.call})
         if send.end and is_all and got.is_receive:
-            order.part.add_order(f"{name}.begun", target, got.call, {source: send})
-        order.message_count += 1
+            ordered.part.add_order(f"{name}.begun", target, got.call, {source: send})
+        ordered.count += 1
+    return ordered
 
 
 # --- collectives ---
@@ -198,10 +203,10 @@ def choose_fences(
     }
 
 
-def make_fence(meeting: JointCalls, sets: Sets) -> Part:
+def order_by_fence(meeting: JointCalls, sets: Sets) -> Ordered:
     """A collective as a fence."""
-    part = Part()
-    part.add_meeting([
+    ordered = Ordered(count=1)
+    ordered.part.add_meeting([
         Line(
             process=process,
             at=call.begins,
@@ -213,41 +218,40 @@ def make_fence(meeting: JointCalls, sets: Sets) -> Part:
         )
         for process, call in meeting.calls.items()
     ])
-    return part
+    return ordered
 
 
-def order_by_names(
-    meeting: JointCalls, waiting: Waiting, order: MpiOrder, number: int
-) -> None:
-    """Adds a collective as names: each process publishes one when it begins, if another waits for
-    it, and waits for others when it ends."""
-    calls = meeting.calls
+def order_by_names(meeting: JointCalls, waiting: Waiting, mark: str, number: int) -> Ordered:
+    """A collective as names, which begin with the mark: each process publishes one when it begins,
+    if another waits for it, and waits for others when it ends."""
+    ordered, calls = Ordered(), meeting.calls
     waits = {
         process: [it for it in waiting.find(process, call) if it in calls]
         for process, call in calls.items()
     }
     if sum(map(len, waits.values())) > MOST_NAMED * (MOST_NAMED - 1):
-        order.notes.left_out["collectives that are no fence, among too many processes"] += 1
-        return
+        ordered.notes.left_out["collectives that are no fence, among too many processes"] += 1
+        return ordered
     for source in dict.fromkeys(it for them in waits.values() for it in them):
         targets = {it: calls[it] for it, them in waits.items() if source in them}
-        name = f"{order.message_names.mark}{source.short_name}.all.{number}"
-        order.part.add_order(name, source, calls[source], targets)
-    order.collective_count += any(waits.values())
+        name = f"{mark}{source.short_name}.all.{number}"
+        ordered.part.add_order(name, source, calls[source], targets)
+    ordered.count += any(waits.values())
+    return ordered
 
 
 def order_collectives(
-    collectives: Collectives, waiting: Waiting, fences: set[JointCalls], sets: Sets, order: MpiOrder
-) -> None:
-    """Adds the order of collectives, some of which are fences."""
-    order.notes.add(collectives.notes)
-    order.left_to_luck += collectives.left_to_luck
+    collectives: Collectives, waiting: Waiting, fences: set[JointCalls], sets: Sets, mark: str
+) -> Ordered:
+    """The order of collectives, some of which are fences, and the others names that begin with the
+    mark."""
+    ordered = Ordered(notes=collectives.notes, left_to_luck=collectives.left_to_luck)
     for number, meeting in enumerate(collectives.meetings, 1):
         if meeting in fences:
-            order.part.add(make_fence(meeting, sets))
-            order.collective_count += 1
+            ordered.add(order_by_fence(meeting, sets))
         else:
-            order_by_names(meeting, waiting, order, number)
+            ordered.add(order_by_names(meeting, waiting, mark, number))
+    return ordered
 
 
 def order_by_mpi(
@@ -255,12 +259,11 @@ def order_by_mpi(
 ) -> MpiOrder:
     """The order that MPI gives to the processes whose calls of PMIx are the lines of `program`,
     fences among them."""
-    processes = sets.processes
-    order = MpiOrder(MessageNames(spelling.mpi_mark))
+    processes, mark = sets.processes, spelling.mpi_mark
     communicators = find_communicators(processes)
-    order_messages(processes, communicators, order, is_strict)
+    messages = order_messages(processes, communicators, MessageNames(mark), is_strict)
     collectives = find_collectives(processes, communicators)
     waiting = Waiting(communicators, is_strict)
     chosen = choose_fences(collectives.meetings, waiting, fences, Bounds(program))
-    order_collectives(collectives, waiting, chosen, sets, order)
-    return order
+    ordered = order_collectives(collectives, waiting, chosen, sets, mark)
+    return MpiOrder(messages, ordered)

@@ -7,11 +7,20 @@ from typing import NamedTuple, Optional
 
 from wire_up_tools.record.calls import Call
 from wire_up_tools.record.communicators import Side
-from wire_up_tools.record.draft import Draft, Line, Part, Step, make_draft, make_publish, walk
-from wire_up_tools.record.notes import Notes
+from wire_up_tools.record.draft import (
+    Draft,
+    Line,
+    Ordered,
+    Part,
+    Step,
+    make_draft,
+    make_publish,
+    walk,
+)
 from wire_up_tools.record.knowledge import Latest, find_heard, merge
 from wire_up_tools.record.messages import Ask, Got, Group, Stream
 from wire_up_tools.record.names import MessageNames
+from wire_up_tools.record.notes import Notes
 from wire_up_tools.record.processes import Process, Processes
 
 # How often the order of messages that could have come otherwise is looked at again.
@@ -30,16 +39,6 @@ class OpenGroup:
     peers: Side
 
 
-@dataclass(frozen=True)
-class OpenOrder:
-    """The lines that order open groups, for how many messages, and what is noted of them."""
-
-    part: Part
-    message_count: int
-    left_to_luck: int
-    notes: Notes
-
-
 class Taken:
     """The receives that have surely got a message: those that ended, and those posted before one
     of them, or before a probe that found something, that would have got its message first."""
@@ -51,18 +50,23 @@ class Taken:
         for n, it in enumerate(asked):
             if it.is_receive:
                 self.waiting.setdefault(it.ask, deque()).append(n)
+        self.alike = {ask: self.find_alike(ask) for ask in {it.ask for it in asked}}
 
     def take(self, got: Got) -> list[Ask]:
         """Adds a receive that ended, and those before it. Answers what the new ones asked for."""
-        (source, tag), new = got.ask, []
-        asks = (got.ask, Ask(source, None), Ask(None, tag), Ask(None, None))
-        for ask in dict.fromkeys(asks):
-            waiting = self.waiting.get(ask)
-            while waiting and waiting[0] <= self.index_of[got]:
+        index, new = self.index_of[got], []
+        for ask in self.alike[got.ask]:
+            waiting = self.waiting[ask]
+            while waiting and waiting[0] <= index:
                 waiting.popleft()
                 new.append(ask)
         self.count += len(new)
         return new
+
+    def find_alike(self, ask: Ask) -> Sequence[Ask]:
+        """What receives asked for that would have got each message that one of this could."""
+        alike = (ask, Ask(ask.source, None), Ask(None, ask.tag), Ask(None, None))
+        return [it for it in dict.fromkeys(alike) if it in self.waiting]
 
 
 class Coming(NamedTuple):
@@ -106,12 +110,13 @@ class Counted:
     def count_own(self, asks: Sequence[Ask], probe: Optional[Ask]) -> dict[Stream, int]:
         """How many messages of a stream were got by those who asked for it alone: of the new ones
         that asked so, and of a probe."""
-        self.own.update(asks)
-        alone = ((it.stream, self.own[it]) for it in asks)
-        found = {stream: count for stream, count in alone if stream in self.streams and stream}
-        stream = probe.stream if probe else None
-        if probe and stream and stream in self.streams:
-            found[stream] = self.own[probe] + 1
+        found: dict[Stream, int] = {}
+        for ask in asks:
+            self.own[ask] += 1
+            if ask.stream in self.streams and ask.stream:
+                found[ask.stream] = self.own[ask]
+        if probe and probe.stream in self.streams and probe.stream:
+            found[probe.stream] = self.own[probe] + 1
         return found
 
     def find_new(self, count: int, asks: Sequence[Ask], probe: Optional[Ask]) -> Iterator[Call]:
@@ -236,7 +241,7 @@ def order_open_groups(
     groups: Sequence[OpenGroup],
     names: MessageNames,
     is_strict: bool,
-) -> OpenOrder:
+) -> Ordered:
     """Orders messages that could have come otherwise, by what holds in every run.
 
     What is ordered already, by `parts`, rules messages out: one that is sent after a receive has
@@ -255,4 +260,4 @@ def order_open_groups(
     ] += sum(it.group.receive_count for it in groups)
     asked = (got for it in groups for got in it.group.asked)
     left_to_luck = sum(it.call.is_left_to_luck for it in asked)
-    return OpenOrder(waits.finish(), len(waits.known), left_to_luck, notes)
+    return Ordered(waits.finish(), notes, len(waits.known), left_to_luck)

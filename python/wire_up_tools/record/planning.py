@@ -5,10 +5,10 @@ from dataclasses import dataclass
 from wire_up_tools.failures import Refused
 from wire_up_tools.limits import VERSION_1, Limits
 from wire_up_tools.record.draft import Draft, Part, Step, make_draft, walk
-from wire_up_tools.record.notes import Notes
 from wire_up_tools.record.meetings import Sets
-from wire_up_tools.record.mpi_order import order_by_mpi
+from wire_up_tools.record.mpi_order import MpiOrder, order_by_mpi
 from wire_up_tools.record.names import Spelling, find_spelling
+from wire_up_tools.record.notes import Notes
 from wire_up_tools.record.open_groups import order_open_groups
 from wire_up_tools.record.pmix_calls import make_lines
 from wire_up_tools.record.pmix_fences import PmixFences, make_fences
@@ -70,31 +70,27 @@ def refuse_waiting(draft: Draft) -> None:
                 )
 
 
-@dataclass(frozen=True)
-class Ordered:
-    """The lines that order processes as MPI does, and what the head of the plan says of them."""
-
-    parts: Sequence[Part]
-    notes: Notes
-    mpi: MpiSummary
-
-
 def order_program(
     sets: Sets, spelling: Spelling, program: Sequence[Part], fences: PmixFences, is_strict: bool
-) -> Ordered:
-    """The order that MPI gives to the lines of a program."""
+) -> MpiOrder:
+    """The order that MPI gives to the lines of a program, with that of messages which could have
+    come otherwise."""
     lines = [line for part in program for line in part.lines]
     order = order_by_mpi(sets, spelling, lines, fences, is_strict)
-    messages, left_to_luck, parts = order.message_count, order.left_to_luck, [order.part]
-    if order.open_groups:
-        groups, message_names = order.open_groups, order.message_names
-        known = [*program, order.part]
-        more = order_open_groups(sets.processes, known, groups, message_names, is_strict)
-        messages += more.message_count
-        left_to_luck += more.left_to_luck
-        order.notes.add(more.notes)
-        parts.append(more.part)
-    return Ordered(parts, order.notes, MpiSummary(messages, order.collective_count, left_to_luck))
+    messages = order.messages
+    if messages.open_groups:
+        known = [*program, messages.ordered.part, order.collectives.part]
+        groups, names = messages.open_groups, messages.names
+        more = order_open_groups(sets.processes, known, groups, names, is_strict)
+        messages.ordered.add(more)
+    return order
+
+
+def summarize(order: MpiOrder) -> MpiSummary:
+    """What the head of a plan says of MPI's order."""
+    messages, collectives = order.messages.ordered, order.collectives
+    left_to_luck = messages.left_to_luck + collectives.left_to_luck
+    return MpiSummary(messages.count, collectives.count, left_to_luck)
 
 
 def make_plan(recordings: Sequence[Recording], choices: Choices) -> Plan:
@@ -108,10 +104,11 @@ def make_plan(recordings: Sequence[Recording], choices: Choices) -> Plan:
     refuse_too_many(parts, choices.most)
     parts.append(find_waits(make_draft(processes, parts)))
     if choices.with_mpi:
-        ordered = order_program(sets, spelling, parts, fences, choices.is_strict)
-        parts += ordered.parts
-        notes.add(ordered.notes)
-        mpi = ordered.mpi
+        order = order_program(sets, spelling, parts, fences, choices.is_strict)
+        parts += [order.messages.ordered.part, order.collectives.part]
+        notes.add(order.messages.ordered.notes)
+        notes.add(order.collectives.notes)
+        mpi = summarize(order)
     draft = make_draft(processes, parts)
     refuse_waiting(draft)
     if draft.count > VERSION_1.calls:

@@ -4,8 +4,8 @@ from dataclasses import dataclass, field
 from typing import Optional
 
 from wire_up_tools.record.calls import Call, Fence
+from wire_up_tools.record.directives import COLLECT, has_directive
 from wire_up_tools.record.draft import Line, Part
-from wire_up_tools.record.notes import Notes
 from wire_up_tools.record.meetings import (
     MOST_NAMED,
     JointCalls,
@@ -15,7 +15,7 @@ from wire_up_tools.record.meetings import (
     join_calls,
 )
 from wire_up_tools.record.names import Spelling
-from wire_up_tools.record.directives import COLLECT, has_directive
+from wire_up_tools.record.notes import Notes
 from wire_up_tools.record.processes import NEVER_BEGAN, Process
 
 

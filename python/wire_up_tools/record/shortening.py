@@ -3,8 +3,8 @@ from collections.abc import Iterable
 from dataclasses import dataclass
 
 from wire_up_tools.record.draft import Draft, Line, Meeting, Step, walk
-from wire_up_tools.record.notes import Notes
 from wire_up_tools.record.knowledge import Knowledge
+from wire_up_tools.record.notes import Notes
 
 
 @dataclass(frozen=True)
