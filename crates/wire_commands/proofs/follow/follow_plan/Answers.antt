@@ -59,7 +59,7 @@ returns-in_err-text-clause-unfailed g c =
 pub returns-clause-ok : goal.returns-clause-ok
 returns-clause-ok g c =
     followed_ok (is_json c.args.manner.form) _ _ _ _ c.in_ok-scripts.scripts c.in-Ok.order.items c.as_slice.result.now c.in_ok-text.text.items c.as_slice-2.result.now c.write_text.result c.as_slice.ensures.value
-    c.in_ok-scripts.ensures.ok c.in-Ok.ensures.ok c.in_ok-text.ensures.ok c.as_slice-2.ensures.value c.write_text.ensures.ok
+    c.in_ok-scripts.ensures.ok c.in-Ok.ensures.ok (rw c.is_json.ensures at c.in_ok-text.ensures.ok) c.as_slice-2.ensures.value c.write_text.ensures.ok
 
 pub returns-clause-quiet : goal.returns-clause-quiet
 returns-clause-quiet g c = on_ok_weaker c.write_text.result (λ quiet. (c.in_ok-scripts.ensures.quiet, c.in-Ok.ensures.quiet, quiet)) c.write_text.ensures.quiet
@@ -68,7 +68,7 @@ pub returns-clause-err : goal.returns-clause-err
 returns-clause-err g c =
     followed_err (is_json c.args.manner.form) _ _ (g.W.Sink.written c.args.writer.now)
     (g.W.Sink.written c.write_text.new.sink) c.in_ok-scripts.scripts c.in-Ok.order.items c.as_slice.result.now c.in_ok-text.text.items
-    c.as_slice-2.result.now _ _ c.write_text.result c.as_slice.ensures.value c.in_ok-scripts.ensures.ok c.in-Ok.ensures.ok c.in_ok-text.ensures.ok c.as_slice-2.ensures.value
+    c.as_slice-2.result.now _ _ c.write_text.result c.as_slice.ensures.value c.in_ok-scripts.ensures.ok c.in-Ok.ensures.ok (rw c.is_json.ensures at c.in_ok-text.ensures.ok) c.as_slice-2.ensures.value
     c.write_text.ensures.front c.write_text.ensures.failed
 
 pub returns-clause-read_failed : goal.returns-clause-read_failed

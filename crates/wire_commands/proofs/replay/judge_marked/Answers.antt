@@ -8,7 +8,7 @@ try_new-requires-clause-findings c =
     let none = none_there c.args.findings c.is_empty.result c.is_empty.ensures c.if-not-is_empty.false in
     subst (λ f. AreFindings c.args.plan f) (none ∙ sym c.new.ensures.items) c.requires.those
 
-pub returns-clause-settled : goal.returns-clause-settled
-returns-clause-settled c =
+pub returns : goal.returns
+returns c =
     let none = none_there c.args.findings c.is_empty.result c.is_empty.ensures c.if-not-is_empty.false in
     (c.in-Ok.ensures.kept, subst (λ s. AreFindings s []) (sym c.in-Ok.ensures.kept) (subst (λ f. AreFindings c.args.plan f) none c.requires.those))
