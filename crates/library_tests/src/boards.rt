@@ -301,12 +301,7 @@ fn work_lanes<R: Wait>(
 }
 
 /// One worker serves a round of a settled plan in this thread.
-fn work_alone<R: Wait>(
-    rt: &R,
-    alloc: Global,
-    settled: &Settled,
-    way: Way,
-) -> Result<Left, Fault> {
+fn work_alone<R: Wait>(rt: &R, alloc: Global, settled: &Settled, way: Way) -> Result<Left, Fault> {
     let (board, seats) = Board::new(alloc, settled)?;
     let (events, trails) = work_lanes(rt, alloc, &board, settled, seats, way)?;
     let words = board.close(alloc, Vec::new(alloc))?;

@@ -9,8 +9,8 @@ use Rattle.wire_explain.specs.Hint.{IsHintFor, doubtful, known}
 use Rattle.wire_explain.specs.Format.{usage_of}
 use Rattle.wire_explain.specs.Quote.{shown_byte, quoted, labelled}
 use Rattle.wire_explain.specs.Place.{first_in, words_at, place_of}
-use Rattle.wire_explain.specs.declared.place.Place.{Place}
-use Rattle.wire_explain.specs.declared.place.Place.TheVariants.{Opening, InJob, InRank}
+use Rattle.wire_explain.specs.declared.line_places.Place.{Place}
+use Rattle.wire_explain.specs.declared.line_places.Place.TheVariants.{Opening, InJob, InRank}
 
 -- the line of a plan that a fault names
 abbrev pub plan_line : Fault → Option ℕ

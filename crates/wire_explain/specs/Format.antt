@@ -1,5 +1,5 @@
 -- The lines of the format by their first words, and how each is written.
-use Rattle.std.specs.Prelude.{◌≡◌, ◌⊎◌, ℕ, Bool, true, false, List, [], ◌∷◌, map, Option, Some, None, codes, slice_get, if◌then◌else◌}
+use Rattle.std.specs.Prelude.{◌≡◌, ◌⊎◌, ℕ, Bool, ◌||◌, true, false, List, [], ◌∷◌, ◌++◌, map, Option, Some, None, codes, slice_get, if◌then◌else◌}
 use Rattle.std.specs.List.{All}
 use Rattle.std.specs.Str.{bytes_eq}
 use Rattle.wire_types.specs.declared.Scope.TheVariants.{Local, Remote, Global}
@@ -36,12 +36,12 @@ usage_in (usage ∷ others) word = if bytes_eq usage.0 word then Some usage.1 el
 abbrev pub usage_of : List ℕ → Option (List ℕ)
 usage_of word = usage_in usages word
 
--- whether there is a usage, which begins with a quote and the word
+-- whether there is a usage, which begins with a quote and the whole word: a blank or a quote comes behind it
 abbrev pub begins_as : List ℕ → Option (List ℕ) → Bool
 begins_as word None = false
-begins_as word (Some usage) = begins_with (39 ∷ word) usage
+begins_as word (Some usage) = begins_with (39 ∷ (word ++ 32 ∷ [])) usage || begins_with (39 ∷ (word ++ 39 ∷ [])) usage
 
--- each line of the format has a usage, which begins with the first word of the line
+-- each line of the format has a usage, which begins with the first word of the line, whole
 abbrev pub LinesHaveUsages : Type 0
 LinesHaveUsages = (said : Said) → begins_as (first_word said) (usage_of (first_word said)) ≡ true
 

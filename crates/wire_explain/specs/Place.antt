@@ -4,8 +4,8 @@ use Rattle.std.specs.Str.{bytes_eq}
 use Rattle.wire_lines.specs.Text.{words_of}
 use Rattle.wire_script.specs.Statements.{Statement, statements}
 use Rattle.wire_explain.specs.Quote.{line_at}
-use Rattle.wire_explain.specs.declared.place.Place.{Place}
-use Rattle.wire_explain.specs.declared.place.Place.TheVariants.{Opening, InJob, InRank}
+use Rattle.wire_explain.specs.declared.line_places.Place.{Place}
+use Rattle.wire_explain.specs.declared.line_places.Place.TheVariants.{Opening, InJob, InRank}
 
 -- the first of some words, empty where there is none
 abbrev pub first_in : List (List ℕ) → List ℕ

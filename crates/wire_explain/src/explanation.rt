@@ -8,9 +8,9 @@ ghost use Rattle.wire_plan.specs.Kinds.{kind_of};
 ghost use Rattle.wire_explain.specs.Quote.{shown_byte, is_printable_text, labelled};
 ghost use Rattle.wire_explain.specs.Stops as spec;
 
-use crate::arrivals::done_of;
+use crate::not_arrived::done_of;
 use crate::quote::{push_quoted, shown_text};
-use crate::waits::push_wait;
+use crate::wait_words::push_wait;
 use std::alloc::{AllocError, Global};
 use wire_content::Scripts;
 use wire_core::Core;

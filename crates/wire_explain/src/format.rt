@@ -1,6 +1,7 @@
 //! The lines of the format, by their first words.
 
 ghost use Rattle.std.specs.Prelude.{◌≡◌, map, option_map, OnOk, IfOk};
+ghost use Rattle.wire_types.specs.Texts.{texts_of};
 ghost use Rattle.wire_explain.specs.Format as spec;
 
 use std::alloc::{AllocError, Global};
@@ -87,7 +88,7 @@ fn first_words(
     alloc: Global,
     table: &[(&'static str, &'static str)],
 ) -> Result<Vec<&'static [u8]>, AllocError>
-    ensures { IfOk result (λ words. map (λ w. w.now) words.items ≡ map (λ u. u.0.now) table.now) }
+    ensures { IfOk result (λ words. texts_of words.items ≡ map (λ u. u.0.now) table.now) }
 {
     let mut words = Vec::new(alloc);
     for usage in table {
@@ -98,7 +99,7 @@ fn first_words(
 
 /// The first words of the format.
 pub(crate) fn format_words(alloc: Global) -> Result<Vec<&'static [u8]>, AllocError>
-    ensures { IfOk result (λ words. map (λ w. w.now) words.items ≡ spec.format_words) }
+    ensures { IfOk result (λ words. texts_of words.items ≡ spec.format_words) }
 {
     first_words(alloc, usages())
 }

@@ -1,22 +1,23 @@
 //! The nearest word that may be meant where a line is wrong.
 
-ghost use Rattle.std.specs.Prelude.{◌≡◌, map, option_map, slice_get, IfOk};
+ghost use Rattle.std.specs.Prelude.{◌≡◌, option_map, slice_get, IfOk};
 ghost use Rattle.std.specs.List.{list_any};
 ghost use Rattle.std.specs.Str.{bytes_eq};
+ghost use Rattle.wire_types.specs.Texts.{texts_of};
 ghost use Rattle.wire_explain.specs.Format as format;
 ghost use Rattle.wire_explain.specs.Place as there;
 ghost use Rattle.wire_explain.specs.Hint as spec;
 ghost use Rattle.wire_explain.specs.Hint.{IsHintFor};
 
 use crate::format::format_words;
+use crate::line_places::{first_in, words_at};
 use crate::near::find_nearest;
-use crate::place::{first_in, words_at};
 use std::alloc::{AllocError, Global};
 use wire_types::Fault;
 
 /// The word at a place of a line, from 0.
 fn word_in<'a>(words: &[&'a [u8]], place: usize) -> Option<&'a [u8]>
-    ensures { option_map (λ w. w.now) result ≡ slice_get (map (λ w. w.now) words.now) place }
+    ensures { option_map (λ w. w.now) result ≡ slice_get (texts_of words.now) place }
 {
     match words.get(place) {
         Some(word) => Some(*word),
@@ -26,7 +27,7 @@ fn word_in<'a>(words: &[&'a [u8]], place: usize) -> Option<&'a [u8]>
 
 /// Whether a word is one of some words.
 fn is_among(word: &[u8], words: &[&[u8]]) -> bool
-    ensures { result ≡ list_any (bytes_eq word.now) (map (λ w. w.now) words.now) }
+    ensures { result ≡ list_any (bytes_eq word.now) (texts_of words.now) }
 {
     for other in words {
         if word == *other {
@@ -38,7 +39,7 @@ fn is_among(word: &[u8], words: &[&[u8]]) -> bool
 
 /// The nearest of the words that the format has at a place, where a word stands there that is none of them.
 fn hint_for<'a>(known: &[&'a [u8]], word: Option<&[u8]>) -> Option<&'a [u8]>
-    ensures { IsHintFor (map (λ w. w.now) known.now) (option_map (λ w. w.now) word.entry) (option_map (λ w. w.now) result) }
+    ensures { IsHintFor (texts_of known.now) (option_map (λ w. w.now) word.entry) (option_map (λ w. w.now) result) }
 {
     match word {
         Some(word) if !is_among(word, known) => find_nearest(word, known),
@@ -48,8 +49,8 @@ fn hint_for<'a>(known: &[&'a [u8]], word: Option<&[u8]>) -> Option<&'a [u8]>
 
 /// The nearest of the words that may be meant in a line that isn't one of the format.
 fn hint_of_line(alloc: Global, words: &[&[u8]]) -> Result<Option<&'static [u8]>, AllocError>
-    ensures { IfOk result (λ hint. IsHintFor (format.choices (there.first_in (map (λ w. w.now) words.now)))
-        (slice_get (map (λ w. w.now) words.now) (format.choice_place (there.first_in (map (λ w. w.now) words.now)))) (option_map (λ w. w.now) hint)) }
+    ensures { IfOk result (λ hint. IsHintFor (format.choices (there.first_in (texts_of words.now)))
+        (slice_get (texts_of words.now) (format.choice_place (there.first_in (texts_of words.now)))) (option_map (λ w. w.now) hint)) }
 {
     let first = first_in(words);
     if first == b"put".as_slice() {

@@ -2,23 +2,23 @@
 //! order can't be taken, they say where its rank stands and what it waits for.
 #![tactic(auto)]
 
-mod arrivals;
 mod explanation;
 mod format;
 mod hint;
 mod law;
+pub mod line_places;
 mod near;
-mod order;
-pub mod place;
-mod plan;
+mod not_arrived;
+mod order_faults;
+mod plan_faults;
 mod quote;
 mod stop;
-mod waits;
+mod wait_words;
 
 pub use law::{choices_are_words, lines_have_usages, usages_are_lines, waits_are_reasons};
+pub use line_places::Place;
 pub use near::{find_nearest, is_within};
-pub use order::{explain_order, explain_word};
-pub use place::Place;
-pub use plan::explain_plan;
+pub use order_faults::{explain_order, explain_word};
+pub use plan_faults::explain_plan;
 pub use quote::{push_quoted, shown_text};
 pub use stop::explain_stop;

@@ -2,14 +2,14 @@
 //! ran before. And what brings a key to a node before a get.
 #![tactic(auto)]
 
-mod fence_deliveries;
 mod fate;
+mod fence_deliveries;
 mod get_deliveries;
 mod key_fates;
 mod name_fates;
 mod settled;
 
-pub use fence_deliveries::{KeyRead, comes_surely, late_source, may_be_late, next_arrival};
 pub use fate::Fate;
+pub use fence_deliveries::{KeyRead, comes_surely, late_source, may_be_late, next_arrival};
 pub use get_deliveries::process_end;
 pub use settled::{Settled, Unsettled};

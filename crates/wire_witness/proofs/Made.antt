@@ -1,5 +1,5 @@
 -- Runs that are made by limits: what is held back, and what is needed.
-use Rattle.std.proofs.Common.{◌≡◌, ◌∙◌, refl, sym, ap, subst, inl, inr, ℕ, zero, suc, ◌+◌, ◌<◌, ◌≤◌, ◌==◌, List, [], ◌∷◌, ◌++◌, length, length-append, Option, Some, None, true, eq-eqb, ne_eqb, arith}
+use Rattle.std.proofs.Common.{◌≡◌, ◌∙◌, refl, sym, ap, subst, inl, inr, ℕ, zero, suc, ◌+◌, ◌<◌, ◌≤◌, List, [], ◌∷◌, ◌++◌, length, length-append, Option, Some, None, true, eq-eqb, ne_eqb, arith}
 use Rattle.std.specs.Prelude.{◌⊎◌, IfSome}
 use Rattle.std.proofs.lemmas.Option.{slice_get_past}
 use Rattle.wire_types.specs.declared.CallAt.{CallAt}
@@ -8,7 +8,7 @@ use Rattle.wire_runs.specs.Plan.{Plan, Event, event_count, process_count}
 use Rattle.wire_runs.specs.State.{State, start, next_event, next_kind, IsDone}
 use Rattle.wire_runs.specs.Step.{is_enabled, IsInterleaving, run}
 use Rattle.wire_runs.specs.Ends.{process_calls, calls_of, first_event}
-use Rattle.wire_runs.specs.Order.{Live, Before}
+use Rattle.wire_runs.specs.Order.{Live}
 use Rattle.wire_runs.proofs.Basics.{event_within, process_within}
 use Rattle.wire_runs.proofs.Due.{has_event, reachable_sound, enabled_is_due}
 use Rattle.wire_runs.proofs.Fates.{live_event}

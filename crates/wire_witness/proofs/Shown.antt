@@ -1,5 +1,5 @@
 -- Races that were tried, and one more.
-use Rattle.std.proofs.Common.{◌≡◌, ◌∙◌, ap, subst, sym, ℕ, suc, ◌+◌, List, [], ◌∷◌, ◌++◌, map, take, Option, Some, None, IfSome, arith}
+use Rattle.std.proofs.Common.{◌≡◌, ◌∙◌, ap, subst, sym, ℕ, suc, ◌+◌, List, [], ◌∷◌, ◌++◌, map, take, Some, IfSome, arith}
 use Rattle.std.specs.Prelude.{slice_get}
 use Rattle.std.proofs.lemmas.List.{map-append}
 use Rattle.wire_types.specs.declared.CallAt.{CallAt}
@@ -9,8 +9,7 @@ use Rattle.wire_findings.specs.declared.finding.Finding.{Finding}
 use Rattle.wire_witness.specs.Witness.{IsWitness}
 use Rattle.wire_witness.specs.declared.witness.Witness.{Witness}
 use Rattle.wire_races.specs.Reported.{race_calls}
-use Rattle.wire_witness.specs.NotShown.{IsNotShown}
-use Rattle.wire_witness.specs.Tried.{IsShownBy, IsTriedBy, IsTried, AreTried}
+use Rattle.wire_witness.specs.Tried.{IsShownBy, IsTried, AreTried}
 use Rattle.wire_witness.specs.declared.tried.TriedRace.{TriedRace}
 
 with_one : (scripts : Scripts) (tried : List TriedRace) (one : TriedRace) → AreTried scripts tried → IsTried scripts one → AreTried scripts (tried ++ one ∷ [])
@@ -32,10 +31,3 @@ pub shown_race : (scripts : Scripts) (race : Finding) (calls : CallAt × CallAt)
     IfSome (race_calls race) (IsShownBy scripts witness.call)
 shown_race scripts race calls witness is of_them =
     subst (λ o. IfSome o (IsShownBy scripts witness.call)) is (record { witness = witness; of_them = of_them; ends = λ i. witness.call })
-
--- and where none of the runs that were made shows a difference, it is not shown
-pub unshown_race : (scripts : Scripts) (race : Finding) (calls : CallAt × CallAt) → Some calls ≡ race_calls race → IsNotShown scripts calls.0 calls.1 → IsTriedBy scripts race None
-unshown_race scripts race calls is not_shown = subst (λ o. IfSome o (λ both. IsNotShown scripts both.0 both.1)) is not_shown
-
-pub no_race : (scripts : Scripts) (race : Finding) → None ≡ race_calls race → IsTriedBy scripts race None
-no_race scripts race is = subst (λ (o : Option (CallAt × CallAt)). IfSome o (λ both. IsNotShown scripts both.0 both.1)) is tt

@@ -1,4 +1,4 @@
-use Rattle.wire_witness.proofs.Shown.{shown_race, unshown_race, no_race}
+use Rattle.wire_witness.proofs.Shown.{shown_race}
 use Rattle.wire_witness.proofs.tried.try_race.Goals as goal
 
 pub returns-in-Some-2-clause-shown : goal.returns-in-Some-2-clause-shown
