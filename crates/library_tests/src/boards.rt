@@ -77,8 +77,8 @@ fn advance_seat(board: &Board, seat: &mut Seat, settled: &Settled) -> bool
     shown
 }
 
-/// Steps through the board of a plan whose second rank waits for two events of the first. Whether the second seat shows its event only
-/// once it has read that the first one has done its two.
+/// Steps through the board of a plan whose second rank waits for two events of the first. Whether the second seat shows
+/// its event only once it has read that the first one has done its two.
 fn step_both(board: &Board, zero: &mut Seat, one: &mut Seat, settled: &Settled) -> bool
     requires plan { board.now.plan ≡ settled.now }
     requires zero { zero.old.board ≡ board.now }
@@ -181,8 +181,8 @@ struct Left {
     words: Vec<u64>,
 }
 
-/// What becomes of the lanes of two ranks, the second of which waits for two events of the first: which one is looked at, whether it is
-/// ready, and how many events it then serves. The last row asks for a lane that isn't there.
+/// What becomes of the lanes of two ranks, the second of which waits for two events of the first: which one is looked
+/// at, whether it is ready, and how many events it then serves. The last row asks for a lane that isn't there.
 const TURNS: [(u32, bool, usize); 5] = [
     (1, false, 0),
     (0, true, 2),
@@ -427,8 +427,8 @@ fn tell_by_two<R: Threads + Wait + Sync>(
     }
 }
 
-/// Two threads serve the lanes of a settled plan. Answers how many events these did, and whether the trails and the words tell the plain run's
-/// outcome.
+/// Two threads serve the lanes of a settled plan. Answers how many events these did, and whether the trails and the
+/// words tell the plain run's outcome.
 fn compare_with_plain<R: Threads + Wait + Sync>(
     rt: &R,
     alloc: Global,

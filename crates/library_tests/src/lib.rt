@@ -1,4 +1,5 @@
-//! Tests of the library's functions by themselves: what threads do, which no contract says, and what parts of a run give.
+//! Tests of the library's functions by themselves: what threads do, which no contract says, and what parts of a run
+//! give.
 #![tactic(auto)]
 
 #[cfg(test)]

@@ -244,7 +244,8 @@ pub(crate) fn are_alike(one: &Outcome, other: &Outcome) -> bool {
     one.rows == other.rows && one.waiting == other.waiting
 }
 
-/// What a run left: how many steps it took, how many processes wait, and what the last call of the last process replied.
+/// What a run left: how many steps it took, how many processes wait, and what the last call of the last process
+/// replied.
 #[derive(Clone, Copy)]
 struct Left {
     steps: usize,
@@ -252,7 +253,8 @@ struct Left {
     last: Option<Status>,
 }
 
-/// Runs a file by so many workers, under one lock and then over a board, each with its gate. Asserts that both leave the same.
+/// Runs a file by so many workers, under one lock and then over a board, each with its gate. Asserts that both leave
+/// the same.
 fn run_both<R: Abort + Threads + Wait + Sync, G: Gate + Sync>(
     rt: &R,
     alloc: Global,
@@ -360,8 +362,8 @@ fn one_worker_serves_a_round(rt: HostRuntime) -> Result<(), Fail> {
     Ok(())
 }
 
-/// Runs a file by one worker, and asserts that nothing waits, how often the worker passes a process under one lock and over a board, and
-/// that the collector passes none.
+/// Runs a file by one worker, and asserts that nothing waits, how often the worker passes a process under one lock and
+/// over a board, and that the collector passes none.
 fn assert_counts<R: Abort + Threads + Wait + Sync>(
     rt: &R,
     alloc: Global,
@@ -393,8 +395,8 @@ fn the_collector_serves_nothing(rt: HostRuntime) -> Result<(), Fail> {
     Ok(())
 }
 
-/// Over a board, a worker serves what its own steps set free in the same turn, so the last rank of a row is passed once. Under one lock
-/// it is passed in each round.
+/// Over a board, a worker serves what its own steps set free in the same turn, so the last rank of a row is passed
+/// once. Under one lock it is passed in each round.
 #[test]
 fn turns_save_rounds(rt: HostRuntime) -> Result<(), Fail> {
     assert_counts(&rt, rt.alloc(), IN_A_ROW, Proc::new(4), (3, 1))?;

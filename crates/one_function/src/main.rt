@@ -2,9 +2,9 @@
 //!
 //!     parts FUNCTION < FILE
 //!
-//! It makes what the function needs, calls it, and writes what it gave. A fault is two lines on standard error: whether it came
-//! before the function, within it or after it, and the line that the program `wire_up` has for it. So a test that refuses
-//! memory sees what was refused. The status is that of the fault, and 5 where there is no such function.
+//! It makes what the function needs, calls it, and writes what it gave. A fault is two lines on standard error: whether
+//! it came before the function, within it or after it, and the line that the program `wire_up` has for it. So a test
+//! that refuses memory sees what was refused. The status is that of the fault, and 5 where there is no such function.
 #![tactic(auto)]
 
 mod answers;

@@ -91,9 +91,7 @@ pub fn run_command<R: Read, W: Sink>(
     let manner = manner_of(&request);
     match request.command {
         Command::Check => status_of(check_plan(rt, rt.alloc(), manner, reader, writer)),
-        Command::Replay(options) => {
-            replay(rt, manner, options, watch.progress, reader, writer)
-        }
+        Command::Replay(options) => { replay(rt, manner, options, watch.progress, reader, writer) }
         Command::Follow(order) => {
             if request.plan.is_none() {
                 // Where standard input is closed, the order would be opened in its place, and be read as the

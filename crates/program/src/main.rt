@@ -1,5 +1,5 @@
-//! The program `wire_up`: hands its words, its file and the standard streams to the library, and ends
-//! with a status: 0 done without findings, 1 findings or a call that fails, 2 refused, 3 memory, 4 reading or writing, 5 usage.
+//! The program `wire_up`: hands its words, its file and the standard streams to the library, and ends with a status: 0
+//! done without findings, 1 findings or a call that fails, 2 refused, 3 memory, 4 reading or writing, 5 usage.
 #![tactic(auto)]
 
 mod commands;
@@ -22,9 +22,9 @@ use std::thread::Threads;
 use std::time::Clock;
 use std::{env, io, thread};
 use terminal_line::{NotedReader, NotedWriter, Progress, Streams, start_line};
+use wire_command_line::{Command, Refusal, Request, read_request};
 use wire_explain::{explain_order, explain_plan, explain_stop, explain_word};
 use wire_types::{Fault, FromRead, ToWrite, write_out};
-use wire_command_line::{Command, Refusal, Request, read_request};
 
 /// The exit status of a command line that can't be read.
 const USAGE: u8 = 5;
@@ -185,8 +185,8 @@ fn order_of<'a>(command: Command<'a>) -> &'a str {
     }
 }
 
-/// Appends the line that says for which error a file couldn't be opened or read. A byte of its name that isn't printable
-/// ASCII is shown as `?`.
+/// Appends the line that says for which error a file couldn't be opened or read. A byte of its name that isn't
+/// printable ASCII is shown as `?`.
 fn push_reason(
     alloc: Global,
     text: &mut Vec<u8>,
@@ -227,7 +227,8 @@ fn explain_failure(alloc: Global, fault: Fault, watch: &Watch<'_, '_>) -> Failur
     }
 }
 
-/// Runs the command that was requested, with a line on the terminal that says how far it is, and answers the exit status.
+/// Runs the command that was requested, with a line on the terminal that says how far it is, and answers the exit
+/// status.
 fn serve_with_line<R: Files + Input + Print + Eprint + AllocGlobal + Clock + Threads + Wait + Sync>(
     rt: &R,
     request: Request<'_>,

@@ -1,5 +1,6 @@
 //! The line on a terminal that says what a long command is at, and how far. It shows on standard error, if that is a
-//! terminal, and is gone before anything else is written there. No contract speaks of it, and an error of it counts for nothing.
+//! terminal, and is gone before anything else is written there. No contract speaks of it, and an error of it counts for
+//! nothing.
 
 use std::io::{IsTerminal, Read, Stderr, Stdin, Write};
 use std::rt::Files;

@@ -1,5 +1,6 @@
 -- What clauses see of a lane, and what its type keeps.
-use Rattle.std.specs.Prelude.{◌≡◌, ◌≢◌, ◌↔◌, ◌⊎◌, ℕ, suc, true, ◌++◌, ◌≤◌, List, [], Option, Some, None, IfSome, Vec, length, slice_get, slice_index}
+use Rattle.std.specs.Prelude.{◌≡◌, ◌≢◌, ◌↔◌, ◌⊎◌, ℕ, suc, true, ◌++◌, ◌≤◌, List, [], Option, Some, None, IfSome, Vec}
+use Rattle.std.specs.Prelude.{length, slice_get, slice_index}
 use Rattle.std.specs.List.{All}
 use Rattle.std.specs.declared.alloc.Global.{Global}
 use Rattle.wire_runs.specs.Plan.{Plan, Event, event_count, process_count}
@@ -21,8 +22,8 @@ pub record LaneIs : Type 0 where
 abbrev pub AreFates : Plan → ℕ → List Fate → Type 0
 AreFates plan rank trail = (i : ℕ) (fate : Fate) → slice_get trail i ≡ Some fate → IsFateOf plan (record { proc = rank; at = i }) fate × (fate ≢ Waits)
 
--- the seat is of this board, and the board was made of this settled plan; the trail has the fates of the rank's first events, as
--- many as are done, and room for all
+-- the seat is of this board, and the board was made of this settled plan; the trail has the fates of the rank's first
+-- events, as many as are done, and room for all
 pub record IsLane (board : BoardIs) (settled : Scripts) (seat : SeatIs) (trail : List Fate) (capacity : ℕ) : Type 0 where
   pub board_is : seat.board ≡ board
   pub plan_is : board.plan ≡ settled
@@ -101,8 +102,8 @@ pub record Tell (plan : Plan) (lanes : List LaneIs) (told : Option (Vec (Vec Fat
   pub some : (told ≢ None) ↔ AreLanesOf plan lanes
   pub trails : IfSome told (λ trails. AreTrailsOf lanes trails.items)
 
--- what comes from under so many locks, in their order: from under each lock a lane, whose trail has the fates of its rank's first events, as
--- many as are done
+-- what comes from under so many locks, in their order: from under each lock a lane, whose trail has the fates of its
+-- rank's first events, as many as are done
 pub record AreUnlocked (count : ℕ) (lanes : List LaneIs) : Type 0 where
   pub as_many : length lanes ≡ count
   pub keep : All IsTrail lanes

@@ -13,8 +13,8 @@ use Rattle.wire_board.specs.Lanes.{AreFates}
 abbrev pub IsPlainReply : Plan → Event → Fate → Type 0
 IsPlainReply plan y found = (a : Answer) × (slice_get ((plain_end plan).replies y.proc) y.at ≡ Some a) × (found ≡ answer_told plan a)
 
--- where the words are the cut of a state that a run can come to: of a trail that has no more entries than its rank's word says, each
--- tells what the plain run replies to its event
+-- where the words are the cut of a state that a run can come to: of a trail that has no more entries than its rank's
+-- word says, each tells what the plain run replies to its event
 abbrev pub TrailsArePlain : Type 0
 TrailsArePlain =
     (plan : Plan) (words : List ℕ) (rank : ℕ) (trail : List Fate) → IsSettled plan → IsReachedCut plan words → AreFates plan rank trail

@@ -1,5 +1,6 @@
 -- The rule of the table of words: what holds of the words, and of what the seats know, between any two steps.
-use Rattle.std.specs.Prelude.{◌≡◌, ◌==◌, ℕ, zero, suc, ◌+◌, ◌<◌, ◌≤◌, false, List, [], ◌∷◌, length, map, replicate, slice_index, slice_set, if◌then◌else◌}
+use Rattle.std.specs.Prelude.{◌≡◌, ◌==◌, ℕ, zero, suc, ◌+◌, ◌<◌, ◌≤◌, false, List, [], ◌∷◌, length, map, replicate}
+use Rattle.std.specs.Prelude.{slice_index, slice_set, if◌then◌else◌}
 use mathlib.Core.Option.{some}
 use lib.ListN.{get_elem?}
 use Rattle.atomic_table.specs.Table.{State, Me, Step}
@@ -36,8 +37,8 @@ abbrev pub owners_of : ℕ → List (List Hold) → ℕ
 owners_of r [] = 0
 owners_of r (v ∷ vs) = count_of r v + owners_of r vs
 
--- the words are the cut of a state that a run can come to, what each seat knows is true, and each rank has one owner at most.
--- A seat that is spent owns no rank and knows nothing
+-- the words are the cut of a state that a run can come to, what each seat knows is true, and each rank has one owner at
+-- most. A seat that is spent owns no rank and knows nothing
 pub record IsKept {S : Type 0} (plan : Scripts) (s : State S (List Hold)) : Type 0 where
   pub cut : IsReachedCut (plan_of plan) s.words
   pub fits : (seat : ℕ) (v : List Hold) → get_elem? s.views seat ≡ some v → Each (Fits plan s.words) v

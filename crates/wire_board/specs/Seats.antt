@@ -35,7 +35,8 @@ next_of seat = next_in (hold_of seat)
 abbrev pub ShowsNext : SeatIs → Type 0
 ShowsNext seat = ShowsNextIn (plan_of seat.board.plan) (hold_of seat)
 
--- there is a next event, its fate isn't to wait, and the positions that the seat knows imply that all its sources are done
+-- there is a next event, its fate isn't to wait, and the positions that the seat knows imply that all its sources are
+-- done
 abbrev pub ImpliesNext : SeatIs → Type 0
 ImpliesNext seat = ImpliesNextIn (plan_of seat.board.plan) (hold_of seat)
 

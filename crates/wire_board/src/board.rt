@@ -1,11 +1,13 @@
 //! The words, and what seats do with them.
 
-ghost use Rattle.std.specs.Prelude.{◌≡◌, ℕ, ◌+◌, ◌<◌, ◌≤◌, All, [], length, map, replicate, IfOk, OnOk, IsOkUnless, MatchOption, slice_index, slice_set};
+ghost use Rattle.std.specs.Prelude.{◌≡◌, ℕ, ◌+◌, ◌<◌, ◌≤◌, All, [], length, map, replicate, IfOk, OnOk, IsOkUnless};
+ghost use Rattle.std.specs.Prelude.{MatchOption, slice_index, slice_set};
 ghost use Rattle.std.specs.Mem.Slots.{slots_items, slots_len, IsFull};
 ghost use Rattle.wire_types.specs.declared.Fault.TheVariants.{Memory};
 ghost use Rattle.wire_content.specs.Planned.{plan_of};
 ghost use Rattle.wire_board.specs.Cuts.{procs_of, IsReachedCut};
-ghost use Rattle.wire_board.specs.Seats.{place_of, hold_of, opening_seat, opening_seats, ranks_from, Has, ShowsNext, ImpliesNext, IsTrueOf};
+ghost use Rattle.wire_board.specs.Seats.{place_of, hold_of, opening_seat, opening_seats, ranks_from, Has, ShowsNext};
+ghost use Rattle.wire_board.specs.Seats.{ImpliesNext, IsTrueOf};
 
 use crate::hold::{Hold, Positions, Ranks, Reads, Stores, TableSeat};
 use crate::seat::Seat;
@@ -143,8 +145,8 @@ impl Board {
         self.advance_implied(seat, settled);
     }
 
-    /// The same, where the caller ensures less: what the seat knows implies that the event can happen. Each source of it
-    /// is known to be done, or an event is known to be done that waits for this source too.
+    /// The same, where the caller ensures less: what the seat knows implies that the event can happen. Each source of
+    /// it is known to be done, or an event is known to be done that waits for this source too.
     pub fn advance_implied(&self, seat: &mut Seat, settled: &Settled)
         requires seat { seat.old.board ≡ self.now }
         requires plan { self.now.plan ≡ settled.now }

@@ -9,8 +9,8 @@ ghost use Rattle.wire_board.specs.Lanes.{WaitsForMore, SameEvents};
 use wire_plan::{Plan, Sources};
 use wire_types::{Event, Proc};
 
-/// The last of these arrivals by a process before this one, if they are in process order; or the last of all, where there is
-/// none before.
+/// The last of these arrivals by a process before this one, if they are in process order; or the last of all, where
+/// there is none before.
 fn member_before(arrivals: &[Event], proc: Proc) -> Option<Event>
     ensures { IfSome result (λ x. (k : ℕ) × (slice_get arrivals.now k ≡ Some x)) }
 {
@@ -25,8 +25,8 @@ fn member_before(arrivals: &[Event], proc: Proc) -> Option<Event>
     }
 }
 
-/// The event that follows one of the arrivals for which an event waits: the end of the same fence in the script of the member
-/// before its process, or of the last member where none is before. None where the event doesn't end a fence.
+/// The event that follows one of the arrivals for which an event waits: the end of the same fence in the script of the
+/// member before its process, or of the last member where none is before. None where the event doesn't end a fence.
 pub(crate) fn end_before(plan: &Plan, event: Event) -> Option<Event>
     requires { event.at < event_count (plan_of plan.now) event.proc.number }
     ensures { IfSome result (λ end. WaitsForMore (plan_of plan.now) (event_of event) (event_of end)) }
@@ -55,8 +55,8 @@ fn next_member(arrivals: &[Event], proc: Proc) -> Option<Event>
     }
 }
 
-/// These sources. Where they are those of the end of a fence, the arrival of the member after this process stands in front of
-/// the other arrivals too: where ranks are served in order, that one is likely to be missing.
+/// These sources. Where they are those of the end of a fence, the arrival of the member after this process stands in
+/// front of the other arrivals too: where ranks are served in order, that one is likely to be missing.
 pub(crate) fn next_member_first<'a>(sources: Sources<'a>, proc: Proc) -> Sources<'a>
     ensures { SameEvents (source_list sources.entry.previous sources.entry.awaited sources.entry.arrivals.now)
         (source_list result.previous result.awaited result.arrivals.now) }

@@ -1,6 +1,7 @@
 //! One rank's seat, and the trail of what its events did.
 
-ghost use Rattle.std.specs.Prelude.{◌≡◌, ◌≢◌, ◌+◌, ◌<◌, ◌≤◌, [], length, None, IfOk, IfSome, MatchOption, IsOkUnless, IsTrue, ◌↔◌};
+ghost use Rattle.std.specs.Prelude.{◌≡◌, ◌≢◌, ◌+◌, ◌<◌, ◌≤◌, [], length, None, IfOk, IfSome, MatchOption, IsOkUnless};
+ghost use Rattle.std.specs.Prelude.{IsTrue, ◌↔◌};
 ghost use Rattle.wire_types.specs.declared.Fault.TheVariants.{Memory};
 ghost use Rattle.wire_runs.specs.Plan.{event_of, event_count};
 ghost use Rattle.wire_runs.specs.Fate.{HasFate, Waits};
@@ -103,7 +104,8 @@ impl<'a> Lane<'a> {
         self.trail.as_slice()
     }
 
-    /// The event that was missing when the next event was looked at last: one for which it waits; `None` where none was.
+    /// The event that was missing when the next event was looked at last: one for which it waits; `None` where none
+    /// was.
     pub fn missing(&self) -> Option<Event>
         ensures { IfSome result (λ x. Edge (plan_of self.now.seat.board.plan) (event_of x) (next_of self.now.seat)) }
     {
@@ -113,7 +115,8 @@ impl<'a> Lane<'a> {
         }
     }
 
-    /// Whether the seat knows that an event is done. Where it doesn't, it reads the word of the event's process afresh first.
+    /// Whether the seat knows that an event is done. Where it doesn't, it reads the word of the event's process afresh
+    /// first.
     fn finds(&mut self, source: Event) -> bool
         ensures read { HasRead self.old self.new }
         ensures found { result ≡ shows_event self.new.seat.known (event_of source) }
@@ -130,8 +133,8 @@ impl<'a> Lane<'a> {
         self.seat.knows(source)
     }
 
-    /// The sources of the next event that may not be known to be done: those from the first one on that was missing when
-    /// they were looked at last, or all.
+    /// The sources of the next event that may not be known to be done: those from the first one on that was missing
+    /// when they were looked at last, or all.
     fn sources_left(&self, event: Event) -> Sources<'a>
         requires event { (event_of event ≡ next_of self.now.seat) × (event.at < event_count (plan_of self.now.seat.board.plan) event.proc.number) }
         ensures { AreLeft (plan_of self.now.seat.board.plan) self.now.seat (source_list result.previous result.awaited result.arrivals.now) }
@@ -153,8 +156,9 @@ impl<'a> Lane<'a> {
         self.left = Some(left);
     }
 
-    /// Whether the seat knows all sources of the next event to be done. It reads afresh the word of each that it doesn't know to
-    /// be done, up to the first that isn't done then. Each source is passed once, however often this is called.
+    /// Whether the seat knows all sources of the next event to be done. It reads afresh the word of each that it
+    /// doesn't know to be done, up to the first that isn't done then. Each source is passed once, however often this is
+    /// called.
     fn finds_all(&mut self, event: Event) -> bool
         requires event { (event_of event ≡ next_of self.old.seat) × (event.at < event_count (plan_of self.old.seat.board.plan) event.proc.number) }
         ensures read { HasRead self.old self.new }
@@ -171,8 +175,8 @@ impl<'a> Lane<'a> {
         true
     }
 
-    /// Whether all members have arrived at the fence that the next event ends, as the word of another member tells: that
-    /// member has left the fence. False where the next event doesn't end a fence.
+    /// Whether all members have arrived at the fence that the next event ends, as the word of another member tells:
+    /// that member has left the fence. False where the next event doesn't end a fence.
     fn finds_other_left(&mut self, event: Event) -> bool
         requires event { (event_of event ≡ next_of self.old.seat) × (event.at < event_count (plan_of self.old.seat.board.plan) event.proc.number) }
         ensures read { HasRead self.old self.new }
@@ -216,8 +220,8 @@ impl<'a> Lane<'a> {
         }
     }
 
-    /// The fate of the next event, where the seat shows that it can happen after it read afresh the words of sources that
-    /// it didn't know to be done; else `None`.
+    /// The fate of the next event, where the seat shows that it can happen after it read afresh the words of sources
+    /// that it didn't know to be done; else `None`.
     fn next_fate(&mut self) -> Option<Fate>
         ensures read { HasRead self.old self.new }
         ensures ready { (result ≢ None) ↔ ShowsNext self.new.seat }
@@ -273,11 +277,11 @@ impl<'a> Lane<'a> {
         self.left = None;
     }
 
-    /// Serves the rank as far as it goes: reads afresh the sources of the next event that aren't known to be
-    /// done, up to the first that isn't done, and does the event where its seat shows that it can happen,
-    /// until it doesn't after fresh reads. At the end of a fence it first looks whether another member has left
-    /// the fence; then it needn't read the words of the others. Answers how many events that were: so many entries the trail has
-    /// more. It waits for nobody, takes no memory and can't fail. No clause says that it reads.
+    /// Serves the rank as far as it goes: reads afresh the sources of the next event that aren't known to be done, up
+    /// to the first that isn't done, and does the event where its seat shows that it can happen, until it doesn't after
+    /// fresh reads. At the end of a fence it first looks whether another member has left the fence; then it needn't
+    /// read the words of the others. Answers how many events that were: so many entries the trail has more. It waits
+    /// for nobody, takes no memory and can't fail. No clause says that it reads.
     pub fn advance_far(&mut self) -> usize
         ensures same { SameLane self.old self.new }
         ensures trail { Grows self.old.trail self.new.trail result }

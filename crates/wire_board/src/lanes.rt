@@ -17,8 +17,8 @@ use std::sync::{Mutex, Wait};
 use wire_fates::{Fate, Settled};
 use wire_types::{Event, Fault, Proc};
 
-/// What became of a rank that was served: how many events that were, how many of its events are done, and the event that
-/// was missing, for which its next one waits.
+/// What became of a rank that was served: how many events that were, how many of its events are done, and the event
+/// that was missing, for which its next one waits.
 #[derive(Clone, Copy)]
 pub struct Served {
     pub events: usize,
@@ -103,11 +103,11 @@ impl<'a> Lanes<'a> {
         }
     }
 
-    /// The trails of the lanes that come from under the locks, in process order: the r-th is the whole trail of a lane of
-    /// rank r. `None` where there aren't as many lanes as this plan has ranks, or where a lane is of another rank than its
-    /// place says or has entries that aren't the fates of this plan (`trails_of`). How far the lanes are isn't told: other
-    /// threads may have served them, or not; nor of which board they are, as no clause can name what is under a lock. The
-    /// one fault is `Fault::Memory`.
+    /// The trails of the lanes that come from under the locks, in process order: the r-th is the whole trail of a lane
+    /// of rank r. `None` where there aren't as many lanes as this plan has ranks, or where a lane is of another rank
+    /// than its place says or has entries that aren't the fates of this plan (`trails_of`). How far the lanes are isn't
+    /// told: other threads may have served them, or not; nor of which board they are, as no clause can name what is
+    /// under a lock. The one fault is `Fault::Memory`.
     pub fn trails(self, alloc: Global, settled: &Settled) -> Result<Option<Vec<Vec<Fate>>>, Fault>
         ensures told { IfOk result (λ o. IsToldBy (plan_of settled.now) self.entry.count o) }
         ensures lanes { IfOk result (λ o. IfSome o (λ trails. AreLaneTrails trails.items)) }

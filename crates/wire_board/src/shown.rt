@@ -1,6 +1,7 @@
 //! What positions show: for each process the number of its events that are known to be done.
 
-ghost use Rattle.std.specs.Prelude.{◌≡◌, ◌≢◌, ◌↔◌, ◌<◌, ◌≤◌, None, map, option_map, option_to_list, slice_index, IfSome, MatchOption, slice_get, IsTrue};
+ghost use Rattle.std.specs.Prelude.{◌≡◌, ◌≢◌, ◌↔◌, ◌<◌, ◌≤◌, None, map, option_map, option_to_list, slice_index};
+ghost use Rattle.std.specs.Prelude.{IfSome, MatchOption, slice_get, IsTrue};
 ghost use Rattle.std.specs.List.{list_all};
 ghost use Rattle.wire_runs.specs.Plan.{event_of, event_count};
 ghost use Rattle.wire_content.specs.Planned.{plan_of};

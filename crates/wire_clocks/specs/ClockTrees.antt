@@ -1,5 +1,6 @@
 -- The clocks of some processes. Each is known by a number, its root.
-use Rattle.std.specs.Prelude.{◌≡◌, ◌<◌, ℕ, Bool, true, false, List, [], Option, Some, None, nat_lt, slice_get, slice_index, if◌then◌else◌}
+use Rattle.std.specs.Prelude.{◌≡◌, ◌<◌, ℕ, Bool, true, false, List, [], Option, Some, None, nat_lt, slice_get}
+use Rattle.std.specs.Prelude.{slice_index, if◌then◌else◌}
 
 -- what stands at a number: what it says of each process, and whether it is a clock, which stays
 pub record Clock : Type 0 where

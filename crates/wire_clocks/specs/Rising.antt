@@ -2,7 +2,8 @@
 use Rattle.std.specs.Prelude.{◌≡◌, ◌*◌, ◌/◌, ◌%◌, ◌==◌, ℕ, List, max, length, slice_index, if◌then◌else◌}
 use Rattle.wire_clocks.specs.ClockTrees.{Clocks, says, IsRoot, Holds}
 
--- a clock that is being made: the root of a clock to begin with, and the least numbers of the processes of one block of 16
+-- a clock that is being made: the root of a clock to begin with, and the least numbers of the processes of one block of
+-- 16
 pub record Raise : Type 0 where
   pub base : ℕ
   pub block : ℕ

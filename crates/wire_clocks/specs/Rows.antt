@@ -1,5 +1,6 @@
 -- What a tree of rows stands for: a number for each process.
-use Rattle.std.specs.Prelude.{◌≡◌, ◌<◌, ◌≤◌, ◌/◌, ◌%◌, ◌^◌, ℕ, zero, suc, List, [], Option, Some, None, length, slice_get, slice_index}
+use Rattle.std.specs.Prelude.{◌≡◌, ◌<◌, ◌≤◌, ◌/◌, ◌%◌, ◌^◌, ℕ, zero, suc, List, [], Option, Some, None, length}
+use Rattle.std.specs.Prelude.{slice_get, slice_index}
 
 -- the numbers of a row, and none past the last row
 abbrev pub numbers_in : Option (List ℕ) → List ℕ
@@ -10,8 +11,8 @@ numbers_in (Some numbers) = numbers
 abbrev pub entry : List (List ℕ) → ℕ → ℕ → ℕ
 entry rows n i = slice_index (numbers_in (slice_get rows n)) i
 
--- what a tree says of the process p: a tree of height 0 is the number itself, and a higher one is a row whose numbers are its
--- subtrees, each of 16 ^ k processes
+-- what a tree says of the process p: a tree of height 0 is the number itself, and a higher one is a row whose numbers
+-- are its subtrees, each of 16 ^ k processes
 unfoldable pub tree_says : List (List ℕ) → ℕ → ℕ → ℕ → ℕ
 tree_says rows zero tree p = tree
 tree_says rows (suc k) tree p = tree_says rows k (entry rows tree (p / 16 ^ k)) (p % 16 ^ k)

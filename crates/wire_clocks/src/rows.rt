@@ -1,7 +1,8 @@
 //! Trees of fan-out 16 in one list of rows. A tree of height 0 is a number, and the numbers of a row are
 //! its subtrees. Rows are added, and never changed. Row 0 is all zeros, and is a tree of each height.
 
-ghost use Rattle.std.specs.Prelude.{◌≡◌, ◌<◌, ◌≤◌, ◌+◌, ◌-◌, ◌*◌, ◌/◌, ◌%◌, ◌^◌, ◌↔◌, ◌==◌, ℕ, IsTrue, IfOk, length, slice_index, max, if◌then◌else◌};
+ghost use Rattle.std.specs.Prelude.{◌≡◌, ◌<◌, ◌≤◌, ◌+◌, ◌-◌, ◌*◌, ◌/◌, ◌%◌, ◌^◌, ◌↔◌, ◌==◌, ℕ, IsTrue, IfOk, length};
+ghost use Rattle.std.specs.Prelude.{slice_index, max, if◌then◌else◌};
 ghost use Rattle.wire_clocks.specs.Rows.{entry, tree_says, IsTree, IsZero, Keeps};
 
 use std::alloc::AllocError;

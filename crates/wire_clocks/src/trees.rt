@@ -54,7 +54,8 @@ fn is_within(levels: u32, process: u32) -> bool
 }
 
 impl ClockTrees {
-    ghost use Rattle.std.specs.Prelude.{◌≡◌, ◌<◌, ◌≤◌, ◌*◌, ◌^◌, ◌/◌, ◌%◌, ◌==◌, ℕ, IfOk, max, slice_index, if◌then◌else◌};
+    ghost use Rattle.std.specs.Prelude.{◌≡◌, ◌<◌, ◌≤◌, ◌*◌, ◌^◌, ◌/◌, ◌%◌, ◌==◌, ℕ, IfOk, max, slice_index};
+    ghost use Rattle.std.specs.Prelude.{if◌then◌else◌};
     ghost use Rattle.wire_clocks.specs.ClockTrees.{says, IsRoot, Holds, HasZeros, Keeps};
 
     /// Trees for clocks of this many processes, as yet with the clock of zeros alone. The only error is that

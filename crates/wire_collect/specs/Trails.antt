@@ -1,5 +1,6 @@
 -- What trails tell of a run that can't go on.
-use Rattle.std.specs.Prelude.{◌≡◌, ℕ, zero, suc, ◌-◌, ◌<◌, List, [], ◌∷◌, ◌++◌, false, Option, Some, None, Vec, length, map, nat_lt, slice_get, slice_index}
+use Rattle.std.specs.Prelude.{◌≡◌, ℕ, zero, suc, ◌-◌, ◌<◌, List, [], ◌∷◌, ◌++◌, false, Option, Some, None, Vec, length}
+use Rattle.std.specs.Prelude.{map, nat_lt, slice_get, slice_index}
 use Rattle.std.specs.Prelude.{if◌then◌else◌}
 use Rattle.std.specs.List.{flat_map}
 use Rattle.std.specs.declared.alloc.Global.{Global}

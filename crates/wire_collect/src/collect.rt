@@ -66,13 +66,13 @@ fn tell_run(alloc: Global, core: &Core<'_>) -> Result<(Outcome, Vec<Proc>), Faul
 /// Runs a plan by at most so many workers at once, until no process is ready. Gives what became of every call, and the
 /// history of the steps. Which interleaving runs is open: for a plan with races, another run may give another.
 ///
-/// The workers share one core under a lock. They work by rounds, and each round deals every process. The first worker runs
-/// on the calling thread, and each other on a thread of its own. All work in the first round, and in a later one as many
-/// as the round before had steps for. A worker whose thread can't be started is left out. After the workers of a round,
-/// the calling thread is the collector: it serves what no worker took, and after a round without a step the lowest
-/// ready process. It calls the gate with the number `workers`, which is no worker's. Where the core that comes back isn't
-/// of this plan, or a process is still ready, the calling thread calls the gate with that number and process 0, and runs
-/// the plan alone.
+/// The workers share one core under a lock. They work by rounds, and each round deals every process. The first worker
+/// runs on the calling thread, and each other on a thread of its own. All work in the first round, and in a later one
+/// as many as the round before had steps for. A worker whose thread can't be started is left out. After the workers of
+/// a round, the calling thread is the collector: it serves what no worker took, and after a round without a step the
+/// lowest ready process. It calls the gate with the number `workers`, which is no worker's. Where the core that comes
+/// back isn't of this plan, or a process is still ready, the calling thread calls the gate with that number and process
+/// 0, and runs the plan alone.
 ///
 /// The fault is `Workers` where there is no worker or more than 64, before all else, and `Memory` where memory ran out.
 pub fn run_any<R: Threads + Wait + Sync, G: Gate + Sync>(
@@ -97,12 +97,12 @@ pub fn run_any<R: Threads + Wait + Sync, G: Gate + Sync>(
     ran
 }
 
-/// Runs a settled plan by `workers` workers, and gives what became of every call. Whatever the workers do, that is what the
-/// plain run gives, in which at each step the lowest ready process takes it.
+/// Runs a settled plan by `workers` workers, and gives what became of every call. Whatever the workers do, that is what
+/// the plain run gives, in which at each step the lowest ready process takes it.
 ///
-/// The workers and the collector work by rounds as in `run_any`, but they serve the lanes of a board and not a core under a
-/// lock. Where the trails and the words at the end don't tell the outcome, the calling thread calls the gate with the number
-/// `workers` and process 0, and runs the plan alone. The faults are those of `run_any`.
+/// The workers and the collector work by rounds as in `run_any`, but they serve the lanes of a board and not a core
+/// under a lock. Where the trails and the words at the end don't tell the outcome, the calling thread calls the gate
+/// with the number `workers` and process 0, and runs the plan alone. The faults are those of `run_any`.
 pub fn run_workers<R: Threads + Wait + Sync, G: Gate + Sync>(
     rt: &R,
     alloc: Global,

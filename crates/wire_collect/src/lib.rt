@@ -1,6 +1,6 @@
-//! A run by many threads, round by round: of any plan over a core under a lock, of a settled one over a board without such
-//! a lock. Which interleaving runs is open. It is proved that it can't go on, and what became of every call. Over a board,
-//! the trails of the lanes and the words of the board tell that.
+//! A run by many threads, round by round: of any plan over a core under a lock, of a settled one over a board without
+//! such a lock. Which interleaving runs is open. It is proved that it can't go on, and what became of every call. Over
+//! a board, the trails of the lanes and the words of the board tell that.
 #![tactic(auto)]
 
 mod collect;

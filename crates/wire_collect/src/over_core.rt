@@ -23,7 +23,8 @@ fn serve_lowest<G: Gate>(core: &mut Core<'_>, collector: usize, gate: &G) -> usi
     }
 }
 
-/// One round, and where it took no step, the lowest process that is ready. Gives the core back, with the number of steps.
+/// One round, and where it took no step, the lowest process that is ready. Gives the core back, with the number of
+/// steps.
 fn run_locked_round<'a, R: Threads + Wait + Sync, G: Gate + Sync>(
     rt: &R,
     core: Core<'a>,
@@ -43,9 +44,9 @@ fn run_locked_round<'a, R: Threads + Wait + Sync, G: Gate + Sync>(
     (core, steps)
 }
 
-/// Runs a core by rounds, each of which deals every process, until no process is ready. Each round takes a step, so there
-/// are no more rounds than events. The first round has all workers, and a later one as many as the steps of the round
-/// before it are work for. The one fault is `Fault::Memory`.
+/// Runs a core by rounds, each of which deals every process, until no process is ready. Each round takes a step, so
+/// there are no more rounds than events. The first round has all workers, and a later one as many as the steps of the
+/// round before it are work for. The one fault is `Fault::Memory`.
 pub(crate) fn run_core<'a, R: Threads + Wait + Sync, G: Gate + Sync>(
     rt: &R,
     alloc: Global,

@@ -53,9 +53,9 @@ fn run_lanes_round<R: Threads + Wait + Sync, G: Gate + Sync>(
     }
 }
 
-/// Serves lanes by rounds, each of which deals every process, until all events are done or no process is ready. Each round
-/// but the last does an event, so there are no more rounds than events. That all are done is told by a sum of answers. It
-/// only ends the rounds: what became of the calls is told by the trails and the words.
+/// Serves lanes by rounds, each of which deals every process, until all events are done or no process is ready. Each
+/// round but the last does an event, so there are no more rounds than events. That all are done is told by a sum of
+/// answers. It only ends the rounds: what became of the calls is told by the trails and the words.
 fn run_lanes<R: Threads + Wait + Sync, G: Gate + Sync>(
     rt: &R,
     alloc: Global,
@@ -111,9 +111,9 @@ fn serve_seats<R: Threads + Wait + Sync, G: Gate + Sync>(
     }
 }
 
-/// Runs a settled plan by workers over a board, round by round, and tells what became of every call by the trails of the
-/// lanes and the words of the board. `None` where a lane is of another plan or rank, where a trail isn't as long as its
-/// word, or where a process can still take an event. The one fault is `Fault::Memory`.
+/// Runs a settled plan by workers over a board, round by round, and tells what became of every call by the trails of
+/// the lanes and the words of the board. `None` where a lane is of another plan or rank, where a trail isn't as long as
+/// its word, or where a process can still take an event. The one fault is `Fault::Memory`.
 pub(crate) fn board_outcome<R: Threads + Wait + Sync, G: Gate + Sync>(
     rt: &R,
     alloc: Global,

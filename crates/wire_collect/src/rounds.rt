@@ -27,7 +27,8 @@ fn serve_left<R: Wait, S: Serves, G: Gate>(
     events
 }
 
-/// A round that is dealt, with the memory of its workers, and the number that the gate is called with for the collector.
+/// A round that is dealt, with the memory of its workers, and the number that the gate is called with for the
+/// collector.
 #[derive(Drop)]
 pub(crate) struct Dealt {
     pub(crate) alloc: Global,
@@ -65,8 +66,8 @@ pub(crate) fn serve_round<R: Threads + Wait + Sync, S: Serves + Sync, G: Gate + 
     taken.saturating_add(events)
 }
 
-/// How many events of one round are work for one more worker in the next. To start a thread takes about as long as several
-/// hundred events.
+/// How many events of one round are work for one more worker in the next. To start a thread takes about as long as
+/// several hundred events.
 const EVENTS_PER_WORKER: usize = 1_000;
 
 /// How many workers the round after one of so many events has: at least one, and at most all.

@@ -34,8 +34,8 @@ fn do_work<R: Wait, W: Works>(rt: &R, works: &W, pass: Pass) -> (Pass, usize)
     (pass, steps)
 }
 
-/// What a worker's thread does. If no thread could be started, the thread that tried calls this, and it only gives the pass
-/// back.
+/// What a worker's thread does. If no thread could be started, the thread that tried calls this, and it only gives the
+/// pass back.
 fn do_thread_work<R: Wait, W: Works>(
     rt: &R,
     works: &W,
@@ -103,9 +103,9 @@ fn put_back<W: Works>(works: &W, passes: Vec<Pass>, pass: Pass) -> Vec<Pass>
     passes
 }
 
-/// Lets a worker for each pass serve pieces, and gives the passes back, with the number of steps taken. The first worker
-/// runs on the calling thread, which has nothing else to do until the others end. Each other one has a thread of its own,
-/// and is joined.
+/// Lets a worker for each pass serve pieces, and gives the passes back, with the number of steps taken. The first
+/// worker runs on the calling thread, which has nothing else to do until the others end. Each other one has a thread of
+/// its own, and is joined.
 #[cycle(workers)]
 pub(crate) fn run_round<R: Threads + Wait + Sync, W: Works + Sync>(
     rt: &R,

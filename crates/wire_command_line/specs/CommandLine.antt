@@ -1,9 +1,11 @@
 -- The command line of `wire_up` as `clap` reads it, and what the words of one ask for.
-use Rattle.std.specs.Prelude.{◌≡◌, ◌⊎◌, Bool, true, false, List, [], ◌∷◌, map, flat_map, option_to_list, unwrap_or, Option, Some, is_some, codes, if◌then◌else◌}
+use Rattle.std.specs.Prelude.{◌≡◌, ◌⊎◌, Bool, true, false, List, [], ◌∷◌, map, flat_map, option_to_list, unwrap_or}
+use Rattle.std.specs.Prelude.{Option, Some, is_some, codes, if◌then◌else◌}
 use Rattle.std.specs.List.{list_all}
 use Rattle.std.specs.Option.{option_map_or}
 use Rattle.std.specs.Str.{bytes_eq}
-use Rattle.clap.specs.Words.{App, Rule, Row, Text, HasKind, app_of, kind_of, fault_of, first_of, new_app, new_rule, with_rule, with_subcommand, subcommand_of}
+use Rattle.clap.specs.Words.{App, Rule, Row, Text, HasKind, app_of, kind_of, fault_of, first_of, new_app, new_rule}
+use Rattle.clap.specs.Words.{with_rule, with_subcommand, subcommand_of}
 use Rattle.clap.specs.declared.builder.command.Command.{Command}
 use Rattle.clap.specs.declared.builder.command.Command.TheViews.{out-Command as fields_of}
 use Rattle.clap.specs.declared.builder.action.ArgAction.TheVariants.{SetTrue}
@@ -121,8 +123,8 @@ pub record SaidBy (name : Text) (rows : List Row) (asked : Asked) : Type 0 where
   pub large : asked.large ≡ is_set (codes "large") rows
   pub explain : asked.explain ≡ is_set (codes "explain") rows
 
--- what the words of a command line ask for: `clap` finds no fault in them, and it is what its matches for them say, each
--- needed word among them
+-- what the words of a command line ask for: `clap` finds no fault in them, and it is what its matches for them say,
+-- each needed word among them
 pub record AsksFor (words : List Text) (asked : Asked) : Type 0 where
   pub lawful : fault_of program_line words ≡ []
   pub command : Text

@@ -2,7 +2,8 @@
 use Rattle.std.specs.Prelude.{◌≡◌, false, List, Option, None, Result, Ok, Err, codes}
 use Rattle.clap.specs.Words.{Row, Text}
 use Rattle.wire_command_line.specs.CommandLine.{workers_word}
-use Rattle.wire_command_line.specs.Requests.{IsCommand, IsRequest, IsRequestBy, LacksFit, LacksWorkers, is_command, is_fitting, is_full}
+use Rattle.wire_command_line.specs.Requests.{IsCommand, IsRequest, IsRequestBy, LacksFit, LacksWorkers, is_command}
+use Rattle.wire_command_line.specs.Requests.{is_fitting, is_full}
 use Rattle.wire_command_line.specs.Workers.{workers_said}
 use Rattle.wire_command_line.specs.declared.reading.Lack.{Lack}
 use Rattle.wire_command_line.specs.declared.reading.Lack.TheVariants.{Word, Workers, Fit}

@@ -1,5 +1,6 @@
 -- What a command line requests: a command with all that it needs.
-use Rattle.std.specs.Prelude.{◌≡◌, ◌⊎◌, ◌&&◌, ◌||◌, Bool, true, false, not, if◌then◌else◌, List, [], ◌∷◌, Option, Some, None, is_some, option_map, codes}
+use Rattle.std.specs.Prelude.{◌≡◌, ◌⊎◌, ◌&&◌, ◌||◌, Bool, true, false, not, if◌then◌else◌, List, [], ◌∷◌, Option, Some}
+use Rattle.std.specs.Prelude.{None, is_some, option_map, codes}
 use Rattle.std.specs.Option.{option_map_or}
 use Rattle.std.specs.List.{list_any}
 use Rattle.std.specs.Str.{bytes_eq}
@@ -17,7 +18,8 @@ use Rattle.wire_command_line.specs.Workers.{most_said, workers_said}
 use Rattle.wire_command_line.specs.declared.request.CallPair.{CallPair}
 use Rattle.wire_command_line.specs.declared.request.CallWords.{CallWords}
 use Rattle.wire_command_line.specs.declared.request.Command.{Command}
-use Rattle.wire_command_line.specs.declared.request.Command.TheVariants.{Check, Replay, Follow, Why, Migrate, Witness, Witnesses}
+use Rattle.wire_command_line.specs.declared.request.Command.TheVariants.{Check, Replay, Follow, Why, Migrate, Witness}
+use Rattle.wire_command_line.specs.declared.request.Command.TheVariants.{Witnesses}
 use Rattle.wire_command_line.specs.declared.request.Request.{Request}
 use Rattle.wire_command_line.specs.declared.request.Refusal.{Refusal}
 use Rattle.wire_command_line.specs.declared.request.Refusal.TheVariants.{Usage, Workers, Witness as Misfit}
@@ -72,7 +74,8 @@ pub record NamesCalls (rows : List Row) (calls : CallPair) : Type 0 where
 abbrev pub has_calls : List Row → Bool
 has_calls rows = has_both (codes "P") (codes "N") rows && has_both (codes "Q") (codes "M") rows
 
--- this is the command of this name, with the words that its matches have: each word is the one that was given by its name
+-- this is the command of this name, with the words that its matches have: each word is the one that was given by its
+-- name
 abbrev pub IsCommand : Text → List Row → Command → Type 0
 IsCommand name rows Check = name ≡ codes "check"
 IsCommand name rows (Replay asked) =
@@ -144,8 +147,8 @@ pub record LacksFit (command : Option (Text × List Row)) : Type 0 where
 abbrev pub IsRequestOf : List Text → Request → Type 0
 IsRequestOf words request = (fault_of program_line words ≡ []) × IsRequestBy (subcommand_of program_line words) request
 
--- why they request nothing: for a fault that `clap` finds, for want of memory or of a word, for the word of `--workers`, or for
--- what doesn't go together
+-- why they request nothing: for a fault that `clap` finds, for want of memory or of a word, for the word of
+-- `--workers`, or for what doesn't go together
 abbrev pub IsRefusalOf : List Text → Refusal → Type 0
 IsRefusalOf words (Usage e) =
     HasKind (fault_of program_line words) e

@@ -1,8 +1,10 @@
 //! What the words of a command line ask for.
 
-ghost use Rattle.std.specs.Prelude.{◌≡◌, ◌⊎◌, ◌++◌, List, [], map, codes, is_some, option_to_list, unwrap_or, true, false, Some, OnOk, IfOk, IfErr, IfSome, IfNone};
+ghost use Rattle.std.specs.Prelude.{◌≡◌, ◌⊎◌, ◌++◌, List, [], map, codes, is_some, option_to_list, unwrap_or, true};
+ghost use Rattle.std.specs.Prelude.{false, Some, OnOk, IfOk, IfErr, IfSome, IfNone};
 ghost use Rattle.std.specs.Str.{bytes_eq};
-ghost use Rattle.clap.specs.Words.{Row, Text, HasKind, kind_of, fault_of, first_of, found_of, rows_of, subcommand_of, subcommand_rows_of};
+ghost use Rattle.clap.specs.Words.{Row, Text, HasKind, kind_of, fault_of, first_of, found_of, rows_of, subcommand_of};
+ghost use Rattle.clap.specs.Words.{subcommand_rows_of};
 ghost use Rattle.wire_command_line.specs.CommandLine as spec;
 ghost use Rattle.wire_command_line.specs.CommandLine.{AsksFor, RefusedFor, SaidBy};
 ghost use Rattle.wire_command_line.specs.Requests.{text_of};
@@ -186,9 +188,9 @@ fn parse_matches<'a>(alloc: Global, matches: &ArgMatches<'a>) -> Result<Asked<'a
 
 /// What the words of a command line ask for. The first of them is the program's name.
 ///
-/// Where it is `Ok`, `clap` finds no fault in the words, and the answer is what its matches for them say, each
-/// word among them that the command needs. An error is one of those that `clap` has for the words, want of memory
-/// among them, or `MissingRequiredArgument` where `clap` finds no fault and a word is missing all the same (no words are
+/// Where it is `Ok`, `clap` finds no fault in the words, and the answer is what its matches for them say, each word
+/// among them that the command needs. An error is one of those that `clap` has for the words, want of memory among
+/// them, or `MissingRequiredArgument` where `clap` finds no fault and a word is missing all the same (no words are
 /// known for which that is so).
 pub fn asked<'a>(alloc: Global, words: &'a [&'a str]) -> Result<Asked<'a>, Error>
     ensures ok { IfOk result (λ asked. AsksFor (map (λ w. w.now) words.entry.now) asked) }

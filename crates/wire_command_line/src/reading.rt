@@ -10,9 +10,7 @@ use crate::matching::{
     find_word, has_word, is_same, is_set, match_words, most_given, tell_missing, workers_given,
 };
 use crate::number::{most_of, workers_of};
-use crate::request::{
-    CallPair, CallWords, Command, PairOptions, Refusal, ReplayOptions, Request,
-};
+use crate::request::{CallPair, CallWords, Command, PairOptions, Refusal, ReplayOptions, Request};
 use clap::ArgMatches;
 use std::alloc::Global;
 use wire_script::Size;
@@ -97,8 +95,8 @@ fn read_replay<'a>(found: &ArgMatches<'a>) -> Result<Command<'a>, Lack>
     }))
 }
 
-/// Which orders two flags ask for: nothing where both are given, or where one is given and the answer isn't to be in lines
-/// alone.
+/// Which orders two flags ask for: nothing where both are given, or where one is given and the answer isn't to be in
+/// lines alone.
 fn orders_of(formed: bool, first: bool, second: bool) -> Option<Orders>
     ensures { result ≡ spec.orders_of formed first second }
 {
@@ -234,11 +232,11 @@ fn read_matches<'a>(matches: &ArgMatches<'a>) -> Result<Request<'a>, Lack>
 
 /// What the words of a command line request. The first of them is the program's name.
 ///
-/// Where it is `Ok`, `clap` finds no fault in the words, and each word of the request is the one that its matches have by that
-/// name. `Workers` comes only for a `replay` whose word of `--workers` isn't one or more digits, `Witness`
-/// only for a `witness` whose words and options don't go together. Any other error is one of those
-/// that `clap` has for the words, want of memory among them, or `MissingRequiredArgument` where `clap` finds no fault and a
-/// word is missing all the same (no words are known for which that is so).
+/// Where it is `Ok`, `clap` finds no fault in the words, and each word of the request is the one that its matches have
+/// by that name. `Workers` comes only for a `replay` whose word of `--workers` isn't one or more digits, `Witness` only
+/// for a `witness` whose words and options don't go together. Any other error is one of those that `clap` has for the
+/// words, want of memory among them, or `MissingRequiredArgument` where `clap` finds no fault and a word is missing all
+/// the same (no words are known for which that is so).
 pub fn read_request<'a>(alloc: Global, words: &'a [&'a str]) -> Result<Request<'a>, Refusal>
     ensures ok { IfOk result (IsRequestOf (map (λ w. w.now) words.entry.now)) }
     ensures err { IfErr result (IsRefusalOf (map (λ w. w.now) words.entry.now)) }

@@ -1,11 +1,11 @@
 -- What all commands have in common: what is read of a plan, and what is written of it.
 use Rattle.std.specs.Prelude.{◌≡◌, ℕ, Bool, true, false, List, [], length, map, Option, Ok}
-use Rattle.std.specs.Borrow.{Bor}
 use Rattle.std.specs.Io.KnownBytes.{Appends}
 use Rattle.wire_types.specs.declared.Fault.{Fault}
 use Rattle.wire_types.specs.declared.Form.{Form}
 use Rattle.wire_types.specs.Forms.{has_places}
 use Rattle.wire_types.specs.Front.{WritesFront}
+use Rattle.wire_types.specs.Texts.{lists_of}
 use Rattle.wire_content.specs.Scripts.{Scripts, Process}
 use Rattle.wire_report.specs.declared.call_places.Places.{Places}
 use Rattle.wire_script.specs.declared.Size.{Size}
@@ -16,11 +16,7 @@ use Rattle.wire_commands.specs.Plain.{WereComing}
 
 -- the lines of the calls: a row for each process
 abbrev pub rows_in : Places → List (List ℕ)
-rows_in places = map (λ row. row.items) places.rows.now
-
--- the texts of words
-abbrev pub words_in : List (Bor (List ℕ)) → List (List ℕ)
-words_in words = map (λ w. w.now) words
+rows_in places = lists_of places.rows.now
 
 -- the calls of the scripts stand on these lines of the text: a row for each process, with a line for each of its calls
 pub record ArePlaces (size : Size) (bytes : List ℕ) (scripts : Scripts) (rows : List (List ℕ)) : Type 0 where

@@ -1,5 +1,6 @@
 -- Whether every call of a replay succeeds, and which is the first that doesn't.
-use Rattle.std.specs.Prelude.{◌≡◌, ◌⊎◌, ℕ, ◌<◌, Bool, true, false, List, [], ◌++◌, Option, Some, None, Vec, codes, length, slice_get}
+use Rattle.std.specs.Prelude.{◌≡◌, ◌⊎◌, ℕ, ◌<◌, Bool, true, false, List, [], ◌++◌, Option, Some, None, Vec, codes}
+use Rattle.std.specs.Prelude.{length, slice_get}
 use Rattle.std.specs.declared.alloc.Global.{Global}
 use Rattle.wire_types.specs.Outcome.{Ends}
 use Rattle.wire_types.specs.declared.CallAt.{CallAt}

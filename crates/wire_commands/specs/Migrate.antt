@@ -16,8 +16,8 @@ use Rattle.wire_commands.specs.Plain.{ReadAs, Refuses}
 abbrev pub migrated_text : Scripts → List ℕ
 migrated_text scripts = canonical (under_version_2 scripts)
 
--- the scripts under version 2 are the same plan, with the same findings and outcomes, and their text reads as them, where it is
--- within the limit of a file
+-- the scripts under version 2 are the same plan, with the same findings and outcomes, and their text reads as them,
+-- where it is within the limit of a file
 pub record IsMigrated (size : Size) (scripts : Scripts) : Type 0 where
   pub plan : plan_of (under_version_2 scripts) ≡ plan_of scripts
   pub back : length (migrated_text scripts) ≤ file_bytes size → Reads size (migrated_text scripts) (Ok (under_version_2 scripts))

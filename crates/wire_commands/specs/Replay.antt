@@ -77,8 +77,8 @@ pub record BreaksOffReplayOf (mode : Mode) (scripts : Scripts) (old new : Option
   pub replay : IsReplay mode scripts ended text
   pub wrote : WritesFront old new text fault
 
--- what was to come read as scripts of which every interleaving that can't go on ends in one state, the plain run's, and the report of
--- that state went out
+-- what was to come read as scripts of which every interleaving that can't go on ends in one state, the plain run's, and
+-- the report of that state went out
 pub record WritesOneEnd (size : Size) (json : Bool) (coming old new : Option (List ℕ)) : Type 0 where
   pub scripts : Scripts
   pub read : ReadAs size coming scripts

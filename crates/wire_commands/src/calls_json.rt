@@ -1,6 +1,7 @@
 //! The parts of JSON that tell calls with the numbers of their lines in the file.
 
-ghost use Rattle.std.specs.Prelude.{◌≡◌, map, IfOk};
+ghost use Rattle.std.specs.Prelude.{◌≡◌, IfOk};
+ghost use Rattle.wire_types.specs.Texts.{lists_of};
 ghost use Rattle.wire_report.specs.Findings.{finding_words};
 ghost use Rattle.wire_commands.specs.CallsJson as spec;
 
@@ -20,7 +21,7 @@ pub(crate) fn step_json(
     rows: &[Vec<u64>],
     step: ChainStep,
 ) -> Result<Vec<u8>, AllocError>
-    ensures { IfOk result (λ text. text.items ≡ spec.json_step (map (λ row. row.items) rows.now) scripts.now step) }
+    ensures { IfOk result (λ text. text.items ≡ spec.json_step (lists_of rows.now) scripts.now step) }
 {
     lined_step_json(alloc, scripts, step, line_of(rows, step.call))
 }
@@ -32,7 +33,7 @@ pub(crate) fn call_json(
     rows: &[Vec<u64>],
     call: CallAt,
 ) -> Result<Vec<u8>, AllocError>
-    ensures { IfOk result (λ text. text.items ≡ spec.json_call (map (λ row. row.items) rows.now) scripts.now call) }
+    ensures { IfOk result (λ text. text.items ≡ spec.json_call (lists_of rows.now) scripts.now call) }
 {
     let half = Half::Whole;
     step_json(alloc, scripts, rows, ChainStep { call, half })
@@ -46,7 +47,7 @@ pub(crate) fn place_json(
     rows: &[Vec<u64>],
     call: CallAt,
 ) -> Result<Vec<u8>, AllocError>
-    ensures { IfOk result (λ text. text.items ≡ spec.json_place (map (λ row. row.items) rows.now) scripts.now call) }
+    ensures { IfOk result (λ text. text.items ≡ spec.json_place (lists_of rows.now) scripts.now call) }
 {
     lined_place_json(alloc, scripts, call, line_of(rows, call))
 }
@@ -58,7 +59,7 @@ pub(crate) fn begin_finding(
     rows: &[Vec<u64>],
     finding: Finding,
 ) -> JsonBuilder
-    ensures { IfOk result.built (λ text. text.items ≡ spec.finding_members (map (λ row. row.items) rows.now) scripts.now finding) }
+    ensures { IfOk result.built (λ text. text.items ≡ spec.finding_members (lists_of rows.now) scripts.now finding) }
 {
     let pair = pair_of(finding);
     JsonBuilder::new(alloc)

@@ -4,6 +4,7 @@ ghost use Rattle.std.specs.Prelude.{◌≡◌, ◌≢◌, ◌⊎◌, Ok, Err, tr
 ghost use Rattle.wire_types.specs.declared.Fault.TheVariants.{Memory, Read};
 ghost use Rattle.wire_types.specs.Counting.{one_more};
 ghost use Rattle.wire_types.specs.Forms.{is_json};
+ghost use Rattle.wire_types.specs.Texts.{lists_of};
 ghost use Rattle.wire_findings.specs.Findings.{AreFindings};
 ghost use Rattle.wire_commands.specs.declared.ended.Ended.TheVariants.{Clean};
 ghost use Rattle.wire_commands.specs.Answer.{BreaksOff, Writes, rows_in};
@@ -188,7 +189,7 @@ fn groups_json(
     findings: &FindingList,
     groups: &[Group],
 ) -> Result<Vec<u8>, AllocError>
-    ensures { IfOk result (λ text. text.items ≡ spec.json_groups (map (λ row. row.items) rows.now) scripts.now findings.now groups.now) }
+    ensures { IfOk result (λ text. text.items ≡ spec.json_groups (lists_of rows.now) scripts.now findings.now groups.now) }
 {
     JsonBuilder::new(alloc)
         .put(b"{\"findings\":")
@@ -207,7 +208,7 @@ fn finding_texts(
     findings: &FindingList,
 ) -> Result<Vec<Vec<u8>>, AllocError>
     ensures { IfOk result (λ texts. map (λ text. text.items) texts.items
-        ≡ map (spec.json_finding (map (λ row. row.items) rows.now) scripts.now) findings.now) }
+        ≡ map (spec.json_finding (lists_of rows.now) scripts.now) findings.now) }
 {
     let mut texts = Vec::with_capacity(alloc, findings.len())?;
     for number in 0..findings.len() {
@@ -226,7 +227,7 @@ fn finding_json(
     rows: &[Vec<u64>],
     finding: Finding,
 ) -> Result<Vec<u8>, AllocError>
-    ensures { IfOk result (λ text. text.items ≡ spec.json_finding (map (λ row. row.items) rows.now) scripts.now finding) }
+    ensures { IfOk result (λ text. text.items ≡ spec.json_finding (lists_of rows.now) scripts.now finding) }
 {
     begin_finding(alloc, scripts, rows, finding)
         .put(b"}")

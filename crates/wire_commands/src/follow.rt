@@ -1,6 +1,6 @@
 //! `follow`: a run of a plan that takes the steps of an order, in lines or as JSON.
 
-ghost use Rattle.std.specs.Prelude.{◌≡◌, ◌≢◌, ◌⊎◌, ℕ, Ok, Err, map, OnOk, IfOk, IfErr};
+ghost use Rattle.std.specs.Prelude.{◌≡◌, ◌≢◌, ◌⊎◌, ℕ, Ok, Err, OnOk, IfOk, IfErr};
 ghost use Rattle.wire_types.specs.declared.Fault.TheVariants.{Memory, Read, Write};
 ghost use Rattle.wire_types.specs.Counting.{one_more};
 ghost use Rattle.wire_types.specs.Forms.{is_json};
@@ -13,7 +13,8 @@ ghost use Rattle.wire_runs.specs.Ends.{outcome};
 ghost use Rattle.wire_core.specs.Following.{Follows, StopsAt};
 ghost use Rattle.wire_core.specs.Course.{plan_in, state_of};
 ghost use Rattle.wire_commands.specs.Plain.{ReadAs};
-ghost use Rattle.wire_commands.specs.Follow.{WritesFollowed, BreaksOffFollowed, StopsBefore, OrdersAs, RefusesSteps, StopsAfter, report_after};
+ghost use Rattle.wire_commands.specs.Follow.{WritesFollowed, BreaksOffFollowed, StopsBefore, OrdersAs, RefusesSteps};
+ghost use Rattle.wire_commands.specs.Follow.{StopsAfter, report_after};
 
 use crate::manner::Manner;
 use crate::reading::{read_scripts, read_up_to};
@@ -113,12 +114,14 @@ pub fn follow_plan<R: Source, O: Source, W: Sink>(
 
     // Either nothing was written, or the front of the report that the fault counts.
     ensures err { IfErr result (λ e. (StopsBefore manner.entry.size (R.coming reader.old) (O.coming order_reader.old) e × (writer.new ≡ writer.old))
-        ⊎ (BreaksOffFollowed manner.entry.size (is_json manner.entry.form) (R.coming reader.old) (O.coming order_reader.old) (W.written writer.old) (W.written writer.new) e
+        ⊎ (BreaksOffFollowed manner.entry.size (is_json manner.entry.form) (R.coming reader.old) (O.coming order_reader.old)
+        (W.written writer.old) (W.written writer.new) e
         × (W.failures writer.new ≡ one_more (W.failures writer.old)))) }
 
     // A failed read is answered only where a reader failed, that of the order only where the file reads.
     ensures read_failed { result ≡ Err Read → (R.failures reader.new ≡ one_more (R.failures reader.old))
-        ⊎ ((O.failures order_reader.new ≡ one_more (O.failures order_reader.old)) × (scripts : Scripts) × ReadAs manner.entry.size (R.coming reader.old) scripts) }
+        ⊎ ((O.failures order_reader.new ≡ one_more (O.failures order_reader.old))
+        × (scripts : Scripts) × ReadAs manner.entry.size (R.coming reader.old) scripts) }
     ensures unfailed { IfErr result (λ e. e ≢ Memory → e ≢ Read → (R.failures reader.new ≡ R.failures reader.old)
         × (O.failures order_reader.new ≡ O.failures order_reader.old)) }
 {

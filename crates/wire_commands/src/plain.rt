@@ -40,7 +40,11 @@ fn plain_text(alloc: Global, scripts: Scripts) -> Result<Vec<u8>, Fault>
 /// After the fault `Write` the front of the report that it counts is written, after any other fault
 /// nothing. `Memory` may come in place of any other answer. What is said of bytes is said where the
 /// reader and the writer tell theirs.
-pub fn run_plainly<R: Source, W: Sink>(alloc: Global, reader: &mut R, writer: &mut W) -> Result<(), Fault>
+pub fn run_plainly<R: Source, W: Sink>(
+    alloc: Global,
+    reader: &mut R,
+    writer: &mut W,
+) -> Result<(), Fault>
     ensures ok { OnOk result (WritesReport Size.OfVersion (R.coming reader.old) (W.written writer.old) (W.written writer.new)) }
     ensures quiet { OnOk result ((R.failures reader.new ≡ R.failures reader.old) × (W.failures writer.new ≡ W.failures writer.old)) }
 

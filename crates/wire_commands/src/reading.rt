@@ -1,8 +1,9 @@
 //! What a command reads: the bytes of a reader up to a limit, the scripts of a plan, and the lines of their calls.
 
-ghost use Rattle.std.specs.Prelude.{◌≡◌, ◌≢◌, ◌≤◌, ◌⊎◌, Err, OnOk, IfOk, IfErr, IfSome, map, take, vec_len};
+ghost use Rattle.std.specs.Prelude.{◌≡◌, ◌≢◌, ◌≤◌, ◌⊎◌, Err, OnOk, IfOk, IfErr, IfSome, take, vec_len};
 ghost use Rattle.wire_types.specs.Counting.{one_more};
 ghost use Rattle.wire_types.specs.declared.Fault.TheVariants.{Memory, Read};
+ghost use Rattle.wire_types.specs.Texts.{lists_of};
 ghost use Rattle.wire_commands.specs.Plain.{ReadAs, Refuses};
 ghost use Rattle.wire_commands.specs.Answer.{ReadIn, ReadPlaced};
 
@@ -56,13 +57,14 @@ pub(crate) fn read_scripts<R: Source>(
     read_sized(alloc, size, bytes.as_slice())
 }
 
-/// The scripts of a file, as `read_scripts` reads them, and the number of the line of each call, a row for each process.
+/// The scripts of a file, as `read_scripts` reads them, and the number of the line of each call, a row for each
+/// process.
 fn read_placed<R: Source>(
     alloc: Global,
     size: Size,
     reader: &mut R,
 ) -> Result<(Scripts, Vec<Vec<u64>>), Fault>
-    ensures ok { IfOk result (λ r. ReadPlaced size (R.coming reader.old) r.0 (map (λ row. row.items) r.1.items)) }
+    ensures ok { IfOk result (λ r. ReadPlaced size (R.coming reader.old) r.0 (lists_of r.1.items)) }
     ensures quiet { OnOk result (R.failures reader.new ≡ R.failures reader.old) }
     ensures err { IfErr result (λ e. (e ≡ Memory) ⊎ (e ≡ Read) ⊎ Refuses size (R.coming reader.old) e) }
     ensures read { result ≡ Err Read → R.failures reader.new ≡ one_more (R.failures reader.old) }
@@ -80,7 +82,7 @@ pub(crate) fn read_in<R: Source>(
     form: Form,
     reader: &mut R,
 ) -> Result<(Scripts, Vec<Vec<u64>>), Fault>
-    ensures ok { IfOk result (λ r. ReadIn size form (R.coming reader.old) r.0 (map (λ row. row.items) r.1.items)) }
+    ensures ok { IfOk result (λ r. ReadIn size form (R.coming reader.old) r.0 (lists_of r.1.items)) }
     ensures quiet { OnOk result (R.failures reader.new ≡ R.failures reader.old) }
     ensures err { IfErr result (λ e. (e ≡ Memory) ⊎ (e ≡ Read) ⊎ Refuses size (R.coming reader.old) e) }
     ensures read { result ≡ Err Read → R.failures reader.new ≡ one_more (R.failures reader.old) }

@@ -9,7 +9,8 @@ ghost use Rattle.wire_findings.specs.Findings.{AreFindings};
 ghost use Rattle.wire_collect.specs.Collect.{MayWork};
 ghost use Rattle.wire_commands.specs.declared.ended.Ended.TheVariants.{Clean};
 ghost use Rattle.wire_commands.specs.Complete.{TellsCalls, JudgesCalls, line_in, complete_status};
-ghost use Rattle.wire_commands.specs.Replay.{BreaksOffFound, BreaksOffReplayOf, IsReplay, JudgesPlan, TellsRun, WritesFound, WritesReplayOf};
+ghost use Rattle.wire_commands.specs.Replay.{BreaksOffFound, BreaksOffReplayOf, IsReplay, JudgesPlan, TellsRun};
+ghost use Rattle.wire_commands.specs.Replay.{WritesFound, WritesReplayOf};
 ghost use Rattle.wire_commands.specs.Replay.{WritesOneEnd, WritesReplay, BreaksOffReplay, StopsBeforeReplay};
 
 use crate::complete::tell_failure;
@@ -285,8 +286,8 @@ fn replay_scripts<R: Threads + Wait + Sync, G: Gate + Sync, W: Sink>(
     }
 }
 
-/// Replays a plan with at most so many workers at once (`run_any` of `wire_collect` says how; no clause says how
-/// many there were): reads its file to the end, judges it as `check` does, and writes what came of it, as lines or as JSON.
+/// Replays a plan with at most so many workers at once (`run_any` of `wire_collect` says how; no clause says how many
+/// there were): reads its file to the end, judges it as `check` does, and writes what came of it, as lines or as JSON.
 ///
 /// Where there is nothing to find, it runs the plan and writes what became of every call: the same for any number of
 /// workers, the report of the plain run. It answers `Clean`, and the line of the report of the first call that isn't
@@ -297,10 +298,10 @@ fn replay_scripts<R: Threads + Wait + Sync, G: Gate + Sync, W: Sink>(
 /// became of every call and in which order the steps came. Followed in that order, the plan gives the same report. It
 /// answers `Found`, and no line.
 ///
-/// The fault `Workers` comes before all else, where there is no worker or more than 64. The fault of a plan is the first
-/// that its file has. After the fault `Write` the front of the text that it counts is written, after any other fault
-/// nothing. `Memory` may come in place of any other answer but `Workers`. What is said of bytes is said where the reader
-/// and the writer tell theirs.
+/// The fault `Workers` comes before all else, where there is no worker or more than 64. The fault of a plan is the
+/// first that its file has. After the fault `Write` the front of the text that it counts is written, after any other
+/// fault nothing. `Memory` may come in place of any other answer but `Workers`. What is said of bytes is said where the
+/// reader and the writer tell theirs.
 pub fn replay_plan<R: Source, W: Sink, T: Threads + Wait + Sync, G: Gate + Sync>(
     rt: &T,
     alloc: Global,
@@ -313,8 +314,8 @@ pub fn replay_plan<R: Source, W: Sink, T: Threads + Wait + Sync, G: Gate + Sync>
     ensures calls { IfOk result (λ r. JudgesCalls manner.entry.size (R.coming reader.old) r.ended (line_in r.failure)) }
     ensures quiet { OnOk result ((R.failures reader.new ≡ R.failures reader.old) × (W.failures writer.new ≡ W.failures writer.old)) }
 
-    // The headline: where it finds nothing, every interleaving that can't go on ends in one state, and the report of that state
-    // is what it writes, whatever the workers.
+    // The headline: where it finds nothing, every interleaving that can't go on ends in one state, and the report of
+    // that state is what it writes, whatever the workers.
     ensures one_end { IfOk result (λ r. r.ended ≡ Clean
         → WritesOneEnd manner.entry.size manner.entry.mode.json (R.coming reader.old) (W.written writer.old) (W.written writer.new)) }
 

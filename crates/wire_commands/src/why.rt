@@ -7,12 +7,13 @@ ghost use Rattle.wire_types.specs.declared.CallAt.{CallAt as CallPlace};
 ghost use Rattle.wire_types.specs.declared.Fault.TheVariants.{Memory, Read};
 ghost use Rattle.wire_types.specs.Counting.{one_more};
 ghost use Rattle.wire_types.specs.Forms.{is_json};
+ghost use Rattle.wire_types.specs.Texts.{lists_of, texts_of};
 ghost use Rattle.wire_content.specs.Planned.{plan_of};
 ghost use Rattle.wire_runs.specs.Ends.{calls_of};
 ghost use Rattle.wire_runs.specs.Plan.{event_count, event_of};
 ghost use Rattle.wire_report.specs.Chain.{AreDead};
 ghost use Rattle.wire_report.specs.There.{AreThere};
-ghost use Rattle.wire_commands.specs.Answer.{BreaksOff, Writes, rows_in, words_in};
+ghost use Rattle.wire_commands.specs.Answer.{BreaksOff, Writes, rows_in};
 ghost use Rattle.wire_commands.specs.CallsJson as spec;
 ghost use Rattle.wire_commands.specs.Chains as chains;
 ghost use Rattle.wire_commands.specs.Why.{Answers, Asks, StopsBeforeAnswer, TellsOrder};
@@ -54,12 +55,12 @@ pub fn answer_question<R: Source, W: Sink>(
     words: [&str; 4],
 ) -> Result<Ended, Fault>
     ensures ok { IfOk result (λ ended. Writes manner.entry.size manner.entry.form (R.coming reader.old)
-        (Answers manner.entry.form manner.entry.name.now (words_in words.entry)) ended (W.written writer.old) (W.written writer.new)) }
+        (Answers manner.entry.form manner.entry.name.now (texts_of words.entry)) ended (W.written writer.old) (W.written writer.new)) }
     ensures quiet { OnOk result ((R.failures reader.new ≡ R.failures reader.old) × (W.failures writer.new ≡ W.failures writer.old)) }
 
     // Either nothing was written, or the front of the answer that the fault counts.
-    ensures err { IfErr result (λ e. (StopsBeforeAnswer manner.entry.size (R.coming reader.old) (words_in words.entry) e × (writer.new ≡ writer.old))
-        ⊎ (BreaksOff manner.entry.size manner.entry.form (R.coming reader.old) (Answers manner.entry.form manner.entry.name.now (words_in words.entry))
+    ensures err { IfErr result (λ e. (StopsBeforeAnswer manner.entry.size (R.coming reader.old) (texts_of words.entry) e × (writer.new ≡ writer.old))
+        ⊎ (BreaksOff manner.entry.size manner.entry.form (R.coming reader.old) (Answers manner.entry.form manner.entry.name.now (texts_of words.entry))
         (W.written writer.old) (W.written writer.new) e × (W.failures writer.new ≡ one_more (W.failures writer.old)))) }
 
     // A failed read is answered only where the reader failed.
@@ -83,9 +84,9 @@ fn answer_scripts(
     telling: Telling<'_>,
     words: [&str; 4],
 ) -> Result<Answer, Fault>
-    ensures ok { IfOk result (λ answer. Answers telling.entry.form telling.entry.places.name.now (words_in words.entry) scripts
+    ensures ok { IfOk result (λ answer. Answers telling.entry.form telling.entry.places.name.now (texts_of words.entry) scripts
         (rows_in telling.entry.places) answer.text.items answer.ended) }
-    ensures err { IfErr result (λ e. (e ≡ Memory) ⊎ Asks scripts (words_in words.entry) (Err e)) }
+    ensures err { IfErr result (λ e. (e ≡ Memory) ⊎ Asks scripts (texts_of words.entry) (Err e)) }
 {
     let plan = Plan::build(alloc, scripts)?;
     let answer = answer_plan(alloc, &plan, telling, words);
@@ -100,9 +101,9 @@ fn answer_plan(
     telling: Telling<'_>,
     words: [&str; 4],
 ) -> Result<Answer, Fault>
-    ensures ok { IfOk result (λ answer. Answers telling.entry.form telling.entry.places.name.now (words_in words.entry) plan.now
+    ensures ok { IfOk result (λ answer. Answers telling.entry.form telling.entry.places.name.now (texts_of words.entry) plan.now
         (rows_in telling.entry.places) answer.text.items answer.ended) }
-    ensures err { IfErr result (λ e. (e ≡ Memory) ⊎ Asks plan.now (words_in words.entry) (Err e)) }
+    ensures err { IfErr result (λ e. (e ≡ Memory) ⊎ Asks plan.now (texts_of words.entry) (Err e)) }
 {
     let calls = read_pair(alloc, plan.scripts(), words)?;
     let text = text_between(alloc, plan, telling, calls)?;
@@ -118,10 +119,10 @@ pub(crate) fn read_pair(
     scripts: &Scripts,
     words: [&str; 4],
 ) -> Result<(CallAt, CallAt), Fault>
-    ensures ok { IfOk result (λ calls. Asks scripts.now (words_in words.entry) (Ok calls)) }
+    ensures ok { IfOk result (λ calls. Asks scripts.now (texts_of words.entry) (Ok calls)) }
     ensures x_there { IfOk result (λ calls. calls.0.call < length (calls_of (plan_of scripts.now) calls.0.proc.number)) }
     ensures y_there { IfOk result (λ calls. calls.1.call < length (calls_of (plan_of scripts.now) calls.1.proc.number)) }
-    ensures err { IfErr result (λ e. (e ≡ Memory) ⊎ Asks scripts.now (words_in words.entry) (Err e)) }
+    ensures err { IfErr result (λ e. (e ≡ Memory) ⊎ Asks scripts.now (texts_of words.entry) (Err e)) }
 {
     let question = Question {
         proc: words[0],
@@ -324,7 +325,7 @@ fn chain_json(
     first: bool,
     steps: &[ChainStep],
 ) -> Result<Vec<u8>, AllocError>
-    ensures { IfOk result (λ text. text.items ≡ spec.json_chain (map (λ row. row.items) rows.now) first scripts.now steps.now) }
+    ensures { IfOk result (λ text. text.items ≡ spec.json_chain (lists_of rows.now) first scripts.now steps.now) }
 {
     JsonBuilder::new(alloc)
         .put(b"{\"before\":\"")
@@ -342,7 +343,7 @@ fn step_texts(
     rows: &[Vec<u64>],
     steps: &[ChainStep],
 ) -> Result<Vec<Vec<u8>>, AllocError>
-    ensures { IfOk result (λ texts. map (λ text. text.items) texts.items ≡ map (spec.json_step (map (λ row. row.items) rows.now) scripts.now) steps.now) }
+    ensures { IfOk result (λ texts. map (λ text. text.items) texts.items ≡ map (spec.json_step (lists_of rows.now) scripts.now) steps.now) }
 {
     let mut texts = Vec::new(alloc);
     for step in steps {
@@ -358,7 +359,7 @@ fn unordered_json(
     rows: &[Vec<u64>],
     dead: &[CallAt],
 ) -> Result<Vec<u8>, AllocError>
-    ensures { IfOk result (λ text. text.items ≡ spec.json_unordered (map (λ row. row.items) rows.now) scripts.now dead.now) }
+    ensures { IfOk result (λ text. text.items ≡ spec.json_unordered (lists_of rows.now) scripts.now dead.now) }
 {
     JsonBuilder::new(alloc)
         .put(b"{\"before\":null,\"dead\":")
@@ -374,7 +375,7 @@ fn place_texts(
     rows: &[Vec<u64>],
     calls: &[CallAt],
 ) -> Result<Vec<Vec<u8>>, AllocError>
-    ensures { IfOk result (λ texts. map (λ text. text.items) texts.items ≡ map (spec.json_place (map (λ row. row.items) rows.now) scripts.now) calls.now) }
+    ensures { IfOk result (λ texts. map (λ text. text.items) texts.items ≡ map (spec.json_place (lists_of rows.now) scripts.now) calls.now) }
 {
     let mut texts = Vec::new(alloc);
     for call in calls {

@@ -1,12 +1,13 @@
 //! `witness` with two calls: two runs that show their race, in lines or as JSON; with places both calls with their
 //! lines in the file; or the order of one of the runs.
 
-ghost use Rattle.std.specs.Prelude.{◌≡◌, ◌≢◌, ◌⊎◌, ◌++◌, Err, map, OnOk, IfOk, IfErr};
+ghost use Rattle.std.specs.Prelude.{◌≡◌, ◌≢◌, ◌⊎◌, ◌++◌, Err, OnOk, IfOk, IfErr};
 ghost use Rattle.wire_types.specs.declared.Fault.TheVariants.{Memory, Read};
 ghost use Rattle.wire_types.specs.Counting.{one_more};
 ghost use Rattle.wire_types.specs.Forms.{is_json};
+ghost use Rattle.wire_types.specs.Texts.{lists_of, texts_of};
 ghost use Rattle.wire_content.specs.Scripts.{numbers_of};
-ghost use Rattle.wire_commands.specs.Answer.{BreaksOff, Writes, rows_in, words_in};
+ghost use Rattle.wire_commands.specs.Answer.{BreaksOff, Writes, rows_in};
 ghost use Rattle.wire_commands.specs.CallsJson as json;
 ghost use Rattle.wire_commands.specs.Why.{Asks, StopsBeforeAnswer};
 ghost use Rattle.wire_commands.specs.Witness as spec;
@@ -54,13 +55,14 @@ pub fn witness_pair<R: Source, W: Sink>(
     asked: PairAsked<'_>,
 ) -> Result<Ended, Fault>
     ensures ok { IfOk result (λ ended. Writes manner.entry.size manner.entry.form (R.coming reader.old)
-        (ShowsPair manner.entry.form manner.entry.name.now (words_in asked.entry.words) asked.entry.orders) ended (W.written writer.old) (W.written writer.new)) }
+        (ShowsPair manner.entry.form manner.entry.name.now (texts_of asked.entry.words) asked.entry.orders) ended
+        (W.written writer.old) (W.written writer.new)) }
     ensures quiet { OnOk result ((R.failures reader.new ≡ R.failures reader.old) × (W.failures writer.new ≡ W.failures writer.old)) }
 
     // Either nothing was written, or the front of the answer that the fault counts.
-    ensures err { IfErr result (λ e. (StopsBeforeAnswer manner.entry.size (R.coming reader.old) (words_in asked.entry.words) e × (writer.new ≡ writer.old))
+    ensures err { IfErr result (λ e. (StopsBeforeAnswer manner.entry.size (R.coming reader.old) (texts_of asked.entry.words) e × (writer.new ≡ writer.old))
         ⊎ (BreaksOff manner.entry.size manner.entry.form (R.coming reader.old)
-        (ShowsPair manner.entry.form manner.entry.name.now (words_in asked.entry.words) asked.entry.orders)
+        (ShowsPair manner.entry.form manner.entry.name.now (texts_of asked.entry.words) asked.entry.orders)
         (W.written writer.old) (W.written writer.new) e × (W.failures writer.new ≡ one_more (W.failures writer.old)))) }
 
     // A failed read is answered only where the reader failed.
@@ -84,9 +86,9 @@ fn answer_scripts(
     telling: Telling<'_>,
     asked: PairAsked<'_>,
 ) -> Result<Answer, Fault>
-    ensures ok { IfOk result (λ answer. ShowsPair telling.entry.form telling.entry.places.name.now (words_in asked.entry.words) asked.entry.orders scripts
+    ensures ok { IfOk result (λ answer. ShowsPair telling.entry.form telling.entry.places.name.now (texts_of asked.entry.words) asked.entry.orders scripts
         (rows_in telling.entry.places) answer.text.items answer.ended) }
-    ensures err { IfErr result (λ e. (e ≡ Memory) ⊎ Asks scripts (words_in asked.entry.words) (Err e)) }
+    ensures err { IfErr result (λ e. (e ≡ Memory) ⊎ Asks scripts (texts_of asked.entry.words) (Err e)) }
 {
     let plan = Plan::build(alloc, scripts)?;
     let answer = answer_plan(alloc, &plan, telling, asked);
@@ -101,9 +103,9 @@ fn answer_plan(
     telling: Telling<'_>,
     asked: PairAsked<'_>,
 ) -> Result<Answer, Fault>
-    ensures ok { IfOk result (λ answer. ShowsPair telling.entry.form telling.entry.places.name.now (words_in asked.entry.words) asked.entry.orders plan.now
+    ensures ok { IfOk result (λ answer. ShowsPair telling.entry.form telling.entry.places.name.now (texts_of asked.entry.words) asked.entry.orders plan.now
         (rows_in telling.entry.places) answer.text.items answer.ended) }
-    ensures err { IfErr result (λ e. (e ≡ Memory) ⊎ Asks plan.now (words_in asked.entry.words) (Err e)) }
+    ensures err { IfErr result (λ e. (e ≡ Memory) ⊎ Asks plan.now (texts_of asked.entry.words) (Err e)) }
 {
     let calls = read_pair(alloc, plan.scripts(), asked.words)?;
     let search = search_pair(alloc, plan, calls)?;
@@ -246,14 +248,15 @@ fn whole_json(alloc: Global, scripts: &Scripts, witness: &Witness) -> Result<Vec
     witness_json(alloc, scripts, witness.call, first, second)
 }
 
-/// A witness as JSON, with the lines of its calls: its two runs, the call that ends differently in them, and the other call of the race.
+/// A witness as JSON, with the lines of its calls: its two runs, the call that ends differently in them, and the other
+/// call of the race.
 fn placed_json(
     alloc: Global,
     scripts: &Scripts,
     rows: &[Vec<u64>],
     witness: &Witness,
 ) -> Result<Vec<u8>, AllocError>
-    ensures { IfOk result (λ text. text.items ≡ json.json_witness (map (λ row. row.items) rows.now) scripts.now witness.now) }
+    ensures { IfOk result (λ text. text.items ≡ json.json_witness (lists_of rows.now) scripts.now witness.now) }
 {
     let first = RunTold {
         end: &witness.first_end,

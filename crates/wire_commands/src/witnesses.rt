@@ -5,6 +5,7 @@ ghost use Rattle.std.specs.Prelude.{◌≡◌, ◌≢◌, ◌⊎◌, ◌++◌, t
 ghost use Rattle.std.specs.List.{flat_map};
 ghost use Rattle.wire_types.specs.declared.Fault.TheVariants.{Memory, Read};
 ghost use Rattle.wire_types.specs.Counting.{one_more};
+ghost use Rattle.wire_types.specs.Texts.{lists_of};
 ghost use Rattle.wire_commands.specs.Answer.{BreaksOff, Writes, rows_in};
 ghost use Rattle.wire_commands.specs.CallsJson as json;
 ghost use Rattle.wire_commands.specs.Check.{StopsBeforeFindings};
@@ -185,7 +186,7 @@ fn placed_json(
     rows: &[Vec<u64>],
     search: &RaceSearch,
 ) -> Result<Vec<u8>, AllocError>
-    ensures { IfOk result (λ text. text.items ≡ json.json_races (map (λ row. row.items) rows.now) scripts.now search.now) }
+    ensures { IfOk result (λ text. text.items ≡ json.json_races (lists_of rows.now) scripts.now search.now) }
 {
     JsonBuilder::new(alloc)
         .put(b"{\"counts\":")
@@ -203,7 +204,7 @@ fn tried_texts(
     rows: &[Vec<u64>],
     tried: &[TriedRace],
 ) -> Result<Vec<Vec<u8>>, AllocError>
-    ensures { IfOk result (λ texts. map (λ text. text.items) texts.items ≡ map (json.json_tried (map (λ row. row.items) rows.now) scripts.now) tried.now) }
+    ensures { IfOk result (λ texts. map (λ text. text.items) texts.items ≡ map (json.json_tried (lists_of rows.now) scripts.now) tried.now) }
 {
     let mut texts = Vec::new(alloc);
     for one in tried {
@@ -219,7 +220,7 @@ fn tried_json(
     rows: &[Vec<u64>],
     tried: TriedRace,
 ) -> Result<Vec<u8>, AllocError>
-    ensures { IfOk result (λ text. text.items ≡ json.json_tried (map (λ row. row.items) rows.now) scripts.now tried) }
+    ensures { IfOk result (λ text. text.items ≡ json.json_tried (lists_of rows.now) scripts.now tried) }
 {
     begin_finding(alloc, scripts, rows, tried.race)
         .put(b",\"shown\":")
@@ -235,7 +236,7 @@ fn shown_json(
     rows: &[Vec<u64>],
     shown: Option<CallAt>,
 ) -> Result<Vec<u8>, AllocError>
-    ensures { IfOk result (λ text. text.items ≡ json.json_shown (map (λ row. row.items) rows.now) scripts.now shown) }
+    ensures { IfOk result (λ text. text.items ≡ json.json_shown (lists_of rows.now) scripts.now shown) }
 {
     match shown {
         Some(call) => place_json(alloc, scripts, rows, call),

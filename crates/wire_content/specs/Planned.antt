@@ -5,7 +5,8 @@ use Rattle.wire_runs.specs.Plan.{CallLookup, CallLookupWait, CallUnpublish, Call
 use Rattle.wire_runs.specs.Plan as plan
 use Rattle.wire_types.specs.Replies.{bare}
 use Rattle.wire_types.specs.declared.Call.{Call}
-use Rattle.wire_types.specs.declared.Call.TheVariants.{Put, Commit, Fence, Get, GetNow, Publish, Lookup, LookupWait, Unpublish, UnpublishAll}
+use Rattle.wire_types.specs.declared.Call.TheVariants.{Put, Commit, Fence, Get, GetNow, Publish, Lookup, LookupWait}
+use Rattle.wire_types.specs.declared.Call.TheVariants.{Unpublish, UnpublishAll}
 use Rattle.wire_types.specs.declared.Reply.{Reply}
 use Rattle.wire_types.specs.declared.Status.TheVariants.{NotFound, BadParam}
 use Rattle.wire_types.specs.Said.{is_reserved}

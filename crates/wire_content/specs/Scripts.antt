@@ -1,6 +1,7 @@
 -- What a plan says. Nodes and jobs are numbered as declared, keys, names, values and sets of processes as first
 -- seen, and processes as they stand.
-use Rattle.std.specs.Prelude.{◌≡◌, ℕ, ◌<◌, ◌≤◌, ◌^◌, Bool, true, false, List, [], length, map, sum_by, nat_lt, Option, Some, None, slice_get, slice_index_or}
+use Rattle.std.specs.Prelude.{◌≡◌, ℕ, ◌<◌, ◌≤◌, ◌^◌, Bool, true, false, List, [], length, map, sum_by, nat_lt, Option}
+use Rattle.std.specs.Prelude.{Some, None, slice_get, slice_index_or}
 use Rattle.std.specs.List.{list_all}
 use Rattle.wire_runs.specs.Plan.{set_of}
 use Rattle.wire_runs.specs.Fences.{is_member}

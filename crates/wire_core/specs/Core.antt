@@ -15,8 +15,9 @@ use Rattle.wire_core.specs.Looks.{AreLooks}
 use Rattle.wire_core.specs.declared.keeping.Keeping.{Keeping}
 use Rattle.wire_core.specs.Keeping.{IsKeeping}
 
--- what is kept of a plan that has fences: the ranks, who is missing at its fences, what stands under names, what processes wait for, what
--- was seen of arrivals that bring data, and what gets have brought. There is room for the whole history
+-- what is kept of a plan that has fences: the ranks, who is missing at its fences, what stands under names, what
+-- processes wait for, what was seen of arrivals that bring data, and what gets have brought. There is room for the
+-- whole history
 pub record IsCore (scripts : Scripts) (table : FenceTable) (history : List ℕ) (capacity : ℕ) (ranks : List Rank) (missing : List ℕ)
     (names : List (Option CallAt)) (waits : List Awaited) (looks : List Look) (keeping : Keeping) : Type 0 where
   pub course : IsCourse scripts history ranks

@@ -1,5 +1,6 @@
 -- What gets have brought to nodes, where the plan keeps it: for the contracts of private functions.
-use Rattle.std.specs.Prelude.{◌≡◌, ◌≢◌, ℕ, ◌+◌, ◌≤◌, ◌&&◌, List, Bool, true, false, ◌==◌, nat_lt, Option, Some, None, MatchOption, length, if◌then◌else◌}
+use Rattle.std.specs.Prelude.{◌≡◌, ◌≢◌, ℕ, ◌+◌, ◌≤◌, ◌&&◌, List, Bool, true, false, ◌==◌, nat_lt, Option, Some, None}
+use Rattle.std.specs.Prelude.{MatchOption, length, if◌then◌else◌}
 use Rattle.std.specs.HashMap.{get, spare}
 use Rattle.wire_runs.specs.Plan.{Plan, Get, event_total, node_of, admits}
 use Rattle.wire_runs.specs.Puts.{scope_of}
@@ -38,7 +39,8 @@ IsGain plan s q found =
     ((p key put : ℕ) → plan.keep ≡ true → next_kind plan s q ≡ Some (Get p key) → get_sees plan s.done q (s.done q) p key ≡ Shown put → ⊥)
     (λ gain. GetGains plan s q gain)
 
--- the table tells what is kept on each node of keys of other nodes' processes; there is room for what the events to come may bring
+-- the table tells what is kept on each node of keys of other nodes' processes; there is room for what the events to
+-- come may bring
 pub record IsKeeping (plan : Plan) (s : State) (steps : ℕ) (keeping : Keeping) : Type 0 where
   pub told : (p key node : ℕ) → node_of plan p ≢ node → stored_at plan p key (count_in keeping p key node) ≡ kept plan s p key node
   pub done : (p key node n : ℕ) → count_in keeping p key node ≡ Some n → n ≤ s.done p

@@ -1,11 +1,13 @@
--- How far a process's events were looked through for those that may bring its data to a node: for the contracts of private functions.
+-- How far a process's events were looked through for those that may bring its data to a node: for the contracts of
+-- private functions.
 use Rattle.std.specs.Prelude.{◌≡◌, ℕ, ◌-◌, ◌<◌, ◌≤◌, List, false, Option, Some, None, slice_get}
 use Rattle.wire_runs.specs.Plan.{Plan}
 use Rattle.wire_runs.specs.Puts.{stored}
 use Rattle.wire_core.specs.Met.{brings_at}
 use Rattle.wire_core.specs.declared.looks.Look.{Look}
 
--- whatever has come, none of p's events from the first of these numbers to below the second has brought its data to the node
+-- whatever has come, none of p's events from the first of these numbers to below the second has brought its data to the
+-- node
 abbrev pub BringNothing : Plan → ℕ → ℕ → ℕ → ℕ → Type 0
 BringNothing plan p node from to = (n : ℕ) → from ≤ n → n < to → (cut : ℕ → ℕ) → brings_at plan cut p node n ≡ false
 

@@ -1,5 +1,6 @@
 -- What a core keeps, against the state that its history leads to.
-use Rattle.std.specs.Prelude.{◌≡◌, ℕ, ◌+◌, ◌-◌, ◌≤◌, List, Option, Some, count_by, length, drop, option_map, slice_get, vec_capacity}
+use Rattle.std.specs.Prelude.{◌≡◌, ℕ, ◌+◌, ◌-◌, ◌≤◌, List, Option, Some, count_by, length, drop, option_map, slice_get}
+use Rattle.std.specs.Prelude.{vec_capacity}
 use Rattle.wire_runs.specs.Plan.{Plan, kinds, kind_at, event_count, process_count}
 use Rattle.wire_types.specs.declared.CallAt.{CallAt}
 use Rattle.wire_content.specs.Scripts.{Scripts, IsSound}

@@ -1,5 +1,6 @@
 -- What processes that aren't ready wait for, and what an event brings: for the contracts of private functions.
-use Rattle.std.specs.Prelude.{◌≡◌, ◌<◌, ℕ, List, Bool, true, false, Option, Some, None, length, ◌==◌, slice_index_or, if◌then◌else◌}
+use Rattle.std.specs.Prelude.{◌≡◌, ◌<◌, ℕ, List, Bool, true, false, Option, Some, None, length, ◌==◌, slice_index_or}
+use Rattle.std.specs.Prelude.{if◌then◌else◌}
 use Rattle.wire_types.specs.declared.Proc.{Proc}
 use Rattle.wire_runs.specs.Plan.{Event, Kind, kind, process_count}
 use Rattle.wire_runs.specs.Plan as plan
@@ -37,8 +38,8 @@ Awaits s table x (Fence fence) = IsMet s table x fence.number × ((members : Lis
 Awaits s table x (Publish name) = kind (plan_of s) x ≡ Some (plan.LookupWait name)
 Awaits s table x Nothing = (state other : State) → may_do (plan_of s) state x (kind (plan_of s) x) ≡ may_do (plan_of s) other x (kind (plan_of s) x)
 
--- what an event of this process and kind brings that may be awaited: the arrival at this fence, with these members missing
--- afterwards, or an event of another kind
+-- what an event of this process and kind brings that may be awaited: the arrival at this fence, with these members
+-- missing afterwards, or an event of another kind
 abbrev pub coming : Proc → Option FenceId → List ℕ → Kind → Awaited
 coming p (Some fence) missing e = if missing_at missing fence.number == 0 then Fence fence else Unknown
 coming p None missing plan.Commit = Commit p

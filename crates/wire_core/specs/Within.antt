@@ -15,8 +15,8 @@ pub record MayGo (plan : Plan) (limits : List ℕ) (s : State) (p : ℕ) : Type 
   pub enabled : is_enabled plan s p ≡ true
   pub below : s.done p < limit_at limits p
 
--- steps were taken, each of a process that was enabled when it came. A process that is past its limit took none of them, and now no process may
--- go on within its limit
+-- steps were taken, each of a process that was enabled when it came. A process that is past its limit took none of
+-- them, and now no process may go on within its limit
 pub record RunsWithin (limits : List ℕ) (old new : Course) : Type 0 where
   pub steps : List ℕ
   pub follows : Follows old steps new

@@ -1,6 +1,7 @@
 //! What fences have brought from a process to a node, looked for once.
 
-ghost use Rattle.std.specs.Prelude.{◌≡◌, ◌+◌, ◌*◌, ◌-◌, ◌<◌, ◌≤◌, ◌^◌, min, length, ℕ, Some, false, slice_get, IfOk, IfErr, IfSome, if◌then◌else◌};
+ghost use Rattle.std.specs.Prelude.{◌≡◌, ◌+◌, ◌*◌, ◌-◌, ◌<◌, ◌≤◌, ◌^◌, min, length, ℕ, Some, false, slice_get, IfOk};
+ghost use Rattle.std.specs.Prelude.{IfErr, IfSome, if◌then◌else◌};
 ghost use Rattle.wire_runs.specs.Plan.{Plan as ThePlan, event_count, process_count};
 ghost use Rattle.wire_runs.specs.Sight.{delivered};
 ghost use Rattle.wire_content.specs.Planned.{plan_of};

@@ -1,6 +1,7 @@
 //! The fences that events are part of.
 
-ghost use Rattle.std.specs.Prelude.{◌≡◌, ◌<◌, ◌≤◌, ℕ, suc, true, false, Some, length, option_map, IfSome, IfNone, OnSome};
+ghost use Rattle.std.specs.Prelude.{◌≡◌, ◌<◌, ◌≤◌, ℕ, suc, true, false, Some, length, option_map, IfSome, IfNone};
+ghost use Rattle.std.specs.Prelude.{OnSome};
 ghost use Rattle.wire_runs.specs.Plan.{Arrive, event_of, kind_at, event_count, kind as kind_in};
 ghost use Rattle.wire_runs.specs.Fences.{arrivals as arrivals_of, is_complete as all_arrived};
 ghost use Rattle.wire_content.specs.Planned.{plan_of};

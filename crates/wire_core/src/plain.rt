@@ -10,8 +10,8 @@ use std::alloc::Global;
 use wire_plan::Plan;
 use wire_types::{Fault, Outcome};
 
-/// What became of every call in the plain run of a plan, in which at each step the lowest ready process takes it. The one
-/// fault is `Fault::Memory`.
+/// What became of every call in the plain run of a plan, in which at each step the lowest ready process takes it. The
+/// one fault is `Fault::Memory`.
 pub fn plain_outcome(alloc: Global, plan: &Plan) -> Result<Outcome, Fault>
     ensures ok { IfOk result (λ outcome. ends_of outcome ≡ plain_ends plan.now) }
     ensures memory { IsOkUnless result Memory }

@@ -1,6 +1,7 @@
 //! What one process has done.
 
-ghost use Rattle.std.specs.Prelude.{◌≡◌, ◌+◌, ◌<◌, ◌^◌, ◌++◌, [], ℕ, List, Some, true, length, map, count_by, vec_len, vec_capacity, IfOk, IfErr};
+ghost use Rattle.std.specs.Prelude.{◌≡◌, ◌+◌, ◌<◌, ◌^◌, ◌++◌, [], ℕ, List, Some, true, length, map, count_by, vec_len};
+ghost use Rattle.std.specs.Prelude.{vec_capacity, IfOk, IfErr};
 ghost use Rattle.std.specs.Prelude.{if◌then◌else◌};
 ghost use Rattle.wire_store.specs.Kept.{kept_with};
 ghost use Rattle.wire_plan.specs.Kinds.{kind_of};

@@ -3,7 +3,8 @@
 ghost use Rattle.std.specs.Prelude.{◌≡◌};
 ghost use Rattle.wire_types.specs.Replies.{bare};
 ghost use Rattle.wire_names.specs.Names.{status_of_publish, status_of_unpublish};
-ghost use Rattle.wire_core.specs.Seeing.{reply_to, is_something, brought_of as brought_seen, reply_to_lookup as lookup_reply};
+ghost use Rattle.wire_core.specs.Seeing.{reply_to, is_something, brought_of as brought_seen};
+ghost use Rattle.wire_core.specs.Seeing.{reply_to_lookup as lookup_reply};
 
 use wire_store::Seen;
 use wire_types::{CallAt, Proc, Reply, Status, Value};

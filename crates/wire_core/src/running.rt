@@ -1,6 +1,7 @@
 //! A plan with the history of its steps.
 
-ghost use Rattle.std.specs.Prelude.{◌≡◌, ◌+◌, ◌<◌, ◌^◌, ◌∷◌, ◌++◌, [], true, Some, None, ℕ, List, length, map, option_map, slice_get, IsTrue, ◌↔◌, IfOk, IfErr};
+ghost use Rattle.std.specs.Prelude.{◌≡◌, ◌+◌, ◌<◌, ◌^◌, ◌∷◌, ◌++◌, [], true, Some, None, ℕ, List, length, map};
+ghost use Rattle.std.specs.Prelude.{option_map, slice_get, IsTrue, ◌↔◌, IfOk, IfErr};
 ghost use Rattle.std.specs.Prelude.{OnOk, OnSome};
 ghost use Rattle.wire_runs.specs.Plan.{event_of, process_count};
 ghost use Rattle.wire_types.specs.Outcome.{ends_of};
@@ -91,8 +92,8 @@ fn new_ranks(alloc: Global, plan: &Plan) -> Result<Vec<Rank>, Fault>
 }
 
 impl<'a> Core<'a> {
-    /// The run of a plan that hasn't begun, with memory for the whole history, and for all that gets bring. The one fault is
-    /// `Fault::Memory`.
+    /// The run of a plan that hasn't begun, with memory for the whole history, and for all that gets bring. The one
+    /// fault is `Fault::Memory`.
     pub fn new(alloc: Global, plan: &'a Plan) -> Result<Core<'a>, Fault>
         ensures ok { IfOk result (λ core. core ≡ record { scripts = plan.now; history = [] }) }
         ensures err { IfErr result (λ e. e ≡ Fault.Memory) }

@@ -2,7 +2,8 @@
 use Rattle.std.specs.Prelude.{◌≡◌, ℕ, Bool, List, [], ◌++◌, map, unwrap_or, Option, Some, None, codes, if◌then◌else◌}
 use Rattle.std.specs.List.{list_all}
 use Rattle.wire_types.specs.declared.Fault.{Fault}
-use Rattle.wire_types.specs.declared.Fault.TheVariants.{Memory, TooLong, BadHeader, BadLine, UnknownName, Twice, NotMember}
+use Rattle.wire_types.specs.declared.Fault.TheVariants.{Memory, TooLong, BadHeader, BadLine, UnknownName, Twice}
+use Rattle.wire_types.specs.declared.Fault.TheVariants.{NotMember}
 use Rattle.wire_types.specs.declared.Fault.TheVariants.{TooMany, Workers, Read, Write, NotReady, BadOrder}
 use Rattle.wire_lines.specs.Said.{is_word_byte}
 use Rattle.wire_explain.specs.Hint.{IsHintFor, doubtful, known}
@@ -33,8 +34,8 @@ expected_at InRank = codes "a call of this rank, 'rank NODE' or 'job NAME'"
 abbrev pub are_ascii : List (List ℕ) → Bool
 are_ascii words = list_all (λ word. list_all is_word_byte word) words
 
--- what was expected of a line that isn't one of the format, or stands in the wrong place: other bytes, the line of its first
--- word, or what may stand there
+-- what was expected of a line that isn't one of the format, or stands in the wrong place: other bytes, the line of its
+-- first word, or what may stand there
 abbrev pub expected_line : List ℕ → ℕ → List ℕ
 expected_line bytes line =
     if are_ascii (words_at bytes line) then unwrap_or (usage_of (first_in (words_at bytes line))) (expected_at (place_of bytes line))

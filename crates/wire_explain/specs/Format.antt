@@ -1,5 +1,6 @@
 -- The lines of the format by their first words, and how each is written.
-use Rattle.std.specs.Prelude.{◌≡◌, ◌⊎◌, ℕ, Bool, ◌||◌, true, false, List, [], ◌∷◌, ◌++◌, map, Option, Some, None, codes, slice_get, if◌then◌else◌}
+use Rattle.std.specs.Prelude.{◌≡◌, ◌⊎◌, ℕ, Bool, ◌||◌, true, false, List, [], ◌∷◌, ◌++◌, map, Option, Some, None, codes}
+use Rattle.std.specs.Prelude.{slice_get, if◌then◌else◌}
 use Rattle.std.specs.List.{All}
 use Rattle.std.specs.Str.{bytes_eq}
 use Rattle.wire_types.specs.declared.Scope.TheVariants.{Local, Remote, Global}
@@ -45,8 +46,8 @@ begins_as word (Some usage) = begins_with (39 ∷ (word ++ 32 ∷ [])) usage || 
 abbrev pub LinesHaveUsages : Type 0
 LinesHaveUsages = (said : Said) → begins_as (first_word said) (usage_of (first_word said)) ≡ true
 
--- the place of the word that is one of a few, in a line that begins with this word: the scope of a put, what follows the set
--- of a fence, and else the first word itself
+-- the place of the word that is one of a few, in a line that begins with this word: the scope of a put, what follows
+-- the set of a fence, and else the first word itself
 abbrev pub choice_place : List ℕ → ℕ
 choice_place first = if bytes_eq first (codes "put") then 1 else (if bytes_eq first (codes "fence") then 2 else 0)
 

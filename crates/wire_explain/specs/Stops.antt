@@ -1,5 +1,6 @@
 -- Where a rank stands that can't take its next step, and what it waits for, in words.
-use Rattle.std.specs.Prelude.{ℕ, Bool, zero, suc, ◌-◌, ◌==◌, List, [], ◌∷◌, ◌++◌, not, nat_le, filter, take, length, Option, Some, None, codes, decimal}
+use Rattle.std.specs.Prelude.{ℕ, Bool, zero, suc, ◌-◌, ◌==◌, List, [], ◌∷◌, ◌++◌, not, nat_le, filter, take, length}
+use Rattle.std.specs.Prelude.{Option, Some, None, codes, decimal}
 use Rattle.std.specs.Prelude.{slice_get, if◌then◌else◌}
 use Rattle.wire_runs.specs.Plan.{Plan, Kind, Get, Leave, LookupWait}
 use Rattle.wire_runs.specs.Fences.{arrivals}
@@ -51,7 +52,8 @@ key_text scripts p owner key =
 abbrev pub published_text : Scripts → ℕ → List ℕ
 published_text scripts name = codes " the name " ++ text_at scripts.names name ++ codes " to be published"
 
--- what p waits for, whose next event is of this kind: at the end of a fence for those of its members that haven't arrived
+-- what p waits for, whose next event is of this kind: at the end of a fence for those of its members that haven't
+-- arrived
 abbrev pub wait_text : Scripts → State → ℕ → Kind → List ℕ
 wait_text scripts s p (Get owner key) = key_text scripts p owner key
 wait_text scripts s p (Leave members) = ranks_text scripts (missing_for (plan_of scripts) s p members) ++ codes " to arrive"

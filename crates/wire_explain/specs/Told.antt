@@ -1,5 +1,6 @@
 -- What is told of an order, a step of which can't be taken.
-use Rattle.std.specs.Prelude.{◌≡◌, ◌≢◌, ◌⊎◌, ◌==◌, ℕ, Bool, true, false, List, [], length, map, Some, None, is_some, Ok, Err, take, slice_get}
+use Rattle.std.specs.Prelude.{◌≡◌, ◌≢◌, ◌⊎◌, ◌==◌, ℕ, Bool, true, false, List, [], length, map, Some, None, is_some, Ok}
+use Rattle.std.specs.Prelude.{Err, take, slice_get}
 use Rattle.wire_types.specs.declared.Fault.{Fault}
 use Rattle.wire_types.specs.declared.Fault.TheVariants.{Memory}
 use Rattle.wire_runs.specs.Plan.{Plan, Kind, Get, Leave, LookupWait}
@@ -14,7 +15,8 @@ use Rattle.wire_script.specs.Order.{order_read}
 use Rattle.wire_explain.specs.Quote.{shown_byte}
 use Rattle.wire_explain.specs.Stops.{missing_for, explanation}
 
--- all steps can be taken, and nothing is told; or n of them can, the next, of p, can't, and the text tells where p stands then
+-- all steps can be taken, and nothing is told; or n of them can, the next, of p, can't, and the text tells where p
+-- stands then
 pub data TellsStop (order_bytes : List ℕ) (scripts : Scripts) (steps text : List ℕ) : Type 0 where
   Goes : IsInterleaving (plan_of scripts) start steps → text ≡ [] → TellsStop order_bytes scripts steps text
   Stops : (n p : ℕ) → IsInterleaving (plan_of scripts) start (take n steps) → slice_get steps n ≡ Some p →
@@ -46,9 +48,9 @@ can_wait (Leave members) = true
 can_wait (LookupWait name) = true
 can_wait _ = false
 
--- what a rank is said to wait for is why it isn't enabled: at the end of a fence it is enabled exactly if nobody is missing, at a get of
--- another's key if the owner has stored it, at one of its own if it has put it, and at a lookup-wait if the name is published. It isn't enabled
--- at its end, and is at every other event
+-- what a rank is said to wait for is why it isn't enabled: at the end of a fence it is enabled exactly if nobody is
+-- missing, at a get of another's key if the owner has stored it, at one of its own if it has put it, and at a
+-- lookup-wait if the name is published. It isn't enabled at its end, and is at every other event
 pub record IsWhy (plan : Plan) (s : State) (p : ℕ) : Type 0 where
   pub ended : next_kind plan s p ≡ None → is_enabled plan s p ≡ false
   pub fence : (members : List ℕ) → next_kind plan s p ≡ Some (Leave members) → is_enabled plan s p ≡ (length (missing_for plan s p members) == 0)

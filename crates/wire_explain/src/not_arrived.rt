@@ -1,6 +1,7 @@
 //! Who hasn't arrived at a fence.
 
-ghost use Rattle.std.specs.Prelude.{◌≡◌, ◌<◌, ◌≤◌, ◌∷◌, [], ◌++◌, ℕ, suc, length, filter, Some, OnOk, IfOk, if◌then◌else◌};
+ghost use Rattle.std.specs.Prelude.{◌≡◌, ◌<◌, ◌≤◌, ◌∷◌, [], ◌++◌, ℕ, suc, length, filter, Some, OnOk, IfOk};
+ghost use Rattle.std.specs.Prelude.{if◌then◌else◌};
 ghost use Rattle.std.specs.Str.{bytes_eq as same_members};
 ghost use Rattle.wire_runs.specs.Plan.{event_count, set_of};
 ghost use Rattle.wire_runs.specs.Fences.{arrivals as arrivals_in, arrivals_with};

@@ -142,8 +142,8 @@ fn explanation_of(
     Ok(explanation)
 }
 
-/// The explanation of the fault of a plan: the line that it names, what was expected there, and the nearest word, where one is
-/// near. Only printable ASCII and line feeds are in it.
+/// The explanation of the fault of a plan: the line that it names, what was expected there, and the nearest word, where
+/// one is near. Only printable ASCII and line feeds are in it.
 pub fn explain_plan(alloc: Global, bytes: &[u8], fault: Fault) -> Result<Vec<u8>, AllocError>
     ensures explains { IfOk result (λ text. Explains bytes.now fault text.items) }
     ensures printable { IfOk result (λ text. is_printable_text text.items ≡ true) }

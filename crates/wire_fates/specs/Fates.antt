@@ -34,8 +34,8 @@ pub record IsFateOf (plan : Plan) (y : Event) (found : Told) : Type 0 where
 abbrev pub TellsReply : Plan → Event → Told → Type 0
 TellsReply plan y found = (s : State) (answer : Answer) → IsReachable plan s → slice_get (s.replies y.proc) y.at ≡ Some answer → found ≡ answer_told plan answer
 
--- in a state that a run can reach and in which y is the next event of its process, the process is enabled exactly where the sources of
--- y are done and its fate isn't to wait
+-- in a state that a run can reach and in which y is the next event of its process, the process is enabled exactly where
+-- the sources of y are done and its fate isn't to wait
 abbrev pub TellsEnabled : Plan → Event → Told → Type 0
 TellsEnabled plan y found =
     (s : State) → IsReachable plan s → s.done y.proc ≡ y.at →

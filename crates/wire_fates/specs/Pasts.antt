@@ -1,5 +1,6 @@
 -- What an event sees and does where exactly what is before it is done: for the contracts of private functions.
-use Rattle.std.specs.Prelude.{◌≡◌, ◌≢◌, ◌↔◌, ℕ, List, [], ◌∷◌, true, Option, Some, is_some, slice_get, map, if◌then◌else◌}
+use Rattle.std.specs.Prelude.{◌≡◌, ◌≢◌, ◌↔◌, ℕ, List, [], ◌∷◌, true, Option, Some, is_some, slice_get, map}
+use Rattle.std.specs.Prelude.{if◌then◌else◌}
 use Rattle.wire_types.specs.declared.Reply.{Reply}
 use Rattle.wire_runs.specs.Plan.{Plan, Event, Get, event_of, event_count, kind, node_of, same_node}
 use Rattle.wire_runs.specs.State.{Success, NotFound, Duplicate, State, IsDone}

@@ -7,7 +7,8 @@ ghost use Rattle.wire_content.specs.Planned.{plan_of};
 ghost use Rattle.wire_runs.specs.Order.{IsArrival, Live};
 ghost use Rattle.wire_runs.specs.Races.{IsPutOnce, ComesSurely};
 ghost use Rattle.wire_plan.specs.Index.{AreArrivals};
-ghost use Rattle.wire_fates.specs.Deliveries.{Arrives, IsBehindOwn, IsSure, IsSureByFence, MayBeLate, IsLate, AllLive, NoneAfter, IsFirstLate, IsNextArrival};
+ghost use Rattle.wire_fates.specs.Deliveries.{Arrives, IsBehindOwn, IsSure, IsSureByFence, MayBeLate, IsLate, AllLive};
+ghost use Rattle.wire_fates.specs.Deliveries.{NoneAfter, IsFirstLate, IsNextArrival};
 
 use crate::get_deliveries::get_comes_surely;
 use wire_marks::MarkedPlan;

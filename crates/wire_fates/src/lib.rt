@@ -1,5 +1,5 @@
-//! Plans in which nothing is found, and the fate of each of their events: what it does once its sources are done, whatever
-//! ran before. And what brings a key to a node before a get.
+//! Plans in which nothing is found, and the fate of each of their events: what it does once its sources are done,
+//! whatever ran before. And what brings a key to a node before a get.
 #![tactic(auto)]
 
 mod fate;

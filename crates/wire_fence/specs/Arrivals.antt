@@ -1,5 +1,6 @@
 -- Who has arrived at the fences, in a cut: so many events of each process are done.
-use Rattle.std.specs.Prelude.{◌≡◌, ℕ, suc, ◌+◌, ◌-◌, List, Bool, true, Some, length, count_by, nat_le, set, slice_index_or}
+use Rattle.std.specs.Prelude.{◌≡◌, ℕ, suc, ◌+◌, ◌-◌, List, Bool, true, Some, length, count_by, nat_le, set}
+use Rattle.std.specs.Prelude.{slice_index_or}
 use Rattle.wire_runs.specs.Plan.{Arrive, kind_at}
 use Rattle.wire_runs.specs.Fences.{arrivals, is_member}
 use Rattle.wire_content.specs.Scripts.{Scripts}

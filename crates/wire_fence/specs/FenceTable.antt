@@ -1,6 +1,7 @@
 -- The fences of scripts (PMIx Standard 5.0, PMIx_Fence).
 -- A fence is a set of processes and a number j: it is the j-th fence call of each member over that set.
-use Rattle.std.specs.Prelude.{◌≡◌, ℕ, suc, ◌<◌, List, [], Bool, false, Option, Some, None, length, take, count_by, slice_get, slice_index_or, ◌==◌, ◌&&◌}
+use Rattle.std.specs.Prelude.{◌≡◌, ℕ, suc, ◌<◌, List, [], Bool, false, Option, Some, None, length, take, count_by}
+use Rattle.std.specs.Prelude.{slice_get, slice_index_or, ◌==◌, ◌&&◌}
 use Rattle.std.specs.List.{list_any}
 use Rattle.wire_runs.specs.Fences.{is_full, is_collecting, has_node}
 use Rattle.wire_types.specs.declared.Call.{Call}
@@ -8,9 +9,9 @@ use Rattle.wire_types.specs.declared.Call.TheVariants.{Fence}
 use Rattle.wire_content.specs.Scripts.{Scripts, IsSound, calls_in, call_at, set_at}
 use Rattle.wire_content.specs.Planned.{plan_of}
 
--- a fence: the number of its set, its number among the fences over that set, from 1, its members, whether each of them calls
--- it, and whether every call of it says collect. A member that doesn't call it has no say in the last, so a fence collects
--- only where it is full besides.
+-- a fence: the number of its set, its number among the fences over that set, from 1, its members, whether each of them
+-- calls it, and whether every call of it says collect. A member that doesn't call it has no say in the last, so a fence
+-- collects only where it is full besides.
 pub record FenceInfo : Type 0 where
   pub set : ℕ
   pub nth : ℕ
@@ -18,8 +19,8 @@ pub record FenceInfo : Type 0 where
   pub full : Bool
   pub collects : Bool
 
--- the fences by number; for each call of each process the number of its fence, where it is a fence call; and each set of
--- processes, by its number, with each node that a member is on
+-- the fences by number; for each call of each process the number of its fence, where it is a fence call; and each set
+-- of processes, by its number, with each node that a member is on
 pub record FenceTable : Type 0 where
   pub fences : List FenceInfo
   pub numbers : List (List (Option ℕ))
@@ -80,8 +81,8 @@ fence_count set calls = count_by (is_over set) calls
 abbrev pub written_calls : Scripts → ℕ → List Call
 written_calls s p = calls_in (slice_get s.processes p)
 
--- the number is that of the fence of this call: the set of the call, and how many fences over it the process has called up to
--- this one
+-- the number is that of the fence of this call: the set of the call, and how many fences over it the process has called
+-- up to this one
 pub record IsFenceOf (s : Scripts) (table : FenceTable) (p c set : ℕ) : Type 0 where
   pub number : ℕ
   pub is : fence_number table p c ≡ Some number

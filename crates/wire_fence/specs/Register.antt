@@ -1,5 +1,7 @@
--- The fences as calls are read, one call after the other: for the contracts of private functions. FenceTable says what a fence is.
-use Rattle.std.specs.Prelude.{◌≡◌, ◌⊎◌, ℕ, suc, ◌+◌, ◌-◌, ◌<◌, ◌≤◌, List, [], ◌∷◌, ◌++◌, Bool, true, ◌&&◌, ◌==◌, Option, Some, None, length, map, take, set}
+-- The fences as calls are read, one call after the other: for the contracts of private functions. FenceTable says what
+-- a fence is.
+use Rattle.std.specs.Prelude.{◌≡◌, ◌⊎◌, ℕ, suc, ◌+◌, ◌-◌, ◌<◌, ◌≤◌, List, [], ◌∷◌, ◌++◌, Bool, true, ◌&&◌, ◌==◌, Option}
+use Rattle.std.specs.Prelude.{Some, None, length, map, take, set}
 use Rattle.std.specs.Prelude.{count_by, nat_le, nat_lt, slice_get, slice_index_or, if◌then◌else◌}
 use Rattle.std.specs.List.{list_all}
 use Rattle.wire_types.specs.declared.Call.{Call}
@@ -89,8 +91,8 @@ pub record AreAllNumbers (rows : List FenceDraft) (processes : List Process) (nu
 abbrev pub read_to : Scripts → ℕ → ℕ → ℕ
 read_to s n m = if nat_lt m n then length (written_calls s m) else 0
 
--- the counts with those of the sets of the first n calls set back to 0: each is 0, or as it was where none of these calls is
--- over its set
+-- the counts with those of the sets of the first n calls set back to 0: each is 0, or as it was where none of these
+-- calls is over its set
 pub record AreForgotten (old : List ℕ) (calls : List Call) (n : ℕ) (new : List ℕ) : Type 0 where
   pub len : length new ≡ length old
   pub each : (k : ℕ) → (slice_index_or new k 0 ≡ 0) ⊎ ((slice_index_or new k 0 ≡ slice_index_or old k 0) × (fence_count k (take n calls) ≡ 0))

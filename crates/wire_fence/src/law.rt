@@ -1,6 +1,7 @@
 //! What holds of the counts of members that are missing at fences.
 
-ghost use Rattle.wire_fence.specs.Missing.{OtherEventsKeep, ArrivalCounts, SomebodyIsMissing, ArrivingIsMissing, CallsAreArrivals};
+ghost use Rattle.wire_fence.specs.Missing.{OtherEventsKeep, ArrivalCounts, SomebodyIsMissing, ArrivingIsMissing};
+ghost use Rattle.wire_fence.specs.Missing.{CallsAreArrivals};
 
 /// An event that is no arrival leaves the counts as they are.
 pub fn other_events_keep()

@@ -1,11 +1,13 @@
 //! The fences as calls are read: a row for each, by number.
 
-ghost use Rattle.std.specs.Prelude.{◌≡◌, ◌+◌, ◌<◌, ◌≤◌, ◌^◌, [], ℕ, map, length, replicate, slice_get, slice_index_or, OnOk, IfOk, Some};
+ghost use Rattle.std.specs.Prelude.{◌≡◌, ◌+◌, ◌<◌, ◌≤◌, ◌^◌, [], ℕ, map, length, replicate, slice_get, slice_index_or};
+ghost use Rattle.std.specs.Prelude.{OnOk, IfOk, Some};
 ghost use Rattle.wire_types.specs.declared.Call.TheVariants.{Fence as TheFence};
 ghost use Rattle.wire_runs.specs.Plan.{update};
 ghost use Rattle.wire_content.specs.Scripts.{Scripts, IsSound, IsCounted, numbers_of, call_at, set_at};
 ghost use Rattle.wire_fence.specs.FenceTable.{written_calls};
-ghost use Rattle.wire_fence.specs.Register.{IsKeyed, HasRow, IsCalled, IsAfter, AreNumbers, AreAllNumbers, AreRead, AreForgotten, read_to, called};
+ghost use Rattle.wire_fence.specs.Register.{IsKeyed, HasRow, IsCalled, IsAfter, AreNumbers, AreAllNumbers, AreRead};
+ghost use Rattle.wire_fence.specs.Register.{AreForgotten, read_to, called};
 
 use indexmap::IndexSet;
 use std::alloc::{AllocError, Global};

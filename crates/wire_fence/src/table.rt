@@ -28,7 +28,8 @@ pub struct FenceId {
 /// fence over the set.
 pub struct Fences {
     sets: Vec<Vec<Proc>>,
-    // In a box, so that the layout of fences is small: a `HashSet` has many parts, and a proof writes out the layout of all that its function holds.
+    // In a box, so that the layout of fences is small: a `HashSet` has many parts, and a proof writes out the layout of
+    // all that its function holds.
     reached: Box<HashSet<(u32, u32)>>,
     rows: Vec<FenceDraft>,
     numbers: Vec<Vec<Option<u32>>>,

@@ -1,5 +1,7 @@
--- Findings in few bytes, and what they stand for: for private functions, and for what a `Found` and a `FindingList` stand for.
-use Rattle.std.specs.Prelude.{◌≡◌, ◌++◌, ◌<◌, ◌≤◌, ◌-◌, ◌==◌, ⊤, ℕ, Bool, true, false, List, [], ◌∷◌, Option, Some, None, length, map, slice_get}
+-- Findings in few bytes, and what they stand for: for private functions, and for what a `Found` and a `FindingList`
+-- stand for.
+use Rattle.std.specs.Prelude.{◌≡◌, ◌++◌, ◌<◌, ◌≤◌, ◌-◌, ◌==◌, ⊤, ℕ, Bool, true, false, List, [], ◌∷◌, Option, Some}
+use Rattle.std.specs.Prelude.{None, length, map, slice_get}
 use Rattle.wire_types.specs.declared.CallAt.{CallAt}
 use Rattle.wire_findings.specs.declared.finding.Finding.{Finding as Told}
 use Rattle.wire_findings.specs.declared.finding.Finding.TheVariants as told

@@ -149,8 +149,8 @@ impl Found {
         Ok(())
     }
 
-    /// Adds the findings of a piece, behind the others. Where nothing is there yet, they needn't be moved. The one error
-    /// is that memory ran out: a part of the piece may be there then, and a caller drops it.
+    /// Adds the findings of a piece, behind the others. Where nothing is there yet, they needn't be moved. The one
+    /// error is that memory ran out: a part of the piece may be there then, and a caller drops it.
     pub fn append(&mut self, piece: Found) -> Result<(), AllocError>
         ensures { OnOk result (self.new ≡ self.old ++ piece) }
     {

@@ -1,4 +1,5 @@
--- The JSON forms of the answer to a question about two calls, as bytes: the chain that orders them, or which of them are dead.
+-- The JSON forms of the answer to a question about two calls, as bytes: the chain that orders them, or which of them
+-- are dead.
 use Rattle.std.specs.Prelude.{ℕ, ◌+◌, Bool, true, false, List, [], ◌++◌, map, codes, decimal}
 use Rattle.wire_types.specs.declared.CallAt.{CallAt}
 use Rattle.wire_content.specs.Scripts.{Scripts, call_at}

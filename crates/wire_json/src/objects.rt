@@ -1,7 +1,8 @@
 //! Objects of JSON, built member by member.
 
 ghost use Rattle.std.specs.Prelude.{◌≡◌, map, string_bytes, IfOk};
-ghost use Rattle.serde_json.specs.Data.{Members, array, boolean, no_members, null, number, object, put as with_member, string, unsigned};
+ghost use Rattle.serde_json.specs.Data.{Members, array, boolean, no_members, null, number, object, put as with_member};
+ghost use Rattle.serde_json.specs.Data.{string, unsigned};
 ghost use Rattle.serde_json.specs.View.{items_of, members_view, view};
 
 use serde_json::{Map, Value, put};

@@ -62,7 +62,8 @@ fn process_name(alloc: Global, scripts: &Scripts, process: &Process) -> Result<S
 
 /// The calls of a process under its name.
 fn named_calls(alloc: Global, calls: Vec<Value>, name: String) -> Result<Value, AllocError>
-    ensures { IfOk result (λ tree. view tree ≡ object (member (codes "calls") (spec.list_data (map view calls.items)) (member (codes "proc") (string (string_bytes name)) no_members))) }
+    ensures { IfOk result (λ tree. view tree ≡ object (member (codes "calls") (spec.list_data (map view calls.items))
+        (member (codes "proc") (string (string_bytes name)) no_members))) }
 {
     Object::new(alloc)
         .put_list("calls", calls)

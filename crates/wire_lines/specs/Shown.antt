@@ -7,7 +7,8 @@ use Rattle.wire_lines.specs.declared.sets.Item.TheVariants.{One, Every}
 use Rattle.wire_lines.specs.declared.sets.Set.{Set}
 use Rattle.wire_lines.specs.declared.sets.Set.TheVariants.{Own, Listed}
 use Rattle.wire_lines.specs.declared.call.CallLine.{CallLine}
-use Rattle.wire_lines.specs.declared.call.CallLine.TheVariants.{Put, Commit, Fence, Get, GetNow, Publish, Lookup, LookupWait, Unpublish, UnpublishAll}
+use Rattle.wire_lines.specs.declared.call.CallLine.TheVariants.{Put, Commit, Fence, Get, GetNow, Publish, Lookup}
+use Rattle.wire_lines.specs.declared.call.CallLine.TheVariants.{LookupWait, Unpublish, UnpublishAll}
 use Rattle.wire_lines.specs.declared.line.Line.{Line}
 use Rattle.wire_lines.specs.declared.line.Line.TheVariants.{Header, Keep, Node, Job, Rank, Calls}
 

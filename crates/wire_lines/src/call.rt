@@ -1,9 +1,11 @@
 //! What one call line says.
 
-ghost use Rattle.std.specs.Prelude.{[], ◌≡◌, ◌≢◌, ℕ, ◌^◌, ◌<◌, ◌↔◌, List, ◌∷◌, Bool, IsTrue, codes, IfOk, IfSome, IfNone};
+ghost use Rattle.std.specs.Prelude.{[], ◌≡◌, ◌≢◌, ℕ, ◌^◌, ◌<◌, ◌↔◌, List, ◌∷◌, Bool, IsTrue, codes, IfOk, IfSome};
+ghost use Rattle.std.specs.Prelude.{IfNone};
 ghost use Rattle.wire_types.specs.declared.Scope.{Scope};
 ghost use Rattle.wire_types.specs.Said as spec;
-ghost use Rattle.wire_types.specs.Said.{spelled_proc, spelled_scope, spelled_set, collect_words, IsLawfulSet, IsLawfulCall};
+ghost use Rattle.wire_types.specs.Said.{spelled_proc, spelled_scope, spelled_set, collect_words, IsLawfulSet};
+ghost use Rattle.wire_types.specs.Said.{IsLawfulCall};
 ghost use Rattle.wire_types.specs.Said.{first_of_call, others_of_call};
 ghost use Rattle.wire_lines.specs.Shown.{call_by};
 ghost use Rattle.wire_types.specs.Verbs.{text_of_verb};

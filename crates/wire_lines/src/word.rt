@@ -1,7 +1,8 @@
 //! Words, and what they may be: names, keys, scopes, ranks and processes.
 
 ghost use Rattle.std.specs.List.{list_all};
-ghost use Rattle.std.specs.Prelude.{not, true, position, ◌==◌, ◌≡◌, ◌≢◌, ℕ, ◌+◌, ◌^◌, ◌<◌, ◌↔◌, List, ◌∷◌, ◌++◌, IsTrue, decimal, codes, get_or, length};
+ghost use Rattle.std.specs.Prelude.{not, true, position, ◌==◌, ◌≡◌, ◌≢◌, ℕ, ◌+◌, ◌^◌, ◌<◌, ◌↔◌, List, ◌∷◌, ◌++◌};
+ghost use Rattle.std.specs.Prelude.{IsTrue, decimal, codes, get_or, length};
 ghost use Rattle.std.specs.Prelude.{IfSome, IfNone};
 ghost use Rattle.wire_types.specs.declared.Scope.{Scope};
 ghost use Rattle.wire_types.specs.Said as spec;

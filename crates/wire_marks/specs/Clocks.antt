@@ -1,6 +1,7 @@
--- What the marks of a plan are: how many events of each process are live, a clock for each of them, and the live calls that can
--- change each name.
-use Rattle.std.specs.Prelude.{◌≡◌, ◌⊎◌, ◌↔◌, ◌<◌, ◌==◌, ℕ, suc, List, [], Option, Some, None, Vec, max, length, slice_get, if◌then◌else◌}
+-- What the marks of a plan are: how many events of each process are live, a clock for each of them, and the live calls
+-- that can change each name.
+use Rattle.std.specs.Prelude.{◌≡◌, ◌⊎◌, ◌↔◌, ◌<◌, ◌==◌, ℕ, suc, List, [], Option, Some, None, Vec, max, length}
+use Rattle.std.specs.Prelude.{slice_get, if◌then◌else◌}
 use Rattle.std.specs.declared.alloc.Global.{Global}
 use Rattle.wire_runs.specs.Plan.{Plan, Event}
 use Rattle.wire_runs.specs.Order.{Live, Before}
@@ -16,7 +17,8 @@ items_in (Some v) = v.items
 abbrev pub items_at : {A : Type 0} → List (Vec A Global) → ℕ → List A
 items_at xs i = items_in (slice_get xs i)
 
--- for each live event of each process the root of its base, and the trees that these are roots of; and the updates of each name
+-- for each live event of each process the root of its base, and the trees that these are roots of; and the updates of
+-- each name
 abbrev pub Clocks : Type 0
 Clocks = Kept
 

@@ -1,5 +1,6 @@
 -- How the marks grow: for the contracts of private functions.
-use Rattle.std.specs.Prelude.{Some, None, Option, ◌≡◌, ◌≢◌, ◌⊎◌, ◌<◌, ◌≤◌, ◌+◌, ◌-◌, ◌^◌, zero, ◌++◌, ◌∷◌, [], ℕ, suc, true, max, length}
+use Rattle.std.specs.Prelude.{Some, None, Option, ◌≡◌, ◌≢◌, ◌⊎◌, ◌<◌, ◌≤◌, ◌+◌, ◌-◌, ◌^◌, zero, ◌++◌, ◌∷◌, [], ℕ, suc}
+use Rattle.std.specs.Prelude.{true, max, length}
 use Rattle.wire_runs.specs.Plan.{Plan, Event, kind, event_count, process_count}
 use Rattle.wire_runs.specs.Order.{Edge, may_come, Live}
 use Rattle.wire_clocks.specs.ClockTrees.{IsRoot, Holds, HasZeros, Keeps}
@@ -24,7 +25,8 @@ pub record IsBase (plan : Plan) (clock : Event → ℕ → ℕ) (y : Event) (bas
   pub from : (q n : ℕ) → n < base q → (z : Event) × Edge plan z y × (n < clock z q)
   pub covers : (q : ℕ) (z : Event) → Edge plan z y → clock z q ≤ max (base q) (own_of y q)
 
--- each marked event has the root of a base, the bases have numbers for each process, all numbers fit, and 0 is the root of zeros
+-- each marked event has the root of a base, the bases have numbers for each process, all numbers fit, and 0 is the root
+-- of zeros
 pub record AreBased (clocks : Clocks) : Type 0 where
   pub there : (y : Event) (n : ℕ) → root_at clocks y ≡ Some n → IsRoot clocks.trees n
   pub room : (p : ℕ) → p < length clocks.roots.items → Holds clocks.trees p

@@ -1,4 +1,5 @@
--- What is kept of each fence: how many of its arrivals are marked, and then the join of their clocks: for the contracts of private functions.
+-- What is kept of each fence: how many of its arrivals are marked, and then the join of their clocks: for the contracts
+-- of private functions.
 use Rattle.std.specs.Prelude.{◌≡◌, ◌≢◌, ◌⊎◌, ◌<◌, ◌≤◌, ℕ, List, Option, Some, None, length, slice_get, MatchOption}
 use Rattle.wire_runs.specs.Plan.{Plan, Event, Leave, kind}
 use Rattle.wire_content.specs.Scripts.{Scripts}

@@ -25,8 +25,8 @@ abbrev pub IsFalling : Plan → List Event → Type 0
 IsFalling plan [] = Unit {0}
 IsFalling plan (x ∷ xs) = ((z : Event) → IsIn z xs → (Before plan x z → ⊥) × (z ≡ x → ⊥)) × IsFalling plan xs
 
--- of these calls, the newest first, the updates have those that change what stands under the name, or more of them, each with what stands
--- there after it
+-- of these calls, the newest first, the updates have those that change what stands under the name, or more of them,
+-- each with what stands there after it
 abbrev pub AreChanges : Plan → ℕ → List Event → List Update → Type 0
 AreChanges plan name [] updates = updates ≡ []
 AreChanges plan name (x ∷ xs) updates =
@@ -35,8 +35,8 @@ AreChanges plan name (x ∷ xs) updates =
     × (option_map event_of u.standing ≡ left_by plan name (x ∷ xs))
     × AreChanges plan name xs others)
 
--- the calls of which it holds and that can change the name have an order that chains allow, and in this order the updates have those that
--- change what stands there, or more of them
+-- the calls of which it holds and that can change the name have an order that chains allow, and in this order the
+-- updates have those that change what stands there, or more of them
 pub record AreUpdates (plan : Plan) (holds : Event → Type 0) (name : ℕ) (updates : List Update) : Type 0 where
   pub calls : List Event
   pub those : (z : Event) → IsIn z calls ↔ (holds z × (writes_name plan name z (kind plan z) ≡ true))
@@ -50,8 +50,8 @@ after_publish x before = if is_some before then before else Some x
 abbrev pub after_unpublish : ℕ → Option Event → Option Event
 after_unpublish p before = if is_publisher p before then None else before
 
--- for the contracts of private functions: z is at the end of the list now, and there it has what stands after it; and it can change the
--- name, or it took away a publish of its own process
+-- for the contracts of private functions: z is at the end of the list now, and there it has what stands after it; and
+-- it can change the name, or it took away a publish of its own process
 pub record IsAdded (plan : Plan) (z : Event) (name : ℕ) (old new : List Update) : Type 0 where
   pub update : Update
   pub it : event_of update.event ≡ z

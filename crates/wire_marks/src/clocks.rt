@@ -1,7 +1,8 @@
 //! Clocks, each kept as the root of its base: the clock of what an event counts beside its own process. Events
 //! that count the same there share a base, and bases share what they have in common.
 
-ghost use Rattle.std.specs.Prelude.{◌≡◌, ◌<◌, ◌≤◌, ◌+◌, ◌^◌, ◌↔◌, ◌++◌, ◌∷◌, [], ℕ, Some, IsTrue, IfOk, OnOk, option_map, map, length, max};
+ghost use Rattle.std.specs.Prelude.{◌≡◌, ◌<◌, ◌≤◌, ◌+◌, ◌^◌, ◌↔◌, ◌++◌, ◌∷◌, [], ℕ, Some, IsTrue, IfOk, OnOk};
+ghost use Rattle.std.specs.Prelude.{option_map, map, length, max};
 ghost use Rattle.wire_runs.specs.Plan.{event_of, event_count};
 ghost use Rattle.wire_runs.specs.Plan as runs;
 ghost use Rattle.wire_content.specs.Planned.{plan_of};

@@ -6,7 +6,8 @@ ghost use Rattle.std.specs.Bool.{OnTrue, OnFalse};
 ghost use Rattle.wire_runs.specs.Plan.{event_of, event_count};
 ghost use Rattle.wire_runs.specs.Plan as runs;
 ghost use Rattle.wire_marks.specs.Marking.{AreBased, IsGrown};
-ghost use Rattle.wire_marks.specs.Meeting.{AreMarked, IsJoined, IsMeeting, IsMeetingAt, AreAdded, AreOthersKept, IsEndOf};
+ghost use Rattle.wire_marks.specs.Meeting.{AreMarked, IsJoined, IsMeeting, IsMeetingAt, AreAdded, AreOthersKept};
+ghost use Rattle.wire_marks.specs.Meeting.{IsEndOf};
 ghost use Rattle.wire_marks.specs.Meeting.{plan_in, IsGrowing};
 
 use crate::clocks::Clocks;

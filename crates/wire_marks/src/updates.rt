@@ -1,6 +1,7 @@
 //! The live calls that change what stands under each name.
 
-ghost use Rattle.std.specs.Prelude.{◌≡◌, ◌≢◌, ◌<◌, ◌++◌, ◌∷◌, [], ℕ, None, Some, length, option_map, slice_get, OnOk, OnErr};
+ghost use Rattle.std.specs.Prelude.{◌≡◌, ◌≢◌, ◌<◌, ◌++◌, ◌∷◌, [], ℕ, None, Some, length, option_map, slice_get, OnOk};
+ghost use Rattle.std.specs.Prelude.{OnErr};
 ghost use Rattle.wire_runs.specs.Plan.{event_of, event_count};
 ghost use Rattle.wire_runs.specs.Step.{is_publisher};
 ghost use Rattle.wire_content.specs.Planned.{plan_of};

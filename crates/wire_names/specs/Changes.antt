@@ -2,7 +2,8 @@
 use Rattle.std.specs.Prelude.{◌≡◌, ℕ, ◌<◌, ⊤, List, length, Option, Some, ◌==◌, if◌then◌else◌}
 use Rattle.wire_runs.specs.Plan.{Kind, Publish, Unpublish, UnpublishAll}
 use Rattle.wire_types.specs.declared.CallAt.{CallAt}
-use Rattle.wire_names.specs.Names.{published, after_publish, after_unpublish, names_after_publish, names_after_unpublish, names_after_unpublish_all}
+use Rattle.wire_names.specs.Names.{published, after_publish, after_unpublish, names_after_publish}
+use Rattle.wire_names.specs.Names.{names_after_unpublish, names_after_unpublish_all}
 
 -- the table after the event of this call, which only publishes and unpublishes change
 abbrev pub names_after : CallAt → Option Kind → List (Option CallAt) → List (Option CallAt)

@@ -1,5 +1,6 @@
 -- The arrivals at fences that bring data: for the contracts of private functions.
-use Rattle.std.specs.Prelude.{◌≡◌, ◌↔◌, ℕ, ◌<◌, ◌≤◌, List, Bool, true, ◌&&◌, ◌||◌, ◌==◌, nat_lt, Option, Some, MatchOption, map, slice_get}
+use Rattle.std.specs.Prelude.{◌≡◌, ◌↔◌, ℕ, ◌<◌, ◌≤◌, List, Bool, true, ◌&&◌, ◌||◌, ◌==◌, nat_lt, Option, Some}
+use Rattle.std.specs.Prelude.{MatchOption, map, slice_get}
 use Rattle.wire_runs.specs.Plan.{Plan, Event, event_of}
 use Rattle.wire_runs.specs.Fences.{is_full, is_collecting, has_node}
 use Rattle.wire_runs.specs.Order.{IsArrival}

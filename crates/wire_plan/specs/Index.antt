@@ -1,7 +1,9 @@
--- What is looked up in a plan: the sources of an event, the puts of a key, the calls on a name, and the fences and gets that bring a key to a node.
+-- What is looked up in a plan: the sources of an event, the puts of a key, the calls on a name, and the fences and gets
+-- that bring a key to a node.
 use Rattle.std.specs.Prelude.{◌≡◌, ◌≢◌, ◌==◌, ℕ, zero, suc, ◌<◌, ◌≤◌, List, ◌++◌, Bool, true, false, Option}
 use Rattle.std.specs.Prelude.{Some, None, map, option_map, option_to_list, slice_get, MatchOption}
-use Rattle.wire_runs.specs.Plan.{Plan, Event, Kind, Put, Get, Publish, Lookup, LookupWait, Unpublish, UnpublishAll, kind, event_of}
+use Rattle.wire_runs.specs.Plan.{Plan, Event, Kind, Put, Get, Publish, Lookup, LookupWait, Unpublish, UnpublishAll}
+use Rattle.wire_runs.specs.Plan.{kind, event_of}
 use Rattle.wire_types.specs.declared.Event.{Event as CodeEvent}
 use Rattle.wire_types.specs.declared.Scope.{Scope}
 use Rattle.wire_runs.specs.Puts.{own}
@@ -26,8 +28,8 @@ previous_of y = previous_at y.proc y.at
 abbrev pub source_list : Option CodeEvent → Option CodeEvent → List CodeEvent → List Event
 source_list previous single arrivals = option_to_list (option_map event_of previous) ++ (option_to_list (option_map event_of single) ++ map event_of arrivals)
 
--- y is a get of another process's key that is put once, and z the commit that stores the key; or y is a waiting lookup of a
--- name that is published once, and z that publish
+-- y is a get of another process's key that is put once, and z the commit that stores the key; or y is a waiting lookup
+-- of a name that is published once, and z that publish
 pub data Awaits (plan : Plan) (y z : Event) : Type 0 where
   AwaitsCommit : (key : ℕ) → kind plan y ≡ Some (Get z.proc key) → z.proc ≢ y.proc → IsPutOnce plan z.proc key → Stores plan z key → Awaits plan y z
   AwaitsPublish : (name : ℕ) → kind plan y ≡ Some (LookupWait name) → PublishesOnce plan z name → Awaits plan y z

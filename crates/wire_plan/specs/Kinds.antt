@@ -8,7 +8,8 @@ use Rattle.wire_content.specs.Scripts.{Scripts, IsSound, set_at}
 use Rattle.wire_content.specs.Planned.{planned_call}
 use Rattle.wire_runs.specs.Ends.{call_size}
 use Rattle.wire_plan.specs.declared.kind.Kind.{Kind as CodeKind}
-use Rattle.wire_plan.specs.declared.kind.Kind.TheVariants.{Put, Commit, Arrive, Leave, Get, GetNow, Publish, Lookup, LookupWait, Unpublish, UnpublishAll, Fixed}
+use Rattle.wire_plan.specs.declared.kind.Kind.TheVariants.{Put, Commit, Arrive, Leave, Get, GetNow, Publish, Lookup}
+use Rattle.wire_plan.specs.declared.kind.Kind.TheVariants.{LookupWait, Unpublish, UnpublishAll, Fixed}
 
 -- the event of a kind, given the table of sets
 abbrev pub kind_of : List (List ℕ) → CodeKind → Kind

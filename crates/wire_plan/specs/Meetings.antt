@@ -1,5 +1,6 @@
 -- The fences that events are part of, and who arrives at each fence.
-use Rattle.std.specs.Prelude.{◌≡◌, ℕ, suc, List, [], ◌∷◌, ◌++◌, Bool, true, false, Option, Some, map, slice_index_or, ◌==◌, if◌then◌else◌}
+use Rattle.std.specs.Prelude.{◌≡◌, ℕ, suc, List, [], ◌∷◌, ◌++◌, Bool, true, false, Option, Some, map, slice_index_or}
+use Rattle.std.specs.Prelude.{◌==◌, if◌then◌else◌}
 use Rattle.wire_runs.specs.Plan.{Kind, Arrive, Leave, Event, kind, event_of}
 use Rattle.wire_runs.specs.Fences.{arrivals, is_member}
 use Rattle.wire_types.specs.declared.Event.{Event as CodeEvent}
@@ -22,8 +23,8 @@ fence_members (Some (Arrive members collect)) = members
 fence_members (Some (Leave members)) = members
 fence_members _ = []
 
--- the number is that of the fence of the event at x: its members, of whom x's process is one, and how many fences over them
--- that process has arrived at, this one too
+-- the number is that of the fence of the event at x: its members, of whom x's process is one, and how many fences over
+-- them that process has arrived at, this one too
 pub record IsMet (s : Scripts) (table : FenceTable) (x : Event) (number : ℕ) : Type 0 where
   pub fence : FenceInfo
   pub there : fence_at table number ≡ Some fence

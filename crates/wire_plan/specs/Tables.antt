@@ -1,5 +1,6 @@
 -- The events of a plan, listed by the number of a name or of a process: for the contracts of private functions.
-use Rattle.std.specs.Prelude.{◌≡◌, ℕ, List, [], ◌∷◌, Bool, true, false, ◌==◌, Option, Some, None, slice_index_or, MatchOption}
+use Rattle.std.specs.Prelude.{◌≡◌, ℕ, List, [], ◌∷◌, Bool, true, false, ◌==◌, Option, Some, None, slice_index_or}
+use Rattle.std.specs.Prelude.{MatchOption}
 use Rattle.wire_runs.specs.Plan.{Plan, Event, Kind, Publish, Unpublish, UnpublishAll, kind}
 use Rattle.wire_types.specs.declared.Event.{Event as CodeEvent}
 use Rattle.wire_plan.specs.declared.by_number.Listing.{Listing}
@@ -8,8 +9,8 @@ use Rattle.wire_plan.specs.declared.names.NameTable.{NameTable}
 use Rattle.wire_plan.specs.Index.{is_plain_call, AreNameCalls, ArePublishes, AreSweeps}
 use Rattle.wire_runs.specs.EventLists.{IsLower, AreAll}
 
--- whether an event is listed under the number of a name: the calls on it alone, its publishes, or its unpublishes; or under that of its
--- process: the calls that take away all names of the process
+-- whether an event is listed under the number of a name: the calls on it alone, its publishes, or its unpublishes; or
+-- under that of its process: the calls that take away all names of the process
 abbrev pub is_listed : Plan → Listing → ℕ → Event → Option Kind → Bool
 is_listed plan NameCalls name x o = is_plain_call name o
 is_listed plan Publishes name x (Some (Publish n)) = n == name
@@ -47,8 +48,8 @@ abbrev pub IsUnswept : Plan → CodeEvent → Option CodeEvent → Type 0
 IsUnswept plan publish found = MatchOption found ((z : Event) × (z.proc ≡ publish.proc.number) × (kind plan z ≡ Some UnpublishAll))
     (λ x. (x ≡ publish) × ((z : Event) → z.proc ≡ publish.proc.number → kind plan z ≡ Some UnpublishAll → ⊥))
 
--- the table has the calls on each name alone, of these the publishes and the unpublishes, and the calls of each process that take away
--- all its names
+-- the table has the calls on each name alone, of these the publishes and the unpublishes, and the calls of each process
+-- that take away all its names
 pub record AreNamesOf (plan : Plan) (table : NameTable) : Type 0 where
   pub calls : (name : ℕ) → AreNameCalls plan name (events_listed table.calls name)
   pub publishes : (name : ℕ) → ArePublishes plan name (events_listed table.publishes name)

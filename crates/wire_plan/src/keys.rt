@@ -2,7 +2,8 @@
 
 ghost use Rattle.std.specs.BTreeMap.{get};
 ghost use Rattle.std.specs.Ordering.{nat_cmp};
-ghost use Rattle.std.specs.Prelude.{◌≡◌, ◌↔◌, ◌||◌, ◌+◌, ◌<◌, ◌^◌, ℕ, List, Option, Some, suc, false, is_some, nat_le, IfOk, OnOk, IsTrue, MatchOption};
+ghost use Rattle.std.specs.Prelude.{◌≡◌, ◌↔◌, ◌||◌, ◌+◌, ◌<◌, ◌^◌, ℕ, List, Option, Some, suc, false, is_some, nat_le};
+ghost use Rattle.std.specs.Prelude.{IfOk, OnOk, IsTrue, MatchOption};
 ghost use Rattle.wire_runs.specs.Plan.{Plan, event_of, kind_at, event_count, admits};
 ghost use Rattle.wire_runs.specs.Plan as runs;
 ghost use Rattle.wire_runs.specs.Puts.{own, stored, put_count};

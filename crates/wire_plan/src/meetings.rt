@@ -7,7 +7,8 @@ ghost use Rattle.wire_content.specs.Scripts.{Scripts as TheScripts};
 ghost use Rattle.wire_content.specs.Planned.{plan_of};
 ghost use Rattle.wire_fence.specs.FenceTable.{FenceInfo, FenceTable, AreFencesOf, fence_at as the_fence_at};
 ghost use Rattle.wire_plan.specs.Index.{AreArrivals};
-ghost use Rattle.wire_plan.specs.Meetings.{is_of_fence, IsMet, arrivals_in, AreArrivalLists, AreArrivalListsTo, IsAdded};
+ghost use Rattle.wire_plan.specs.Meetings.{is_of_fence, IsMet, arrivals_in, AreArrivalLists, AreArrivalListsTo};
+ghost use Rattle.wire_plan.specs.Meetings.{IsAdded};
 
 use crate::events::Events;
 use crate::kind::Kind;

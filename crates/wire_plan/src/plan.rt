@@ -1,6 +1,7 @@
 //! A plan: scripts with the events of each process, and what is looked up of them.
 
-ghost use Rattle.std.specs.Prelude.{◌≡◌, ◌<◌, ◌^◌, ℕ, List, [], true, Some, length, map, option_map, IfOk, IfErr, IfSome, MatchOption};
+ghost use Rattle.std.specs.Prelude.{◌≡◌, ◌<◌, ◌^◌, ℕ, List, [], true, Some, length, map, option_map, IfOk, IfErr};
+ghost use Rattle.std.specs.Prelude.{IfSome, MatchOption};
 ghost use Rattle.wire_runs.specs.Plan.{Get, Leave, event_of, process_count, kinds, kind_at, event_count, kind, node_of};
 ghost use Rattle.wire_runs.specs.Plan as runs;
 ghost use Rattle.wire_runs.specs.Puts.{put_count};
@@ -14,7 +15,8 @@ ghost use Rattle.wire_runs.specs.Ends.{call_of, calls_of, first_event};
 ghost use Rattle.wire_runs.specs.Plan.{event_total};
 ghost use Rattle.wire_runs.specs.Order.{may_come, Stores, PublishesOnce};
 ghost use Rattle.wire_runs.specs.Races.{IsPutOnce};
-ghost use Rattle.wire_plan.specs.Index.{AreSources, AreArrivals, AreNameCalls, ArePublishes, AreSweeps, AreGetDeliveries};
+ghost use Rattle.wire_plan.specs.Index.{AreSources, AreArrivals, AreNameCalls, ArePublishes, AreSweeps};
+ghost use Rattle.wire_plan.specs.Index.{AreGetDeliveries};
 ghost use Rattle.wire_plan.specs.Index.{IsAwaited, IsFirstPut, IsNextDelivery, source_list, previous_of};
 ghost use Rattle.wire_plan.specs.Indexed.{IsIndexed};
 ghost use Rattle.wire_plan.specs.Meetings.{is_of_fence, IsMet};
@@ -52,7 +54,8 @@ impl Drop for PlanTables {
 
 /// Scripts, with their process map, their fences, the events of each process, and what they wait for.
 pub struct Plan {
-    // In a box, so that the layout of a plan is one pointer: a proof writes out the layout of all that its function holds, through references too.
+    // In a box, so that the layout of a plan is one pointer: a proof writes out the layout of all that its function
+    // holds, through references too.
     tables: Box<PlanTables>,
 }
 

@@ -3,7 +3,8 @@ use Rattle.std.specs.Prelude.{ℕ, Bool, true, false, List, codes, if◌then◌e
 use Rattle.std.specs.Str.{bytes_eq}
 use Rattle.wire_types.specs.Said.{is_reserved}
 use Rattle.wire_procmap.specs.declared.key.KeyKind.{KeyKind}
-use Rattle.wire_procmap.specs.declared.key.KeyKind.TheVariants.{Plain, Rank, LocalRank, NodeRank, JobSize, Hostname, Other}
+use Rattle.wire_procmap.specs.declared.key.KeyKind.TheVariants.{Plain, Rank, LocalRank, NodeRank, JobSize, Hostname}
+use Rattle.wire_procmap.specs.declared.key.KeyKind.TheVariants.{Other}
 
 unfoldable pub key_kind : List ℕ → KeyKind
 key_kind key =

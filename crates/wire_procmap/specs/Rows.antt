@@ -8,7 +8,8 @@ use Rattle.wire_types.specs.declared.Reply.{Reply}
 use Rattle.wire_types.specs.declared.Status.TheVariants.{NotFound}
 use Rattle.wire_types.specs.declared.Value.TheVariants.{Number, NodeName}
 use Rattle.wire_procmap.specs.declared.key.KeyKind.{KeyKind}
-use Rattle.wire_procmap.specs.declared.key.KeyKind.TheVariants.{Plain, Rank, LocalRank, NodeRank, JobSize, Hostname, Other}
+use Rattle.wire_procmap.specs.declared.key.KeyKind.TheVariants.{Plain, Rank, LocalRank, NodeRank, JobSize, Hostname}
+use Rattle.wire_procmap.specs.declared.key.KeyKind.TheVariants.{Other}
 use Rattle.wire_procmap.specs.declared.row.ProcessNumbers.{ProcessNumbers}
 
 unfoldable pub row_of : List Process → ℕ → ProcessNumbers

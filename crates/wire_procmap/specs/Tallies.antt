@@ -1,4 +1,5 @@
--- How many processes were counted of each job, on each node, and of each job on each node: for the contracts of private functions.
+-- How many processes were counted of each job, on each node, and of each job on each node: for the contracts of private
+-- functions.
 use Rattle.std.specs.Prelude.{◌≡◌, ℕ, List, Bool, ◌&&◌, ◌==◌, Option, Some, None, count_by}
 use Rattle.std.specs.HashMap.{get}
 use Rattle.wire_content.specs.Scripts.{Process}

@@ -1,4 +1,5 @@
--- The races of a get that is answered at once with gets that bring its key to its node: for the contracts of private functions.
+-- The races of a get that is answered at once with gets that bring its key to its node: for the contracts of private
+-- functions.
 use Rattle.std.specs.Prelude.{◌≡◌, ◌<◌, ℕ, List, Some, slice_get}
 use Rattle.wire_runs.specs.Plan.{Plan, Event}
 use Rattle.wire_runs.specs.Order.{Live, Before}

@@ -14,6 +14,7 @@ RaceOnKey plan x y = (owner : ℕ) × (key : ℕ) × (IsKeyRace plan x y owner k
 abbrev pub RaceOnName : Plan → Event → Event → Type 0
 RaceOnName plan x y = (name : ℕ) × (IsNameRace plan x y name ⊎ IsNameRace plan y x name)
 
--- two calls race: their first events do, on a key or on a name. Of a fence that is the arrival; its end races with nothing
+-- two calls race: their first events do, on a key or on a name. Of a fence that is the arrival; its end races with
+-- nothing
 abbrev pub AreRacing : Plan → CallAt → CallAt → Type 0
 AreRacing plan v w = RaceOnKey plan (first_event plan v) (first_event plan w) ⊎ RaceOnName plan (first_event plan v) (first_event plan w)

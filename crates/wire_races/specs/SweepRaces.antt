@@ -1,4 +1,5 @@
--- The races between sweeps, the calls that take away all names of their processes: for the contracts of private functions.
+-- The races between sweeps, the calls that take away all names of their processes: for the contracts of private
+-- functions.
 use Rattle.std.specs.Prelude.{◌≡◌, ◌⊎◌, ◌↔◌, ◌<◌, ℕ, List, Some, true}
 use Rattle.std.specs.List.{Contains}
 use Rattle.wire_runs.specs.Plan.{Plan, Event, UnpublishAll, kind, event_count}
@@ -40,7 +41,8 @@ pub record AddsShares (p name : ℕ) (qs : List ℕ) (old new : List Share) : Ty
   pub all : (q : ℕ) → IsOneOf q qs → p < q → HasShare new q name
   pub only : (s : Share) → Contains new s → Contains old s ⊎ ((s.name ≡ name) × (p < s.proc.number) × IsOneOf s.proc.number qs)
 
--- what p shares of these names with higher processes: each of them publishes the name, and each that does and has a sweep is there
+-- what p shares of these names with higher processes: each of them publishes the name, and each that does and has a
+-- sweep is there
 pub record AreShares (plan : Plan) (p : ℕ) (names : List ℕ) (shares : List Share) : Type 0 where
   pub each : (s : Share) → Contains shares s →
       Contains names s.name × (p < s.proc.number) × (publishes plan s.proc.number s.name (event_count plan s.proc.number) ≡ true)

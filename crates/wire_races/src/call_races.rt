@@ -8,7 +8,8 @@ ghost use Rattle.wire_runs.specs.Order.{Live};
 ghost use Rattle.wire_findings.specs.Findings.{shown};
 ghost use Rattle.wire_findings.specs.Collected.{AreFound};
 ghost use Rattle.wire_races.specs.Adding.{Adds};
-ghost use Rattle.wire_races.specs.NameRaces.{IsRaceWith, AllRace, race_between, AreOf, AreRising, IsStretch, IsBelow, AreUnordered};
+ghost use Rattle.wire_races.specs.NameRaces.{IsRaceWith, AllRace, race_between, AreOf, AreRising, IsStretch, IsBelow};
+ghost use Rattle.wire_races.specs.NameRaces.{AreUnordered};
 ghost use Rattle.wire_fates.specs.Cuts.{IsCut};
 
 use std::alloc::AllocError;
@@ -75,8 +76,8 @@ fn count_below(marked: &MarkedPlan<'_>, x: Event, border: Border, run: &[Event])
     low
 }
 
-/// Those of these calls of one process that no chain orders with a live call. They stand between two borders, and both are found without a look at
-/// any name.
+/// Those of these calls of one process that no chain orders with a live call. They stand between two borders, and both
+/// are found without a look at any name.
 pub(crate) fn find_unordered<'a>(marked: &MarkedPlan<'_>, x: Event, run: &'a [Event]) -> &'a [Event]
     requires live { Live (plan_of marked.now) (event_of x) }
     requires rising { AreRising (map event_of run.now) }

@@ -46,9 +46,9 @@ fn vec_of_findings(
     list.to_vec(alloc)
 }
 
-/// The findings of a plan, each once: the rewrites by the later put, then the races by the lower
-/// event and the higher one, and those of one pair by the bytes of their names. Several threads look for the races, and the list is the same whatever
-/// pieces they take. The one fault is `Fault::Memory`.
+/// The findings of a plan, each once: the rewrites by the later put, then the races by the lower event and the higher
+/// one, and those of one pair by the bytes of their names. Several threads look for the races, and the list is the same
+/// whatever pieces they take. The one fault is `Fault::Memory`.
 ///
 /// The list takes 20 bytes for each finding, and 12 more each time the key or the name changes from one to the
 /// next. More than 2^32 - 1 such changes count as memory that ran out. [`findings`] gives the same findings as
@@ -65,9 +65,9 @@ pub fn finding_list(
     Ok(list)
 }
 
-/// The findings of a plan, each once: the rewrites by the later put, then the races by the lower
-/// event and the higher one, and those of one pair by the bytes of their names. Several threads look for the races, and the list is the same whatever
-/// pieces they take. The caller ensures that the marks are those of the plan. The one fault is
+/// The findings of a plan, each once: the rewrites by the later put, then the races by the lower event and the higher
+/// one, and those of one pair by the bytes of their names. Several threads look for the races, and the list is the same
+/// whatever pieces they take. The caller ensures that the marks are those of the plan. The one fault is
 /// `Fault::Memory`.
 ///
 /// The `Vec` is made from the list that [`finding_list`] gives, and while it is made there are both. What

@@ -1,7 +1,8 @@
 //! Races on keys: a get that is answered at once, and the commit or the fence that brings the key.
 
 ghost use Rattle.std.specs.Prelude.{◌≡◌, ◌<◌, ◌*◌, ◌/◌, max, Some, OnOk, IsTrue, IfOk, ◌↔◌, true, false};
-ghost use Rattle.wire_runs.specs.Plan.{GetNow, event_of, process_count, event_count, event_total, kind, node_of, same_node};
+ghost use Rattle.wire_runs.specs.Plan.{GetNow, event_of, process_count, event_count, event_total, kind, node_of};
+ghost use Rattle.wire_runs.specs.Plan.{same_node};
 ghost use Rattle.wire_content.specs.Planned.{plan_of};
 ghost use Rattle.wire_runs.specs.EventLists.{IsLower};
 ghost use Rattle.wire_runs.specs.Races.{IsUnordered};
@@ -13,7 +14,8 @@ ghost use Rattle.wire_fates.specs.Deliveries.{MayBeLate};
 ghost use Rattle.wire_races.specs.FindingKinds.{IsOfKey, AllAdded};
 ghost use Rattle.wire_races.specs.Adding.{Adds, ToldIn};
 ghost use Rattle.wire_races.specs.Pieces.{IsPiece, ArePieces};
-ghost use Rattle.wire_races.specs.KeyRaces.{IsRaceOf, IsKeyRaceBy, IsKeyRaceOf, IsOpen, IsLateBy, AreLateBelow, IsUnsure};
+ghost use Rattle.wire_races.specs.KeyRaces.{IsRaceOf, IsKeyRaceBy, IsKeyRaceOf, IsOpen, IsLateBy, AreLateBelow};
+ghost use Rattle.wire_races.specs.KeyRaces.{IsUnsure};
 
 use crate::get_races::add_get_races;
 use crate::search_pieces::add_pieces;

@@ -1,6 +1,7 @@
 //! Races on names.
 
-ghost use Rattle.std.specs.Prelude.{◌≡◌, ◌<◌, ◌≤◌, ◌↔◌, ℕ, Some, true, false, IsTrue, IfOk, OnOk, length, map, take, slice_get};
+ghost use Rattle.std.specs.Prelude.{◌≡◌, ◌<◌, ◌≤◌, ◌↔◌, ℕ, Some, true, false, IsTrue, IfOk, OnOk, length, map, take};
+ghost use Rattle.std.specs.Prelude.{slice_get};
 ghost use Rattle.wire_runs.specs.Plan.{event_of, kind, event_count};
 ghost use Rattle.wire_runs.specs.Plan as runs;
 ghost use Rattle.wire_content.specs.Planned.{plan_of};
@@ -13,8 +14,10 @@ ghost use Rattle.wire_races.specs.FindingKinds.{IsOfName, AllAdded};
 ghost use Rattle.wire_findings.specs.Collected.{AreFound};
 ghost use Rattle.wire_races.specs.Adding.{Adds};
 ghost use Rattle.wire_races.specs.Pieces.{IsPiece, ArePieces};
-ghost use Rattle.wire_races.specs.NameRaces.{IsRaceOn, IsPlainRaceOn, IsRaceFrom, IsRaceWith, AllRace, race_between, AreCallsOn, AreOf, AreRising};
-ghost use Rattle.wire_races.specs.NameRaces.{IsStretch, AreRivals, AreHigher, HasRivals, AreWriters, IsAbove, IsBelow, AreUnordered};
+ghost use Rattle.wire_races.specs.NameRaces.{IsRaceOn, IsPlainRaceOn, IsRaceFrom, IsRaceWith, AllRace, race_between};
+ghost use Rattle.wire_races.specs.NameRaces.{AreCallsOn, AreOf, AreRising};
+ghost use Rattle.wire_races.specs.NameRaces.{IsStretch, AreRivals, AreHigher, HasRivals, AreWriters, IsAbove, IsBelow};
+ghost use Rattle.wire_races.specs.NameRaces.{AreUnordered};
 ghost use Rattle.wire_fates.specs.Cuts.{IsCut};
 ghost use Rattle.wire_races.specs.NameRaces.{AreFacing, IsOneOf, AreSweepers, IsSweptRace, IsSweptRaceOn};
 ghost use Rattle.wire_content.specs.Scripts.{numbers_of};
@@ -223,7 +226,8 @@ fn add_swept(
     Ok(())
 }
 
-/// Adds the races on a name of the calls on it alone with those calls of these processes that take away all their names.
+/// Adds the races on a name of the calls on it alone with those calls of these processes that take away all their
+/// names.
 fn add_races_swept(
     marked: &MarkedPlan<'_>,
     found: &mut Found,

@@ -1,6 +1,7 @@
 //! Races between sweeps, the calls that take away all names of their processes.
 
-ghost use Rattle.std.specs.Prelude.{◌≡◌, ◌≤◌, ◌<◌, ◌↔◌, ℕ, Some, true, false, IsTrue, IfOk, OnOk, length, take, slice_get, map};
+ghost use Rattle.std.specs.Prelude.{◌≡◌, ◌≤◌, ◌<◌, ◌↔◌, ℕ, Some, true, false, IsTrue, IfOk, OnOk, length, take};
+ghost use Rattle.std.specs.Prelude.{slice_get, map};
 ghost use Rattle.std.specs.List.{Contains};
 ghost use Rattle.std.specs.List.Sorted.{IsStrictlyIncreasing, IsNonDecreasingBy};
 ghost use Rattle.wire_runs.specs.Plan.{event_of, kind, event_count};
@@ -12,7 +13,8 @@ ghost use Rattle.wire_content.specs.Scripts.{numbers_of};
 ghost use Rattle.wire_findings.specs.Collected.{AreFound};
 ghost use Rattle.wire_races.specs.Adding.{Adds};
 ghost use Rattle.wire_races.specs.NameRaces.{AllRace, IsOneOf, AreSweepers};
-ghost use Rattle.wire_races.specs.SweepRaces.{IsSweepRace, IsSweepRaceOf, ArePublished, AddsShares, AreShares, AreShared, AreSharesOf};
+ghost use Rattle.wire_races.specs.SweepRaces.{IsSweepRace, IsSweepRaceOf, ArePublished, AddsShares, AreShares};
+ghost use Rattle.wire_races.specs.SweepRaces.{AreShared, AreSharesOf};
 ghost use Rattle.wire_races.specs.SweepRaces.{IsRaceOnOne, IsSweepRaceWith, IsSharedRace};
 
 use crate::call_races::{NameCall, add_races, find_unordered};
@@ -225,8 +227,8 @@ fn stretch_size(shares: &[Share], proc: Proc) -> usize
     shares.len()
 }
 
-/// Adds the races of the sweeps of a process with those of higher ones, on the names that it shares with them. The shares
-/// are cut into stretches of one process each.
+/// Adds the races of the sweeps of a process with those of higher ones, on the names that it shares with them. The
+/// shares are cut into stretches of one process each.
 fn add_shared(
     marked: &MarkedPlan<'_>,
     found: &mut Found,
@@ -267,8 +269,8 @@ fn add_process(
 
 /// Adds the races between sweeps. The one error is that memory ran out.
 ///
-/// The sweeps of two processes race on each name that both publish, where no chain orders them. So each is compared once
-/// with those of a higher process, by bisection, whatever number of names the two share.
+/// The sweeps of two processes race on each name that both publish, where no chain orders them. So each is compared
+/// once with those of a higher process, by bisection, whatever number of names the two share.
 pub(crate) fn add_sweep_races(
     alloc: Global,
     marked: &MarkedPlan<'_>,

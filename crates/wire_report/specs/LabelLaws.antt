@@ -19,7 +19,8 @@ HaveSameVerbs s p q =
     ((verb_there s p.lower ≡ verb_there s q.lower) × (verb_there s p.higher ≡ verb_there s q.higher))
     ⊎ ((verb_there s p.lower ≡ verb_there s q.higher) × (verb_there s p.higher ≡ verb_there s q.lower))
 
--- two findings have one label exactly if they are of one kind, on the same key or name, and their calls have the same two verbs
+-- two findings have one label exactly if they are of one kind, on the same key or name, and their calls have the same
+-- two verbs
 abbrev pub LabelsTell : Type 0
 LabelsTell = (s : Scripts) (f g : Finding) → (label_of s f ≡ label_of s g) ↔ ((subject_of s f ≡ subject_of s g) × HaveSameVerbs s (pair_of f) (pair_of g))
 

@@ -1,5 +1,6 @@
 -- Where a call stands in a file, as bytes.
-use Rattle.std.specs.Prelude.{ℕ, ◌&&◌, List, ◌++◌, Option, Some, None, codes, decimal, map, nat_le, slice_get, slice_index_or, if◌then◌else◌}
+use Rattle.std.specs.Prelude.{ℕ, ◌&&◌, List, ◌++◌, Option, Some, None, codes, decimal, map, nat_le, slice_get}
+use Rattle.std.specs.Prelude.{slice_index_or, if◌then◌else◌}
 use Rattle.wire_types.specs.declared.CallAt.{CallAt}
 
 -- a byte of a file's name as it is shown: `?` for what isn't printable ASCII, so that no name plays with the terminal

@@ -1,13 +1,15 @@
 //! The text of what the checker finds.
 
-ghost use Rattle.std.specs.Prelude.{◌≡◌, ◌⊎◌, ◌+◌, ◌<◌, ◌≤◌, ◌++◌, codes, decimal, length, map, vec_capacity, OnOk, OnErr, IfOk, IfErr};
+ghost use Rattle.std.specs.Prelude.{◌≡◌, ◌⊎◌, ◌+◌, ◌<◌, ◌≤◌, ◌++◌, codes, decimal, length, map, vec_capacity, OnOk};
+ghost use Rattle.std.specs.Prelude.{OnErr, IfOk, IfErr};
 ghost use Rattle.std.specs.List.{flat_map};
 ghost use Rattle.wire_types.specs.declared.Fault.TheVariants.{Memory};
 ghost use Rattle.wire_types.specs.Texts.{lists_of};
 ghost use Rattle.wire_content.specs.Scripts.{call_at};
 ghost use Rattle.wire_words.specs.Words.{call_text};
 ghost use Rattle.wire_report.specs.Findings as spec;
-ghost use Rattle.wire_report.specs.FindingLines.{AreNumbered, IsNumbered, AreWordsOf, race_start, key_race_rest, name_race_rest};
+ghost use Rattle.wire_report.specs.FindingLines.{AreNumbered, IsNumbered, AreWordsOf, race_start, key_race_rest};
+ghost use Rattle.wire_report.specs.FindingLines.{name_race_rest};
 
 use crate::line_pieces::push_spaced;
 use crate::lower_call::LowerCall;
@@ -221,9 +223,11 @@ fn push_rewrite(
 
 /// Appends a later put by its number, and its key. Fails only where there is no room for them.
 fn push_later(out: &mut Vec<u8>, scripts: &Scripts, later: CallAt) -> Result<(), AllocError>
-    ensures ok { OnOk result (out.new.items ≡ out.old.items ++ (codes " " ++ decimal (later.call + 1) ++ codes " " ++ spec.put_key_text scripts.now (call_at scripts.now.processes later.proc.number later.call))) }
+    ensures ok { OnOk result (out.new.items ≡ out.old.items ++ (codes " " ++ decimal (later.call + 1) ++ codes " "
+        ++ spec.put_key_text scripts.now (call_at scripts.now.processes later.proc.number later.call))) }
     ensures capacity { vec_capacity out.old ≤ vec_capacity out.new }
-    ensures full { OnErr result (vec_capacity out.old < length out.old.items + length (codes " " ++ decimal (later.call + 1) ++ codes " " ++ spec.put_key_text scripts.now (call_at scripts.now.processes later.proc.number later.call))) }
+    ensures full { OnErr result (vec_capacity out.old < length out.old.items + length (codes " " ++ decimal (later.call + 1) ++ codes " "
+        ++ spec.put_key_text scripts.now (call_at scripts.now.processes later.proc.number later.call))) }
 {
     out.extend_from_slice(b" ")?;
     push_number(out, u64::from(later.call) + 1)?;

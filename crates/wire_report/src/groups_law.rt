@@ -4,8 +4,8 @@ ghost use Rattle.wire_report.specs.GroupLaws.{GroupsPart, OneListOfGroups};
 
 use std::hash::Hash;
 
-/// For each place of a list of labels there is exactly one group whose first place has the same label. No place before that
-/// first place has the label, and the group's count is how many places have it. And each group has a place.
+/// For each place of a list of labels there is exactly one group whose first place has the same label. No place before
+/// that first place has the label, and the group's count is how many places have it. And each group has a place.
 #[tactic(auto, using(crate::proofs::GroupLaws::groups_part))]
 pub fn groups_part<K: Copy + Eq + Hash>()
     ensures { GroupsPart K.eq }

@@ -2,8 +2,8 @@
 
 ghost use Rattle.wire_report.specs.LabelLaws.{LabelsTell, OneGrouping};
 
-/// Two findings have the same label exactly if they are of the same kind, on the same key or name, and their calls have the
-/// same two verbs, whichever of the two calls stands first.
+/// Two findings have the same label exactly if they are of the same kind, on the same key or name, and their calls have
+/// the same two verbs, whichever of the two calls stands first.
 #[tactic(auto, using(crate::proofs::LabelLaws::labels_tell))]
 pub fn labels_tell()
     ensures { LabelsTell }

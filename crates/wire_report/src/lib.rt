@@ -1,5 +1,6 @@
-//! The texts of a replay, of a chain, of findings and of what shows races, as bytes: in lines, or as JSON. Findings that are
-//! one mistake are in groups; and each call has its place, the line of the file that editors and terminals open.
+//! The texts of a replay, of a chain, of findings and of what shows races, as bytes: in lines, or as JSON. Findings
+//! that are one mistake are in groups; and each call has its place, the line of the file that editors and terminals
+//! open.
 #![tactic(auto)]
 
 mod call_places;

@@ -16,9 +16,9 @@ abbrev pub total : (DequeView → ℕ) → List DequeView → ℕ
 total f [] = 0
 total f (v ∷ vs) = f v + total f vs
 
--- A pass took nothing past the first `left` pieces, which left the deque. One with no part took nothing at all, and any other
--- knows what was dealt. The same holds of a pass at every port, so the port isn't used: it stands here because a fact about all
--- passes is a family over their ports.
+-- A pass took nothing past the first `left` pieces, which left the deque. One with no part took nothing at all, and any
+-- other knows what was dealt. The same holds of a pass at every port, so the port isn't used: it stands here because a
+-- fact about all passes is a family over their ports.
 abbrev pub Knows : List Piece → ℕ → ℕ → DequeView → Type 0
 Knows dealt left port v = (v.below ≤ left) × (v.parts ≡ 0 → v.taken ≡ []) × (0 < v.parts → v.dealt ≡ dealt)
 
@@ -47,7 +47,8 @@ joined v w = deque_view (v.parts + w.parts) v.below v.dealt (v.taken ++ w.taken)
 abbrev pub left_of : DequeView → List Piece
 left_of v = drop (length v.taken) v.dealt
 
--- If the pass has all parts, what is left joins the list. Together with what the pass took before, it is all that was dealt.
+-- If the pass has all parts, what is left joins the list. Together with what the pass took before, it is all that was
+-- dealt.
 abbrev pub IsDrained : DequeView → List Piece → List Piece → Type 0
 IsDrained v before after =
     v.parts ≡ all_parts

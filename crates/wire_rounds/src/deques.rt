@@ -1,6 +1,7 @@
 //! The deques of a round.
 
-ghost use Rattle.std.specs.Prelude.{◌≡◌, ℕ, ◌+◌, ◌-◌, ◌<◌, ◌≤◌, ◌∷◌, [], IfOk, OnOk, IsOkUnless, MatchOption, length, vec_capacity, vec_len};
+ghost use Rattle.std.specs.Prelude.{◌≡◌, ℕ, ◌+◌, ◌-◌, ◌<◌, ◌≤◌, ◌∷◌, [], IfOk, OnOk, IsOkUnless, MatchOption, length};
+ghost use Rattle.std.specs.Prelude.{vec_capacity, vec_len};
 ghost use mathlib.Core.Option.{some};
 ghost use lib.ListN.{get_elem?};
 ghost use Rattle.wire_rounds.specs.Views.{deque_view, Takes};
@@ -10,7 +11,8 @@ ghost use Rattle.wire_rounds.specs.Rounds.{own_view, MatchTake};
 ghost use Rattle.wire_rounds.specs.Deques.{EachPair, IsFilled, IsCut, IsPermitOf, SameDeque, IsStart, Made, Cutting};
 ghost use Rattle.wire_rounds.specs.Deques.{CanTake, AreJoined, CanJoinAll, AreGathered};
 ghost use Rattle.crossbeam_deque.specs.Handles as deque;
-ghost use Rattle.crossbeam_deque.specs.Handles.{view, SamePass, stealer_deque, stealer_flavor, worker_deque, worker_flavor, worker_view};
+ghost use Rattle.crossbeam_deque.specs.Handles.{view, SamePass, stealer_deque, stealer_flavor, worker_deque};
+ghost use Rattle.crossbeam_deque.specs.Handles.{worker_flavor, worker_view};
 
 use crate::round::{Pass, Take};
 use crate::rule::{Deals, Owner, Permit, Piece, Splits, TakesOne, Thief};

@@ -9,8 +9,8 @@ pub fn deal_rises()
     ensures { DealRises }
 {}
 
-/// No pass of a round has taken more pieces than the round has. Each take adds one piece to what its pass took, so a pass
-/// takes at most so often.
+/// No pass of a round has taken more pieces than the round has. Each take adds one piece to what its pass took, so a
+/// pass takes at most so often.
 #[tactic(auto, using(crate::proofs::Bounds::takes_are_bounded))]
 pub fn takes_are_bounded()
     ensures { TakesAreBounded }

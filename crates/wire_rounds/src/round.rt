@@ -51,13 +51,14 @@ impl Round {
     ghost use Rattle.std.specs.Prelude.{◌≡◌, ◌≢◌, ◌<◌, ◌++◌, [], IfOk, IfSome, IsOkUnless, MatchOption};
     ghost use Rattle.std.specs.List.{All};
     ghost use Rattle.std.specs.List.Sorted.{IsPermutation};
-    ghost use Rattle.wire_rounds.specs.Rounds.{ranks_of, workers_of, worker_of, pieces_of, IsPieceOf, IsDealOf, IsPassOf, ArePassesOf};
+    ghost use Rattle.wire_rounds.specs.Rounds.{ranks_of, workers_of, worker_of, pieces_of, IsPieceOf, IsDealOf};
+    ghost use Rattle.wire_rounds.specs.Rounds.{IsPassOf, ArePassesOf};
     ghost use Rattle.wire_rounds.specs.Rounds.{MatchTake, IfGot, TookOwn, TookAt, TookNone};
     ghost use Rattle.wire_rounds.specs.Taken.{taken_by_all, rest_of_all};
 
     /// Deals one piece for each of the first `ranks` processes: that of process r goes to the deque of worker r modulo
-    /// `workers`, in process order. Each piece has the number `round`. Gives one pass for each worker, in order. Workers
-    /// count from 0. The caller ensures that there is one at least. The only error is `Fault::Memory`.
+    /// `workers`, in process order. Each piece has the number `round`. Gives one pass for each worker, in order.
+    /// Workers count from 0. The caller ensures that there is one at least. The only error is `Fault::Memory`.
     pub fn deal(
         alloc: Global,
         round: u64,
@@ -96,8 +97,8 @@ impl Round {
         self.ranks
     }
 
-    /// Takes the front piece of the worker's own deque, or tells that there is none. What a pass takes of one deque rises
-    /// by process.
+    /// Takes the front piece of the worker's own deque, or tells that there is none. What a pass takes of one deque
+    /// rises by process.
     pub fn own_take(&self, pass: &mut Pass) -> Option<Piece>
         requires { IsPassOf self.now pass.old }
         ensures kept { IsPassOf self.now pass.new × (worker_of pass.new ≡ worker_of pass.old) }

@@ -1,5 +1,6 @@
 -- What became of every call in a state: its reply, or how far its process has come.
-use Rattle.std.specs.Prelude.{ℕ, zero, suc, ◌-◌, List, [], ◌∷◌, ◌++◌, Bool, true, false, not, ◌&&◌, Option, Some, None, is_some, length, take, map, replicate}
+use Rattle.std.specs.Prelude.{ℕ, zero, suc, ◌-◌, List, [], ◌∷◌, ◌++◌, Bool, true, false, not, ◌&&◌, Option, Some, None}
+use Rattle.std.specs.Prelude.{is_some, length, take, map, replicate}
 use Rattle.std.specs.Prelude.{nat_lt, slice_get, if◌then◌else◌}
 use Rattle.std.specs.List.{flat_map}
 use Rattle.wire_runs.specs.Plan.{Plan, Process, Call, kinds_of, process_count, Event}
@@ -11,7 +12,8 @@ use Rattle.wire_types.specs.declared.CallEnd.TheVariants.{Replied, Waiting, Read
 use Rattle.wire_types.specs.declared.Reply.{Reply}
 use Rattle.wire_types.specs.declared.Status.TheVariants as status
 use Rattle.wire_types.specs.declared.Value.TheVariants as value
-use Rattle.wire_runs.specs.State.{Answer, Silent, Success, NotFound, ExistsOutside, Duplicate, Value, Published, Reserved, State, next_kind}
+use Rattle.wire_runs.specs.State.{Answer, Silent, Success, NotFound, ExistsOutside, Duplicate, Value, Published}
+use Rattle.wire_runs.specs.State.{Reserved, State, next_kind}
 use Rattle.wire_runs.specs.Step.{is_enabled}
 
 -- how many events a call is

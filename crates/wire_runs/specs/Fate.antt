@@ -1,5 +1,6 @@
 -- What an event does, told by what is before it alone.
-use Rattle.std.specs.Prelude.{◌≡◌, ℕ, ◌<◌, ◌≤◌, List, [], ◌∷◌, true, ◌⊎◌, ◌↔◌, Option, Some, None, slice_get, if◌then◌else◌}
+use Rattle.std.specs.Prelude.{◌≡◌, ℕ, ◌<◌, ◌≤◌, List, [], ◌∷◌, true, ◌⊎◌, ◌↔◌, Option, Some, None, slice_get}
+use Rattle.std.specs.Prelude.{if◌then◌else◌}
 use Rattle.wire_runs.specs.Plan.{Plan, kind, event_count, Event}
 use Rattle.wire_runs.specs.State.{State, Answer, IsDone}
 use Rattle.wire_runs.specs.Names.{writes_name}
@@ -39,7 +40,8 @@ pub record IsPast (plan : Plan) (y : Event) (fate_of : Event → Fate) (s : Stat
   pub names : (n : ℕ) → (calls : List Event) × IsNameHistory plan y n calls × (s.names n ≡ left_by plan n calls)
   pub replies : (z : Event) (a : Answer) → Before plan z y → fate_of z ≡ Says a → slice_get (s.replies z.proc) z.at ≡ Some a
 
--- an event that isn't live waits. A live one does what it would do in the state of its past, the fates of what is before it being its replies
+-- an event that isn't live waits. A live one does what it would do in the state of its past, the fates of what is
+-- before it being its replies
 pub data HasFate (plan : Plan) : Event → Fate → Type 0 where
   dead : {y : Event} {fate : Fate} → ¬ (Live plan y) → fate ≡ Waits → HasFate plan y fate
   told : {y : Event} {fate : Fate} → Live plan y → (fate_of : Event → Fate) → ((z : Event) → Before plan z y → HasFate plan z (fate_of z)) → (past : State) →

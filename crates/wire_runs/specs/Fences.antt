@@ -1,6 +1,7 @@
 -- Fences, as functions of the scripts (PMIx Standard 5.0, PMIx_Fence).
 -- A fence is a set of members and a number j: it is the j-th fence of each member over that set.
-use Rattle.std.specs.Prelude.{ℕ, zero, suc, List, Bool, true, ◌&&◌, Option, Some, ◌==◌, nat_le, bytes_eq as same_members, if◌then◌else◌}
+use Rattle.std.specs.Prelude.{ℕ, zero, suc, List, Bool, true, ◌&&◌, Option, Some, ◌==◌, nat_le}
+use Rattle.std.specs.Prelude.{bytes_eq as same_members, if◌then◌else◌}
 use Rattle.std.specs.List.{list_any, list_all}
 use Rattle.wire_runs.specs.Plan.{Plan, Kind, Arrive, kind_at, event_count, node_of}
 
@@ -29,8 +30,8 @@ collects_with members j n before (Some (Arrive others collect)) =
     if same_members others members && (suc n == j) then collect else before
 collects_with members j n before _ = before
 
--- whether p's j-th fence call over these members, if it is among the first n events, says collect. It answers true where there is no
--- such call, so it speaks only beside is_full
+-- whether p's j-th fence call over these members, if it is among the first n events, says collect. It answers true
+-- where there is no such call, so it speaks only beside is_full
 abbrev pub collects : Plan → ℕ → List ℕ → ℕ → ℕ → Bool
 collects plan p members j zero = true
 collects plan p members j (suc n) =

@@ -23,8 +23,8 @@ IsFound plan (NameRace x y name) = IsLower x y × (IsNameRace plan x y name ⊎ 
 abbrev pub IsPairLower : Event → Event → Event → Event → Type 0
 IsPairLower x y v w = IsLower x v ⊎ ((x ≡ v) × IsLower y w)
 
--- the order of findings: rewrites by the later put, then races by their events; two races of one pair by their names, in the order
--- that is given
+-- the order of findings: rewrites by the later put, then races by their events; two races of one pair by their names,
+-- in the order that is given
 abbrev pub IsSooner : (ℕ → ℕ → Bool) → Finding → Finding → Type 0
 IsSooner lower_name (Rewrite x y) (Rewrite v w) = IsLower y w
 IsSooner lower_name (Rewrite x y) _ = Unit {0}

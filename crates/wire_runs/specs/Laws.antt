@@ -1,5 +1,7 @@
--- The laws of runs: what the definitions before this file entail, for every plan. Each is the contract of a function of src/laws.rt.
-use Rattle.std.specs.Prelude.{slice_get, ◌↔◌, Option, Some, None, ◌≡◌, ◌≢◌, ℕ, suc, ◌≤◌, ◌<◌, List, [], Bool, true, false, ◌==◌, if◌then◌else◌, length, take}
+-- The laws of runs: what the definitions before this file entail, for every plan. Each is the contract of a function of
+-- src/laws.rt.
+use Rattle.std.specs.Prelude.{slice_get, ◌↔◌, Option, Some, None, ◌≡◌, ◌≢◌, ℕ, suc, ◌≤◌, ◌<◌, List, [], Bool, true}
+use Rattle.std.specs.Prelude.{false, ◌==◌, if◌then◌else◌, length, take}
 use Rattle.wire_runs.specs.Plan.{Plan, Event, Arrive, kind_at, event_total, event_count, node_of, same_node, update}
 use Rattle.wire_runs.specs.Puts.{own, stored}
 use Rattle.wire_runs.specs.Fences.{arrivals, is_collecting}
@@ -46,12 +48,13 @@ OneEnd = (plan : Plan) (v w : List ℕ) → IsSettled plan → IsInterleaving pl
 abbrev pub RowsAreWhole : Type 0
 RowsAreWhole = (plan : Plan) (s : State) (p : ℕ) → IsReachable plan s → length (row plan s p) ≡ length (calls_of plan p)
 
--- every interleaving of the plan that can't go on ends in one state, the plain run's: the same reply to every call, the same
--- names, and the same processes waiting
+-- every interleaving of the plan that can't go on ends in one state, the plain run's: the same reply to every call, the
+-- same names, and the same processes waiting
 abbrev pub HasOneEnd : Plan → Type 0
 HasOneEnd plan = (w : List ℕ) → IsInterleaving plan start w → IsEnd plan (run plan w) → run plan w ≡ run plan (plain_run plan)
 
--- the plain run is an interleaving that can't go on, at each step of it nobody below is enabled, and a settled plan has one end
+-- the plain run is an interleaving that can't go on, at each step of it nobody below is enabled, and a settled plan has
+-- one end
 pub record PlainRuns (plan : Plan) : Type 0 where
   pub is_run : IsInterleaving plan start (plain_run plan)
   pub ends : IsEnd plan (run plan (plain_run plan))
@@ -97,7 +100,8 @@ abbrev pub OneList : Type 0
 OneList = (plan : Plan) (lower_name : ℕ → ℕ → Bool) (xs ys : List Finding) → IsOneWay lower_name → IsFindings plan lower_name xs →
     IsFindings plan lower_name ys → xs ≡ ys
 
--- where a plan doesn't keep what gets bring, a get-now from another node sees what fences have brought, and no get delivers a key
+-- where a plan doesn't keep what gets bring, a get-now from another node sees what fences have brought, and no get
+-- delivers a key
 pub record FencesBring (plan : Plan) : Type 0 where
   pub sees : (s : State) (q i p key : ℕ) → get_now_sees plan s q i p key
       ≡ (if q == p then held (own plan p key i) else if same_node plan p q then served plan p true (stored plan p key (s.done p))
@@ -136,7 +140,8 @@ pub record IsCutOf (plan : Plan) (cut : ℕ → ℕ) (s : State) : Type 0 where
   pub reached : IsReachable plan s
   pub done : (p : ℕ) → s.done p ≡ cut p
 
--- where a process is enabled, a run can reach the state after its step, and the cut of that state has one event of it more
+-- where a process is enabled, a run can reach the state after its step, and the cut of that state has one event of it
+-- more
 abbrev pub StepsMoveCuts : Type 0
 StepsMoveCuts =
     (plan : Plan) (cut : ℕ → ℕ) (s : State) (p : ℕ) → IsCutOf plan cut s → is_enabled plan s p ≡ true
@@ -163,8 +168,8 @@ CutsTellSteps =
 abbrev pub OneState : Type 0
 OneState = (plan : Plan) (cut : ℕ → ℕ) (s t : State) → IsSettled plan → IsCutOf plan cut s → IsCutOf plan cut t → s ≡ t
 
--- if a run of a settled plan can reach a cut, and also that with one event of p more, then p is enabled at the first, and its step
--- leads from the state of the first to that of the second
+-- if a run of a settled plan can reach a cut, and also that with one event of p more, then p is enabled at the first,
+-- and its step leads from the state of the first to that of the second
 abbrev pub OneEventBetween : Type 0
 OneEventBetween =
     (plan : Plan) (cut : ℕ → ℕ) (p : ℕ) (s t : State) → IsSettled plan → IsCutOf plan cut s → IsCutOf plan (one_more cut p) t
@@ -174,8 +179,9 @@ OneEventBetween =
 abbrev pub plain_end : Plan → State
 plain_end plan = run plan (plain_run plan)
 
--- what is done so far is done in the plain run, with the same replies: of each process no more events are done than there, its replies
--- are the first of those there, one for each event that is done, and the fate of such an event is the reply that it gets there
+-- what is done so far is done in the plain run, with the same replies: of each process no more events are done than
+-- there, its replies are the first of those there, one for each event that is done, and the fate of such an event is
+-- the reply that it gets there
 pub record IsPlainSoFar (plan : Plan) (s : State) : Type 0 where
   pub done : (p : ℕ) → s.done p ≤ (plain_end plan).done p
   pub count : (p : ℕ) → length (s.replies p) ≡ s.done p
@@ -192,7 +198,8 @@ abbrev pub CollectsByAll : Type 0
 CollectsByAll =
     (plan : Plan) (members : List ℕ) (j : ℕ) → (is_collecting plan members j ≡ true) ↔ ((z : Event) (call : IsArrival plan members j z) → call.collect ≡ true)
 
--- p's event of this number, one of its first n, is its arrival at a fence that in this cut has brought p's data to the node
+-- p's event of this number, one of its first n, is its arrival at a fence that in this cut has brought p's data to the
+-- node
 pub record IsBringing (plan : Plan) (cut : ℕ → ℕ) (p node n at : ℕ) : Type 0 where
   pub members : List ℕ
   pub collect : Bool
@@ -205,7 +212,8 @@ pub record IsLastBringing (plan : Plan) (cut : ℕ → ℕ) (p node n at : ℕ) 
   pub one : IsBringing plan cut p node n at
   pub greatest : (other : ℕ) → IsBringing plan cut p node n other → other ≤ at
 
--- what fences have brought to the node: what p had stored under the key at the last such arrival, and nothing where there is none
+-- what fences have brought to the node: what p had stored under the key at the last such arrival, and nothing where
+-- there is none
 pub data IsBrought (plan : Plan) (cut : ℕ → ℕ) (p node key n : ℕ) (brought : Option ℕ) : Type 0 where
   ByLast : (at : ℕ) → IsLastBringing plan cut p node n at → brought ≡ stored plan p key at → IsBrought plan cut p node key n brought
   ByNone : ((at : ℕ) → ¬ (IsBringing plan cut p node n at)) → brought ≡ None → IsBrought plan cut p node key n brought

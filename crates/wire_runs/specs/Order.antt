@@ -1,5 +1,6 @@
 -- Which events depend on which: edges, live events, and chains of edges.
-use Rattle.std.specs.Prelude.{◌≡◌, ◌≢◌, ℕ, suc, List, Bool, true, false, ◌||◌, Option, Some, None, is_some, ◌==◌, nat_le, if◌then◌else◌}
+use Rattle.std.specs.Prelude.{◌≡◌, ◌≢◌, ℕ, suc, List, Bool, true, false, ◌||◌, Option, Some, None, is_some, ◌==◌}
+use Rattle.std.specs.Prelude.{nat_le, if◌then◌else◌}
 use Rattle.wire_runs.specs.Plan.{Plan, Kind, Arrive, Leave, Get, Publish, LookupWait, kind, event_count, Event}
 use Rattle.wire_runs.specs.Names.{takes_name}
 use Rattle.wire_runs.specs.Puts.{own, stored, put_count}
@@ -31,9 +32,9 @@ pub data Edge (plan : Plan) (x y : Event) : Type 0 where
       Edge plan x y
   Announces : (name : ℕ) → kind plan y ≡ Some (LookupWait name) → PublishesOnce plan x name → Edge plan x y
 
--- whether there is such an event and the scripts don't rule it out, its sources aside. They rule out a get of another process's key
--- that is never put, or put once and never committed after that; a get of one's own key before any put of it; and the end of a fence
--- that a member doesn't call
+-- whether there is such an event and the scripts don't rule it out, its sources aside. They rule out a get of another
+-- process's key that is never put, or put once and never committed after that; a get of one's own key before any put of
+-- it; and the end of a fence that a member doesn't call
 abbrev pub may_come : Plan → Event → Option Kind → Bool
 may_come plan y None = false
 may_come plan y (Some (Get owner key)) =

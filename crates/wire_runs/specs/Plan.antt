@@ -1,12 +1,14 @@
 -- Plans: processes with their calls, and the events that the calls are made of.
 -- Keys, names, nodes and processes are numbers. A value is named by the event that puts it.
-use Rattle.std.specs.Prelude.{ℕ, List, [], ◌∷◌, Bool, true, not, Option, Some, None, slice_get, length, ◌==◌, nat_lt, sum_by, if◌then◌else◌}
+use Rattle.std.specs.Prelude.{ℕ, List, [], ◌∷◌, Bool, true, not, Option, Some, None, slice_get, length, ◌==◌, nat_lt}
+use Rattle.std.specs.Prelude.{sum_by, if◌then◌else◌}
 use Rattle.wire_types.specs.declared.Event.{Event as CodeEvent}
 use Rattle.wire_types.specs.declared.Scope.{Scope}
 use Rattle.wire_types.specs.declared.Scope.TheVariants.{Local, Remote, Global}
 use Rattle.wire_types.specs.declared.Reply.{Reply}
 
--- an event: the number of its process, and its number among the events of that process, from 0. What it does is its kind
+-- an event: the number of its process, and its number among the events of that process, from 0. What it does is its
+-- kind
 pub record Event : Type 0 where
   pub proc : ℕ
   pub at : ℕ
@@ -15,8 +17,8 @@ pub record Event : Type 0 where
 abbrev pub event_of : CodeEvent → Event
 event_of e = record { proc = e.proc.number; at = e.at }
 
--- a call. CallUnpublishAll takes away every name that the caller has published, and CallFixed is a call of a reserved key or name, whose
--- reply is known from the start
+-- a call. CallUnpublishAll takes away every name that the caller has published, and CallFixed is a call of a reserved
+-- key or name, whose reply is known from the start
 pub data Call : Type 0 where
   CallPut : (key : ℕ) → Scope → Call
   CallCommit : Call

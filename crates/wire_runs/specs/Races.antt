@@ -1,6 +1,7 @@
 -- What the checker looks for: keys that are put twice, and pairs of live calls that no chain orders.
 use Rattle.std.specs.Prelude.{◌≡◌, ◌≢◌, ℕ, ◌<◌, ◌≤◌, List, true, false, Some, None}
-use Rattle.wire_runs.specs.Plan.{Plan, Put, Get, GetNow, LookupWait, kind, event_count, node_of, same_node, admits, Event}
+use Rattle.wire_runs.specs.Plan.{Plan, Put, Get, GetNow, LookupWait, kind, event_count, node_of, same_node, admits}
+use Rattle.wire_runs.specs.Plan.{Event}
 use Rattle.wire_types.specs.declared.Scope.{Scope}
 use Rattle.wire_runs.specs.Puts.{own, stored, put_count, scope_of}
 use Rattle.wire_runs.specs.Fences.{is_member, is_full, is_collecting, has_node}
@@ -84,8 +85,8 @@ pub record ComesSurely (plan : Plan) (p key node : ℕ) (get : Event) : Type 0 w
   pub delivers : Delivers plan p key node delivery
   pub all_before : (z : Event) → IsOf plan delivery z → Before plan z get
 
--- a live get-now from another node, and the lowest event that isn't before it of a delivery; the get is before no event of that delivery,
--- and no delivery surely comes first
+-- a live get-now from another node, and the lowest event that isn't before it of a delivery; the get is before no event
+-- of that delivery, and no delivery surely comes first
 pub record IsDeliveryRace (plan : Plan) (source get : Event) (owner key : ℕ) : Type 0 where
   pub is : kind plan get ≡ Some (GetNow owner key)
   pub other : same_node plan owner get.proc ≡ false
@@ -99,8 +100,8 @@ pub record IsDeliveryRace (plan : Plan) (source get : Event) (owner key : ℕ) :
   pub not_before : ¬ (Before plan source get)
   pub first : (z : Event) → IsOf plan delivery z → ¬ (Before plan z get) → source.proc ≤ z.proc
 
--- two calls on a name by different processes, x one that can change it; not the publish and a lookup-wait of a name that is published
--- once
+-- two calls on a name by different processes, x one that can change it; not the publish and a lookup-wait of a name
+-- that is published once
 pub record IsNameRace (plan : Plan) (x y : Event) (name : ℕ) : Type 0 where
   pub x_writes : writes_name plan name x (kind plan x) ≡ true
   pub y_calls : calls_name plan name y (kind plan y) ≡ true

@@ -1,12 +1,14 @@
 -- What a get sees (PMIx Standard 5.0: PMIx_Get, Scope of Put Data, PMIX_COLLECT_DATA).
-use Rattle.std.specs.Prelude.{ℕ, zero, suc, List, Bool, true, false, ◌&&◌, Option, Some, None, ◌==◌, nat_le, slice_get, if◌then◌else◌}
-use Rattle.wire_runs.specs.Plan.{Plan, Kind, Arrive, Get, kind_at, event_count, process_count, node_of, same_node, admits}
+use Rattle.std.specs.Prelude.{ℕ, zero, suc, List, Bool, true, false, ◌&&◌, Option, Some, None, ◌==◌, nat_le, slice_get}
+use Rattle.std.specs.Prelude.{if◌then◌else◌}
+use Rattle.wire_runs.specs.Plan.{Plan, Kind, Arrive, Get, kind_at, event_count, process_count, node_of, same_node}
+use Rattle.wire_runs.specs.Plan.{admits}
 use Rattle.wire_runs.specs.State.{Answer, Value, State}
 use Rattle.wire_runs.specs.Puts.{own, stored, scope_of}
 use Rattle.wire_runs.specs.Fences.{arrivals, is_member, is_complete, is_collecting, has_node}
 
--- nothing, where a get waits and a get-now replies PMIX_ERR_NOT_FOUND; something that isn't for the reader's node, where both reply
--- PMIX_ERR_EXISTS_OUTSIDE_SCOPE; or the value of the owner's put of this number
+-- nothing, where a get waits and a get-now replies PMIX_ERR_NOT_FOUND; something that isn't for the reader's node,
+-- where both reply PMIX_ERR_EXISTS_OUTSIDE_SCOPE; or the value of the owner's put of this number
 pub data Sight : Type 0 where
   Nothing : Sight
   Outside : Sight
@@ -27,8 +29,8 @@ abbrev pub for_others : Plan → ℕ → Option ℕ → Option ℕ
 for_others plan p None = None
 for_others plan p (Some put) = if admits (scope_of plan p put) false then Some put else None
 
--- whether in this cut the j-th fence over these members has brought p's data to the node: it is complete, it collects, p is a member
--- and so is a process of the node
+-- whether in this cut the j-th fence over these members has brought p's data to the node: it is complete, it collects,
+-- p is a member and so is a process of the node
 abbrev pub has_brought : Plan → (ℕ → ℕ) → ℕ → ℕ → List ℕ → ℕ → Bool
 has_brought plan cut p node members j =
     is_complete plan cut members j && (is_collecting plan members j && (is_member members p && has_node plan members node))
@@ -42,8 +44,8 @@ delivered_with plan cut p node key n before (Some (Arrive members collect)) =
     stored_at_with (has_brought plan cut p node members (arrivals plan p members (suc n))) (stored plan p key n) before
 delivered_with plan cut p node key n before _ = before
 
--- what p had stored under the key at its last arrival, among its first n events, at a fence that has brought p's data to the node; the
--- law `delivered_by_last` says so by the arrival's number
+-- what p had stored under the key at its last arrival, among its first n events, at a fence that has brought p's data
+-- to the node; the law `delivered_by_last` says so by the arrival's number
 abbrev pub delivered : Plan → (ℕ → ℕ) → ℕ → ℕ → ℕ → ℕ → Option ℕ
 delivered plan cut p node key zero = None
 delivered plan cut p node key (suc n) =
@@ -81,8 +83,8 @@ got_on plan s p key node m = if node_of plan m == node then greatest (got plan s
 abbrev pub kept : Plan → State → ℕ → ℕ → ℕ → Option ℕ
 kept plan s p key node = if plan.keep then greatest (got_on plan s p key node) (process_count plan) else None
 
--- the last of p's puts of the key that have come to the node: what p had stored under the key at its last arrival that brought its data
--- to the node, where that put is for other nodes, and what is kept there of gets
+-- the last of p's puts of the key that have come to the node: what p had stored under the key at its last arrival that
+-- brought its data to the node, where that put is for other nodes, and what is kept there of gets
 abbrev pub brought : Plan → State → ℕ → ℕ → ℕ → Option ℕ
 brought plan s p key node =
     greater (for_others plan p (delivered plan s.done p node key (event_count plan p))) (kept plan s p key node)

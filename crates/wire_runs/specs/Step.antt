@@ -1,10 +1,13 @@
--- What a step does: who is enabled, what an event replies, what an interleaving is (PMIx Standard 5.0: PMIx_Put, PMIx_Commit,
--- PMIx_Get, PMIx_Fence, PMIx_Publish, PMIx_Lookup, PMIx_Unpublish).
-use Rattle.std.specs.Prelude.{◌≡◌, ℕ, suc, List, [], ◌∷◌, ◌++◌, Bool, true, false, Option, Some, None, is_some, ◌==◌, if◌then◌else◌}
-use Rattle.wire_runs.specs.Plan.{Plan, Kind, Put, Commit, Arrive, Leave, Get, GetNow, Publish, Lookup, LookupWait, Unpublish, UnpublishAll}
+-- What a step does: who is enabled, what an event replies, what an interleaving is (PMIx Standard 5.0: PMIx_Put,
+-- PMIx_Commit, PMIx_Get, PMIx_Fence, PMIx_Publish, PMIx_Lookup, PMIx_Unpublish).
+use Rattle.std.specs.Prelude.{◌≡◌, ℕ, suc, List, [], ◌∷◌, ◌++◌, Bool, true, false, Option, Some, None, is_some, ◌==◌}
+use Rattle.std.specs.Prelude.{if◌then◌else◌}
+use Rattle.wire_runs.specs.Plan.{Plan, Kind, Put, Commit, Arrive, Leave, Get, GetNow, Publish, Lookup, LookupWait}
+use Rattle.wire_runs.specs.Plan.{Unpublish, UnpublishAll}
 use Rattle.wire_runs.specs.Plan.{Fixed, update, Event}
 use Rattle.wire_runs.specs.Fences.{arrivals, is_complete}
-use Rattle.wire_runs.specs.State.{Answer, Silent, Success, NotFound, ExistsOutside, Duplicate, Value, Published, Reserved, State, start, next_event, next_kind}
+use Rattle.wire_runs.specs.State.{Answer, Silent, Success, NotFound, ExistsOutside, Duplicate, Value, Published}
+use Rattle.wire_runs.specs.State.{Reserved, State, start, next_event, next_kind}
 use Rattle.wire_runs.specs.Sight.{Sight, Nothing, Outside, Shown, get_sees, get_now_sees}
 
 abbrev pub is_seen : Sight → Bool

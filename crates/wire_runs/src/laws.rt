@@ -1,9 +1,11 @@
 //! The laws of runs of a plan. Each is the contract of a function that does nothing.
 
 ghost use Rattle.wire_runs.specs.Plan.{Plan};
-ghost use Rattle.wire_runs.specs.Laws.{PlainRuns, RacesAreUnordered, RowsAreWhole, RunsEnd, EnabledIsDue, EnabledCommute, OneEnd, FatesTell, OneFate};
+ghost use Rattle.wire_runs.specs.Laws.{PlainRuns, RacesAreUnordered, RowsAreWhole, RunsEnd, EnabledIsDue};
+ghost use Rattle.wire_runs.specs.Laws.{EnabledCommute, OneEnd, FatesTell, OneFate};
 ghost use Rattle.wire_runs.specs.Laws.{RunsAreSound, NoFindings, OneList, HaveFates, SoundIsReached};
-ghost use Rattle.wire_runs.specs.Laws.{StepsMoveCuts, CutsTellSteps, OneState, OneEventBetween, RepliesArePlain, WithoutKeep, CollectsByAll, DeliveredByLast};
+ghost use Rattle.wire_runs.specs.Laws.{StepsMoveCuts, CutsTellSteps, OneState, OneEventBetween, RepliesArePlain};
+ghost use Rattle.wire_runs.specs.Laws.{WithoutKeep, CollectsByAll, DeliveredByLast};
 
 /// No run is longer than the number of events.
 pub fn runs_end()

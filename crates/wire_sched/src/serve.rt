@@ -33,8 +33,8 @@ impl Victim {
 
 /// What workers serve processes of: a core under one lock, or the lanes of a board, each under its own.
 pub trait Serves {
-    /// Waits for the lock, and then serves a process as far as it goes. Tells how many events that were, and, where that is
-    /// known, for which event the process waits.
+    /// Waits for the lock, and then serves a process as far as it goes. Tells how many events that were, and, where
+    /// that is known, for which event the process waits.
     fn serve_far<R: Wait>(&self, rt: &R, proc: Proc) -> Served;
 }
 
@@ -69,11 +69,11 @@ pub(crate) struct Seen {
     pub(crate) missing: Option<Event>,
 }
 
-/// A round over the lanes of a board: serves the pieces of the worker's own deque, and then those that it steals from the
-/// other deques in turn. It leaves a deque that answered `Again` a thousand times. Before each piece it calls the gate, and
-/// then it waits for the lock of that rank's lane. Answers how many events that were; once the sum is at its type's greatest
-/// value, it stays there. It takes no memory. No clause says which pieces it served, or how many events that were: other
-/// threads serve lanes too. `take_turns` begins with the same round. Only tests call this.
+/// A round over the lanes of a board: serves the pieces of the worker's own deque, and then those that it steals from
+/// the other deques in turn. It leaves a deque that answered `Again` a thousand times. Before each piece it calls the
+/// gate, and then it waits for the lock of that rank's lane. Answers how many events that were; once the sum is at its
+/// type's greatest value, it stays there. It takes no memory. No clause says which pieces it served, or how many events
+/// that were: other threads serve lanes too. `take_turns` begins with the same round. Only tests call this.
 pub fn work<R: Wait, G: Gate>(
     rt: &R,
     lanes: &Lanes<'_>,
@@ -111,8 +111,8 @@ pub fn work_locked<R: Wait, G: Gate>(
     serve_round(rt, &crew, pass, &mut [])
 }
 
-/// A round of a worker, over whatever is served. Keeps what was seen of each rank that there is room for in `seen`. Answers
-/// how many events that were.
+/// A round of a worker, over whatever is served. Keeps what was seen of each rank that there is room for in `seen`.
+/// Answers how many events that were.
 pub(crate) fn serve_round<R: Wait, S: Serves, G: Gate>(
     rt: &R,
     crew: &Crew<'_, S, G>,

@@ -13,10 +13,10 @@ use wire_types::{Event, Proc};
 /// How many turns a worker takes after its round at most. What is left then is dealt in the next round.
 const MOST_TURNS: u32 = 1_000_000;
 
-/// A round as `work` has it, and then turns: in each the worker looks at all ranks that it served in this round and that
-/// wait, and serves again those for which the missing event has come. It calls the gate before each look. The turns end
-/// with one in which no rank moved. Answers how many events that were, as `work` does. It takes memory before the first piece;
-/// where there is none, it takes no turns. No clause says what it served.
+/// A round as `work` has it, and then turns: in each the worker looks at all ranks that it served in this round and
+/// that wait, and serves again those for which the missing event has come. It calls the gate before each look. The
+/// turns end with one in which no rank moved. Answers how many events that were, as `work` does. It takes memory before
+/// the first piece; where there is none, it takes no turns. No clause says what it served.
 pub fn take_turns<R: Wait, S: Serves, G: Gate>(
     rt: &R,
     alloc: Global,
@@ -45,8 +45,8 @@ fn nothing_seen(alloc: Global, ranks: u32) -> Result<Vec<Seen>, AllocError>
     vec![in alloc; nothing; ranks as usize]
 }
 
-/// Turns after a round of so many events, until no rank moves in one. Answers how many events that were, those of the round
-/// among them.
+/// Turns after a round of so many events, until no rank moves in one. Answers how many events that were, those of the
+/// round among them.
 fn take_more_turns<R: Wait, S: Serves, G: Gate>(
     rt: &R,
     crew: &Crew<'_, S, G>,

@@ -1,5 +1,6 @@
 -- What the lines of a file declare, line by line, and which fault is the first.
-use Rattle.std.specs.Prelude.{◌≡◌, ℕ, ◌+◌, ◌-◌, ◌==◌, ◌&&◌, Bool, true, false, not, nat_lt, nat_le, List, [], ◌∷◌, ◌++◌, length, Result, Ok, Err, MatchResult}
+use Rattle.std.specs.Prelude.{◌≡◌, ℕ, ◌+◌, ◌-◌, ◌==◌, ◌&&◌, Bool, true, false, not, nat_lt, nat_le, List, [], ◌∷◌, ◌++◌}
+use Rattle.std.specs.Prelude.{length, Result, Ok, Err, MatchResult}
 use Rattle.std.specs.Prelude.{◌⊎◌, if◌then◌else◌}
 use Rattle.std.specs.List.{list_any, list_all, position_or_len}
 use Rattle.std.specs.Str.{bytes_eq}
@@ -32,8 +33,8 @@ pub record Started : Type 0 where
   pub node : ℕ
   pub calls : List (ℕ × Call)
 
--- what was declared so far, under which version and within which limits, whether what a get brings to a node stays there,
--- how many processes of the last job, and how many calls
+-- what was declared so far, under which version and within which limits, whether what a get brings to a node stays
+-- there, how many processes of the last job, and how many calls
 pub record Declared : Type 0 where
   pub version : Version
   pub keeps : Bool

@@ -1,12 +1,14 @@
 -- The scripts that a text reads as, or its fault.
-use Rattle.std.specs.Prelude.{◌≡◌, ℕ, ◌+◌, ◌<◌, ◌≤◌, ◌⊎◌, ◌==◌, ◌&&◌, Bool, true, not, nat_lt, List, [], ◌∷◌, length, map, filter, flat_map, take, count_by}
+use Rattle.std.specs.Prelude.{◌≡◌, ℕ, ◌+◌, ◌<◌, ◌≤◌, ◌⊎◌, ◌==◌, ◌&&◌, Bool, true, not, nat_lt, List, [], ◌∷◌, length}
+use Rattle.std.specs.Prelude.{map, filter, flat_map, take, count_by}
 use Rattle.std.specs.Prelude.{Option, Some, None, Result, Ok, Err, MatchResult, if◌then◌else◌}
 use Rattle.std.specs.List.{list_any, list_all, position_or_len}
 use Rattle.std.specs.Str.{bytes_eq}
 use Rattle.wire_types.specs.declared.Fault.{Fault}
 use Rattle.wire_types.specs.declared.Fault.TheVariants.{TooLong, UnknownName, NotMember}
 use Rattle.wire_types.specs.declared.Call.{Call}
-use Rattle.wire_types.specs.declared.Call.TheVariants.{Put, Commit, Fence, Get, GetNow, Publish, Lookup, LookupWait, Unpublish, UnpublishAll}
+use Rattle.wire_types.specs.declared.Call.TheVariants.{Put, Commit, Fence, Get, GetNow, Publish, Lookup, LookupWait}
+use Rattle.wire_types.specs.declared.Call.TheVariants.{Unpublish, UnpublishAll}
 use Rattle.wire_lines.specs.Text.{lines_of}
 use Rattle.wire_lines.specs.Said as said
 use Rattle.wire_content.specs.Scripts.{Process, Scripts}

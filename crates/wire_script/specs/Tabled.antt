@@ -1,4 +1,5 @@
--- What the tables hold while the calls are numbered: for the contracts of private functions. What is read is said in Reads.
+-- What the tables hold while the calls are numbered: for the contracts of private functions. What is read is said in
+-- Reads.
 use Rattle.std.specs.Prelude.{◌≡◌, ℕ, ◌+◌, Bool, List, [], ◌∷◌, ◌++◌, length, if◌then◌else◌}
 use Rattle.wire_types.specs.declared.Version.{Version}
 use Rattle.wire_lines.specs.Said as said
@@ -15,7 +16,8 @@ seen_of t = record { keys = t.keys; names = t.names; values = t.values; sets = t
 abbrev pub seen_by_tables : Tables → Seen
 seen_by_tables t = record { keys = t.keys; names = t.names; values = t.values; sets = t.sets }
 
--- the scripts of a version, with or without the line `keep`, of these nodes and jobs, whose calls name what the tables hold
+-- the scripts of a version, with or without the line `keep`, of these nodes and jobs, whose calls name what the tables
+-- hold
 abbrev pub scripts_said : Version → Bool → List (List ℕ) → List (List ℕ) → Seen → List Process → Scripts
 scripts_said version keeps nodes jobs s processes = record {
   version = version;

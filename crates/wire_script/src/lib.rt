@@ -1,5 +1,5 @@
-//! The reader of the scripts' file: from its bytes to what it says, or to its first fault. Beside it, the reader of an order of steps,
-//! from its bytes to the processes that take the steps, and that of a question about two calls.
+//! The reader of the scripts' file: from its bytes to what it says, or to its first fault. Beside it, the reader of an
+//! order of steps, from its bytes to the processes that take the steps, and that of a question about two calls.
 #![tactic(auto)]
 
 mod draft;

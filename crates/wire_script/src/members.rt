@@ -1,6 +1,7 @@
 //! The processes that a call names.
 
-ghost use Rattle.std.specs.Prelude.{◌≡◌, ◌+◌, ◌≤◌, ◌==◌, ℕ, Some, true, false, map, length, slice_get, IfOk, IfSome, IfNone};
+ghost use Rattle.std.specs.Prelude.{◌≡◌, ◌+◌, ◌≤◌, ◌==◌, ℕ, Some, true, false, map, length, slice_get, IfOk, IfSome};
+ghost use Rattle.std.specs.Prelude.{IfNone};
 ghost use Rattle.wire_lines.specs.Shown.{item_by};
 ghost use Rattle.wire_content.specs.Scripts.{numbers_of};
 ghost use Rattle.wire_script.specs.Reads as spec;

@@ -1,7 +1,8 @@
 //! From the words of a question to the two calls that it is about.
 
 ghost use Rattle.std.specs.Prelude.{◌≡◌, ◌⊎◌, ℕ, Ok, Err, IfOk, IfErr, IfSome, IfNone};
-ghost use Rattle.wire_script.specs.Question.{QuestionReads, IsCallNumber, IsCallNamed, IsProcWrong, IsNumberWrong, OneQuestion, calls_made};
+ghost use Rattle.wire_script.specs.Question.{QuestionReads, IsCallNumber, IsCallNamed, IsProcWrong, IsNumberWrong};
+ghost use Rattle.wire_script.specs.Question.{OneQuestion, calls_made};
 ghost use Rattle.wire_script.specs.ProcWords.{IsTableOf};
 
 use crate::proc_words::ProcWords;

@@ -1,14 +1,17 @@
 //! The second pass: each call by all that is declared, with numbers for what it names.
 
-ghost use Rattle.std.specs.Prelude.{◌≡◌, ◌⊎◌, ◌+◌, ◌*◌, ◌≤◌, ◌<◌, ◌^◌, List, ℕ, Some, None, Ok, Err, true, false, map, length, OnOk, IfOk, IfErr};
+ghost use Rattle.std.specs.Prelude.{◌≡◌, ◌⊎◌, ◌+◌, ◌*◌, ◌≤◌, ◌<◌, ◌^◌, List, ℕ, Some, None, Ok, Err, true, false, map};
+ghost use Rattle.std.specs.Prelude.{length, OnOk, IfOk, IfErr};
 ghost use Rattle.wire_lines.specs.Shown.{call_by, set_by};
 ghost use Rattle.wire_script.specs.FirstPass.{number_or_count};
 ghost use Rattle.wire_script.specs.Reads as spec;
-ghost use Rattle.wire_script.specs.Reads.{Seen, is_declared_set, is_in, set_members, has_proc, proc_number, numbered, process_of, call_fault, fault_in};
+ghost use Rattle.wire_script.specs.Reads.{Seen, is_declared_set, is_in, set_members, has_proc, proc_number, numbered};
+ghost use Rattle.wire_script.specs.Reads.{process_of, call_fault, fault_in};
 ghost use Rattle.wire_script.specs.Reads.{first_fault, second_pass};
 ghost use Rattle.wire_script.specs.Within.{IsWithinLimits, IsDeclared};
 ghost use Rattle.wire_script.specs.Drafted.{declared_of, started_of, placed_of};
-ghost use Rattle.wire_script.specs.Tabled.{seen_of, seen_with, seen_after, all_seen, nothing_seen, entry_count, with_text, GoesOn, GoOn};
+ghost use Rattle.wire_script.specs.Tabled.{seen_of, seen_with, seen_after, all_seen, nothing_seen, entry_count};
+ghost use Rattle.wire_script.specs.Tabled.{with_text, GoesOn, GoOn};
 ghost use Rattle.wire_script.specs.Targets.{named_in, AreNoted};
 
 use crate::draft::{Draft, Placed, Started};

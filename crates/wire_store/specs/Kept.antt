@@ -1,6 +1,7 @@
 -- What a store keeps of one process's puts and commits (PMIx Standard 5.0, Posting Key-Value Pairs).
 -- A put is held until its process's next commit, which stores all puts that no commit has stored before.
-use Rattle.std.specs.Prelude.{ℕ, zero, suc, List, [], ◌∷◌, ◌++◌, map, reverse, find, Bool, false, ◌&&◌, ◌==◌, nat_lt, is_some, Option, Some, None}
+use Rattle.std.specs.Prelude.{ℕ, zero, suc, List, [], ◌∷◌, ◌++◌, map, reverse, find, Bool, false, ◌&&◌, ◌==◌, nat_lt}
+use Rattle.std.specs.Prelude.{is_some, Option, Some, None}
 use Rattle.std.specs.Prelude.{if◌then◌else◌}
 use Rattle.wire_runs.specs.Plan.{Kind, Put, Commit, admits}
 use Rattle.wire_types.specs.declared.Scope.{Scope}
@@ -59,8 +60,8 @@ kept_with n call before (Some (Put key scope)) =
 kept_with n call before (Some Commit) = map (store_by n) before
 kept_with n call before _ = before
 
--- what a store keeps that is told of the puts and commits among the first n events: `kind_of` says what each event is, and
--- `call_of` of which call it is
+-- what a store keeps that is told of the puts and commits among the first n events: `kind_of` says what each event is,
+-- and `call_of` of which call it is
 abbrev pub kept_after : (ℕ → Option Kind) → (ℕ → CallAt) → ℕ → List KeptPut
 kept_after kind_of call_of zero = []
 kept_after kind_of call_of (suc n) = kept_with n (call_of n) (kept_after kind_of call_of n) (kind_of n)

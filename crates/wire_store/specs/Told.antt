@@ -7,8 +7,8 @@ use Rattle.wire_store.specs.declared.seen.Seen.{Seen}
 use Rattle.wire_store.specs.declared.seen.Seen.TheVariants.{Value, Outside, Nothing}
 use Rattle.wire_store.specs.Kept.{Kept, last_put, last_stored, last_stored_before, seen, kept_after}
 
--- the store was told of the puts and commits among a process's first n events: `kind_of` says what each event of the process
--- is, and `call_of` of which call it is. Events of other kinds change nothing: `kept_after` stays the same.
+-- the store was told of the puts and commits among a process's first n events: `kind_of` says what each event of the
+-- process is, and `call_of` of which call it is. Events of other kinds change nothing: `kept_after` stays the same.
 abbrev pub IsToldOf : Kept → (ℕ → Option Kind) → (ℕ → CallAt) → ℕ → Type 0
 IsToldOf store kind_of call_of n = store.puts ≡ kept_after kind_of call_of n
 

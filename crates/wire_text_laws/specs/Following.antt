@@ -12,8 +12,8 @@ use Rattle.wire_script.specs.Reads.{Reads}
 use Rattle.wire_commands.specs.Follow.{WritesFollowed, StopsBefore, report_after}
 use Rattle.wire_text_laws.specs.Again.{steps_text, FitsOrder}
 
--- the file and the lines of these steps, followed: what is written is the report of the run of these steps, and nothing that
--- the file or the lines say stops it
+-- the file and the lines of these steps, followed: what is written is the report of the run of these steps, and nothing
+-- that the file or the lines say stops it
 pub record IsFollowed (size : Size) (bytes : List ℕ) (s : Scripts) (steps : List ℕ) : Type 0 where
   pub writes : (json : Bool) (old new : Option (List ℕ)) → WritesFollowed size json (Some bytes) (Some (steps_text s steps)) old new →
       Appends old new (report_after json s steps)

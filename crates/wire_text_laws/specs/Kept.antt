@@ -15,7 +15,8 @@ use Rattle.wire_report.specs.Findings.{finding_words}
 abbrev pub IsKept : List ℕ → Type 0
 IsKept text = map printed text ≡ text
 
--- each text that a JSON form has in a string: a process, a step, what a reply brings, a finding, and what a call is called
+-- each text that a JSON form has in a string: a process, a step, what a reply brings, a finding, and what a call is
+-- called
 pub record AreKept (s : Scripts) : Type 0 where
   pub processes : (process : Process) → IsKept (process_text s process)
   pub steps : (p : ℕ) → IsKept (name_of s p)

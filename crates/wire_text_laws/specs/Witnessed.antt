@@ -12,7 +12,8 @@ use Rattle.wire_commands.specs.Witness.{witness_text}
 use Rattle.wire_text_laws.specs.Again.{steps_text, ReadsAsOrder}
 use Rattle.wire_text_laws.specs.Following.{IsFollowed}
 
--- what is written of one part of a witness is an order: it reads as these steps, and followed it gives the report of their run
+-- what is written of one part of a witness is an order: it reads as these steps, and followed it gives the report of
+-- their run
 pub record IsOrderOf (bytes : List ℕ) (s : Scripts) (text steps : List ℕ) : Type 0 where
   pub lines : text ≡ steps_text s steps
   pub back : ReadsAsOrder OfVersion s text steps

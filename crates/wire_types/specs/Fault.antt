@@ -1,7 +1,8 @@
 -- What a fault is called, and the line and the exit status that tell of it.
 use Rattle.std.specs.Prelude.{ℕ, List, [], ◌∷◌, ◌++◌, Option, Some, None, codes, decimal}
 use Rattle.wire_types.specs.declared.fault.Fault.{Fault}
-use Rattle.wire_types.specs.declared.fault.Fault.TheVariants.{Memory, TooLong, BadHeader, BadLine, UnknownName, Twice, NotMember, TooMany, Workers, Read}
+use Rattle.wire_types.specs.declared.fault.Fault.TheVariants.{Memory, TooLong, BadHeader, BadLine, UnknownName, Twice}
+use Rattle.wire_types.specs.declared.fault.Fault.TheVariants.{NotMember, TooMany, Workers, Read}
 use Rattle.wire_types.specs.declared.fault.Fault.TheVariants.{Write, NotReady, BadOrder}
 
 -- the number of a fault

@@ -1,7 +1,8 @@
 -- The verbs of calls, as they are spelled.
 use Rattle.std.specs.Prelude.{ℕ, List, codes}
 use Rattle.wire_types.specs.declared.verb.Verb.{Verb}
-use Rattle.wire_types.specs.declared.verb.Verb.TheVariants.{Put, Commit, Fence, Get, GetNow, Publish, Lookup, LookupWait, Unpublish}
+use Rattle.wire_types.specs.declared.verb.Verb.TheVariants.{Put, Commit, Fence, Get, GetNow, Publish, Lookup}
+use Rattle.wire_types.specs.declared.verb.Verb.TheVariants.{LookupWait, Unpublish}
 
 abbrev pub text_of_verb : Verb → List ℕ
 text_of_verb Put = codes "put"

@@ -1,6 +1,7 @@
 //! Readers and writers in memory, for tests.
 
-ghost use Rattle.std.specs.Prelude.{◌≡◌, ℕ, ◌-◌, ◌<◌, ◌≤◌, min, max, List, Option, None, Some, false, IfOk, length, drop, take};
+ghost use Rattle.std.specs.Prelude.{◌≡◌, ℕ, ◌-◌, ◌<◌, ◌≤◌, min, max, List, Option, None, Some, false, IfOk, length};
+ghost use Rattle.std.specs.Prelude.{drop, take};
 ghost use Rattle.wire_types.specs.Counting.{one_more};
 
 use crate::sink::{Failed, Sink};

@@ -6,10 +6,11 @@
 ghost use Rattle.std.specs.Prelude.{◌≡◌, ◌≢◌, ◌⊎◌, ℕ, [], false, Ok, Err, OnOk, OnErr, IfOk, IfErr};
 ghost use Rattle.wire_types.specs.declared.Fault.TheVariants.{Memory, Read, Workers, Write};
 ghost use Rattle.wire_types.specs.Counting.{one_more};
+ghost use Rattle.wire_types.specs.Texts.{texts_of};
 ghost use Rattle.wire_content.specs.Scripts.{Scripts};
 ghost use Rattle.wire_collect.specs.Collect.{MayWork};
 ghost use Rattle.wire_commands.specs.declared.ended.Ended.TheVariants.{Clean};
-ghost use Rattle.wire_commands.specs.Answer.{BreaksOff, Writes, words_in};
+ghost use Rattle.wire_commands.specs.Answer.{BreaksOff, Writes};
 ghost use Rattle.wire_commands.specs.Check.{EndsInOneState, IsVerdict, StopsBeforeFindings};
 ghost use Rattle.wire_commands.specs.Follow.{BreaksOffFollowed, StopsBefore, WritesFollowed};
 ghost use Rattle.wire_commands.specs.Migrate.{BreaksOffMigrated, StopsBeforeMigrated, WritesMigrated};
@@ -20,18 +21,17 @@ ghost use Rattle.wire_commands.specs.Why.{Answers, StopsBeforeAnswer, WritesAnsw
 use std::alloc::Global;
 use std::sync::Wait;
 use std::thread::Threads;
-use wire_sched::Gate;
-use wire_types::{Fault, Form, Sink, Source};
-
 pub use wire_command_line::{
     Asked, CallPair, CallWords, Command, PairOptions, Refusal, ReplayOptions, Request, asked,
     read_request, workers_of,
 };
 pub use wire_commands::{
-    Ended, Manner, Mode, PairAsked, Replayed, Replaying, answer_question, check_plan,
-    follow_plan, migrate_plan, replay_plan, run_plainly, witness_pair, witness_races,
+    Ended, Manner, Mode, PairAsked, Replayed, Replaying, answer_question, check_plan, follow_plan,
+    migrate_plan, replay_plan, run_plainly, witness_pair, witness_races,
 };
+use wire_sched::Gate;
 pub use wire_script::Size;
+use wire_types::{Fault, Form, Sink, Source};
 
 /// Within the limits of a plan's version, and in lines.
 const IN_LINES: Manner<'static> = Manner {
@@ -79,8 +79,8 @@ pub fn rehearse<R: Source, W: Sink, T: Threads + Wait + Sync, G: Gate + Sync>(
     ensures ok { IfOk result (λ ended. WritesReplay Size.OfVersion mode (R.coming reader.old) ended (W.written writer.old) (W.written writer.new)) }
     ensures quiet { OnOk result ((R.failures reader.new ≡ R.failures reader.old) × (W.failures writer.new ≡ W.failures writer.old)) }
 
-    // The headline: where it finds nothing, every interleaving that can't go on ends in one state, and the report of that
-    // state is what it writes, whatever the workers.
+    // The headline: where it finds nothing, every interleaving that can't go on ends in one state, and the report of
+    // that state is what it writes, whatever the workers.
     ensures one_end { result ≡ Ok Clean → WritesOneEnd Size.OfVersion mode.json (R.coming reader.old) (W.written writer.old) (W.written writer.new) }
 
     // Either nothing was written, or the front of the text that the fault counts.
@@ -157,12 +157,13 @@ pub fn why<R: Source, W: Sink>(
     writer: &mut W,
     words: [&str; 4],
 ) -> Result<(), Fault>
-    ensures ok { OnOk result (WritesAnswer Size.OfVersion Form.Lines (R.coming reader.old) [] (words_in words.entry) (W.written writer.old) (W.written writer.new)) }
+    ensures ok { OnOk result (WritesAnswer Size.OfVersion Form.Lines (R.coming reader.old) [] (texts_of words.entry)
+        (W.written writer.old) (W.written writer.new)) }
     ensures quiet { OnOk result ((R.failures reader.new ≡ R.failures reader.old) × (W.failures writer.new ≡ W.failures writer.old)) }
 
     // Either nothing was written, or the front of the answer that the fault counts.
-    ensures err { IfErr result (λ e. (StopsBeforeAnswer Size.OfVersion (R.coming reader.old) (words_in words.entry) e × (writer.new ≡ writer.old))
-        ⊎ (BreaksOff Size.OfVersion Form.Lines (R.coming reader.old) (Answers Form.Lines [] (words_in words.entry))
+    ensures err { IfErr result (λ e. (StopsBeforeAnswer Size.OfVersion (R.coming reader.old) (texts_of words.entry) e × (writer.new ≡ writer.old))
+        ⊎ (BreaksOff Size.OfVersion Form.Lines (R.coming reader.old) (Answers Form.Lines [] (texts_of words.entry))
         (W.written writer.old) (W.written writer.new) e × (W.failures writer.new ≡ one_more (W.failures writer.old)))) }
 
     // A failed read is answered only where the reader failed.

@@ -1,4 +1,5 @@
--- What was tried where no witness is shown: four runs at most, each laid beside those in which the other call comes first.
+-- What was tried where no witness is shown: four runs at most, each laid beside those in which the other call comes
+-- first.
 use Rattle.std.specs.Prelude.{◌≡◌, ◌⊎◌, ◌<◌, ℕ, List, [], ◌++◌, true, Option, Some, None, length, option_map}
 use Rattle.wire_types.specs.declared.CallAt.{CallAt}
 use Rattle.wire_content.specs.Scripts.{Scripts}
@@ -17,8 +18,8 @@ pub record HoldsBack (plan : Plan) (y : Event) (steps : List ℕ) : Type 0 where
   pub not_yet : ¬ (IsDone (run plan steps) y)
   pub only_it : (p : ℕ) → is_enabled plan (run plan steps) p ≡ true → next_event (run plan steps) p ≡ y
 
--- the run in which y is held back until nothing else can happen, and which then goes on to an end, where x has happened by then; where it hasn't, there
--- is no run
+-- the run in which y is held back until nothing else can happen, and which then goes on to an end, where x has happened
+-- by then; where it hasn't, there is no run
 pub data IsHeldRun (plan : Plan) (x y : Event) (made : Option (List ℕ)) : Type 0 where
   XIsFirst : (so_far later : List ℕ) → HoldsBack plan y so_far → IsDone (run plan so_far) x → IsWholeRun plan (so_far ++ later) → made ≡ Some (so_far ++ later) → IsHeldRun plan x y made
   XIsMissing : (so_far : List ℕ) → HoldsBack plan y so_far → ¬ (IsDone (run plan so_far) x) → made ≡ None → IsHeldRun plan x y made
@@ -29,8 +30,8 @@ pub record RunsUpTo (plan : Plan) (z : Event) (so_far more : List ℕ) : Type 0 
   pub needed : (e : Event) → IsDone (run plan (so_far ++ more)) e → IsDone (run plan so_far) e ⊎ LeadsTo plan e z
   pub no_more : (p : ℕ) → is_enabled plan (run plan (so_far ++ more)) p ≡ true → ¬ (LeadsTo plan (next_event (run plan (so_far ++ more)) p) z)
 
--- the run in which only what is before x comes before it, and after it only what is before y, up to y, and which then goes on to an end; where x hasn't
--- happened by its turn, or y has by then, or hasn't by its own turn, there is no run
+-- the run in which only what is before x comes before it, and after it only what is before y, up to y, and which then
+-- goes on to an end; where x hasn't happened by its turn, or y has by then, or hasn't by its own turn, there is no run
 pub data IsNeededRun (plan : Plan) (x y : Event) (made : Option (List ℕ)) : Type 0 where
   BothHappen : (to_x to_y later : List ℕ) → RunsUpTo plan x [] to_x → IsDone (run plan to_x) x → ¬ (IsDone (run plan to_x) y) → RunsUpTo plan y to_x to_y
       → IsDone (run plan (to_x ++ to_y)) y → IsWholeRun plan ((to_x ++ to_y) ++ later) → made ≡ Some ((to_x ++ to_y) ++ later) → IsNeededRun plan x y made
@@ -51,8 +52,8 @@ abbrev pub AreAlike : Scripts → CallAt → CallAt → Option (List ℕ) → Op
 AreAlike scripts x y (Some first) (Some second) = EndAlike scripts x y first second
 AreAlike scripts x y _ _ = Unit {0}
 
--- two runs in which only what is needed comes before the calls were made besides two others; of all four, each in which x comes first ends as each in
--- which y does
+-- two runs in which only what is needed comes before the calls were made besides two others; of all four, each in which
+-- x comes first ends as each in which y does
 pub record NoneDiffers (scripts : Scripts) (x y : CallAt) (held_first held_second : Option (List ℕ)) : Type 0 where
   pub needed_first : Option (List ℕ)
   pub needed_second : Option (List ℕ)
@@ -63,7 +64,8 @@ pub record NoneDiffers (scripts : Scripts) (x y : CallAt) (held_first held_secon
   pub held_needed : AreAlike scripts x y held_first needed_second
   pub needed_held : AreAlike scripts x y needed_first held_second
 
--- two runs were made in which a call is held back, and two in which only what is needed comes before the calls, and none of these shows a difference
+-- two runs were made in which a call is held back, and two in which only what is needed comes before the calls, and
+-- none of these shows a difference
 pub record ShowsNothing (scripts : Scripts) (x y : CallAt) : Type 0 where
   pub held_first : Option (List ℕ)
   pub held_second : Option (List ℕ)

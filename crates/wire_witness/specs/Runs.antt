@@ -1,5 +1,6 @@
 -- Runs of which a witness is made: for the contracts of private functions.
-use Rattle.std.specs.Prelude.{◌≡◌, ◌≢◌, ◌<◌, ◌==◌, ◌⊎◌, ℕ, List, [], ◌++◌, Option, Some, None, IfSome, option_map, if◌then◌else◌}
+use Rattle.std.specs.Prelude.{◌≡◌, ◌≢◌, ◌<◌, ◌==◌, ◌⊎◌, ℕ, List, [], ◌++◌, Option, Some, None, IfSome, option_map}
+use Rattle.std.specs.Prelude.{if◌then◌else◌}
 use Rattle.wire_runs.specs.Plan.{Plan, Event, event_count, process_count}
 use Rattle.wire_runs.specs.State.{IsDone}
 use Rattle.wire_runs.specs.Order.{Live}

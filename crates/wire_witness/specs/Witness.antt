@@ -1,4 +1,5 @@
--- A witness of a pair of calls: two runs that can't go on, in which the calls come in different orders, and one of them ends differently as it is written.
+-- A witness of a pair of calls: two runs that can't go on, in which the calls come in different orders, and one of them
+-- ends differently as it is written.
 use Rattle.std.specs.Prelude.{◌≡◌, ◌≢◌, ◌⊎◌, ℕ, List, ◌++◌, Option, Some, slice_get}
 use Rattle.wire_types.specs.declared.CallAt.{CallAt}
 use Rattle.wire_types.specs.declared.CallEnd.{CallEnd}
@@ -24,7 +25,8 @@ pub record ComesFirst (plan : Plan) (steps : List ℕ) (x y : Event) : Type 0 wh
   pub came : IsDone (run plan so_far) x
   pub not_yet : ¬ (IsDone (run plan so_far) y)
 
--- the steps are an interleaving that can't go on, and the call x comes in it before the call y has come: of a fence its arrival
+-- the steps are an interleaving that can't go on, and the call x comes in it before the call y has come: of a fence its
+-- arrival
 pub record IsRunWithFirst (plan : Plan) (steps : List ℕ) (x y : CallAt) : Type 0 where
   pub whole : IsWholeRun plan steps
   pub first : ComesFirst plan steps (first_event plan x) (first_event plan y)

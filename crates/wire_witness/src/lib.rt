@@ -1,4 +1,5 @@
-//! Witnesses: two runs of a plan that show that the order of two calls matters. The search for one of two calls, and of each race of a plan.
+//! Witnesses: two runs of a plan that show that the order of two calls matters. The search for one of two calls, and of
+//! each race of a plan.
 #![tactic(auto)]
 
 mod all;

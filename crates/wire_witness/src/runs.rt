@@ -1,6 +1,7 @@
 //! Runs in which one of two calls comes first.
 
-ghost use Rattle.std.specs.Prelude.{◌≡◌, ◌<◌, ◌==◌, ◌↔◌, ◌++◌, ℕ, List, length, IfOk, IfSome, IfErr, IsTrue, if◌then◌else◌};
+ghost use Rattle.std.specs.Prelude.{◌≡◌, ◌<◌, ◌==◌, ◌↔◌, ◌++◌, ℕ, List, length, IfOk, IfSome, IfErr, IsTrue};
+ghost use Rattle.std.specs.Prelude.{if◌then◌else◌};
 ghost use Rattle.wire_types.specs.declared.Fault.TheVariants.{Memory};
 ghost use Rattle.wire_runs.specs.Plan.{event_of, event_count, Event as Spot};
 ghost use Rattle.wire_runs.specs.State.{IsDone};
@@ -195,7 +196,8 @@ pub(crate) fn make_needed_run<'a>(
     requires first_there { first.call < length (calls_of (plan_of marked.now) first.proc.number) }
     requires other_there { other.call < length (calls_of (plan_of marked.now) other.proc.number) }
     ensures ok { IfOk result (λ o. IfSome o (IsRunOf marked.now first other)) }
-    ensures made { IfOk result (λ o. IsNeededRun (plan_of marked.now) (first_event (plan_of marked.now) first) (first_event (plan_of marked.now) other) (steps_of o)) }
+    ensures made { IfOk result (λ o. IsNeededRun (plan_of marked.now) (first_event (plan_of marked.now) first)
+        (first_event (plan_of marked.now) other) (steps_of o)) }
     ensures err { IfErr result (λ e. e ≡ Memory) }
 {
     let plan = marked.plan();

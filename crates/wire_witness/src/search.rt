@@ -8,7 +8,8 @@ ghost use Rattle.wire_content.specs.Scripts.{numbers_of};
 ghost use Rattle.wire_words.specs.Words.{end_text};
 ghost use Rattle.wire_witness.specs.Witness.{IsWitness};
 ghost use Rattle.wire_witness.specs.NotShown.{AreAlike, EndAlike, IsNotShown, NoneDiffers, ShowsNothing};
-ghost use Rattle.wire_witness.specs.Runs.{AreAlikeBeside, AreApart, AreHeldRuns, AreNeededRuns, AreRunsOf, IsRunOf, steps_of};
+ghost use Rattle.wire_witness.specs.Runs.{AreAlikeBeside, AreApart, AreHeldRuns, AreNeededRuns, AreRunsOf, IsRunOf};
+ghost use Rattle.wire_witness.specs.Runs.{steps_of};
 
 use crate::runs::{Run, make_held_run, make_needed_run};
 use crate::witness::Witness;
@@ -292,11 +293,11 @@ fn is_there(plan: &Plan, call: CallAt) -> bool
     }
 }
 
-/// A witness of two calls of a plan, where one is found among four runs, each of which takes at each step the
-/// lowest process that can go on, but for one change: in two of them one of the calls is held back as long as
-/// anything else can happen; in the others only what a chain demands comes before the one call, and then
-/// before the other. `None` is the answer where none of these runs shows a difference, which doesn't mean that there is no witness;
-/// and of a call that isn't the plan's. The one fault is `Fault::Memory`.
+/// A witness of two calls of a plan, where one is found among four runs, each of which takes at each step the lowest
+/// process that can go on, but for one change: in two of them one of the calls is held back as long as anything else
+/// can happen; in the others only what a chain demands comes before the one call, and then before the other. `None` is
+/// the answer where none of these runs shows a difference, which doesn't mean that there is no witness; and of a call
+/// that isn't the plan's. The one fault is `Fault::Memory`.
 pub fn find_witness(
     alloc: Global,
     marked: &MarkedPlan<'_>,

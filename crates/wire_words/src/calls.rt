@@ -1,6 +1,7 @@
 //! Calls and processes, and what they are called.
 
-ghost use Rattle.std.specs.Prelude.{◌≡◌, ◌+◌, ◌<◌, ◌≤◌, ◌++◌, decimal, length, OnOk, OnErr, option_copied, vec_capacity};
+ghost use Rattle.std.specs.Prelude.{◌≡◌, ◌+◌, ◌<◌, ◌≤◌, ◌++◌, decimal, length, OnOk, OnErr, option_copied};
+ghost use Rattle.std.specs.Prelude.{vec_capacity};
 ghost use Rattle.wire_types.specs.Verbs as verbs;
 ghost use Rattle.wire_content.specs.Scripts.{call_at};
 ghost use Rattle.wire_content.specs.Canonical.{process_text};

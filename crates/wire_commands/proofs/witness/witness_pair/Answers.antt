@@ -6,7 +6,7 @@ use Rattle.wire_commands.proofs.Questioned.{file_stops, no_read_of_words}
 use Rattle.wire_commands.specs.Why.{StopsBeforeAnswer}
 use Rattle.wire_commands.specs.Witness.{ShowsPair}
 use Rattle.wire_commands.proofs.Answered.{wrote_all, wrote_front, wrong_word}
-use Rattle.wire_commands.specs.Answer.{words_in}
+use Rattle.wire_types.specs.Texts.{texts_of}
 use Rattle.wire_commands.proofs.witness.witness_pair.Goals as goal
 
 pub returns-in_err-scripts-clause-ok : goal.returns-in_err-scripts-clause-ok
@@ -40,7 +40,7 @@ returns-in_err-answer-clause-err g c =
 
 pub returns-in_err-answer-clause-read_failed : goal.returns-in_err-answer-clause-read_failed
 returns-in_err-answer-clause-read_failed g c is =
-    absurd (no_read_of_words c.in_ok-scripts.scripts (words_in c.args.asked.words) _ c.in_err-answer.ensures.err (same_error _ _ _ c.from_residual-in_err-answer.ensures.1 is))
+    absurd (no_read_of_words c.in_ok-scripts.scripts (texts_of c.args.asked.words) _ c.in_err-answer.ensures.err (same_error _ _ _ c.from_residual-in_err-answer.ensures.1 is))
 
 pub returns-in_err-answer-clause-unfailed : goal.returns-in_err-answer-clause-unfailed
 returns-in_err-answer-clause-unfailed g c =
@@ -48,7 +48,7 @@ returns-in_err-answer-clause-unfailed g c =
 
 pub returns-clause-ok : goal.returns-clause-ok
 returns-clause-ok g c =
-    wrote_all (ShowsPair c.args.manner.form c.args.manner.name.now (words_in c.args.asked.words) c.args.asked.orders) _ _ _ c.in_ok-scripts.scripts
+    wrote_all (ShowsPair c.args.manner.form c.args.manner.name.now (texts_of c.args.asked.words) c.args.asked.orders) _ _ _ c.in_ok-scripts.scripts
     _ c.in_ok-answer.answer.text.items c.in_ok-answer.answer.ended c.write_answer.result
     c.in_ok-scripts.ensures.ok (rw c.as_slice.ensures.value at c.in_ok-answer.ensures.ok) c.write_answer.ensures.ok
 
@@ -57,8 +57,8 @@ returns-clause-quiet g c = on_ok_weaker c.write_answer.result (λ quiet. (c.in_o
 
 pub returns-clause-err : goal.returns-clause-err
 returns-clause-err g c =
-    wrote_front (ShowsPair c.args.manner.form c.args.manner.name.now (words_in c.args.asked.words) c.args.asked.orders)
-    (StopsBeforeAnswer c.args.manner.size (g.R.Source.coming c.args.reader.now) (words_in c.args.asked.words))
+    wrote_front (ShowsPair c.args.manner.form c.args.manner.name.now (texts_of c.args.asked.words) c.args.asked.orders)
+    (StopsBeforeAnswer c.args.manner.size (g.R.Source.coming c.args.reader.now) (texts_of c.args.asked.words))
     (g.R.Source.coming c.args.reader.now) (g.W.Sink.written c.args.writer.now) (g.W.Sink.written c.write_answer.new.writer) c.in_ok-scripts.scripts _ c.in_ok-answer.answer.text.items
     c.in_ok-answer.answer.ended _ _ c.write_answer.result c.in_ok-scripts.ensures.ok
     (rw c.as_slice.ensures.value at c.in_ok-answer.ensures.ok) c.write_answer.ensures.front c.write_answer.ensures.failed
