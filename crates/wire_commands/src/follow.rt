@@ -26,6 +26,51 @@ use wire_report::{report_text, write_text};
 use wire_script::{Size, read_order_sized};
 use wire_types::{Fault, Outcome, Proc, Sink, Source};
 
+/// Runs the steps of an order: reads the plan and then the order, each to its end, takes the
+/// steps, and writes what became of every call. No finding is judged.
+///
+/// The faults of the file come first, then those of the order, of which all lines are judged before the
+/// first step is taken: `BadOrder` with the line. `NotReady` has the number, from 1, of the first step
+/// whose process isn't ready. After the fault `Write` the front of the report that it counts is written,
+/// after any other fault nothing. `Memory` may come in place of any other answer. What is said of bytes is
+/// said where the readers and the writer tell theirs.
+pub fn follow_plan<R: Source, O: Source, W: Sink>(
+    alloc: Global,
+    manner: Manner<'_>,
+    reader: &mut R,
+    order_reader: &mut O,
+    writer: &mut W,
+) -> Result<(), Fault>
+    ensures ok { OnOk result (WritesFollowed manner.entry.size (is_json manner.entry.form) (R.coming reader.old)
+        (O.coming order_reader.old) (W.written writer.old) (W.written writer.new)) }
+    ensures quiet { OnOk result ((R.failures reader.new ≡ R.failures reader.old) × (O.failures order_reader.new ≡ O.failures order_reader.old)
+        × (W.failures writer.new ≡ W.failures writer.old)) }
+
+    // Either nothing was written, or the front of the report that the fault counts.
+    ensures err { IfErr result (λ e. (StopsBefore manner.entry.size (R.coming reader.old) (O.coming order_reader.old) e × (writer.new ≡ writer.old))
+        ⊎ (BreaksOffFollowed manner.entry.size (is_json manner.entry.form) (R.coming reader.old) (O.coming order_reader.old)
+        (W.written writer.old) (W.written writer.new) e
+        × (W.failures writer.new ≡ one_more (W.failures writer.old)))) }
+
+    // A failed read is answered only where a reader failed, that of the order only where the file reads.
+    ensures read_failed { result ≡ Err Read → (R.failures reader.new ≡ one_more (R.failures reader.old))
+        ⊎ ((O.failures order_reader.new ≡ one_more (O.failures order_reader.old))
+        × (scripts : Scripts) × ReadAs manner.entry.size (R.coming reader.old) scripts) }
+    ensures unfailed { IfErr result (λ e. e ≢ Memory → e ≢ Read → (R.failures reader.new ≡ R.failures reader.old)
+        × (O.failures order_reader.new ≡ O.failures order_reader.old)) }
+{
+    let scripts = read_scripts(alloc, manner.size, reader)?;
+    let order = match read_steps(alloc, manner.size, &scripts, order_reader) {
+        Ok(order) => order,
+        Err(fault) => {
+            drop(scripts);
+            return Err(fault);
+        }
+    };
+    let text = followed_text(alloc, scripts, order.as_slice(), manner.form.is_json())?;
+    write_text(writer, text.as_slice())
+}
+
 /// The steps of an order that is read to its end, or to one byte more than it may have, by which it is seen
 /// to be too long.
 fn read_steps<O: Source>(
@@ -90,49 +135,4 @@ fn followed_text(
     let text = report_of(alloc, &plan, order, json);
     drop(plan);
     text
-}
-
-/// Runs the steps of an order: reads the plan and then the order, each to its end, takes the
-/// steps, and writes what became of every call. No finding is judged.
-///
-/// The faults of the file come first, then those of the order, of which all lines are judged before the
-/// first step is taken: `BadOrder` with the line. `NotReady` has the number, from 1, of the first step
-/// whose process isn't ready. After the fault `Write` the front of the report that it counts is written,
-/// after any other fault nothing. `Memory` may come in place of any other answer. What is said of bytes is
-/// said where the readers and the writer tell theirs.
-pub fn follow_plan<R: Source, O: Source, W: Sink>(
-    alloc: Global,
-    manner: Manner<'_>,
-    reader: &mut R,
-    order_reader: &mut O,
-    writer: &mut W,
-) -> Result<(), Fault>
-    ensures ok { OnOk result (WritesFollowed manner.entry.size (is_json manner.entry.form) (R.coming reader.old)
-        (O.coming order_reader.old) (W.written writer.old) (W.written writer.new)) }
-    ensures quiet { OnOk result ((R.failures reader.new ≡ R.failures reader.old) × (O.failures order_reader.new ≡ O.failures order_reader.old)
-        × (W.failures writer.new ≡ W.failures writer.old)) }
-
-    // Either nothing was written, or the front of the report that the fault counts.
-    ensures err { IfErr result (λ e. (StopsBefore manner.entry.size (R.coming reader.old) (O.coming order_reader.old) e × (writer.new ≡ writer.old))
-        ⊎ (BreaksOffFollowed manner.entry.size (is_json manner.entry.form) (R.coming reader.old) (O.coming order_reader.old)
-        (W.written writer.old) (W.written writer.new) e
-        × (W.failures writer.new ≡ one_more (W.failures writer.old)))) }
-
-    // A failed read is answered only where a reader failed, that of the order only where the file reads.
-    ensures read_failed { result ≡ Err Read → (R.failures reader.new ≡ one_more (R.failures reader.old))
-        ⊎ ((O.failures order_reader.new ≡ one_more (O.failures order_reader.old))
-        × (scripts : Scripts) × ReadAs manner.entry.size (R.coming reader.old) scripts) }
-    ensures unfailed { IfErr result (λ e. e ≢ Memory → e ≢ Read → (R.failures reader.new ≡ R.failures reader.old)
-        × (O.failures order_reader.new ≡ O.failures order_reader.old)) }
-{
-    let scripts = read_scripts(alloc, manner.size, reader)?;
-    let order = match read_steps(alloc, manner.size, &scripts, order_reader) {
-        Ok(order) => order,
-        Err(fault) => {
-            drop(scripts);
-            return Err(fault);
-        }
-    };
-    let text = followed_text(alloc, scripts, order.as_slice(), manner.form.is_json())?;
-    write_text(writer, text.as_slice())
 }

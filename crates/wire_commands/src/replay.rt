@@ -70,6 +70,58 @@ impl Replayed {
     }
 }
 
+/// Replays a plan with at most so many workers at once (`run_any` of `wire_collect` says how; no clause says how many
+/// there were): reads its file to the end, judges it as `check` does, and writes what came of it, as lines or as JSON.
+///
+/// Where there is nothing to find, it runs the plan and writes what became of every call: the same for any number of
+/// workers, the report of the plain run. It answers `Clean`, and the line of the report of the first call that isn't
+/// answered `PMIX_SUCCESS`, in process order and then by its number. That line is the same for every interleaving that
+/// can't go on; there is none exactly where in each of them every call is answered `PMIX_SUCCESS`.
+///
+/// Else it writes the findings, as `check` does, or, with `anyway`, it runs the plan in spite of them and writes what
+/// became of every call and in which order the steps came. Followed in that order, the plan gives the same report. It
+/// answers `Found`, and no line.
+///
+/// The fault `Workers` comes before all else, where there is no worker or more than 64. The fault of a plan is the
+/// first that its file has. After the fault `Write` the front of the text that it counts is written, after any other
+/// fault nothing. `Memory` may come in place of any other answer but `Workers`. What is said of bytes is said where the
+/// reader and the writer tell theirs.
+pub fn replay_plan<R: Source, W: Sink, T: Threads + Wait + Sync, G: Gate + Sync>(
+    rt: &T,
+    alloc: Global,
+    reader: &mut R,
+    writer: &mut W,
+    manner: Replaying<'_, G>,
+) -> Result<Replayed, Fault>
+    ensures ok { IfOk result (λ r. WritesReplay manner.entry.size manner.entry.mode
+        (R.coming reader.old) r.ended (W.written writer.old) (W.written writer.new)) }
+    ensures calls { IfOk result (λ r. JudgesCalls manner.entry.size (R.coming reader.old) r.ended (line_in r.failure)) }
+    ensures quiet { OnOk result ((R.failures reader.new ≡ R.failures reader.old) × (W.failures writer.new ≡ W.failures writer.old)) }
+
+    // The headline: where it finds nothing, every interleaving that can't go on ends in one state, and the report of
+    // that state is what it writes, whatever the workers.
+    ensures one_end { IfOk result (λ r. r.ended ≡ Clean
+        → WritesOneEnd manner.entry.size manner.entry.mode.json (R.coming reader.old) (W.written writer.old) (W.written writer.new)) }
+
+    // Either nothing was written, or the front of the text that the fault counts.
+    ensures err { IfErr result (λ e. (StopsBeforeReplay manner.entry.size manner.entry.workers (R.coming reader.old) e × (writer.new ≡ writer.old))
+        ⊎ (BreaksOffReplay manner.entry.size manner.entry.mode (R.coming reader.old) (W.written writer.old) (W.written writer.new) e
+        × (W.failures writer.new ≡ one_more (W.failures writer.old)))) }
+
+    // Nothing is read where there can't be so many workers.
+    ensures workers { (MayWork manner.entry.workers → ⊥) → (result ≡ Err Workers) × (reader.new ≡ reader.old) }
+
+    // A failed read is answered only where the reader failed.
+    ensures read_failed { result ≡ Err Read → R.failures reader.new ≡ one_more (R.failures reader.old) }
+    ensures unfailed { IfErr result (λ e. e ≢ Memory → e ≢ Read → R.failures reader.new ≡ R.failures reader.old) }
+{
+    if manner.workers < 1 || MOST_WORKERS < manner.workers {
+        return Err(Fault::Workers);
+    }
+    let scripts = read_scripts(alloc, manner.size, reader)?;
+    replay_scripts(rt, alloc, scripts, manner, writer)
+}
+
 /// A plan in which something is found, with what is found.
 struct PlanWithFindings {
     plan: Plan,
@@ -284,56 +336,4 @@ fn replay_scripts<R: Threads + Wait + Sync, G: Gate + Sync, W: Sink>(
             end
         }
     }
-}
-
-/// Replays a plan with at most so many workers at once (`run_any` of `wire_collect` says how; no clause says how many
-/// there were): reads its file to the end, judges it as `check` does, and writes what came of it, as lines or as JSON.
-///
-/// Where there is nothing to find, it runs the plan and writes what became of every call: the same for any number of
-/// workers, the report of the plain run. It answers `Clean`, and the line of the report of the first call that isn't
-/// answered `PMIX_SUCCESS`, in process order and then by its number. That line is the same for every interleaving that
-/// can't go on; there is none exactly where in each of them every call is answered `PMIX_SUCCESS`.
-///
-/// Else it writes the findings, as `check` does, or, with `anyway`, it runs the plan in spite of them and writes what
-/// became of every call and in which order the steps came. Followed in that order, the plan gives the same report. It
-/// answers `Found`, and no line.
-///
-/// The fault `Workers` comes before all else, where there is no worker or more than 64. The fault of a plan is the
-/// first that its file has. After the fault `Write` the front of the text that it counts is written, after any other
-/// fault nothing. `Memory` may come in place of any other answer but `Workers`. What is said of bytes is said where the
-/// reader and the writer tell theirs.
-pub fn replay_plan<R: Source, W: Sink, T: Threads + Wait + Sync, G: Gate + Sync>(
-    rt: &T,
-    alloc: Global,
-    reader: &mut R,
-    writer: &mut W,
-    manner: Replaying<'_, G>,
-) -> Result<Replayed, Fault>
-    ensures ok { IfOk result (λ r. WritesReplay manner.entry.size manner.entry.mode
-        (R.coming reader.old) r.ended (W.written writer.old) (W.written writer.new)) }
-    ensures calls { IfOk result (λ r. JudgesCalls manner.entry.size (R.coming reader.old) r.ended (line_in r.failure)) }
-    ensures quiet { OnOk result ((R.failures reader.new ≡ R.failures reader.old) × (W.failures writer.new ≡ W.failures writer.old)) }
-
-    // The headline: where it finds nothing, every interleaving that can't go on ends in one state, and the report of
-    // that state is what it writes, whatever the workers.
-    ensures one_end { IfOk result (λ r. r.ended ≡ Clean
-        → WritesOneEnd manner.entry.size manner.entry.mode.json (R.coming reader.old) (W.written writer.old) (W.written writer.new)) }
-
-    // Either nothing was written, or the front of the text that the fault counts.
-    ensures err { IfErr result (λ e. (StopsBeforeReplay manner.entry.size manner.entry.workers (R.coming reader.old) e × (writer.new ≡ writer.old))
-        ⊎ (BreaksOffReplay manner.entry.size manner.entry.mode (R.coming reader.old) (W.written writer.old) (W.written writer.new) e
-        × (W.failures writer.new ≡ one_more (W.failures writer.old)))) }
-
-    // Nothing is read where there can't be so many workers.
-    ensures workers { (MayWork manner.entry.workers → ⊥) → (result ≡ Err Workers) × (reader.new ≡ reader.old) }
-
-    // A failed read is answered only where the reader failed.
-    ensures read_failed { result ≡ Err Read → R.failures reader.new ≡ one_more (R.failures reader.old) }
-    ensures unfailed { IfErr result (λ e. e ≢ Memory → e ≢ Read → R.failures reader.new ≡ R.failures reader.old) }
-{
-    if manner.workers < 1 || MOST_WORKERS < manner.workers {
-        return Err(Fault::Workers);
-    }
-    let scripts = read_scripts(alloc, manner.size, reader)?;
-    replay_scripts(rt, alloc, scripts, manner, writer)
 }
