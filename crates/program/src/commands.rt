@@ -64,11 +64,11 @@ fn words_of<'a>(calls: CallPair<'a>) -> [&'a str; 4] {
     ]
 }
 
-/// The words of a command that asks about two calls.
-pub fn question_of<'a>(command: Command<'a>) -> Option<[&'a str; 4]> {
+/// The two calls that a command asks about.
+pub fn calls_of<'a>(command: Command<'a>) -> Option<CallPair<'a>> {
     match command {
-        Command::Why(calls) => Some(words_of(calls)),
-        Command::Witness(options) => Some(words_of(options.calls)),
+        Command::Why(calls) => Some(calls),
+        Command::Witness(options) => Some(options.calls),
         _ => None,
     }
 }

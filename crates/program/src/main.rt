@@ -10,7 +10,7 @@ ghost use Rattle.std.specs.Thread.{IsSync};
 
 use clap::Error;
 use clap::error::ErrorKind;
-use commands::{DONE, OrderWatch, length_of, name_of, question_of, run_command, work_of};
+use commands::{DONE, OrderWatch, calls_of, length_of, name_of, run_command, work_of};
 use kept::{Kept, KeptReader};
 use std::alloc::{AllocError, Global};
 use std::fs::File;
@@ -22,7 +22,7 @@ use std::thread::Threads;
 use std::time::Clock;
 use std::{env, io, thread};
 use terminal_line::{NotedReader, NotedWriter, Progress, Streams, start_line};
-use wire_command_line::{Command, Refusal, Request, read_request};
+use wire_command_line::{CallPair, Command, Refusal, Request, read_request};
 use wire_explain::{explain_order, explain_plan, explain_stop, explain_word};
 use wire_types::{Fault, FromRead, ToWrite, write_out};
 
@@ -118,15 +118,26 @@ struct Watch<'p, 'w> {
     order: Kept,
 }
 
+/// The word of two calls at a place, from 1.
+fn word_at<'a>(calls: CallPair<'a>, place: u64) -> Option<&'a str> {
+    match place {
+        1 => Some(calls.first.proc),
+        2 => Some(calls.first.number),
+        3 => Some(calls.second.proc),
+        4 => Some(calls.second.number),
+        _ => None,
+    }
+}
+
 /// What explains a fault of an order, or of the words of a question.
 fn explain_place(
     alloc: Global,
     place: u64,
     watch: &Watch<'_, '_>,
 ) -> Result<Option<Vec<u8>>, AllocError> {
-    if let Some(words) = question_of(watch.request.command) {
-        return match words.get(place.saturating_sub(1) as usize) {
-            Some(word) => Ok(Some(explain_word(alloc, place, *word)?)),
+    if let Some(calls) = calls_of(watch.request.command) {
+        return match word_at(calls, place) {
+            Some(word) => Ok(Some(explain_word(alloc, place, word)?)),
             None => Ok(None),
         };
     }
