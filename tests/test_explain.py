@@ -411,15 +411,25 @@ def nothing_to_explain(room: str) -> Runs:
     )
 
 
+def unread(about: str, path: str, name: str, reason: str) -> Run:
+    """A file that can't be opened or read, with what the system says of it."""
+    said = f"  {name}: {reason}\n  expected: a file that can be opened and read\n"
+    return Run(
+        f"{about}, explained",
+        ["check", "--explain", path],
+        status=4,
+        said=f"wire_up: fault 10 Read\n{said}".encode(),
+    )
+
+
 def other_explanations(room: str) -> Runs:
     """Other faults."""
     cards = written(room, "explained-cards.plan", CARDS)
-    yield Run(
-        "no such file, explained",
-        ["check", "--explain", os.path.join(room, "none")],
-        status=4,
-        said=b"wire_up: fault 10 Read\n  expected: a file that can be opened and read\n",
-    )
+    none, folder = os.path.join(room, "none"), os.path.join(room, "a\tfolder")
+    os.mkdir(folder)
+    yield unread("no such file", none, none, "No such file or directory (os error 2)")
+    name = os.path.join(room, "a?folder")
+    yield unread("a folder", folder, name, "Is a directory (os error 21)")
     yield Run(
         "no worker, explained",
         ["replay", "--explain", "--workers", "0", cards],
