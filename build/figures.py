@@ -26,6 +26,8 @@ from build.timing import Command, Taken, best_of, findings_in, floor, mebibytes
 PAGE = os.path.join(TOP, "docs", "figures.md")
 RUNS, LARGE_RUNS = 5, 2
 SMALL_RANKS, SMALL_ROUNDS = 4, 6
+# The ranks up to which a replay is measured: it takes the square of them in memory, 2 GiB for so many.
+MOST_REPLAYED = 16_384
 # How many of the crates are told whose proofs take longest.
 DEAREST = 5
 MODEL = re.compile(r"^model name\s*: (.*)$", re.M)
@@ -43,7 +45,8 @@ class Measured:
     calls: int
     findings: int
     check: Taken
-    replay: Taken
+    # None where a replay would take more memory than most machines have.
+    replay: Taken | None
 
 
 class Figures:
@@ -52,17 +55,20 @@ class Figures:
     def __init__(self, program: str, room: str, is_small: bool) -> None:
         self.program, self.room, self.is_small = program, room, is_small
 
-    def measure(self, name: str, what: str, pieces: Iterable[str], runs: int) -> Measured:
-        """Measures `check` and `replay` of a plan of this text."""
+    def measure(
+        self, name: str, what: str, pieces: Iterable[str], runs: int, *, is_replayed: bool = True
+    ) -> Measured:
+        """Measures `check`, and `replay` where that is asked, of a plan of this text."""
         path, calls = os.path.join(self.room, "measured.plan"), 0
         with open(path, "w", encoding="ascii") as it:
             for piece in pieces:
                 it.write(piece)
                 calls += sum(not line.startswith(NO_CALLS) for line in piece.splitlines())
-        words = [[self.program, command, "--large", path] for command in ("check", "replay")]
-        check, replay = best_of(1 if self.is_small else runs, [Command(it) for it in words])
+        commands = ("check", "replay") if is_replayed else ("check",)
+        words = [[self.program, command, "--large", path] for command in commands]
+        check, *replay = best_of(1 if self.is_small else runs, [Command(it) for it in words])
         findings = findings_in([self.program, "check", "--large", path])
-        return Measured(name, what, calls, findings, check, replay)
+        return Measured(name, what, calls, findings, check, replay[0] if replay else None)
 
     def near_the_limits(self) -> Iterator[Measured]:
         """Plans near the limits of the versions."""
@@ -77,7 +83,9 @@ class Figures:
         for plan in LARGE_PLANS:
             ranks = min(plan.ranks, SMALL_RANKS) if self.is_small else plan.ranks
             what = f"each of {ranks:,} ranks {plan.what}"
-            yield self.measure(plan.name, what, replace(plan, ranks=ranks).pieces(), LARGE_RUNS)
+            pieces = replace(plan, ranks=ranks).pieces()
+            is_replayed = ranks <= MOST_REPLAYED
+            yield self.measure(plan.name, what, pieces, LARGE_RUNS, is_replayed=is_replayed)
 
 
 def table(heads: Sequence[str], rows: Iterable[Sequence[str]]) -> str:
@@ -96,9 +104,13 @@ def rows_of(measured: Iterable[Measured], least: int) -> Iterator[list[str]]:
             f"{it.findings:,}",
             seconds(it.check),
             mebibytes(it.check, least),
-            seconds(it.replay),
-            mebibytes(it.replay, least),
+            *(replayed(it.replay, least) if it.replay else ("-", "-")),
         ]
+
+
+def replayed(taken: Taken, least: int) -> tuple[str, str]:
+    """The time and the size of a replay."""
+    return seconds(taken), mebibytes(taken, least)
 
 
 def seconds(taken: Taken) -> str:
@@ -163,7 +175,8 @@ def page(figures: Figures) -> str:
 `make figures` made this page on {today}{commit()}, on {machine()}. Each time is the least of
 {RUNS} runs ({LARGE_RUNS} for whole machines), with the start of the process in it and the output
 thrown away. MiB is the greatest resident size. With findings `replay` writes these, and runs
-nothing.
+nothing. It takes the square of the ranks in memory, so of more than {MOST_REPLAYED:,} ranks only
+`check` is measured.
 
 ## Plans near the limits
 

@@ -1,5 +1,5 @@
--- What was tried where no witness is shown: four runs at most, each laid beside those in which the other call comes
--- first.
+-- What is known where no witness is shown: there are runs of four kinds, one of each, and none in which the one call
+-- comes first ends otherwise than one in which the other does. Which run of its kind each is isn't told.
 use Rattle.std.specs.Prelude.{◌≡◌, ◌⊎◌, ◌<◌, ℕ, List, [], ◌++◌, true, Option, Some, None, length, option_map}
 use Rattle.wire_types.specs.declared.CallAt.{CallAt}
 use Rattle.wire_content.specs.Scripts.{Scripts}
@@ -21,7 +21,8 @@ pub record HoldsBack (plan : Plan) (y : Event) (steps : List ℕ) : Type 0 where
 -- the run in which y is held back until nothing else can happen, and which then goes on to an end, where x has happened
 -- by then; where it hasn't, there is no run
 pub data IsHeldRun (plan : Plan) (x y : Event) (made : Option (List ℕ)) : Type 0 where
-  XIsFirst : (so_far later : List ℕ) → HoldsBack plan y so_far → IsDone (run plan so_far) x → IsWholeRun plan (so_far ++ later) → made ≡ Some (so_far ++ later) → IsHeldRun plan x y made
+  XIsFirst : (so_far later : List ℕ) → HoldsBack plan y so_far → IsDone (run plan so_far) x
+      → IsWholeRun plan (so_far ++ later) → made ≡ Some (so_far ++ later) → IsHeldRun plan x y made
   XIsMissing : (so_far : List ℕ) → HoldsBack plan y so_far → ¬ (IsDone (run plan so_far) x) → made ≡ None → IsHeldRun plan x y made
 
 -- after the steps so far came more, each of an event that is z or before it, and after these no such event can happen
@@ -33,10 +34,13 @@ pub record RunsUpTo (plan : Plan) (z : Event) (so_far more : List ℕ) : Type 0 
 -- the run in which only what is before x comes before it, and after it only what is before y, up to y, and which then
 -- goes on to an end; where x hasn't happened by its turn, or y has by then, or hasn't by its own turn, there is no run
 pub data IsNeededRun (plan : Plan) (x y : Event) (made : Option (List ℕ)) : Type 0 where
-  BothHappen : (to_x to_y later : List ℕ) → RunsUpTo plan x [] to_x → IsDone (run plan to_x) x → ¬ (IsDone (run plan to_x) y) → RunsUpTo plan y to_x to_y
-      → IsDone (run plan (to_x ++ to_y)) y → IsWholeRun plan ((to_x ++ to_y) ++ later) → made ≡ Some ((to_x ++ to_y) ++ later) → IsNeededRun plan x y made
-  XIsNotFirst : (to_x : List ℕ) → RunsUpTo plan x [] to_x → ¬ (IsDone (run plan to_x) x × (¬ (IsDone (run plan to_x) y))) → made ≡ None → IsNeededRun plan x y made
-  YIsMissing : (to_x to_y : List ℕ) → RunsUpTo plan x [] to_x → RunsUpTo plan y to_x to_y → ¬ (IsDone (run plan (to_x ++ to_y)) y) → made ≡ None → IsNeededRun plan x y made
+  BothHappen : (to_x to_y later : List ℕ) → RunsUpTo plan x [] to_x → IsDone (run plan to_x) x
+      → ¬ (IsDone (run plan to_x) y) → RunsUpTo plan y to_x to_y → IsDone (run plan (to_x ++ to_y)) y
+      → IsWholeRun plan ((to_x ++ to_y) ++ later) → made ≡ Some ((to_x ++ to_y) ++ later) → IsNeededRun plan x y made
+  XIsNotFirst : (to_x : List ℕ) → RunsUpTo plan x [] to_x
+      → ¬ (IsDone (run plan to_x) x × (¬ (IsDone (run plan to_x) y))) → made ≡ None → IsNeededRun plan x y made
+  YIsMissing : (to_x to_y : List ℕ) → RunsUpTo plan x [] to_x → RunsUpTo plan y to_x to_y
+      → ¬ (IsDone (run plan (to_x ++ to_y)) y) → made ≡ None → IsNeededRun plan x y made
 
 -- the call's end after these steps, as it is written
 abbrev pub end_written : Scripts → List ℕ → CallAt → Option (List ℕ)
@@ -52,8 +56,8 @@ abbrev pub AreAlike : Scripts → CallAt → CallAt → Option (List ℕ) → Op
 AreAlike scripts x y (Some first) (Some second) = EndAlike scripts x y first second
 AreAlike scripts x y _ _ = Unit {0}
 
--- two runs in which only what is needed comes before the calls were made besides two others; of all four, each in which
--- x comes first ends as each in which y does
+-- there are two runs in which only what is needed comes before the calls; of these and two others, each in which x
+-- comes first ends as each in which y does
 pub record NoneDiffers (scripts : Scripts) (x y : CallAt) (held_first held_second : Option (List ℕ)) : Type 0 where
   pub needed_first : Option (List ℕ)
   pub needed_second : Option (List ℕ)
@@ -64,8 +68,8 @@ pub record NoneDiffers (scripts : Scripts) (x y : CallAt) (held_first held_secon
   pub held_needed : AreAlike scripts x y held_first needed_second
   pub needed_held : AreAlike scripts x y needed_first held_second
 
--- two runs were made in which a call is held back, and two in which only what is needed comes before the calls, and
--- none of these shows a difference
+-- there are two runs in which a call is held back, and two in which only what is needed comes before the calls, of
+-- which none shows a difference
 pub record ShowsNothing (scripts : Scripts) (x y : CallAt) : Type 0 where
   pub held_first : Option (List ℕ)
   pub held_second : Option (List ℕ)
@@ -77,6 +81,6 @@ pub record ShowsNothing (scripts : Scripts) (x y : CallAt) : Type 0 where
 abbrev pub IsCall : Scripts → CallAt → Type 0
 IsCall scripts call = call.call < length (calls_of (plan_of scripts) call.proc.number)
 
--- no witness of the two calls is shown: if both are the plan's, none of the runs that were made shows a difference
+-- no witness of the two calls is shown: if both are the plan's, there are four such runs that show no difference
 abbrev pub IsNotShown : Scripts → CallAt → CallAt → Type 0
 IsNotShown scripts x y = IsCall scripts x → IsCall scripts y → ShowsNothing scripts x y

@@ -15,8 +15,8 @@ use Rattle.wire_witness.specs.NotShown.{IsNotShown}
 use Rattle.wire_witness.specs.Races.{races_of}
 use Rattle.wire_witness.specs.Tried.{AreTried, count_shown}
 
--- what was found of two calls: they don't race; or they race, and none of the runs that were made shows a difference;
--- or they race, and this is a witness of them
+-- what was found of two calls: they don't race; or they race, and four runs of the kinds that are tried show no
+-- difference; or they race, and this is a witness of them
 abbrev pub IsPairSearch : Scripts → CallAt → CallAt → PairSearch → Type 0
 IsPairSearch scripts x y NoRace = AreRacing (plan_of scripts) x y → ⊥
 IsPairSearch scripts x y NotShown = AreRacing (plan_of scripts) x y × IsNotShown scripts x y
@@ -28,7 +28,8 @@ shown_by_pair (Shown witness) = 1
 shown_by_pair _ = 0
 
 -- of the races among the findings the first were tried, so many at most and in their order; each that is called shown
--- has a witness, of each other none of the runs that were made shows a difference, and so many races there are in all
+-- has a witness, of each other four runs of the kinds that are tried show no difference, and so many races there are
+-- in all
 pub record IsRaceSearch (scripts : Scripts) (most : ℕ) (search : RaceSearch) : Type 0 where
   pub found : List Finding
   pub those : AreFindings scripts found
