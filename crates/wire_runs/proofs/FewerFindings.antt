@@ -13,7 +13,7 @@ use Rattle.wire_runs.specs.Races.{IsRewrite, IsNodeRace, IsNameRace, IsSettled}
 use Rattle.wire_runs.specs.Embeddings.{Renaming, image, image_kind, name_of, IsNameOf, IsKeyOf, KeepsFindings}
 use Rattle.wire_runs.specs.Parts.{MayLeave, IsPartEach}
 use Rattle.wire_runs.specs.Patterns.{Line, Step, Once, Loop, Pattern, Coding, Cast, group, call_in, turns, loop_calls, step_calls, calls_from, instance_of, IsLawful, IsCastOf}
-use Rattle.wire_runs.specs.Restrictions.{skip, back, restricted, removal, pieces_of, script_in, CanGo, FewerRefute}
+use Rattle.wire_runs.specs.Restrictions.{skip, back, restricted, removal, pieces_of, script_in, CanGo}
 use Rattle.wire_runs.proofs.Basics.{event_within, process_within, stores_commit}
 use Rattle.wire_runs.proofs.Due.{place_path}
 use Rattle.wire_runs.proofs.Images.{event_back, stored_at_commit}
@@ -295,10 +295,3 @@ module _ (pattern : Pattern) (coding : Coding) (cast : Cast) (role : ℕ) (lawfu
               named_z (record { proc = x.proc; at = e.0 }) (Publish name) refl e.2 refl (ap (writes_name large name y) isy ∙ wy))
         ]
       ]
-
-pub fewer_refute : FewerRefute
-fewer_refute pattern coding cast role lawful cast_is four settled = record {
-  no_rewrite = no_rewrite pattern coding cast role lawful cast_is four settled;
-  no_node_race = no_node_race pattern coding cast role lawful cast_is four settled;
-  no_name_race = no_name_race pattern coding cast role lawful cast_is four settled;
-}

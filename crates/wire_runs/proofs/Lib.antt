@@ -60,4 +60,7 @@ pub mod RestrictedFences
 pub mod RestrictedWhole
 pub mod PatternRows
 pub mod TurnMarks
+pub mod TurnOrigins
 pub mod FewerFindings
+pub mod FewerDeliveries
+pub mod SmallInstances

@@ -24,7 +24,7 @@ four = record { roles = 0 ∷ (0 ∷ (0 ∷ (0 ∷ []))); chosen = λ p i e. fal
 -- one of four can go
 pub exchange_restricts : CanGo exchange four 1 0
 exchange_restricts = record {
-  lawful = record { steps = λ role. (((((tt, (tt, tt)), (refl, tt)), tt), λ h. absurd (true≢false (sym h))), (tt, ((tt, tt), (((((tt, (tt, (tt, tt))), (tt, tt)), tt), λ h. absurd (true≢false (sym h))), tt)))) };
+  lawful = record { steps = λ role. (((((tt, (tt, tt)), (refl, tt)), tt), λ h. absurd (true≢false (sym h))), (tt, ((tt, tt), (((((tt, (tt, (tt, tt))), (refl, tt)), tt), λ h. absurd (true≢false (sym h))), tt)))) };
   cast_is = record { only = λ role h. absurd (true≢false (sym h)) };
   is = refl;
   four = omega arith;

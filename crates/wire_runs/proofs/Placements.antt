@@ -153,14 +153,14 @@ pair_together f p q r s together same = elim (cases_eq r q) [
 ]
 
 -- of a delivery a process on the node that it comes to, for which it is kept
-record Mate (plan : Plan) (owner : ℕ) (get : Event) (d : Delivery) : Type 0 where
+pub record Mate (plan : Plan) (owner : ℕ) (get : Event) (d : Delivery) : Type 0 where
   pub mate : ℕ
   pub within : mate < process_count plan
   pub owner_within : owner < process_count plan
   pub there : node_of plan mate ≡ node_of plan get.proc
   pub is_kept : (small : Plan) → node_of small mate ≡ node_of small get.proc → IsKept itself small plan owner (node_of small get.proc) d
 
-mate_of : (plan : Plan) (owner key : ℕ) (get : Event) (d : Delivery) → Brings plan owner key (node_of plan get.proc) d → Mate plan owner get d
+pub mate_of : (plan : Plan) (owner key : ℕ) (get : Event) (d : Delivery) → Brings plan owner key (node_of plan get.proc) d → Mate plan owner get d
 mate_of plan owner key get (ByGet g) b =
     let put = stored_is_put plan owner key (event_count plan owner) b.away.put b.away.committed in
     record {

@@ -146,12 +146,14 @@ has_every role [] = false
 has_every role (Every r ∷ items) = (r == role) || has_every role items
 has_every role (item ∷ items) = has_every role items
 
--- in a loop over the role: a put, a publish, an unpublish and a fence name the process of the turn, no fence has the whole role, and no
--- call takes all names away. A get names the process too, but nothing rests on that
+-- in a loop over the role: a put, a get, a publish, an unpublish and a fence name the process of the turn, no fence has the whole role, and
+-- no call takes all names away
 abbrev pub IsLoopLine : ℕ → Line → Type 0
 IsLoopLine role (LinePut key scope) = names_each key.indices ≡ true
 IsLoopLine role (LinePublish name) = names_each name.indices ≡ true
 IsLoopLine role (LineFence items collect) = (has_each items ≡ true) × (has_every role items ≡ false)
+IsLoopLine role (LineGet owner key) = names_each (owner ∷ key.indices) ≡ true
+IsLoopLine role (LineGetNow owner key) = names_each (owner ∷ key.indices) ≡ true
 IsLoopLine role (LineUnpublish name) = names_each name.indices ≡ true
 IsLoopLine role LineUnpublishAll = ⊥
 IsLoopLine role _ = Unit {0}

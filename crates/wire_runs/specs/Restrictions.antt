@@ -1,10 +1,10 @@
 -- One rank fewer: an instance without the process r, and how it stands in the whole one.
 use Rattle.std.specs.Prelude.{◌≡◌, ℕ, zero, suc, pred, ◌≤◌, List, [], ◌∷◌, ◌++◌, map, length, Option, Some, None, slice_get, ◌==◌, if◌then◌else◌}
 use Rattle.std.specs.List.{list_all}
-use Rattle.wire_runs.specs.Plan.{Plan, Event, Call, kinds_of, with_member}
-use Rattle.wire_runs.specs.Races.{IsRewrite, IsNodeRace, IsNameRace, IsSettled}
+use Rattle.wire_runs.specs.Plan.{Call, kinds_of, with_member}
+use Rattle.wire_runs.specs.Races.{IsSettled}
 use Rattle.wire_runs.specs.Fences.{is_member}
-use Rattle.wire_runs.specs.Embeddings.{Renaming, IsEmbedding}
+use Rattle.wire_runs.specs.Embeddings.{Renaming, IsEmbedding, pair}
 use Rattle.wire_runs.specs.Parts.{Piece, Kept, Left, place_in}
 use Rattle.wire_runs.specs.Patterns.{Line, Step, Once, Loop, Pattern, Coding, Cast, group, call_in, turns, instance_of, IsLawful, IsCastOf}
 
@@ -86,13 +86,32 @@ abbrev pub RestrictionsEmbed : Type 0
 RestrictionsEmbed = (pattern : Pattern) (coding : Coding) (cast : Cast) (r role : ℕ) → CanGo pattern cast r role →
     IsEmbedding (removal pattern coding cast r role) (instance_of pattern coding (restricted r cast)) (instance_of pattern coding cast)
 
--- where a role has at least four, and each instance with one rank of it fewer is settled, the instance has no findings but, perhaps,
--- delivery races
-pub record HasDeliveriesAtMost (plan : Plan) : Type 0 where
-  pub no_rewrite : (x y : Event) → ¬ (IsRewrite plan x y)
-  pub no_node_race : (x y : Event) (key : ℕ) → ¬ (IsNodeRace plan x y key)
-  pub no_name_race : (x y : Event) (name : ℕ) → ¬ (IsNameRace plan x y name)
+-- where a role has at least four ranks, and each instance with one of them fewer is settled, the instance is settled
+abbrev pub FewerSettle : Type 0
+FewerSettle = (pattern : Pattern) (coding : Coding) (cast : Cast) (role : ℕ) → IsLawful pattern → IsCastOf pattern cast
+    → 4 ≤ length (group role cast.roles)
+    → ((r : ℕ) → slice_get cast.roles r ≡ Some role → IsSettled (instance_of pattern coding (restricted r cast)))
+    → IsSettled (instance_of pattern coding cast)
 
-abbrev pub FewerRefute : Type 0
-FewerRefute = (pattern : Pattern) (coding : Coding) (cast : Cast) (role : ℕ) → IsLawful pattern → IsCastOf pattern cast → 4 ≤ length (group role cast.roles) →
-    ((r : ℕ) → slice_get cast.roles r ≡ Some role → IsSettled (instance_of pattern coding (restricted r cast))) → HasDeliveriesAtMost (instance_of pattern coding cast)
+-- the cast on other nodes
+abbrev pub on_nodes : (ℕ → ℕ) → Cast → Cast
+on_nodes nodes cast = record { roles = cast.roles; chosen = cast.chosen; nodes = nodes }
+
+-- of each role so many at least, or at most
+abbrev pub HasAtLeast : (ℕ → ℕ) → Cast → Type 0
+HasAtLeast least cast = (role : ℕ) → least role ≤ length (group role cast.roles)
+
+abbrev pub HasAtMost : (ℕ → ℕ) → Cast → Type 0
+HasAtMost most cast = (role : ℕ) → length (group role cast.roles) ≤ most role
+
+-- a pattern's small instances: at most so many of each role, and at most two processes on a node, p and q
+abbrev pub SmallAreSettled : Pattern → Coding → (least most : ℕ → ℕ) → Type 0
+SmallAreSettled pattern coding least most = (cast : Cast) (p q : ℕ) → IsCastOf pattern cast → HasAtLeast least cast → HasAtMost most cast
+    → IsSettled (instance_of pattern coding (on_nodes (pair p q) cast))
+
+-- three of each role suffice: where all small instances are settled, with at least three allowed of each role, so is each instance, with
+-- any number of processes of each role, on any nodes
+abbrev pub ThreeSuffice : Type 0
+ThreeSuffice = (pattern : Pattern) (coding : Coding) (least most : ℕ → ℕ) → IsLawful pattern → ((role : ℕ) → 3 ≤ most role)
+    → ((role : ℕ) → least role ≤ most role) → SmallAreSettled pattern coding least most
+    → (cast : Cast) → IsCastOf pattern cast → HasAtLeast least cast → IsSettled (instance_of pattern coding cast)

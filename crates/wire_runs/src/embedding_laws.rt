@@ -3,7 +3,7 @@
 
 ghost use Rattle.wire_runs.specs.Embeddings.{EmbeddingsKeepOrder, EmbeddingsKeepFindings, PairsSuffice};
 ghost use Rattle.wire_runs.specs.Parts.{PartsEmbed, ReadsKeepFindings};
-ghost use Rattle.wire_runs.specs.Restrictions.{RestrictionsEmbed, FewerRefute};
+ghost use Rattle.wire_runs.specs.Restrictions.{RestrictionsEmbed, FewerSettle, ThreeSuffice};
 
 /// Where a small plan stands in a large one, what is before an event whose image is live has its image
 /// before that image, and the event is live too.
@@ -39,8 +39,14 @@ pub fn restrictions_embed()
     ensures { RestrictionsEmbed }
 {}
 
-/// Where a role has at least four ranks, and each instance with one of them fewer is settled, the instance
-/// has no rewrite, no node race and no name race.
-pub fn fewer_refute()
-    ensures { FewerRefute }
+/// Where a role has at least four ranks, and each instance with one of them fewer is settled, the instance is
+/// settled.
+pub fn fewer_settle()
+    ensures { FewerSettle }
+{}
+
+/// Where the instances of a pattern with at most three ranks of each role, of which at most two share a node, are
+/// settled, each instance is, with any number of ranks on any nodes.
+pub fn three_suffice()
+    ensures { ThreeSuffice }
 {}
