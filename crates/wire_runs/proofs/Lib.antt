@@ -64,3 +64,4 @@ pub mod TurnOrigins
 pub mod FewerFindings
 pub mod FewerDeliveries
 pub mod SmallInstances
+pub mod Codings

@@ -3,6 +3,7 @@
 
 ghost use Rattle.wire_runs.specs.Embeddings.{EmbeddingsKeepOrder, EmbeddingsKeepFindings, PairsSuffice};
 ghost use Rattle.wire_runs.specs.Parts.{PartsEmbed, ReadsKeepFindings};
+ghost use Rattle.wire_runs.specs.Patterns.{Coding};
 ghost use Rattle.wire_runs.specs.Restrictions.{RestrictionsEmbed, FewerSettle, ThreeSuffice};
 
 /// Where a small plan stands in a large one, what is before an event whose image is live has its image
@@ -31,6 +32,11 @@ pub fn parts_embed()
 /// More get-nows and lookups take no finding away.
 pub fn reads_keep_findings()
     ensures { ReadsKeepFindings }
+{}
+
+/// There is a coding: a number for each base with each list of processes, and back.
+pub fn have_coding()
+    ensures { Coding }
 {}
 
 /// An instance of a pattern without one rank, of a role that has at least four, stands in the whole
