@@ -14,16 +14,16 @@ use Rattle.wire_runs.proofs.PlacingKeeps.{placing_keeps}
 use Rattle.wire_runs.proofs.FenceChains.{member_arrives, reader_takes_no_part}
 
 -- a plan with its processes elsewhere
-placed_length : (nodes : ℕ → ℕ) (processes : List Process) → length (placed nodes processes) ≡ length processes
+pub placed_length : (nodes : ℕ → ℕ) (processes : List Process) → length (placed nodes processes) ≡ length processes
 placed_length nodes [] = refl
 placed_length nodes (process ∷ processes) = ap suc (placed_length (λ p. nodes (suc p)) processes)
 
-placed_kinds : (nodes : ℕ → ℕ) (processes : List Process) (p : ℕ) → process_kinds (slice_get processes p) ≡ process_kinds (slice_get (placed nodes processes) p)
+pub placed_kinds : (nodes : ℕ → ℕ) (processes : List Process) (p : ℕ) → process_kinds (slice_get processes p) ≡ process_kinds (slice_get (placed nodes processes) p)
 placed_kinds nodes [] p = refl
 placed_kinds nodes (process ∷ processes) zero = refl
 placed_kinds nodes (process ∷ processes) (suc p) = placed_kinds (λ q. nodes (suc q)) processes p
 
-placed_node : (nodes : ℕ → ℕ) (processes : List Process) (p : ℕ) → p < length processes → process_node (slice_get (placed nodes processes) p) ≡ nodes p
+pub placed_node : (nodes : ℕ → ℕ) (processes : List Process) (p : ℕ) → p < length processes → process_node (slice_get (placed nodes processes) p) ≡ nodes p
 placed_node nodes [] p lt = absurd (omega (arith, lt))
 placed_node nodes (process ∷ processes) zero lt = refl
 placed_node nodes (process ∷ processes) (suc p) lt = placed_node (λ q. nodes (suc q)) processes p (omega (arith, lt))

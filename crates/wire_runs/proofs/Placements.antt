@@ -10,10 +10,12 @@ use Rattle.wire_runs.specs.Fences.{arrivals_with, arrivals, collects_with, colle
 use Rattle.wire_runs.specs.Names.{is_publish, publishes, takes_name}
 use Rattle.wire_runs.specs.Order.{PublishesOnce}
 use Rattle.wire_runs.specs.Races.{Delivery, ByFence, ByGet, Brings, IsSettled}
-use Rattle.wire_runs.specs.Embeddings.{Renaming, image_kind, IsNameOf, IsEmbedding, IsKept, KeepsFindings, placed_from, placed, pair, PairsSuffice}
+use Rattle.wire_runs.specs.Embeddings.{Renaming, image_kind, IsNameOf, IsEmbedding, IsKept, KeepsFindings, pair, PairsSuffice}
+use Rattle.wire_runs.specs.Placings.{placing}
 use Rattle.wire_runs.proofs.Basics.{process_within, stores_commit}
 use Rattle.wire_runs.proofs.Fates.{live_event}
 use Rattle.wire_runs.proofs.Arrivals.{mate_on, stored_is_put, written_name}
+use Rattle.wire_runs.proofs.Anywhere.{placed_length, placed_kinds, placed_node}
 use Rattle.wire_runs.proofs.EmbeddedFindings.{mate_within, embeddings_keep_findings}
 
 -- the renaming that renames nothing
@@ -105,30 +107,16 @@ module _ (a b : Plan) (same : (p : ℕ) → kinds b p ≡ kinds a p) where
   }
 
 -- a plan on other nodes
-placed_kinds : (nodes : ℕ → ℕ) (q : ℕ) (processes : List Process) (p : ℕ) → process_kinds (slice_get (placed_from nodes q processes) p) ≡ process_kinds (slice_get processes p)
-placed_kinds nodes q [] p = refl
-placed_kinds nodes q (process ∷ processes) zero = refl
-placed_kinds nodes q (process ∷ processes) (suc p) = placed_kinds nodes (suc q) processes p
-
-placed_node : (nodes : ℕ → ℕ) (q : ℕ) (processes : List Process) (p : ℕ) → p < length processes → process_node (slice_get (placed_from nodes q processes) p) ≡ nodes (q + p)
-placed_node nodes q [] p lt = absurd (omega (arith, lt))
-placed_node nodes q (process ∷ processes) zero lt = let s : q ≡ q + 0 = omega arith in ap nodes s
-placed_node nodes q (process ∷ processes) (suc p) lt = let s : suc q + p ≡ q + suc p = omega arith in placed_node nodes (suc q) processes p (omega (arith, lt)) ∙ ap nodes s
-
-placed_length : (nodes : ℕ → ℕ) (q : ℕ) (processes : List Process) → length (placed_from nodes q processes) ≡ length processes
-placed_length nodes q [] = refl
-placed_length nodes q (process ∷ processes) = ap suc (placed_length nodes (suc q) processes)
-
-pub kinds_placed : (nodes : ℕ → ℕ) (plan : Plan) (p : ℕ) → kinds (placed nodes plan) p ≡ kinds plan p
+pub kinds_placed : (nodes : ℕ → ℕ) (plan : Plan) (p : ℕ) → kinds (placing plan nodes) p ≡ kinds plan p
 unfolding kinds
-kinds_placed nodes plan p = placed_kinds nodes 0 plan.processes p
+kinds_placed nodes plan p = sym (placed_kinds nodes plan.processes p)
 
-pub node_placed : (nodes : ℕ → ℕ) (plan : Plan) (p : ℕ) → p < process_count plan → node_of (placed nodes plan) p ≡ nodes p
+pub node_placed : (nodes : ℕ → ℕ) (plan : Plan) (p : ℕ) → p < process_count plan → node_of (placing plan nodes) p ≡ nodes p
 unfolding node_of
-node_placed nodes plan p lt = let s : 0 + p ≡ p = omega arith in placed_node nodes 0 plan.processes p lt ∙ ap nodes s
+node_placed nodes plan p lt = placed_node nodes plan.processes p lt
 
-pub count_placed : (nodes : ℕ → ℕ) (plan : Plan) → process_count (placed nodes plan) ≡ process_count plan
-count_placed nodes plan = placed_length nodes 0 plan.processes
+pub count_placed : (nodes : ℕ → ℕ) (plan : Plan) → process_count (placing plan nodes) ≡ process_count plan
+count_placed nodes plan = placed_length nodes plan.processes
 
 -- which two share a node
 pair_first : (p q : ℕ) → pair p q p ≡ p
@@ -183,23 +171,23 @@ mate_of plan owner key get (ByFence members j) b =
 
 -- any plan with the calls of this one
 module _ (plan other : Plan) (same : (p : ℕ) → kinds other p ≡ kinds plan p) (counts : process_count other ≡ process_count plan) (keeps : other.keep ≡ plan.keep)
-    (pairs : (p q : ℕ) → p < process_count plan → q < process_count plan → IsSettled (placed (pair p q) plan)) where
+    (pairs : (p q : ℕ) → p < process_count plan → q < process_count plan → IsSettled (placing plan (pair p q))) where
   within : (p : ℕ) → p < process_count other → p < process_count plan
   within p lt = omega (arith, lt, counts)
 
-  node_is : (p q r : ℕ) → r < process_count other → node_of (placed (pair p q) plan) r ≡ pair p q r
+  node_is : (p q r : ℕ) → r < process_count other → node_of (placing plan (pair p q)) r ≡ pair p q r
   node_is p q r lt = node_placed (pair p q) plan r (within r lt)
 
-  stands : (p q : ℕ) → node_of other p ≡ node_of other q → IsEmbedding itself (placed (pair p q) plan) other
+  stands : (p q : ℕ) → node_of other p ≡ node_of other q → IsEmbedding itself (placing plan (pair p q)) other
   stands p q together =
-      same_calls (placed (pair p q) plan) other (λ r. same r ∙ sym (kinds_placed (pair p q) plan r)) keeps
+      same_calls (placing plan (pair p q)) other (λ r. same r ∙ sym (kinds_placed (pair p q) plan r)) keeps
       (λ r s ltr lts e.
       let c = count_placed (pair p q) plan in
       pair_together (node_of other) p q r s together
       (sym (node_placed (pair p q) plan r (omega (arith, ltr, c))) ∙ e ∙ node_placed (pair p q) plan s (omega (arith, lts, c))))
 
-  finds : (p q : ℕ) → node_of other p ≡ node_of other q → KeepsFindings itself (placed (pair p q) plan) other
-  finds p q together = embeddings_keep_findings itself (placed (pair p q) plan) other (stands p q together)
+  finds : (p q : ℕ) → node_of other p ≡ node_of other q → KeepsFindings itself (placing plan (pair p q)) other
+  finds p q together = embeddings_keep_findings itself (placing plan (pair p q)) other (stands p q together)
 
   pub settled_there : IsSettled other
   settled_there = record {
@@ -210,7 +198,7 @@ module _ (plan other : Plan) (same : (p : ℕ) → kinds other p ≡ kinds plan 
         let e = live_event other x r.unordered.live_x in
         let lt = within x.proc (process_within other x.proc x.at _ e.1) in
         let n = written_name other name x r.x_writes in
-        let u : IsNameOf (placed (pair x.proc x.proc) plan) name = (n.0, n.1, kind_at_same other (placed (pair x.proc x.proc) plan) (λ p. kinds_placed (pair x.proc x.proc) plan p ∙ sym (same p)) n.0.proc n.0.at ∙ n.2, n.3) in
+        let u : IsNameOf (placing plan (pair x.proc x.proc)) name = (n.0, n.1, kind_at_same other (placing plan (pair x.proc x.proc)) (λ p. kinds_placed (pair x.proc x.proc) plan p ∙ sym (same p)) n.0.proc n.0.at ∙ n.2, n.3) in
         (pairs x.proc x.proc lt lt).no_name_race x y name ((finds x.proc x.proc refl).name_races x y name u r);
     no_node_race = λ x y key r.
         let px = process_within other x.proc x.at _ (stores_commit other x key r.near.stores) in
@@ -221,7 +209,7 @@ module _ (plan other : Plan) (same : (p : ℕ) → kinds other p ≡ kinds plan 
     no_delivery_race = λ x y owner key r.
         let m = mate_of other owner key y r.delivery r.delivers.brings_it in
         let py = process_within other y.proc y.at _ r.is in
-        let small = placed (pair m.mate y.proc) plan in
+        let small = placing plan (pair m.mate y.proc) in
         let not_mate : owner ≡ m.mate → ⊥ = λ s. true≢false (sym (eq-eqb _ _ (ap (node_of other) s ∙ m.there)) ∙ r.other) in
         let not_reader : owner ≡ y.proc → ⊥ = λ s. true≢false (sym (eq-eqb _ _ (ap (node_of other) s)) ∙ r.other) in
         let reader_is : node_of small y.proc ≡ m.mate = node_is m.mate y.proc y.proc py ∙ pair_second m.mate y.proc in
@@ -236,5 +224,5 @@ module _ (plan other : Plan) (same : (p : ℕ) → kinds other p ≡ kinds plan 
 pub pairs_suffice : PairsSuffice
 pairs_suffice plan nodes pairs = (
   settled_there plan plan (λ p. refl) refl refl pairs,
-  settled_there plan (placed nodes plan) (kinds_placed nodes plan) (count_placed nodes plan) refl pairs,
+  settled_there plan (placing plan nodes) (kinds_placed nodes plan) (count_placed nodes plan) refl pairs,
 )

@@ -1,12 +1,13 @@
 -- Three of each role suffice: an instance with more is settled where those with one rank fewer are.
-use Rattle.std.proofs.Common.{◌≡◌, ℕ, zero, suc, ◌<◌, ◌≤◌, List, [], ◌∷◌, ◌++◌, map, length, true, false, not, ◌==◌, Some, ◌⊎◌, inl, inr, refl, sym, ap, ◌∙◌, subst, arith, ne_eqb, eqb-true, length-append}
+use Rattle.std.proofs.Common.{◌≡◌, ℕ, zero, suc, ◌+◌, ◌<◌, ◌≤◌, List, [], ◌∷◌, ◌++◌, map, length, true, false, not, ◌==◌, Some, ◌⊎◌, inl, inr, refl, sym, ap, ◌∙◌, subst, arith, ne_eqb, eqb-true, length-append}
 use Rattle.std.specs.Prelude.{slice_get, filter, cond}
 use Rattle.std.proofs.lemmas.Bool.{cond-false, cases_lt, cases_eq, cases_Bool, or_cases, or_parts, true≢false}
 use Rattle.std.proofs.lemmas.Option.{none-some, same_Some}
 use Rattle.wire_runs.specs.Plan.{Process, CallPut, CallFence, CallGet, CallGetNow, CallPublish, CallLookup, CallLookupWait, CallUnpublish}
 use Rattle.wire_runs.specs.Fences.{is_member}
 use Rattle.wire_runs.specs.Races.{IsSettled}
-use Rattle.wire_runs.specs.Embeddings.{placed_from, placed, pair}
+use Rattle.wire_runs.specs.Embeddings.{pair}
+use Rattle.wire_runs.specs.Placings.{placed, placing}
 use Rattle.wire_runs.specs.Patterns.{Who, Only, Self, Each, Item, Every, One, Word, Line, LinePut, LineCommit, LineFence, LineGet, LineGetNow, LinePublish, LineLookup, LineLookupWait, LineUnpublish, LineUnpublishAll, LineFixed}
 use Rattle.wire_runs.specs.Patterns.{InOrder, Round, Chosen, Step, Once, Loop, Pattern, Coding, Cast, group, who, members_in, word_code, call_in, turns, loop_calls, step_calls, calls_from, processes_from, instance_of, IsLawful, IsCastOf}
 use Rattle.wire_runs.specs.Restrictions.{skip, without, restricted, CanGo, FewerSettle, on_nodes, HasAtLeast, HasAtMost, SmallAreSettled, ThreeSuffice}
@@ -79,14 +80,20 @@ module _ (coding : Coding) (cast : Cast) (nodes : ℕ → ℕ) where
   calls_there v i (step ∷ steps) =
       ap (λ cs. cs ++ calls_from coding there v (suc i) steps) (step_there v i step) ∙ ap (λ cs. step_calls coding cast v i step ++ cs) (calls_there v (suc i) steps)
 
-  processes_there : (pattern : Pattern) (p : ℕ) (roles : List ℕ) → placed_from nodes p (processes_from pattern coding cast p roles) ≡ processes_from pattern coding there p roles
-  processes_there pattern p [] = refl
-  processes_there pattern p (role ∷ roles) =
-      ap (λ cs. record { node = nodes p; calls = cs } ∷ placed_from nodes (suc p) (processes_from pattern coding cast (suc p) roles)) (sym (calls_there p 0 (pattern.script role)))
-      ∙ ap (λ ps. record { node = nodes p; calls = calls_from coding there p 0 (pattern.script role) } ∷ ps) (processes_there pattern (suc p) roles)
+  processes_there : (pattern : Pattern) (p : ℕ) (f : ℕ → ℕ) → ((q : ℕ) → f q ≡ nodes (p + q)) → (roles : List ℕ) →
+      placed f (processes_from pattern coding cast p roles) ≡ processes_from pattern coding there p roles
+  processes_there pattern p f same [] = refl
+  processes_there pattern p f same (role ∷ roles) =
+      let own : p + 0 ≡ p = omega arith in
+      ap (λ n. record { node = n; calls = calls_from coding cast p 0 (pattern.script role) } ∷ placed (λ q. f (suc q)) (processes_from pattern coding cast (suc p) roles)) (same 0 ∙ ap nodes own)
+      ∙ ap (λ cs. record { node = nodes p; calls = cs } ∷ placed (λ q. f (suc q)) (processes_from pattern coding cast (suc p) roles)) (sym (calls_there p 0 (pattern.script role)))
+      ∙ ap (λ ps. record { node = nodes p; calls = calls_from coding there p 0 (pattern.script role) } ∷ ps)
+      (processes_there pattern (suc p) (λ q. f (suc q)) (λ q. same (suc q) ∙ (let s : p + suc q ≡ suc p + q = omega arith in ap nodes s)) roles)
 
-  placed_is : (pattern : Pattern) → placed nodes (instance_of pattern coding cast) ≡ instance_of pattern coding there
-  placed_is pattern = ap (λ (ps : List Process). record { processes = ps; keep = pattern.keep }) (processes_there pattern 0 cast.roles)
+  placed_is : (pattern : Pattern) → placing (instance_of pattern coding cast) nodes ≡ instance_of pattern coding there
+  placed_is pattern =
+      ap (λ (ps : List Process). record { processes = ps; keep = pattern.keep })
+      (processes_there pattern 0 nodes (λ q. (let s : q ≡ 0 + q = omega arith in ap nodes s)) cast.roles)
 
 -- sizes
 length_map : (f : ℕ → ℕ) (xs : List ℕ) → length (map f xs) ≡ length xs

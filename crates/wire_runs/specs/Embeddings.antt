@@ -1,16 +1,20 @@
--- Embeddings: a plan, called the small one, stands inside another, the large one, so that what the checker finds in the large one among
--- the images of the small one's events it finds in the small one.
-use Rattle.std.specs.Prelude.{◌≡◌, ℕ, suc, ◌<◌, ◌≤◌, List, [], ◌∷◌, true, false, Option, Some, None, option_map, ◌==◌, if◌then◌else◌}
-use Rattle.wire_runs.specs.Plan.{Plan, Process, Event, Kind, Put, Commit, Arrive, Leave, Get, GetNow, Publish, Lookup, LookupWait, Unpublish, UnpublishAll, Fixed}
+-- Embeddings: a plan, called the small one, stands inside another, the large one, so that what the checker finds in the
+-- large one among the images of the small one's events it finds in the small one.
+use Rattle.std.specs.Prelude.{◌≡◌, ℕ, suc, ◌<◌, ◌≤◌, List, [], ◌∷◌, true, false, Option, Some, None, option_map}
+use Rattle.std.specs.Prelude.{◌==◌, if◌then◌else◌}
+use Rattle.wire_runs.specs.Plan.{Plan, Event, Kind, Put, Commit, Arrive, Leave, Get, GetNow, Publish, Lookup}
+use Rattle.wire_runs.specs.Plan.{LookupWait, Unpublish, UnpublishAll, Fixed}
 use Rattle.wire_runs.specs.Plan.{kind, event_count, process_count, node_of, same_node}
 use Rattle.wire_runs.specs.Puts.{own, stored, put_count}
 use Rattle.wire_runs.specs.Fences.{arrivals, collects, is_member, is_full, is_collecting}
 use Rattle.wire_runs.specs.Names.{publishes}
 use Rattle.wire_runs.specs.Order.{IsArrival, PublishesOnce, Edge, Live, Before}
-use Rattle.wire_runs.specs.Races.{Delivery, ByFence, ByGet, IsRewrite, IsNodeRace, IsDeliveryRace, IsNameRace, IsSettled}
+use Rattle.wire_runs.specs.Races.{Delivery, ByFence, ByGet, IsRewrite, IsNodeRace, IsDeliveryRace, IsNameRace}
+use Rattle.wire_runs.specs.Races.{IsSettled}
+use Rattle.wire_runs.specs.Placings.{placing}
 
--- what the processes, keys, names and sets of the small plan are in the large one. place p n: where in its process the image of p's event
--- number n stands; of the number of all p's events it is the number of all events there
+-- what the processes, keys, names and sets of the small plan are in the large one. place p n: where in its process the
+-- image of p's event number n stands; of the number of all p's events it is the number of all events there
 pub record Renaming : Type 0 where
   pub process : ℕ → ℕ
   pub place : ℕ → ℕ → ℕ
@@ -64,8 +68,8 @@ IsNameOf plan name = (z : Event) × (k : Kind) × (kind plan z ≡ Some k) × (n
 abbrev pub IsSetOf : Plan → List ℕ → Type 0
 IsSetOf plan members = (z : Event) × (k : Kind) × (kind plan z ≡ Some k) × (members_of k ≡ Some members)
 
--- the events of the small plan are among those of the large one, each with the image of its kind, and the events that are left out take
--- nothing from them
+-- the events of the small plan are among those of the large one, each with the image of its kind, and the events that
+-- are left out take nothing from them
 pub record IsEmbedding (to : Renaming) (small large : Plan) : Type 0 where
   -- processes, keys and names stay apart, and a process's events stay in order
   pub one_process : (p q : ℕ) → to.process p ≡ to.process q → p ≡ q
@@ -74,30 +78,37 @@ pub record IsEmbedding (to : Renaming) (small large : Plan) : Type 0 where
   pub rising : (p n : ℕ) → to.place p n < to.place p (suc n)
   pub ends : (p : ℕ) → to.place p (event_count small p) ≡ event_count large (to.process p)
   pub kinds_agree : (x : Event) (k : Kind) → kind small x ≡ Some k → kind large (image to x) ≡ Some (image_kind to k)
-  -- a put of an image key is left out nowhere, nor the first commit after it: up to each place both processes have put the key as
-  -- often, with the same last put, and have stored the same
-  pub puts : (p key n : ℕ) → IsKeyOf small key → n ≤ event_count small p → put_count large (to.process p) (to.key key) (to.place p n) ≡ put_count small p key n
-  pub owns : (p key n : ℕ) → IsKeyOf small key → n ≤ event_count small p → own large (to.process p) (to.key key) (to.place p n) ≡ option_map (to.place p) (own small p key n)
-  pub stores : (p key n : ℕ) → IsKeyOf small key → n ≤ event_count small p → stored large (to.process p) (to.key key) (to.place p n) ≡ option_map (to.place p) (stored small p key n)
-  -- a set of fences has the images of its members and perhaps others; of its fence calls none is left out in an image process, and says
-  -- collect as before; and where all that are in the small plan say collect, all say so
-  pub member : (members : List ℕ) (p : ℕ) → IsSetOf small members → is_member (to.members members) (to.process p) ≡ is_member members p
+  -- a put of an image key is left out nowhere, nor the first commit after it: up to each place both processes have put
+  -- the key as often, with the same last put, and have stored the same
+  pub puts : (p key n : ℕ) → IsKeyOf small key → n ≤ event_count small p
+      → put_count large (to.process p) (to.key key) (to.place p n) ≡ put_count small p key n
+  pub owns : (p key n : ℕ) → IsKeyOf small key → n ≤ event_count small p
+      → own large (to.process p) (to.key key) (to.place p n) ≡ option_map (to.place p) (own small p key n)
+  pub stores : (p key n : ℕ) → IsKeyOf small key → n ≤ event_count small p
+      → stored large (to.process p) (to.key key) (to.place p n) ≡ option_map (to.place p) (stored small p key n)
+  -- a set of fences has the images of its members and perhaps others; of its fence calls none is left out in an image
+  -- process, and says collect as before; and where all that are in the small plan say collect, all say so
+  pub member : (members : List ℕ) (p : ℕ) → IsSetOf small members
+      → is_member (to.members members) (to.process p) ≡ is_member members p
   pub arrives : (members : List ℕ) (p n : ℕ) → IsSetOf small members → n ≤ event_count small p →
       arrivals large (to.process p) (to.members members) (to.place p n) ≡ arrivals small p members n
   pub says_collect : (members : List ℕ) (p j : ℕ) → IsSetOf small members →
       collects large (to.process p) (to.members members) j (event_count large (to.process p)) ≡ collects small p members j (event_count small p)
-  pub all_collect : (members : List ℕ) (j : ℕ) → IsSetOf small members → is_full large (to.members members) j ≡ true → is_collecting small members j ≡ true →
+  pub all_collect : (members : List ℕ) (j : ℕ) → IsSetOf small members
+      → is_full large (to.members members) j ≡ true → is_collecting small members j ≡ true →
       is_collecting large (to.members members) j ≡ true
-  -- an image process publishes an image name exactly where its process publishes the name; and where the small plan has one publish of a
-  -- name and nothing that takes it away, so has the large one
-  pub publish : (p name : ℕ) → IsNameOf small name → publishes large (to.process p) (to.name name) (event_count large (to.process p)) ≡ publishes small p name (event_count small p)
+  -- an image process publishes an image name exactly where its process publishes the name; and where the small plan has
+  -- one publish of a name and nothing that takes it away, so has the large one
+  pub publish : (p name : ℕ) → IsNameOf small name
+      → publishes large (to.process p) (to.name name) (event_count large (to.process p)) ≡ publishes small p name (event_count small p)
   pub once : (x : Event) (name : ℕ) → PublishesOnce small x name → PublishesOnce large (image to x) (to.name name)
   -- processes on one node are on one node
   pub together : (p q : ℕ) → p < process_count small → q < process_count small → node_of small p ≡ node_of small q →
       node_of large (to.process p) ≡ node_of large (to.process q)
   pub keeps : large.keep ≡ small.keep
 
--- what is before an event whose image is live, has its image before that image; and where the image is live, the event is
+-- what is before an event whose image is live, has its image before that image; and where the image is live, the event
+-- is
 pub record KeepsOrder (to : Renaming) (small large : Plan) : Type 0 where
   pub edges : (x y : Event) → Edge small x y → Live large (image to y) → Before large (image to x) (image to y)
   pub chains : (x y : Event) → Before small x y → Live large (image to y) → Before large (image to x) (image to y)
@@ -119,26 +130,23 @@ abbrev pub IsKept : Renaming → Plan → Plan → ℕ → ℕ → Delivery → 
 IsKept to small large owner node (ByFence members j) = IsKeptFence to small large owner node members j
 IsKept to small large owner node (ByGet get) = (x : Event) × (image to x ≡ get) × (node_of small x.proc ≡ node)
 
--- what is found in the large plan among images is found in the small one. A delivery race is told by what is settled: which event of the
--- delivery is the lowest that isn't before the get may differ
+-- what is found in the large plan among images is found in the small one. A delivery race is told by what is settled:
+-- which event of the delivery is the lowest that isn't before the get may differ
 pub record KeepsFindings (to : Renaming) (small large : Plan) : Type 0 where
   pub rewrites : (x y : Event) → IsRewrite large (image to x) (image to y) → IsRewrite small x y
-  pub name_races : (x y : Event) (name : ℕ) → IsNameOf small name → IsNameRace large (image to x) (image to y) (to.name name) → IsNameRace small x y name
-  pub node_races : (commit get : Event) (key : ℕ) → IsNodeRace large (image to commit) (image to get) key → same_node small commit.proc get.proc ≡ true →
+  pub name_races : (x y : Event) (name : ℕ) → IsNameOf small name
+      → IsNameRace large (image to x) (image to y) (to.name name) → IsNameRace small x y name
+  pub node_races : (commit get : Event) (key : ℕ) → IsNodeRace large (image to commit) (image to get) key
+      → same_node small commit.proc get.proc ≡ true →
       (own_key : ℕ) × (to.key own_key ≡ key) × IsNodeRace small commit get own_key
-  pub delivery_races : (source get : Event) (owner key : ℕ) → (race : IsDeliveryRace large source (image to get) (to.process owner) key) →
-      same_node small owner get.proc ≡ false → IsKept to small large owner (node_of small get.proc) race.delivery → ¬ (IsSettled small)
+  pub delivery_races : (source get : Event) (owner key : ℕ)
+      → (race : IsDeliveryRace large source (image to get) (to.process owner) key) →
+      same_node small owner get.proc ≡ false → IsKept to small large owner (node_of small get.proc) race.delivery
+      → ¬ (IsSettled small)
 
 abbrev pub EmbeddingsKeepFindings : Type 0
-EmbeddingsKeepFindings = (to : Renaming) (small large : Plan) → IsEmbedding to small large → KeepsFindings to small large
-
--- the plan with its processes on other nodes
-abbrev pub placed_from : (ℕ → ℕ) → ℕ → List Process → List Process
-placed_from nodes p [] = []
-placed_from nodes p (process ∷ processes) = record { node = nodes p; calls = process.calls } ∷ placed_from nodes (suc p) processes
-
-abbrev pub placed : (ℕ → ℕ) → Plan → Plan
-placed nodes plan = record { processes = placed_from nodes 0 plan.processes; keep = plan.keep }
+EmbeddingsKeepFindings = (to : Renaming) (small large : Plan) → IsEmbedding to small large
+    → KeepsFindings to small large
 
 -- each process on a node of its own, but q with p
 abbrev pub pair : ℕ → ℕ → ℕ → ℕ
@@ -146,5 +154,6 @@ pair p q r = if r == q then p else r
 
 -- a plan that is settled wherever at most two of its processes share a node, is settled on all nodes
 abbrev pub PairsSuffice : Type 0
-PairsSuffice = (plan : Plan) (nodes : ℕ → ℕ) →
-    ((p q : ℕ) → p < process_count plan → q < process_count plan → IsSettled (placed (pair p q) plan)) → IsSettled plan × IsSettled (placed nodes plan)
+PairsSuffice = (plan : Plan) (nodes : ℕ → ℕ)
+    → ((p q : ℕ) → p < process_count plan → q < process_count plan → IsSettled (placing plan (pair p q)))
+    → IsSettled plan × IsSettled (placing plan nodes)

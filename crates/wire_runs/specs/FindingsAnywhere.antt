@@ -27,13 +27,15 @@ pub record IsLeastFar (plan : Plan) (source get : Event) (owner key m : ℕ) : T
 -- a race on a key, on a placing that gives a and b a node of their own: x is the commit or the arrival, y the get-now
 abbrev pub IsKeyRaceOn : Plan → Event → Event → ℕ → ℕ → ℕ → ℕ → Type 0
 IsKeyRaceOn plan x y owner key a b =
-    ((x.proc ≡ owner) × IsNearRace plan x y key × IsPair a b x.proc y.proc) ⊎ ((m : ℕ) × IsLeastFar plan x y owner key m × IsPair a b y.proc m)
+    ((x.proc ≡ owner) × IsNearRace plan x y key × IsPair a b x.proc y.proc)
+    ⊎ ((m : ℕ) × IsLeastFar plan x y owner key m × IsPair a b y.proc m)
 
 abbrev pub IsFoundSomewhere : Plan → Placed → Type 0
 IsFoundSomewhere plan (OnAll (Rewrite x y)) = IsFound plan (Rewrite x y)
 IsFoundSomewhere plan (OnAll (NameRace x y name)) = IsFound plan (NameRace x y name)
 IsFoundSomewhere plan (OnAll (KeyRace x y owner key)) = ⊥
-IsFoundSomewhere plan (OnPair (KeyRace x y owner key) a b) = IsLower x y × (IsKeyRaceOn plan x y owner key a b ⊎ IsKeyRaceOn plan y x owner key a b)
+IsFoundSomewhere plan (OnPair (KeyRace x y owner key) a b) = IsLower x y
+    × (IsKeyRaceOn plan x y owner key a b ⊎ IsKeyRaceOn plan y x owner key a b)
 IsFoundSomewhere plan (OnPair _ a b) = ⊥
 
 abbrev pub HasPlaced : List Placed → Placed → Type 0
@@ -44,7 +46,8 @@ HasPlaced (g ∷ found) f = (f ≡ g) ⊎ HasPlaced found f
 abbrev pub IsPlacedSorted : (ℕ → ℕ → Bool) → List Placed → Type 0
 IsPlacedSorted lower_name [] = Unit {0}
 IsPlacedSorted lower_name (g ∷ found) =
-    ((f : Placed) → HasPlaced found f → IsSooner lower_name (finding_of g) (finding_of f)) × IsPlacedSorted lower_name found
+    ((f : Placed) → HasPlaced found f → IsSooner lower_name (finding_of g) (finding_of f))
+    × IsPlacedSorted lower_name found
 
 -- the list of what is found on some placing, in order
 pub record IsFindingsAnywhere (plan : Plan) (lower_name : ℕ → ℕ → Bool) (found : List Placed) : Type 0 where

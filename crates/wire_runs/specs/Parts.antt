@@ -1,13 +1,15 @@
--- Parts: a plan each of whose processes does, in the same order and under other names, some of what a process of another plan does. What
--- is left out and stands between, is told event by event.
+-- Parts: a plan each of whose processes does, in the same order and under other names, some of what a process of
+-- another plan does. What is left out and stands between, is told event by event.
 use Rattle.std.specs.Prelude.{◌≡◌, ◌≢◌, ℕ, zero, suc, ◌<◌, List, [], ◌∷◌, Bool, true, false}
-use Rattle.wire_runs.specs.Plan.{Plan, Event, Kind, Put, Commit, Arrive, GetNow, Publish, Lookup, Unpublish, UnpublishAll, kinds, process_count, node_of}
+use Rattle.wire_runs.specs.Plan.{Plan, Event, Kind, Put, Commit, Arrive, GetNow, Publish, Lookup, Unpublish}
+use Rattle.wire_runs.specs.Plan.{UnpublishAll, kinds, process_count, node_of}
 use Rattle.wire_runs.specs.Fences.{is_member, is_full, is_collecting}
 use Rattle.wire_runs.specs.Order.{PublishesOnce}
 use Rattle.wire_runs.specs.Races.{IsSettled}
 use Rattle.wire_runs.specs.Embeddings.{Renaming, image, image_kind, IsKeyOf, IsNameOf, IsSetOf, IsEmbedding}
 
--- an event of the large plan: one that the small plan has, by its kind there, or one that is left out, by its kind in the large plan
+-- an event of the large plan: one that the small plan has, by its kind there, or one that is left out, by its kind in
+-- the large plan
 pub data Piece : Type 0 where
   Kept : Kind → Piece
   Left : Kind → Piece
@@ -35,12 +37,13 @@ waits_after waits (Put key scope) = true
 waits_after waits Commit = false
 waits_after waits _ = waits
 
--- what can be left out: puts of keys, publishes and unpublishes of names, and fences over sets that are none of the small plan's; a commit
--- for which no kept put waits; and all else, but for a call that takes all names away
+-- what can be left out: puts of keys, publishes and unpublishes of names, and fences over sets that are none of the
+-- small plan's; a commit for which no kept put waits; and all else, but for a call that takes all names away
 abbrev pub MayLeave : Renaming → Plan → Bool → Kind → Type 0
 MayLeave to small waits (Put key scope) = (own_key : ℕ) → IsKeyOf small own_key → to.key own_key ≢ key
 MayLeave to small waits Commit = waits ≡ false
-MayLeave to small waits (Arrive members collect) = (own_members : List ℕ) → IsSetOf small own_members → to.members own_members ≢ members
+MayLeave to small waits (Arrive members collect) = (own_members : List ℕ) → IsSetOf small own_members
+    → to.members own_members ≢ members
 MayLeave to small waits (Publish name) = (own_name : ℕ) → IsNameOf small own_name → to.name own_name ≢ name
 MayLeave to small waits (Unpublish name) = (own_name : ℕ) → IsNameOf small own_name → to.name own_name ≢ name
 MayLeave to small waits UnpublishAll = ⊥
@@ -51,7 +54,8 @@ Fits to small waits [] = Unit {0}
 Fits to small waits (Kept k ∷ pieces) = Fits to small (waits_after waits k) pieces
 Fits to small waits (Left k ∷ pieces) = MayLeave to small waits k × Fits to small waits pieces
 
--- process by process: what each process of the small plan does is kept of what its image does, and the rest may be left out
+-- process by process: what each process of the small plan does is kept of what its image does, and the rest may be left
+-- out
 pub record IsPartEach (to : Renaming) (small large : Plan) (pieces : ℕ → List Piece) : Type 0 where
   pub one_key : (a b : ℕ) → IsKeyOf small a → IsKeyOf small b → to.key a ≡ to.key b → a ≡ b
   pub one_name : (a b : ℕ) → IsNameOf small a → IsNameOf small b → to.name a ≡ to.name b → a ≡ b
@@ -65,8 +69,10 @@ pub record IsPartEach (to : Renaming) (small large : Plan) (pieces : ℕ → Lis
 pub record IsPart (to : Renaming) (small large : Plan) (pieces : ℕ → List Piece) : Type 0 where
   pub each : IsPartEach to small large pieces
   pub one_process : (p q : ℕ) → to.process p ≡ to.process q → p ≡ q
-  pub member : (members : List ℕ) (p : ℕ) → IsSetOf small members → is_member (to.members members) (to.process p) ≡ is_member members p
-  pub all_collect : (members : List ℕ) (j : ℕ) → IsSetOf small members → is_full large (to.members members) j ≡ true → is_collecting small members j ≡ true →
+  pub member : (members : List ℕ) (p : ℕ) → IsSetOf small members
+      → is_member (to.members members) (to.process p) ≡ is_member members p
+  pub all_collect : (members : List ℕ) (j : ℕ) → IsSetOf small members
+      → is_full large (to.members members) j ≡ true → is_collecting small members j ≡ true →
       is_collecting large (to.members members) j ≡ true
   pub once : (x : Event) (name : ℕ) → PublishesOnce small x name → PublishesOnce large (image to x) (to.name name)
   pub together : (p q : ℕ) → p < process_count small → q < process_count small → node_of small p ≡ node_of small q →
@@ -74,7 +80,8 @@ pub record IsPart (to : Renaming) (small large : Plan) (pieces : ℕ → List Pi
   pub keeps : large.keep ≡ small.keep
 
 abbrev pub PartsEmbed : Type 0
-PartsEmbed = (to : Renaming) (small large : Plan) (pieces : ℕ → List Piece) → IsPart to small large pieces → IsEmbedding to small large
+PartsEmbed = (to : Renaming) (small large : Plan) (pieces : ℕ → List Piece) → IsPart to small large pieces
+    → IsEmbedding to small large
 
 -- the renaming that renames nothing, and has each event where it stands among these pieces
 abbrev pub in_place : (ℕ → List Piece) → Renaming
@@ -101,4 +108,5 @@ pub record AddsReads (small large : Plan) (pieces : ℕ → List Piece) : Type 0
 
 -- more reads take no finding away
 abbrev pub ReadsKeepFindings : Type 0
-ReadsKeepFindings = (small large : Plan) (pieces : ℕ → List Piece) → AddsReads small large pieces → IsSettled large → IsSettled small
+ReadsKeepFindings = (small large : Plan) (pieces : ℕ → List Piece) → AddsReads small large pieces
+    → IsSettled large → IsSettled small

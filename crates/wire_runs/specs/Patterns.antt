@@ -1,9 +1,11 @@
--- Patterns: scripts by roles, and their instances. An instance is told by the role of each process, by which turns the optional loops
--- take, and by the nodes.
-use Rattle.std.specs.Prelude.{◌≡◌, ℕ, suc, List, [], ◌∷◌, ◌++◌, map, Bool, true, false, not, ◌&&◌, ◌||◌, Option, Some, get_or, ◌==◌, nat_lt, filter, if◌then◌else◌}
+-- Patterns: scripts by roles, and their instances. An instance is told by the role of each process, by which turns the
+-- optional loops take, and by the nodes.
+use Rattle.std.specs.Prelude.{◌≡◌, ℕ, suc, List, [], ◌∷◌, ◌++◌, map, Bool, true, false, not, ◌&&◌, ◌||◌, Option}
+use Rattle.std.specs.Prelude.{Some, get_or, ◌==◌, nat_lt, filter, if◌then◌else◌}
 use Rattle.wire_types.specs.declared.Scope.{Scope}
 use Rattle.wire_types.specs.declared.Reply.{Reply}
-use Rattle.wire_runs.specs.Plan.{Plan, Process, Call, CallPut, CallCommit, CallFence, CallGet, CallGetNow, CallPublish, CallLookup, CallLookupWait, CallUnpublish, CallUnpublishAll, CallFixed}
+use Rattle.wire_runs.specs.Plan.{Plan, Process, Call, CallPut, CallCommit, CallFence, CallGet, CallGetNow}
+use Rattle.wire_runs.specs.Plan.{CallPublish, CallLookup, CallLookupWait, CallUnpublish, CallUnpublishAll, CallFixed}
 use Rattle.wire_runs.specs.Fences.{is_member}
 
 -- a process that a line names: the only one of a role, the caller, or the one that a loop's turn is for
@@ -35,8 +37,8 @@ pub data Line : Type 0 where
   LineUnpublishAll : Line
   LineFixed : Reply → Line
 
--- the turns of a loop over a group: all its other processes in rank order; for a caller of the group those behind it, then those before
--- it; or those that are chosen, in rank order
+-- the turns of a loop over a group: all its other processes in rank order; for a caller of the group those behind it,
+-- then those before it; or those that are chosen, in rank order
 pub data Turns : Type 0 where
   InOrder : Turns
   Round : Turns
@@ -146,8 +148,8 @@ has_every role [] = false
 has_every role (Every r ∷ items) = (r == role) || has_every role items
 has_every role (item ∷ items) = has_every role items
 
--- in a loop over the role: a put, a get, a publish, an unpublish and a fence name the process of the turn, no fence has the whole role, and
--- no call takes all names away
+-- in a loop over the role: a put, a get, a publish, an unpublish and a fence name the process of the turn, no fence has
+-- the whole role, and no call takes all names away
 abbrev pub IsLoopLine : ℕ → Line → Type 0
 IsLoopLine role (LinePut key scope) = names_each key.indices ≡ true
 IsLoopLine role (LinePublish name) = names_each name.indices ≡ true
@@ -216,12 +218,14 @@ IsTurnLine _ line = Unit {0}
 
 abbrev pub AreLoopLines : (ℕ → Bool) → ℕ → Turns → List Line → Type 0
 AreLoopLines single role mode [] = Unit {0}
-AreLoopLines single role mode (line ∷ lines) = (KnowsLine single line × (IsLoopLine role line × IsTurnLine mode line)) × AreLoopLines single role mode lines
+AreLoopLines single role mode (line ∷ lines) =
+    (KnowsLine single line × (IsLoopLine role line × IsTurnLine mode line)) × AreLoopLines single role mode lines
 
 -- a loop with a commit begins, and ends each turn, where no put waits
 abbrev pub IsStep : (ℕ → Bool) → Bool → Step → Type 0
 IsStep single waits (Once line) = KnowsLine single line
-IsStep single waits (Loop role mode lines) = AreLoopLines single role mode lines × (has_commit lines ≡ true → (waits ≡ false) × (waits_lines false lines ≡ false))
+IsStep single waits (Loop role mode lines) =
+    AreLoopLines single role mode lines × (has_commit lines ≡ true → (waits ≡ false) × (waits_lines false lines ≡ false))
 
 -- whether a put may wait after the step
 abbrev pub waits_step : Bool → Step → Bool

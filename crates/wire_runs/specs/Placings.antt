@@ -5,14 +5,16 @@ use Rattle.wire_types.specs.declared.Status.TheVariants as status
 use Rattle.wire_runs.specs.Plan.{Plan, Process, Kind, Fixed, GetNow, kinds, kind, process_count, Event}
 use Rattle.wire_runs.specs.Fences.{is_member}
 use Rattle.wire_runs.specs.Order.{Live, Before}
-use Rattle.wire_runs.specs.Races.{Delivery, ByFence, ByGet, IsOf, IsPutOnce, IsRewrite, IsNameRace, BringsAway, IsNearRace}
+use Rattle.wire_runs.specs.Races.{Delivery, ByFence, ByGet, IsOf, IsPutOnce, IsRewrite, IsNameRace, BringsAway}
+use Rattle.wire_runs.specs.Races.{IsNearRace}
 
 -- what an event does, the reply to a call of a reserved key or name forgotten: some of those replies tell of nodes
 abbrev pub without_reply : Kind → Kind
 without_reply (Fixed reply) = Fixed (bare status.Success)
 without_reply kind = kind
 
--- other is a placing of plan: it has the same processes with the same calls, on whatever nodes, but for replies of reserved keys and names
+-- other is a placing of plan: it has the same processes with the same calls, on whatever nodes, but for replies of
+-- reserved keys and names
 pub record IsPlacing (plan other : Plan) : Type 0 where
   pub same_keep : plan.keep ≡ other.keep
   pub same_count : process_count plan ≡ process_count other
@@ -36,7 +38,8 @@ abbrev pub TakesPart : Delivery → ℕ → Type 0
 TakesPart (ByFence members j) m = is_member members m ≡ true
 TakesPart (ByGet get) m = get.proc ≡ m
 
--- the delivery brings p's key to the node of m, another process, wherever that is, but to p's own node; all its events are live
+-- the delivery brings p's key to the node of m, another process, wherever that is, but to p's own node; all its events
+-- are live
 pub record Carries (plan : Plan) (p key m : ℕ) (delivery : Delivery) : Type 0 where
   pub another : m ≢ p
   pub takes_part : TakesPart delivery m
@@ -49,8 +52,8 @@ pub record HasSurely (plan : Plan) (p key m : ℕ) (get : Event) : Type 0 where
   pub carries : Carries plan p key m delivery
   pub all_before : (z : Event) → IsOf plan delivery z → Before plan z get
 
--- a live get-now, and the lowest event that isn't before it of a delivery to m; the get is before no event of that delivery, and neither
--- its own process nor m surely has the key: a race where these two have a node of their own
+-- a live get-now, and the lowest event that isn't before it of a delivery to m; the get is before no event of that
+-- delivery, and neither its own process nor m surely has the key: a race where these two have a node of their own
 pub record IsFarRace (plan : Plan) (source get : Event) (owner key m : ℕ) : Type 0 where
   pub is : kind plan get ≡ Some (GetNow owner key)
   pub another : get.proc ≢ owner

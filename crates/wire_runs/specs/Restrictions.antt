@@ -1,12 +1,14 @@
 -- One rank fewer: an instance without the process r, and how it stands in the whole one.
-use Rattle.std.specs.Prelude.{◌≡◌, ℕ, zero, suc, pred, ◌≤◌, List, [], ◌∷◌, ◌++◌, map, length, Option, Some, None, slice_get, ◌==◌, if◌then◌else◌}
+use Rattle.std.specs.Prelude.{◌≡◌, ℕ, zero, suc, pred, ◌≤◌, List, [], ◌∷◌, ◌++◌, map, length, Option, Some, None}
+use Rattle.std.specs.Prelude.{slice_get, ◌==◌, if◌then◌else◌}
 use Rattle.std.specs.List.{list_all}
 use Rattle.wire_runs.specs.Plan.{Call, kinds_of, with_member}
 use Rattle.wire_runs.specs.Races.{IsSettled}
 use Rattle.wire_runs.specs.Fences.{is_member}
 use Rattle.wire_runs.specs.Embeddings.{Renaming, IsEmbedding, pair}
 use Rattle.wire_runs.specs.Parts.{Piece, Kept, Left, place_in}
-use Rattle.wire_runs.specs.Patterns.{Line, Step, Once, Loop, Pattern, Coding, Cast, group, call_in, turns, instance_of, IsLawful, IsCastOf}
+use Rattle.wire_runs.specs.Patterns.{Line, Step, Once, Loop, Pattern, Coding, Cast, group, call_in, turns}
+use Rattle.wire_runs.specs.Patterns.{instance_of, IsLawful, IsCastOf}
 
 -- the numbers with r left out: where number p stands among all, and back
 abbrev pub skip : ℕ → ℕ → ℕ
@@ -106,12 +108,14 @@ HasAtMost most cast = (role : ℕ) → length (group role cast.roles) ≤ most r
 
 -- a pattern's small instances: at most so many of each role, and at most two processes on a node, p and q
 abbrev pub SmallAreSettled : Pattern → Coding → (least most : ℕ → ℕ) → Type 0
-SmallAreSettled pattern coding least most = (cast : Cast) (p q : ℕ) → IsCastOf pattern cast → HasAtLeast least cast → HasAtMost most cast
+SmallAreSettled pattern coding least most = (cast : Cast) (p q : ℕ) → IsCastOf pattern cast
+    → HasAtLeast least cast → HasAtMost most cast
     → IsSettled (instance_of pattern coding (on_nodes (pair p q) cast))
 
--- three of each role suffice: where all small instances are settled, with at least three allowed of each role, so is each instance, with
--- any number of processes of each role, on any nodes
+-- three of each role suffice: where all small instances are settled, with at least three allowed of each role, so is
+-- each instance, with any number of processes of each role, on any nodes
 abbrev pub ThreeSuffice : Type 0
-ThreeSuffice = (pattern : Pattern) (coding : Coding) (least most : ℕ → ℕ) → IsLawful pattern → ((role : ℕ) → 3 ≤ most role)
+ThreeSuffice = (pattern : Pattern) (coding : Coding) (least most : ℕ → ℕ) → IsLawful pattern → ((role : ℕ)
+    → 3 ≤ most role)
     → ((role : ℕ) → least role ≤ most role) → SmallAreSettled pattern coding least most
     → (cast : Cast) → IsCastOf pattern cast → HasAtLeast least cast → IsSettled (instance_of pattern coding cast)
