@@ -10,8 +10,9 @@ from wire_up_tools.report.asking import CLEAN, FOUND, Asker
 from wire_up_tools.report.diagram import Diagram
 from wire_up_tools.report.findings import Group, find_groups, group_lines, has_many
 from wire_up_tools.report.orders import Order, find_order
+from wire_up_tools.report.partial import find_reasons, find_verdicts
 from wire_up_tools.report.race_diagram import make_race_diagram
-from wire_up_tools.report.replies import find_waiting
+from wire_up_tools.report.replies import Failure, find_replies
 from wire_up_tools.report.runs import Runs, Search, begin_search, find_runs
 from wire_up_tools.report.waits import Wait, find_circle, find_waits
 from wire_up_tools.report.wire_up_diagram import make_wire_up_diagram
@@ -31,10 +32,13 @@ class Detail:
 
 @dataclass(frozen=True, eq=False)
 class WireUp:
-    """What becomes of a plan without findings: who waits for ever, and its diagram."""
+    """What becomes of a plan without findings: who waits for ever, how many calls fail and the
+    first of these, and its diagram."""
 
     waits: Sequence[Wait]
     circle: Sequence[str]
+    failed: int
+    failures: Sequence[Failure]
     diagram: Diagram
 
 
@@ -78,9 +82,19 @@ class Report:
         return self.wire_up.waits if self.wire_up else ()
 
     @property
-    def ordered_more(self) -> Sequence[str]:
+    def failed(self) -> int:
+        """How many calls fail in a plan without findings."""
+        return self.wire_up.failed if self.wire_up else 0
+
+    @property
+    def reasons(self) -> Sequence[str]:
         """Why the verdict holds only in part, by the head of a recorded plan."""
-        return self.plan.list_in_head(words.MORE_ORDERED)
+        return find_reasons(self.plan)
+
+    @property
+    def verdicts(self) -> Optional[str]:
+        """The verdicts with and without the order of polls, if they differ."""
+        return find_verdicts(self.plan)
 
     @property
     def left_out(self) -> Sequence[str]:
@@ -112,6 +126,7 @@ def find_detail(search: Search, order: Order, group: Group) -> Detail:
 
 def find_wire_up(asker: Asker, order: Order) -> WireUp:
     """What becomes of a plan without findings."""
-    waiting_at = find_waiting(asker)
-    waits = find_waits(order, waiting_at)
-    return WireUp(waits, find_circle(waits), make_wire_up_diagram(order, waiting_at))
+    replies = find_replies(asker, order.plan)
+    waits = find_waits(order, replies.waiting_at)
+    diagram = make_wire_up_diagram(order, replies.waiting_at)
+    return WireUp(waits, find_circle(waits), replies.failed, replies.failures, diagram)

@@ -58,17 +58,16 @@ def write_header(report: Report) -> str:
     version, today = report.version, datetime.date.today()
     meta = f"{verdict.say_size(report)} · checked by wire_up {version} · {today:%d %b %Y}"
     title = f"{escape(report.name)}: {verdict.say_found(report)}"
+    title += f' <span class="why">{escape(verdict.say_reasons(report))}</span>' * bool(
+        report.reasons
+    )
     parts = [
         f'<header class="{kind}"><div class="top"><h1>{title}</h1>',
         f'<span class="badge">{badge}</span></div><p>{escape(verdict.say_verdict(report))}</p>'
         f'<p class="meta">{escape(meta)}</p>',
     ]
-    if report.ordered_more:
-        why = escape("; ".join(report.ordered_more))
-        parts.append(
-            '<p class="part">This holds only in part. The plan is more ordered than the program, '
-            f"so a race can be missed: {why}.</p>"
-        )
+    if report.verdicts:
+        parts.append(f"<p>The recorder's verdicts: {escape(report.verdicts)}.</p>")
     parts += [write_recording(report)] if report.plan.is_recorded else []
     parts += [write_contents(report)] if len(report.groups) > 1 else []
     return "\n".join([*parts, "</header>"])
@@ -79,7 +78,11 @@ def choose_badge(report: Report) -> tuple[str, str]:
     if report.groups:
         has_race = any(it.first.kind is not Kind.REWRITE for it in report.groups)
         return "found", "races found" if has_race else "keys put again"
-    return ("waits", "ranks wait for ever") if report.waits else ("quiet", "no race")
+    if report.reasons:
+        return "partly", "in part"
+    if report.waits:
+        return "waits", "ranks wait for ever"
+    return ("fails", "calls fail") if report.failed else ("quiet", "no race")
 
 
 def write_recording(report: Report) -> str:
@@ -225,14 +228,24 @@ def write_other(group: Group) -> str:
 
 
 def write_wire_up(wire_up: WireUp) -> str:
-    """The diagram of a wire-up, and who waits for ever."""
+    """The diagram of a wire-up, which calls fail, and who waits for ever."""
     parts = []
     if wire_up.diagram.rows:
         figure = draw_figure(wire_up.diagram, "Diagram of the wire-up")
         parts += ["<section><h2>The wire-up</h2>", figure, "</section>"]
-    if wire_up.waits:
-        parts.append(write_waits(wire_up))
+    parts += [write_failures(wire_up)] if wire_up.failed else []
+    parts += [write_waits(wire_up)] if wire_up.waits else []
     return "\n".join(parts)
+
+
+def write_failures(wire_up: WireUp) -> str:
+    """The calls that fail, with their replies."""
+    title = count_of(wire_up.failed, "call fails", "calls fail")
+    shown = wire_up.failures
+    rows = "".join(f"<li>{link_with_place(it.call)}: {escape(it.reply)}</li>" for it in shown)
+    rest = wire_up.failed - len(shown)
+    more = f"<p>And {count_of(rest, 'other call')}.</p>" if rest else ""
+    return f"<section><h2>{title}</h2><ul>{rows}</ul>{more}</section>"
 
 
 def write_waits(wire_up: WireUp) -> str:
@@ -270,6 +283,7 @@ def write_plan(report: Report) -> str:
 def find_named(report: Report) -> set[int]:
     """The lines of the plan to which the page has links."""
     calls = [it.call for it in report.waits[:PAIRS]]
+    calls += [it.call for it in (report.wire_up.failures if report.wire_up else ())]
     found = set(report.wire_up.diagram.lines if report.wire_up else ())
     for detail in report.details:
         found |= detail.diagram.lines
