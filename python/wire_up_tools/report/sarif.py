@@ -1,4 +1,4 @@
-"""Writes the findings of a report as SARIF 2.1.0: a result for each group."""
+"""Writes the findings of a report as SARIF 2.1.0: a result for each cause."""
 import collections
 import json
 import os
@@ -10,8 +10,9 @@ from typing import Any, Optional
 
 from wire_up_tools.plan import Call
 from wire_up_tools.report import explaining
+from wire_up_tools.report.causes import Cause
 from wire_up_tools.report.contents import Report
-from wire_up_tools.report.findings import Finding, Group, Kind
+from wire_up_tools.report.findings import Finding, Kind
 from wire_up_tools.report.phrases import count_of
 
 SCHEMA = "https://json.schemastore.org/sarif-2.1.0.json"
@@ -62,7 +63,7 @@ def write_sarif(report: Report, folder: Optional[str]) -> str:
     source = Source(folder, find_files(folder) if folder else {})
     rules = [{"id": it, "shortDescription": {"text": said}} for it, said in RULES.items()]
     driver = {"name": "wire_up", "version": report.version, "rules": rules}
-    results = [make_result(report, it, source) for it in report.groups]
+    results = [make_result(report, it, source) for it in report.causes]
     run: dict[str, Any] = {"tool": {"driver": driver}, "results": results}
     if folder:
         run["originalUriBaseIds"] = {ROOT: {"uri": f"{make_absolute(folder)}/"}}
@@ -80,12 +81,12 @@ def find_files(folder: str) -> Paths:
     return found
 
 
-def make_result(report: Report, group: Group, source: Source) -> dict[str, Any]:
-    """The result of a group: its first finding, with its calls in the program and in the plan."""
-    one, rule = group.first, choose_rule(group.first)
+def make_result(report: Report, cause: Cause, source: Source) -> dict[str, Any]:
+    """The result of a cause: its first finding, with its calls in the program and in the plan."""
+    one, rule = cause.first, choose_rule(cause.first)
     names = {it: f"{it.name} {it.verb}" for it in one.calls}
     fix = explaining.fix(one, report.order.uses)
-    title = f"{explaining.title(one)} ({count_of(group.count, 'finding')})."
+    title = f"{explaining.title(one, cause.abouts)} ({count_of(cause.count, 'finding')})."
     in_plan = [
         {
             "id": number,

@@ -29,7 +29,7 @@ def write_text(report: Report) -> str:
     for number, detail in enumerate(report.details, 1):
         lines += ["", *write_detail(report, number, detail)]
     if report.others:
-        lines += ["", f"{count_of(len(report.others), 'other group')}: wire_up check lists all."]
+        lines += ["", f"{count_of(len(report.others), 'other mistake')}: wire_up check lists all."]
     if report.wire_up:
         lines += ["", *write_wire_up(report, report.wire_up)]
     folded = (part for line in lines for part in fold(line))
@@ -37,10 +37,11 @@ def write_text(report: Report) -> str:
 
 
 def write_detail(report: Report, number: int, detail: Detail) -> list[str]:
-    """A group of findings that is told in full."""
-    one, count = detail.group.first, verdict.say_count(detail.group)
+    """A cause that is told in full."""
+    cause = detail.cause
+    one, count = cause.first, verdict.say_count(cause)
     return [
-        f"{number}. {explaining.title(one)} ({count})",
+        f"{number}. {explaining.title(one, cause.abouts)} ({count})",
         *(f"   {describe_call(report, it)}" for it in one.calls),
         "",
         f"   {explaining.explain(one)}",

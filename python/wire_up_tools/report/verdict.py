@@ -1,6 +1,7 @@
 """The verdict of a report in words: what was found, what it means, and how large the plan is."""
+from wire_up_tools.report.causes import Cause
 from wire_up_tools.report.contents import Report
-from wire_up_tools.report.findings import COUNTED, Group, Kind
+from wire_up_tools.report.findings import COUNTED, Kind
 from wire_up_tools.report.phrases import count_of
 from wire_up_tools.report.runs import SECONDS, Outcome
 
@@ -22,7 +23,7 @@ WITHOUT_RUNS = {
     Outcome.LARGE: (
         "No runs were looked for: wire_up witness takes no plan past the limits of its version."
     ),
-    Outcome.LATE: f"No runs were looked for: {SECONDS} seconds went to other groups.",
+    Outcome.LATE: f"No runs were looked for: {SECONDS} seconds went to others.",
 }
 
 
@@ -47,8 +48,8 @@ def say_line(report: Report) -> str:
 
 def say_races(report: Report) -> str:
     """The findings, counted; nothing where there are none."""
-    count = sum(it.count for it in report.groups)
-    rewrites = sum(it.count for it in report.groups if it.first.kind is Kind.REWRITE)
+    count = sum(it.count for it in report.causes)
+    rewrites = sum(it.count for it in report.causes if it.first.kind is Kind.REWRITE)
     said = []
     if count > rewrites:
         said.append(count_of(count - rewrites, "race"))
@@ -65,9 +66,9 @@ def say_ends(report: Report) -> str:
 
 def say_verdict(report: Report) -> str:
     """The verdict in a sentence."""
-    if report.groups:
-        has_many = sum(it.count for it in report.groups) > 1
-        kinds = f"They come from {count_of(len(report.groups), 'mistake')}. " if has_many else ""
+    if report.causes:
+        has_many = sum(it.count for it in report.causes) > 1
+        kinds = f"They come from {count_of(len(report.causes), 'mistake')}. " if has_many else ""
         return f"{kinds}The replies of some calls may depend on which rank is fast."
     ends = say_ends(report).replace(", ", " and ")
     end = ends or "no call fails and no rank waits for ever"
@@ -90,6 +91,6 @@ def say_size(report: Report) -> str:
     return f"{count_of(len(plan.ranks), 'rank')} on {nodes}{in_jobs}, {calls}{kept}"
 
 
-def say_count(group: Group) -> str:
-    """How many findings a group has."""
-    return count_of(group.count, "put" if group.first.kind is Kind.REWRITE else "race")
+def say_count(cause: Cause) -> str:
+    """How many findings a cause has."""
+    return count_of(cause.count, "put" if cause.first.kind is Kind.REWRITE else "race")
