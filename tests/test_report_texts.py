@@ -40,7 +40,7 @@ SAYS = {
         "<race> app:2",
     ),
     "standstill": (
-        "no race, but 2 ranks wait for ever",
+        "no race; 2 ranks wait for ever",
         "app:0 waits for app:1, which waits for app:0.",
     ),
     "large": ("31,744 races", "takes no plan past the limits of its version"),
