@@ -210,6 +210,10 @@ COMMUNICATORS = {
     "init": Shape(after="""\
 enter_call("$function", caller);
 """),
+    "finalize": Shape(CALL + """\
+if (call.is_noted)
+    note_objects_past();
+"""),
     "make": Shape(CALL + COUNT_CHILD, """\
 note_child(&parent, result, made);
 """),

@@ -35,7 +35,7 @@ LOCAL = {
         # It fetches a message that MPI_Mprobe received.
         r"Mrecv",
         # The calls of PMIx that they make are noted.
-        r"Init|Init_thread|Finalize|(Open|Close)_port|(Publish|Unpublish|Lookup)_name",
+        r"(Open|Close)_port|(Publish|Unpublish|Lookup)_name",
     ),
     "PMIx": (
         r"\w+_string",

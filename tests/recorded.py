@@ -13,15 +13,24 @@ BOTH_VERDICTS = (
 )
 
 
+# What it says of one in which a library calls MPI past it.
+PAST_RECORDER = (
+    "wire_up-record: a verdict over this plan holds only in part: 2 processes in which plugin.so "
+    "calls MPI past the recorder: its calls aren't seen\n"
+)
+
+
 @dataclass(frozen=True)
 class Program:
     """A program that was recorded: on how many processes, how many findings its plan has, and how
-    many where MPI's order is left out. `said` is what the recorder says where it runs."""
+    many where MPI's order is left out. `said` is what the recorder says where it runs, and `words`
+    are what runs it, if that isn't its name."""
 
     processes: int
     findings: int
     without_mpi: int
     said: str = ""
+    words: tuple[str, ...] = ()
 
 
 # The small programs of `cases`, by their names.
@@ -51,7 +60,18 @@ OTHERS = {
     "mpi4py": Program(3, 0, 3),
     "sleep": Program(2, 0, 0),
 }
-SHIPPED = {**CASES, **OTHERS}
+# Programs that call MPI in another way than by its plain functions in C: each with its words.
+OTHER_WAYS = {
+    "pmpi": Program(2, 1, 1, words=("unseen", "pmpi")),
+    "barrier": Program(2, 1, 1, words=("unseen", "barrier")),
+    "looked-up": Program(2, 1, 1, words=("unseen", "looked-up")),
+    "plugin": Program(2, 0, 1, PAST_RECORDER, ("unseen", "plugin", "plugin.so")),
+    "mixed": Program(2, 1, 1, words=("mixed", "message")),
+    "mixed-barrier": Program(2, 1, 1, words=("mixed", "barrier")),
+    "fortran": Program(2, 0, 3, words=("fortran",)),
+    "profiled": Program(2, 0, 1, words=("profiled",)),
+}
+SHIPPED = {**CASES, **OTHERS, **OTHER_WAYS}
 
 
 def why_other_findings(program: str, plan: str, count: int) -> Optional[str]:

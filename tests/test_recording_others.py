@@ -27,11 +27,15 @@ class OthersTest(unittest.TestCase):
             write_file(source, b"/* MPI_Odd */ int MPI_Known(int a) {}")
             words = [sys.executable, "-B", script, "MPI", source]
             ran = subprocess.run(words, input=HEADER, capture_output=True, text=True, check=False)
-        pattern = r"(?m)^int (\w+)\(|real\((.*)\);|(forget_\w+\(.*\));"
+        pattern = r"(?m)^int (\w+)\(|result = (?:real|tool)\((.*)\);|(forget_\w+\(.*\));"
         wanted = [
-            ("MPI_Odd", "", ""),
             ("", "list, it, f", ""),
             ("", "", "forget_request(*it)"),
+            ("PMPI_Odd", "", ""),
+            ("MPI_Odd", "", ""),
+            ("", "list, it, f", ""),
+            ("", "", ""),
+            ("PMPI_Barrel", "", ""),
             ("MPI_Barrel", "", ""),
             ("", "", ""),
         ]

@@ -7,8 +7,11 @@ from typing import Optional
 
 import support
 import tapes
-from recorded import BOTH_VERDICTS, SHIPPED, why_wrong
+from recorded import BOTH_VERDICTS, PAST_RECORDER, SHIPPED, why_wrong
 from tapes import run_recorder
+
+# What is said of recordings, if the plan has MPI's order.
+SAID = {"poll": BOTH_VERDICTS, "plugin": PAST_RECORDER}
 
 
 def find_program() -> Optional[str]:
@@ -33,8 +36,8 @@ class ShippedTest(unittest.TestCase):
         words = ["-o", self.plan, "--answers", self.answers]
         words += ["--checker", self.program or "/dev/null", *([] if with_mpi else ["--no-mpi"])]
         ran = run_recorder(*words, "--from", os.path.join(tapes.SHIPPED, name))
-        says_both = name == "poll" and with_mpi and self.program
-        self.assertEqual((ran.returncode, ran.stderr), (0, BOTH_VERDICTS if says_both else ""))
+        said = SAID.get(name, "") if with_mpi and (self.program or name != "poll") else ""
+        self.assertEqual((ran.returncode, ran.stderr), (0, said))
         if self.program:
             self.assertIsNone(why_wrong(self.program, self.plan, self.answers, count))
 

@@ -34,6 +34,11 @@ bool is_mpi_found(void);
  * stands before it, and the code at `caller` calls it. */
 void *look_up_function(void **known, const char *name, const void *wrapper, void *caller);
 
+/* Finds the function of the program's tool that comes before MPI's own function of a name, and keeps
+ * it in `known`: the address of `no_tool` where there is none. */
+void *look_up_tool(void **known, const char *name, const void *wrapper, void *caller);
+extern char no_tool;
+
 /* Answers how many bytes so many elements of a type have. */
 long long count_bytes(int count, MPI_Datatype type);
 
