@@ -13,6 +13,8 @@ from tapes import PATIENCE, PROGRAMS, run_recorder
 
 # Open MPI as root must be told that this is meant.
 ENVIRONMENT = {**os.environ, "OMPI_ALLOW_RUN_AS_ROOT": "1", "OMPI_ALLOW_RUN_AS_ROOT_CONFIRM": "1"}
+# The programs that call PMIx themselves, and what compiles them.
+WITH_PMIX = {"calls": "cc", "direct": "mpicc"}
 NEEDED = ("mpicc", "mpirun", "make", "cc", "pkg-config")
 # `mpirun` may mix the lines of two processes where one is long, in about one run of six.
 TRIES = 10
@@ -95,10 +97,10 @@ class LiveTest(unittest.TestCase):
         if os.path.exists(path):
             return path
         words = ["mpicc", "-g", "-o", path, source]
-        if name == "calls":
+        if name in WITH_PMIX:
             asked = ["pkg-config", "--cflags", "--libs", "pmix"]
             flags = run_plainly(asked).stdout.split()
-            words = ["cc", "-o", path, source, *flags, "-pthread"]
+            words = [WITH_PMIX[name], "-g", "-o", path, source, *flags, "-pthread"]
         subprocess.run(words, check=True, capture_output=True)
         return path
 
