@@ -78,9 +78,19 @@ class Report:
         return self.wire_up.waits if self.wire_up else ()
 
     @property
+    def cut_off(self) -> Sequence[str]:
+        """Where the run was cut off, by the head of a recorded plan."""
+        return self.plan.list_in_head(words.CUT_OFF)
+
+    @property
     def ordered_more(self) -> Sequence[str]:
-        """Why the verdict holds only in part, by the head of a recorded plan."""
+        """What is more ordered than the program, by the head of a recorded plan."""
         return self.plan.list_in_head(words.MORE_ORDERED)
+
+    @property
+    def holds_in_part(self) -> bool:
+        """Whether the verdict holds only in part."""
+        return bool(self.cut_off or self.ordered_more)
 
     @property
     def left_out(self) -> Sequence[str]:

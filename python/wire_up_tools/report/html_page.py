@@ -63,12 +63,7 @@ def write_header(report: Report) -> str:
         f'<span class="badge">{badge}</span></div><p>{escape(verdict.say_verdict(report))}</p>'
         f'<p class="meta">{escape(meta)}</p>',
     ]
-    if report.ordered_more:
-        why = escape("; ".join(report.ordered_more))
-        parts.append(
-            '<p class="part">This holds only in part. The plan is more ordered than the program, '
-            f"so a race can be missed: {why}.</p>"
-        )
+    parts += [f'<p class="part">{escape(it)}</p>' for it in verdict.say_parts(report)]
     parts += [write_recording(report)] if report.plan.is_recorded else []
     parts += [write_contents(report)] if len(report.groups) > 1 else []
     return "\n".join([*parts, "</header>"])
@@ -79,7 +74,8 @@ def choose_badge(report: Report) -> tuple[str, str]:
     if report.groups:
         has_race = any(it.first.kind is not Kind.REWRITE for it in report.groups)
         return "found", "races found" if has_race else "keys put again"
-    return ("waits", "ranks wait for ever") if report.waits else ("quiet", "no race")
+    kind, badge = ("waits", "ranks wait for ever") if report.waits else ("quiet", "no race")
+    return kind, f"{badge}, in part" if report.holds_in_part else badge
 
 
 def write_recording(report: Report) -> str:

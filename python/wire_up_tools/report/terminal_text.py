@@ -22,9 +22,7 @@ def write_text(report: Report) -> str:
         verdict.say_verdict(report),
         f"{verdict.say_size(report)}; checked by wire_up {report.version}",
     ]
-    if report.ordered_more:
-        why = "; ".join(report.ordered_more)
-        lines.append(f"This holds only in part. A race can be missed: {why}.")
+    lines += verdict.say_parts(report)
     if report.plan.is_recorded:
         lines.append(f"A recording. Left out: {'; '.join(report.left_out) or 'nothing'}.")
     for number, detail in enumerate(report.details, 1):

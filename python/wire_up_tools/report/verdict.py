@@ -27,6 +27,29 @@ WITHOUT_RUNS = {
 
 
 def say_found(report: Report) -> str:
+    """What was found, counted, and whether that holds only in part."""
+    in_part = ", in part" if report.holds_in_part else ""
+    cut_off = ": the run was cut off" if report.cut_off else ""
+    return f"{count_found(report)}{in_part}{cut_off}"
+
+
+def say_parts(report: Report) -> list[str]:
+    """Why the verdict holds only in part."""
+    said = []
+    if report.cut_off:
+        said.append(
+            "The run was cut off, so this holds only in part: what would have followed isn't "
+            f"known: {'; '.join(report.cut_off)}."
+        )
+    if report.ordered_more:
+        said.append(
+            "This holds only in part. The plan is more ordered than the program, so a race can be "
+            f"missed: {'; '.join(report.ordered_more)}."
+        )
+    return said
+
+
+def count_found(report: Report) -> str:
     """What was found, counted."""
     count = sum(it.count for it in report.groups)
     rewrites = sum(it.count for it in report.groups if it.first.kind is Kind.REWRITE)
