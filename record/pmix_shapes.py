@@ -23,7 +23,7 @@ def shape_calling_back(note: str, ends: str) -> Shape:
     """A call that doesn't block: the recorder's callback for calls that end so stands in place of
     the program's."""
     keep = f"struct pending *pending = await_{ends}(number, then, data);\n"
-    return Shape(write_begin("CALLS_BACK", note) + keep, """\
+    return Shape(write_begin("find_form(caller)", note) + keep, """\
 note_begun(number, result, pending);
 """, {"then": f"pending ? end_{ends} : then", "data": "pending ? pending : data"})
 

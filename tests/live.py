@@ -17,6 +17,7 @@ ENVIRONMENT = {**os.environ, "OMPI_ALLOW_RUN_AS_ROOT": "1", "OMPI_ALLOW_RUN_AS_R
 # they are put, where a program finds the libraries.
 COMPILED = {
     "calls": ("cc", "-pthread", "calls.c"),
+    "direct": ("mpicc", "-pthread", "direct.c"),
     "plugin.so": ("mpicc", "-shared", "-fPIC", "plugin.c"),
     "libprofiler.so": ("mpicc", "-shared", "-fPIC", "profiler.c"),
     "profiled": ("mpicc", "told.c", "-L{folder}", "-Wl,-rpath,{folder}", "-lprofiler"),
@@ -24,6 +25,8 @@ COMPILED = {
     "fortran": ("mpifort", "-J{folder}", "fortran.f90"),
 }
 SOURCES = (".c", ".f90")
+# The programs that call PMIx themselves.
+WITH_PMIX = ("calls", "direct")
 NEEDED = ("mpicc", "mpirun", "make", "cc", "pkg-config")
 # `mpirun` may mix the lines of two processes where one is long, in about one run of six.
 TRIES = 10
@@ -107,7 +110,7 @@ class LiveTest(unittest.TestCase):
         compiler, *words = COMPILED.get(name, ("mpicc", f"{name}.c"))
         words = [it.format(folder=self.folder.name) for it in words]
         words = [os.path.join(PROGRAMS, it) if it.endswith(SOURCES) else it for it in words]
-        if name == "calls":
+        if name in WITH_PMIX:
             words += run_plainly(["pkg-config", "--cflags", "--libs", "pmix"]).stdout.split()
         subprocess.run([compiler, "-g", "-o", path, *words], check=True, capture_output=True)
         return path

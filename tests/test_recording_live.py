@@ -17,7 +17,16 @@ from collections.abc import Iterator, Mapping, Sequence
 from typing import Optional, Union
 
 from live import ENVIRONMENT, LiveTest, mpirun
-from recorded import CASES, OTHER_WAYS, OTHERS, Program, why_other_findings, why_wrong
+from recorded import (
+    CASES,
+    DIRECT,
+    IN_PART,
+    OTHER_WAYS,
+    OTHERS,
+    Program,
+    why_other_findings,
+    why_wrong,
+)
 from tapes import COMMAND, PATIENCE, PROGRAMS, ask_program, read_file, run_recorder, read_scripts
 from wire_up_tools.limits import VERSION_1
 from wire_up_tools.record.calls import Collective, CollectiveEnd, Sources
@@ -167,12 +176,12 @@ class CallsTest(LiveTest):
 
 
 class CasesTest(LiveTest):
-    """The small programs of `cases`."""
+    """The small programs of `cases` and `direct`."""
 
-    def hold(self, name: str, of: Program) -> None:
+    def hold(self, name: str, of: Program, compiled: str = "cases") -> None:
         """Tests one of them."""
         words = ["--checker", self.program or "/dev/null", "--answers", self.answers]
-        ran = self.record(*words, *mpirun(of.processes, self.compile("cases"), name))
+        ran = self.record(*words, *mpirun(of.processes, self.compile(compiled), name))
         self.assertEqual((ran.returncode, ran.stdout), (0, f"{name} done\n"), ran.stderr[:300])
         said = "" if name == "poll" and not self.program else of.said
         self.assertIn(said, ran.stderr)
@@ -185,6 +194,11 @@ class CasesTest(LiveTest):
         for name, of in CASES.items():
             with self.subTest(name):
                 self.hold(name, of)
+
+    def test_direct(self) -> None:
+        for name, of in DIRECT.items():
+            with self.subTest(name):
+                self.hold(name, of, "direct")
 
     def test_where(self) -> None:
         """The calls of a race lead to their lines."""
@@ -232,7 +246,7 @@ class OtherWaysTest(LiveTest):
         words = [self.compile(it) if it.endswith(".so") else it for it in words]
         run = mpirun(of.processes, self.compile(path), *words)
         ran = self.record_alike(run, "--answers", self.answers)
-        self.assertEqual((ran.returncode, ran.stderr), (0, of.said))
+        self.assertEqual((ran.returncode, ran.stderr), (0, of.says_in_part))
         if self.program:
             self.assertIsNone(why_wrong(self.program, self.plan, self.answers, of.findings))
 
@@ -325,6 +339,25 @@ class StatusesTest(LiveTest):
             with self.subTest(number.name):
                 self.hand_on(number)
 
+    def test_a_launcher_that_is_killed(self) -> None:
+        """What was recorded by then becomes a plan, which says that the run was cut off."""
+        run = " ".join(mpirun(2, self.compile("cases"), "sleep"))
+        number = os.path.join(self.room, "number")
+        words = ["-o", self.plan, "sh", "-c", f"echo $$ > {number}; exec {run}"]
+        with subprocess.Popen(
+            [sys.executable, COMMAND, *words],
+            stdout=subprocess.DEVNULL,
+            stderr=subprocess.PIPE,
+            text=True,
+            env=ENVIRONMENT,
+        ) as ran:
+            wait_for_recordings(self.room, 2)
+            os.kill(int(read_file(number)), signal.SIGKILL)
+            said = ran.communicate(timeout=PATIENCE)[1]
+        self.assertEqual(ran.returncode, 128 + signal.SIGKILL, said)
+        self.assertIn(f"the run was cut off: {IN_PART}", said)
+        self.assertIn("# The run was cut off", read_file(self.plan))
+
     def hand_on(self, number: signal.Signals) -> None:
         """Tests a signal."""
         run = mpirun(2, self.compile("cases"), "sleep")
@@ -345,6 +378,7 @@ class StatusesTest(LiveTest):
             self.assertNotIn(ran.returncode, (0, 125))
             self.assertEqual(os.listdir(here), ["plan"])
             self.assertIn("the command ended", said)
+            self.assertIn(f"the run was cut off: {IN_PART}", said)
 
 
 class MemoryTest(LiveTest):

@@ -7,11 +7,8 @@ from typing import Optional
 
 import support
 import tapes
-from recorded import BOTH_VERDICTS, PAST_RECORDER, SHIPPED, why_wrong
+from recorded import BOTH_VERDICTS, SHIPPED, why_wrong
 from tapes import run_recorder
-
-# What is said of recordings, if the plan has MPI's order.
-SAID = {"poll": BOTH_VERDICTS, "plugin": PAST_RECORDER}
 
 
 def find_program() -> Optional[str]:
@@ -33,10 +30,13 @@ class ShippedTest(unittest.TestCase):
 
     def hold(self, name: str, with_mpi: bool, count: int) -> None:
         """Tests the plan of a recording, with or without MPI's order."""
+        is_without_doubt = name == "plugin" and not with_mpi
+        said = "" if is_without_doubt else SHIPPED[name].says_in_part
         words = ["-o", self.plan, "--answers", self.answers]
         words += ["--checker", self.program or "/dev/null", *([] if with_mpi else ["--no-mpi"])]
         ran = run_recorder(*words, "--from", os.path.join(tapes.SHIPPED, name))
-        said = SAID.get(name, "") if with_mpi and (self.program or name != "poll") else ""
+        says_both = name == "poll" and with_mpi and self.program
+        said += BOTH_VERDICTS if says_both else ""
         self.assertEqual((ran.returncode, ran.stderr), (0, said))
         if self.program:
             self.assertIsNone(why_wrong(self.program, self.plan, self.answers, count))

@@ -15,6 +15,7 @@ PLACE_COMMENT = "# at "
 UNKNOWN_PLACE = "an unknown place"
 # How the head of a recorded plan begins, and the titles of the lists in it.
 RECORDED_BY = "Recorded by wire_up-record"
+CUT_OFF = "The run was cut off, so that a verdict holds only in part:"
 LEFT_OUT = "Left out:"
 MORE_ORDERED = "More ordered than the program, so that a race can be missed:"
 WRITTEN_OTHERWISE = "Written otherwise:"

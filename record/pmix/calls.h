@@ -7,9 +7,11 @@
 
 #include <pmix.h>
 
-/* How a call waits for its end. */
+/* How a caller learns that a call ended: it waits in it, or gets a callback. A library of MPI waits
+ * for that; whether the program does isn't known. */
 #define BLOCKS "blocks"
-#define CALLS_BACK "nb"
+#define CALLS_LIBRARY "nb"
+#define CALLS_PROGRAM "own"
 
 /* A call that is noted: how it waits, and from where in the program it comes. */
 struct call {

@@ -77,6 +77,15 @@ class Pair:
 Directives = tuple[Pair, ...]
 
 
+class Ending(enum.Enum):
+    """How a caller learns that a call has ended: it waits in the call, or gets a callback. Only a
+    library of MPI is known to wait for its callbacks."""
+
+    BLOCKS = "blocks"
+    CALLS_LIBRARY = "nb"
+    CALLS_PROGRAM = "own"
+
+
 @dataclass(frozen=True)
 class Put:
     """A put; a scope that plans don't have is `other`."""
@@ -99,7 +108,7 @@ class Fence:
     """A fence over processes: over none, if the call named none."""
 
     verb: ClassVar[str] = "fence"
-    blocks: bool
+    ending: Ending
     names: tuple[ProcessName, ...]
     directives: Directives
 
@@ -109,7 +118,7 @@ class Get:
     """A get of keys of a process; of every key, or of no process, where that is None."""
 
     verb: ClassVar[str] = "get"
-    blocks: bool
+    ending: Ending
     owner: Optional[ProcessName]
     keys: Optional[tuple[bytes, ...]]
     directives: Directives
@@ -120,7 +129,7 @@ class Publish:
     """A publish of names with their values."""
 
     verb: ClassVar[str] = "publish"
-    blocks: bool
+    ending: Ending
     pairs: tuple[Pair, ...]
     directives: Directives
 
@@ -130,7 +139,7 @@ class Lookup:
     """A lookup of names; of every name, where that is None."""
 
     verb: ClassVar[str] = "lookup"
-    blocks: bool
+    ending: Ending
     keys: Optional[tuple[bytes, ...]]
     directives: Directives
 
@@ -140,7 +149,7 @@ class Unpublish:
     """An unpublish of names; of every name, where that is None."""
 
     verb: ClassVar[str] = "unpublish"
-    blocks: bool
+    ending: Ending
     keys: Optional[tuple[bytes, ...]]
     directives: Directives
 

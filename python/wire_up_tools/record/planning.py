@@ -66,6 +66,7 @@ def refuse_waiting(draft: Draft) -> None:
         for number, line in enumerate(lines, 1):
             if line.call.end and line not in passed:
                 raise Refused(
+                    f"{process.recording.path}: line {line.call.begins}: "
                     f"call {number} of {process.name}, `{line.words}`, ended, "
                     "but in a plan of these recordings it would wait for ever, "
                     "or stand after a call that does"

@@ -24,7 +24,13 @@ from wire_up_tools.record.calls import (
 from wire_up_tools.record.directives import AT_ONCE, WAIT, has_directive
 from wire_up_tools.record.draft import Line, Part
 from wire_up_tools.record.names import Spelling, is_reserved_by_pmix
-from wire_up_tools.record.notes import Notes, note_directives, note_overlaps, note_recording
+from wire_up_tools.record.notes import (
+    Notes,
+    note_directives,
+    note_overlaps,
+    note_recording,
+    note_unawaited,
+)
 from wire_up_tools.record.processes import Process, Processes
 from wire_up_tools.record.puts import OTHER_SCOPE, PutsByProcess
 
@@ -246,7 +252,9 @@ def make_lines(processes: Processes, spelling: Spelling, with_mpi: bool) -> Pmix
         recording = process.recording
         note_recording(recording, notes)
         of_pmix = [it for it in recording.calls if not isinstance(it.action, MPI_CALLS)]
-        note_overlaps(recording.calls if with_mpi else of_pmix, notes)
+        noted = recording.calls if with_mpi else of_pmix
+        note_overlaps(noted, notes)
+        note_unawaited(noted, notes)
         lines = ProcessLines(process, processes, spelling, puts, part, notes)
         for call in of_pmix:
             lines.take(call)

@@ -25,7 +25,8 @@ ENDING = ".recording"
 LAST_DATE = 253402300799
 
 NUMBER = r"\d{1,18}"
-# The lines at the head, and what is said where one is another.
+# The lines at the head, and what is said where one is another. The second names the process.
+PROCESS_LINE = 2
 HEAD = (
     (r"wire_up-recording 1", "isn't the first line of a recording"),
     (rf"process ({WORD}) (\d{{1,10}}) ({WORD}) {NUMBER}", "doesn't say which process it is"),
@@ -53,10 +54,11 @@ Place = Union[Address, str]
 
 @dataclass(frozen=True)
 class World:
-    """The rank of a process in MPI_COMM_WORLD, and how many it has."""
+    """The rank of a process in MPI_COMM_WORLD, and how many it has; and the line that says so."""
 
     rank: int
     size: int
+    line: int
 
 
 @dataclass(frozen=True)
@@ -188,7 +190,7 @@ class Records:
             elif sign == "-":
                 self.end(call, number, text)
             else:
-                self.note(text)
+                self.note(number, text)
         except (ValueError, KeyError):
             refuse(self.path, number, NO_RECORD)
 
@@ -208,8 +210,8 @@ class Records:
         end = read_end(opened.action.verb, text)
         self.calls[opened.index] = opened.finish(number, end)
 
-    def note(self, text: str) -> None:
-        """Takes what isn't a call. Raises ValueError or KeyError."""
+    def note(self, number: int, text: str) -> None:
+        """Takes what isn't a call, of a line. Raises ValueError or KeyError."""
         verb = text.split(" ", 1)[0]
         groups = match(PLAIN[verb], text)
         self.has_finalized = verb == "finalize"
@@ -218,7 +220,7 @@ class Records:
         elif verb == "unseen":
             self.unseen[read_unseen(groups)] += 1
         elif verb == "world":
-            self.world = World(int(groups[0]), int(groups[1]))
+            self.world = World(int(groups[0]), int(groups[1]), number)
         elif verb in ("comm", "inter"):
             self.communicators[int(groups[0])] = read_communicator(groups)
         elif verb == "place":

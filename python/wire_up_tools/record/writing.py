@@ -11,6 +11,7 @@ from wire_up_tools.record.planning import Plan
 from wire_up_tools.record.processes import Process
 from wire_up_tools.record.recordings import refuse_past
 from wire_up_tools.words import (
+    CUT_OFF,
     LEFT_OUT,
     LEFT_TO_LUCK,
     MORE_ORDERED,
@@ -96,12 +97,13 @@ def say_notes(plan: Plan) -> Iterator[str]:
     """What the plan can't say, in lists."""
     notes = plan.notes
     lists = (
+        (CUT_OFF, notes.cut_off),
         (LEFT_OUT, notes.left_out),
         (MORE_ORDERED, notes.more_ordered),
         (WRITTEN_OTHERWISE, notes.otherwise),
     )
     for title, counted in lists:
-        if counted:
+        if any(counted.values()):
             yield f"# {title}"
             yield from (f"#   {count} {what}" for what, count in sorted(counted.items()) if count)
 

@@ -48,7 +48,8 @@ def say_polled(plan: Plan) -> Optional[str]:
 
 def say_cut_off(plan: Plan) -> Optional[str]:
     """How many recordings were cut off."""
-    listed = plan.list_in_head(words.LEFT_OUT) + plan.list_in_head(words.WRITTEN_OTHERWISE)
+    heads = (words.CUT_OFF, words.LEFT_OUT, words.WRITTEN_OTHERWISE)
+    listed = (it for head in heads for it in plan.list_in_head(head))
     found = (CUT_OFF.fullmatch(it) for it in listed)
     count = max((int(it[1]) for it in found if it), default=0)
     if not count:
