@@ -32,14 +32,8 @@ SAYS = {
         "Left out: 36 gets of a wildcard rank",
         "use lookup-wait in place of lookup",
     ),
-    "recorded-sleep": (
-        "no race, in part: the run was cut off",
-        "what would have followed isn't known: 2 processes whose recordings end before",
-    ),
-    "recorded-unwaited": (
-        "no race, in part",
-        "a race can be missed: 1 calls of the program that don't block",
-    ),
+    "recorded-sleep": ("no race seen, in part (2 recordings are cut off: what came then",),
+    "recorded-unwaited": ("no race seen, in part (1 calls of the program that don't block",),
     "early-get": ("early-get.plan:7", "use get in place of get-now", "<race> app:1"),
     "foreign-fence": ("Let the reader meet in the fence itself", "3 fence: comes <race> app:1"),
     "kept-card": (
