@@ -115,7 +115,7 @@ mark_at pattern coding cast p i k is =
     elim (slice_get_cases (marks_of pattern coding cast p) i).1 [ inl c ↦ (c.0, c.2) | inr c ↦ absurd (let past = c.0 in omega (arith, within, a, b, past)) ]
 
 -- a call on a name is of that name, or takes all away
-name_back : (to : Renaming) (k : Kind) (name : ℕ) → name_of (image_kind to k) ≡ Some name → (own : ℕ) × (name_of k ≡ Some own) × (to.name own ≡ name)
+pub name_back : (to : Renaming) (k : Kind) (name : ℕ) → name_of (image_kind to k) ≡ Some name → (own : ℕ) × (name_of k ≡ Some own) × (to.name own ≡ name)
 name_back to (Publish own) name h = (own, refl, same_Some _ _ h)
 name_back to (Lookup own) name h = (own, refl, same_Some _ _ h)
 name_back to (LookupWait own) name h = (own, refl, same_Some _ _ h)

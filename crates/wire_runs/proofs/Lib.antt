@@ -65,3 +65,4 @@ pub mod FewerFindings
 pub mod FewerDeliveries
 pub mod SmallInstances
 pub mod Codings
+pub mod Renumbered

@@ -1,10 +1,10 @@
 -- A plan that is settled wherever at most two of its processes share a node, is settled on all nodes.
-use Rattle.std.proofs.Common.{◌≡◌, ℕ, zero, suc, ◌+◌, ◌<◌, List, [], ◌∷◌, length, ◌||◌, Option, Some, None, inl, inr, refl, sym, ap, ◌∙◌, arith, eq-eqb, eqb-true, ne_eqb}
+use Rattle.std.proofs.Common.{◌≡◌, ℕ, zero, suc, ◌<◌, List, length, ◌||◌, Option, Some, None, inl, inr, refl, sym, ap, ◌∙◌, arith, eq-eqb, eqb-true, ne_eqb}
 use Rattle.std.specs.Prelude.{option_map, slice_get}
 use Rattle.std.specs.List.{list_all}
 use Rattle.std.proofs.lemmas.Bool.{cond-true, cond-false, cases_eq, true≢false}
 use Rattle.wire_runs.specs.Plan.{Put, Commit, Arrive, Leave, Get, GetNow, Publish, Lookup, LookupWait, Unpublish, Fixed}
-use Rattle.wire_runs.specs.Plan.{Plan, Process, Event, Kind, UnpublishAll, kind, kinds, kind_at, event_count, process_count, process_kinds, process_node, node_of}
+use Rattle.wire_runs.specs.Plan.{Plan, Event, Kind, UnpublishAll, kind, kinds, kind_at, event_count, process_count, node_of}
 use Rattle.wire_runs.specs.Puts.{own_put, stored_put, count_puts}
 use Rattle.wire_runs.specs.Fences.{arrivals_with, arrivals, collects_with, collects}
 use Rattle.wire_runs.specs.Names.{is_publish, publishes, takes_name}

@@ -82,15 +82,15 @@ pub instance_at : (pattern : Pattern) (coding : Coding) (cast : Cast) (p i : ℕ
 unfolding kind_at
 instance_at pattern coding cast p i = ap (λ ks. slice_get ks i) (instance_kinds pattern coding cast p)
 
-publish_back : (to : Renaming) (k : Kind) (name : ℕ) → image_kind to k ≡ Publish name → (own : ℕ) × (to.name own ≡ name) × (k ≡ Publish own)
+pub publish_back : (to : Renaming) (k : Kind) (name : ℕ) → image_kind to k ≡ Publish name → (own : ℕ) × (to.name own ≡ name) × (k ≡ Publish own)
 publish_back to (Publish own) name h = (own, (let s : Some (Publish (to.name own)) ≡ Some (Publish name) = ap Some h in cc), refl)
 publish_back to _ name h = cc
 
-unpublish_back : (to : Renaming) (k : Kind) (name : ℕ) → image_kind to k ≡ Unpublish name → (own : ℕ) × (to.name own ≡ name) × (k ≡ Unpublish own)
+pub unpublish_back : (to : Renaming) (k : Kind) (name : ℕ) → image_kind to k ≡ Unpublish name → (own : ℕ) × (to.name own ≡ name) × (k ≡ Unpublish own)
 unpublish_back to (Unpublish own) name h = (own, (let s : Some (Unpublish (to.name own)) ≡ Some (Unpublish name) = ap Some h in cc), refl)
 unpublish_back to _ name h = cc
 
-all_back : (to : Renaming) (k : Kind) → image_kind to k ≡ UnpublishAll → k ≡ UnpublishAll
+pub all_back : (to : Renaming) (k : Kind) → image_kind to k ≡ UnpublishAll → k ≡ UnpublishAll
 all_back to UnpublishAll h = refl
 all_back to _ h = cc
 

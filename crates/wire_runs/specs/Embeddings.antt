@@ -1,6 +1,6 @@
 -- Embeddings: a plan, called the small one, stands inside another, the large one, so that what the checker finds in the
 -- large one among the images of the small one's events it finds in the small one.
-use Rattle.std.specs.Prelude.{◌≡◌, ℕ, suc, ◌<◌, ◌≤◌, List, [], ◌∷◌, true, false, Option, Some, None, option_map}
+use Rattle.std.specs.Prelude.{◌≡◌, ℕ, suc, ◌<◌, ◌≤◌, List, true, false, Option, Some, None, option_map}
 use Rattle.std.specs.Prelude.{◌==◌, if◌then◌else◌}
 use Rattle.wire_runs.specs.Plan.{Plan, Event, Kind, Put, Commit, Arrive, Leave, Get, GetNow, Publish, Lookup}
 use Rattle.wire_runs.specs.Plan.{LookupWait, Unpublish, UnpublishAll, Fixed}

@@ -16,6 +16,7 @@ pub mod Embeddings
 pub mod Parts
 pub mod Patterns
 pub mod Restrictions
+pub mod Renamed
 pub mod Laws
 pub mod Placings
 pub mod FindingsAnywhere

@@ -4,6 +4,7 @@
 ghost use Rattle.wire_runs.specs.Embeddings.{EmbeddingsKeepOrder, EmbeddingsKeepFindings, PairsSuffice};
 ghost use Rattle.wire_runs.specs.Parts.{PartsEmbed, ReadsKeepFindings};
 ghost use Rattle.wire_runs.specs.Patterns.{Coding};
+ghost use Rattle.wire_runs.specs.Renamed.{RenumberedSettle};
 ghost use Rattle.wire_runs.specs.Restrictions.{RestrictionsEmbed, FewerSettle, ThreeSuffice};
 
 /// Where a small plan stands in a large one, what is before an event whose image is live has its image
@@ -32,6 +33,11 @@ pub fn parts_embed()
 /// More get-nows and lookups take no finding away.
 pub fn reads_keep_findings()
     ensures { ReadsKeepFindings }
+{}
+
+/// A plan under other numbers of its keys and names is settled where the plan is.
+pub fn renumbered_settle()
+    ensures { RenumberedSettle }
 {}
 
 /// There is a coding: a number for each base with each list of processes, and back.
