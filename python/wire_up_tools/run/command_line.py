@@ -10,11 +10,27 @@ from typing import Optional
 
 from wire_up_tools.failures import Refused, Unusable, explain
 from wire_up_tools.options import Option, Parser, describe
-from wire_up_tools.run.tasks import NAME, Choices, PlanRequest, Request, WitnessRequest, do, say
+from wire_up_tools.run.libraries.traits import LIBRARIES
+from wire_up_tools.run.tasks import (
+    NAME,
+    Choices,
+    PlanRequest,
+    PredictRequest,
+    Request,
+    ShowRequest,
+    SuiteRequest,
+    WitnessRequest,
+    do,
+    say,
+)
 
 FAILED, BY_SIGNAL = 125, 128
 CAUGHT = (signal.SIGINT, signal.SIGTERM, signal.SIGHUP, signal.SIGQUIT)
 QUIET, START = Choices().quiet, Choices().start
+# How often each plan of the suite is run, and how many at a time.
+SUITE_TIMES, AT_A_TIME = 2, 2
+# The options for the suite alone.
+OF_SUITE = ("show", "table", "at_a_time")
 
 ABOUT = "Runs a plan on a real PMIx library, and compares what it replies with the rules of \
 `wire_up`."
@@ -28,6 +44,15 @@ USES = (
     (
         "[OPTION..] --witness P N Q M PLAN",
         "runs both orders of the race of two calls, and says whether the library shows it",
+    ),
+    (
+        "[OPTION..] --suite [NAME..]",
+        "runs the conformance suite, or its plans and rules of these names, and says which rules "
+        "the library keeps",
+    ),
+    (
+        "[OPTION..] --predict LIBRARY PLAN",
+        f"says without a library which calls one answers otherwise: {', '.join(LIBRARIES)}",
     ),
 )
 OPTIONS = (
@@ -60,6 +85,11 @@ OPTIONS = (
     Option(
         "--start", "SECONDS", f"how long the ranks may take to start; else {START:g} seconds"
     ),
+    Option(
+        "--at-a-time", "COUNT", f"how many plans of the suite run at a time; else {AT_A_TIME}"
+    ),
+    Option("--table", "FILE", "writes what the suite gave also as a table"),
+    Option("--show", "NAME", "writes a plan of the suite in place of running any"),
     Option("--json", "", "writes JSON in place of lines"),
     Option("--junit", "FILE", "writes JUnit XML besides, for a CI server"),
     Option(
@@ -78,11 +108,12 @@ BELOW = (
 
 
 class RunParser(Parser):
-    """The options, and one that takes all that follows."""
+    """The options, and those that take all that follows."""
 
     def __init__(self) -> None:
         super().__init__(OPTIONS)
-        self.add_argument("--witness", nargs=argparse.REMAINDER)
+        for it in ("--witness", "--suite", "--predict"):
+            self.add_argument(it, nargs=argparse.REMAINDER)
 
 
 def write_help() -> str:
@@ -91,10 +122,10 @@ def write_help() -> str:
     return f"{ABOUT}\n\n{uses}\n{describe(OPTIONS)}\n{BELOW}"
 
 
-def read_count(option: str, word: Optional[str]) -> int:
-    """A count from 1; 1 where there is none. Raises Unusable."""
+def read_count(option: str, word: Optional[str], usual: int = 1) -> int:
+    """A count from 1; the usual one where there is none. Raises Unusable."""
     if word is None:
-        return 1
+        return usual
     if not re.fullmatch(r"[1-9]\d{0,8}", word):
         raise Unusable(f"{option} needs a number from 1")
     return int(word)
@@ -131,17 +162,52 @@ def hold_alone(found: argparse.Namespace, task: str, names: Sequence[str]) -> No
     """Raises Unusable where an option stands that doesn't go with a task."""
     for it in names:
         if getattr(found, it):
-            raise Unusable(f"--{it} doesn't go with {task}")
+            name = "a plan" if it == "rest" else f"--{it.replace('_', '-')}"
+            raise Unusable(f"{name} doesn't go with {task}")
+
+
+def read_witness_request(found: argparse.Namespace) -> WitnessRequest:
+    """What `--witness` asks for. Raises Unusable."""
+    hold_alone(found, "--witness", ("times", "order", "free", "junit", *OF_SUITE))
+    words = [*found.witness, *found.rest]
+    if len(words) != 5:
+        raise Unusable("--witness needs two calls and a plan: P N Q M PLAN")
+    return WitnessRequest(words[4], words[:4])
+
+
+def read_suite_request(found: argparse.Namespace) -> SuiteRequest:
+    """What `--suite` asks for. Raises Unusable."""
+    hold_alone(found, "--suite", ("order", "free", "show"))
+    times = read_count("--times", found.times, SUITE_TIMES)
+    at_a_time = read_count("--at-a-time", found.at_a_time, AT_A_TIME)
+    names = [*found.suite, *found.rest]
+    option = next((it for it in names if it.startswith("-")), None)
+    if option:
+        raise Unusable(f"{option} stands behind --suite: options come before it")
+    return SuiteRequest(names, times, at_a_time, found.table)
+
+
+def read_predict_request(found: argparse.Namespace) -> PredictRequest:
+    """What `--predict` asks for. Raises Unusable."""
+    hold_alone(found, "--predict", ("times", "order", "free", "junit", *OF_SUITE))
+    words = [*found.predict, *found.rest]
+    if len(words) != 2:
+        raise Unusable("--predict needs a library and a plan")
+    return PredictRequest(*words)
 
 
 def read_request(found: argparse.Namespace) -> Request:
     """What a command line asks for. Raises Unusable."""
     if found.witness is not None:
-        hold_alone(found, "--witness", ("times", "order", "free", "junit"))
-        words = [*found.witness, *found.rest]
-        if len(words) != 5:
-            raise Unusable("--witness needs two calls and a plan: P N Q M PLAN")
-        return WitnessRequest(words[4], words[:4])
+        return read_witness_request(found)
+    if found.suite is not None:
+        return read_suite_request(found)
+    if found.predict is not None:
+        return read_predict_request(found)
+    if found.show is not None:
+        hold_alone(found, "--show", ("rest",))
+        return ShowRequest(found.show)
+    hold_alone(found, "a plan", ("table", "at_a_time"))
     if len(found.rest) != 1:
         raise Unusable("one plan at a time" if found.rest else "which plan?")
     if found.order and found.free:

@@ -10,12 +10,13 @@ from wire_up_tools.failures import Refused
 from wire_up_tools.run.reports import Report, read_report
 
 SETTLED, FOUND = 0, 1
-SHOWN = "shown "
+SHOWN, RACE = "shown ", "race "
 
 
 @dataclass(frozen=True)
 class Expected:
-    """The report of the rules; where the plan has findings, that of one order, which it has."""
+    """The report of the rules; where the plan has races, that of one order, which it has. A plan
+    whose findings are rewrites alone is run freely."""
 
     report: Report
     order: Optional[Sequence[str]] = None
@@ -55,10 +56,10 @@ def expect(checker: Checker, plan: bytes) -> Expected:
     last = said.split()[-1:]
     if not last or not last[0].isdigit():
         raise Refused("wire_up ended with status 1, and told no findings")
-    findings = int(last[0])
+    findings, is_racy = int(last[0]), any(it.startswith(RACE) for it in said.splitlines())
     said = hold_answered(checker.ask("replay", "--anyway", plan=plan), SETTLED, FOUND)
     before, _, after = said.removeprefix("unsettled\n").partition("\norder ")
-    order = after.splitlines()[1:]
+    order = after.splitlines()[1:] if is_racy else None
     return Expected(read_report(before), order, findings)
 
 

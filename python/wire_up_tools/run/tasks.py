@@ -1,4 +1,5 @@
 """The tasks of `wire_up-run`: what users can ask it for, and what it does then."""
+import datetime
 import os
 import shutil
 import sys
@@ -13,8 +14,23 @@ from wire_up_tools.plan import Plan, read_plan
 from wire_up_tools.run import answers, fake_nodes
 from wire_up_tools.run.expected import Expected, ask_witness, expect, expect_in_order
 from wire_up_tools.run.launchers import find_launcher, read_command
+from wire_up_tools.run.libraries.predicting import explain_differences
+from wire_up_tools.run.libraries.traits import LIBRARIES, find_library
+from wire_up_tools.run.libraries.writing import (
+    Predictions,
+    write_predictions,
+    write_predictions_json,
+)
 from wire_up_tools.run.live import Outcome, Setting, Task, is_among_fake_nodes, run_plan
 from wire_up_tools.run.reports import Line
+from wire_up_tools.run.suite import Kind, Suite, choose_plans, read_suite
+from wire_up_tools.run.suite_answers import (
+    SuiteResult,
+    list_suite_cases,
+    write_suite,
+    write_suite_json,
+)
+from wire_up_tools.run.tables import write_table
 
 NAME = "wire_up-run"
 SAME, DIFFERENT = 0, 1
@@ -57,7 +73,33 @@ class WitnessRequest:
     words: Sequence[str]
 
 
-Request = Union[PlanRequest, WitnessRequest]
+@dataclass(frozen=True)
+class SuiteRequest:
+    """Asks for the suite: plans or rules by their names, how often each plan is run, how many at a
+    time, and where the table goes, if it is written."""
+
+    names: Sequence[str]
+    times: int
+    at_a_time: int
+    table: Optional[str] = None
+
+
+@dataclass(frozen=True)
+class ShowRequest:
+    """Asks for the text of a plan of the suite."""
+
+    name: str
+
+
+@dataclass(frozen=True)
+class PredictRequest:
+    """Asks what a library is known to reply to a plan."""
+
+    library: str
+    plan: str
+
+
+Request = Union[PlanRequest, WitnessRequest, SuiteRequest, ShowRequest, PredictRequest]
 
 
 def say(what: str) -> None:
@@ -126,7 +168,8 @@ def expect_plan(checker: Checker, data: bytes, asked: PlanRequest) -> Expected:
         return expect_in_order(checker, data, order)
     expected = expect(checker, data)
     if expected.findings:
-        how = "the runs are free" if asked.is_free else "each run takes that order"
+        is_free = asked.is_free or expected.order is None
+        how = "the runs are free" if is_free else "each run takes that order"
         say(
             f"findings {expected.findings}: the rules allow several reports, and this compares "
             f"with that of one order, as `wire_up replay --anyway` writes it; {how}"
@@ -174,8 +217,65 @@ def run_witness(asked: WitnessRequest, choices: Choices, folder: str) -> int:
     return DIFFERENT if race.differences else SAME
 
 
+def run_suite(asked: SuiteRequest, choices: Choices, folder: str) -> int:
+    """Runs the suite, and answers the status. Raises Refused, OSError."""
+    plans, checker = choose_plans(asked.names), choose_checker(choices, folder)
+    setting = make_setting(choices, folder)
+    verdicts = Suite(checker, setting, asked.times, asked.at_a_time).run(plans)
+    version, launcher = next(it.library for it in verdicts if it.library), setting.launcher
+    known = find_library(version, launcher.kind)
+    result = SuiteResult(verdicts, launcher.version, asked.times, setting.quiet, known)
+    if choices.junit:
+        write_whole(choices.junit, answers.write_junit("suite", list_suite_cases(result)))
+    if asked.table:
+        day = datetime.date.today().isoformat()
+        head = {"library": known.name if known else "unknown", "version": version}
+        head.update(host=launcher.version, date=day)
+        write_whole(asked.table, write_table(head, verdicts))
+    write = write_suite_json if choices.is_json else write_suite
+    write_whole(STANDARD_OUTPUT, write(result))
+    if all(it.kind is Kind.EQUAL for it in verdicts):
+        return SAME
+    if any(it.kind in (Kind.DIFFERENT, Kind.UNSTEADY) for it in verdicts):
+        return DIFFERENT
+    raise Refused("a plan couldn't be run, and no other differs")
+
+
+def show_plan(asked: ShowRequest) -> int:
+    """Writes a plan of the suite. Raises Refused, OSError."""
+    plan = next((it for it in read_suite() if it.name == asked.name), None)
+    if plan is None:
+        raise Refused(f"the suite has no plan {asked.name}")
+    words = plan.rule.value
+    about = f"# {plan.name}: {plan.rule.label}, {words.text} ({words.source})\n"
+    write_whole(STANDARD_OUTPUT, about + plan.text)
+    return SAME
+
+
+def predict_plan(asked: PredictRequest, choices: Choices, folder: str) -> int:
+    """Writes which calls a library is known to answer otherwise. Raises Refused, OSError."""
+    library = LIBRARIES.get(asked.library)
+    if library is None:
+        raise Refused(f"{asked.library} isn't known: {', '.join(LIBRARIES)} are")
+    data = read_file(asked.plan)
+    request = PlanRequest(asked.plan)
+    expected = expect_plan(choose_checker(choices, folder), data, request)
+    plan, report = read_plan(data), expected.report
+    found = explain_differences(plan, library.traits, report, expected.order or ())
+    of = Predictions(library, found, len(report.lines))
+    text = write_predictions_json(of) if choices.is_json else write_predictions(of)
+    write_whole(STANDARD_OUTPUT, text)
+    return DIFFERENT if found else SAME
+
+
 def do(asked: Request, choices: Choices, folder: str) -> int:
     """Does what is asked for, and answers the status. `folder` is that of the command."""
     if isinstance(asked, WitnessRequest):
         return run_witness(asked, choices, folder)
+    if isinstance(asked, SuiteRequest):
+        return run_suite(asked, choices, folder)
+    if isinstance(asked, ShowRequest):
+        return show_plan(asked)
+    if isinstance(asked, PredictRequest):
+        return predict_plan(asked, choices, folder)
     return run_freely(asked, choices, folder)
