@@ -67,6 +67,8 @@ class Library:
     frame: Template
 
 
+# How the names of functions of MPI end that take counts of more bits. All else is the same.
+LARGE = "_c"
 LIBRARIES = {
     "MPI": Library("MPI", "P", "int", "MPI_ERR_OTHER", "mpi/wrapper.h", TWO_NAMES),
     "PMIx": Library(
@@ -89,7 +91,7 @@ class Shape:
 def write_wrapper(library: Library, function: Function, parameters: tuple[Parameter, ...],
                   shape: Shape) -> str:
     """The text of a wrapper whose parameters have these names."""
-    kind = function.name.removeprefix(f"{library.prefix}_").lower()
+    kind = function.name.removeprefix(f"{library.prefix}_").removesuffix(LARGE).lower()
 
     def body(text: str) -> str:
         return indent(Template(text).substitute(function=function.name, kind=kind), "    ")

@@ -55,6 +55,16 @@ class FencesTest(OrderTest):
         scripts = [["fence all collect", "publish m x"], ["fence all collect"]]
         self.become(tapes, scripts, "1 calls made while one")
 
+    def test_a_get_without_a_line_in_a_fence(self) -> None:
+        """What isn't in the plan isn't more ordered there."""
+        tapes = Tape(0), Tape(1)
+        fence = tapes[0].begin(f"fence nb all {COLLECTS}")
+        tapes[0].call("get blocks job:* :pmix.job.size -", "0 number:4:2").end(fence)
+        tapes[1].call(f"fence blocks all {COLLECTS}")
+        plan = write_plan_of(tapes)
+        self.assertIn("1 gets of a wildcard rank", plan)
+        self.assertNotIn(MORE_ORDERED, plan)
+
     def test_a_get_that_does_not_block(self) -> None:
         """It is where it ends."""
         tapes = Tape(0), Tape(1)

@@ -25,9 +25,10 @@ static const struct {
 } objects[] = {
     {"libpmix", OF_PMIX},        {"pmix_mca_", OF_PMIX},          {"libmpi_", OF_BINDINGS},
     {"libmpi.", OF_MPI},         {"libmpich", OF_MPI},            {"mca_", OF_MPI},
-    {"libopen-", OF_MPI},        {"libompi", OF_MPI},             {"libc.", OF_SYSTEM},
-    {"libc-", OF_SYSTEM},        {"libpthread", OF_SYSTEM},       {"libevent", OF_SYSTEM},
-    {"ld-linux", OF_SYSTEM},     {"record.so", OF_RECORDER},      {"record-mpi.so", OF_RECORDER},
+    {"libopen-", OF_MPI},        {"libopen_", OF_MPI},            {"libompi", OF_MPI},
+    {"libc.", OF_SYSTEM},        {"libc-", OF_SYSTEM},            {"libpthread", OF_SYSTEM},
+    {"libevent", OF_SYSTEM},     {"ld-linux", OF_SYSTEM},         {"record.so", OF_RECORDER},
+    {"record-mpi.so", OF_RECORDER},
 };
 
 /* Finds whose code an object has, by the path of its file. */

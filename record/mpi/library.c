@@ -26,7 +26,7 @@ static const struct {
     {&mpi.comm_remote_group, "PMPI_Comm_remote_group"},
     {&mpi.group_translate_ranks, "PMPI_Group_translate_ranks"},
     {&mpi.group_free, "PMPI_Group_free"},
-    {&mpi.type_size, "PMPI_Type_size"},
+    {&mpi.type_size, "PMPI_Type_size_x"},
     {&mpi.test_cancelled, "PMPI_Test_cancelled"},
 };
 
@@ -124,9 +124,9 @@ void *look_up_tool(void **known, const char *name, const void *wrapper, void *ca
     return found;
 }
 
-long long count_bytes(int count, MPI_Datatype type)
+long long count_bytes(MPI_Count count, MPI_Datatype type)
 {
-    int size = 0;
+    MPI_Count size = 0;
     if (count > 0)
         mpi.type_size(type, &size);
     return count > 0 ? (long long)count * size : 0;

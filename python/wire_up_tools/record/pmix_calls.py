@@ -11,6 +11,7 @@ from wire_up_tools.record.calls import (
     AnyRank,
     Call,
     Commit,
+    Fence,
     Get,
     GetEnd,
     Lookup,
@@ -252,11 +253,16 @@ def make_lines(processes: Processes, spelling: Spelling, with_mpi: bool) -> Pmix
         recording = process.recording
         note_recording(recording, notes)
         of_pmix = [it for it in recording.calls if not isinstance(it.action, MPI_CALLS)]
-        noted = recording.calls if with_mpi else of_pmix
-        note_overlaps(noted, notes)
-        note_unawaited(noted, notes)
+        first = len(part.lines)
         lines = ProcessLines(process, processes, spelling, puts, part, notes)
         for call in of_pmix:
             lines.take(call)
             note_directives(call.action, notes)
+        with_lines = {it.call for it in part.lines[first:]}
+        known = (Fence, *MPI_CALLS) if with_mpi else (Fence,)
+        in_plan = [
+            it for it in recording.calls if isinstance(it.action, known) or it in with_lines
+        ]
+        note_overlaps(in_plan, notes)
+        note_unawaited(in_plan, notes)
     return PmixLines(part, notes)
