@@ -6,7 +6,6 @@ from dataclasses import dataclass, field
 from typing import Optional, Union
 
 from wire_up_tools.record.calls import (
-    MPI_CALLS,
     NO,
     AnyRank,
     Call,
@@ -252,7 +251,7 @@ def make_lines(processes: Processes, spelling: Spelling, with_mpi: bool) -> Pmix
     for process in processes.all:
         recording = process.recording
         note_recording(recording, notes)
-        of_pmix = [it for it in recording.calls if not isinstance(it.action, MPI_CALLS)]
+        of_pmix = recording.calls_of_pmix
         first = len(part.lines)
         lines = ProcessLines(process, processes, spelling, puts, part, notes)
         for call in of_pmix:

@@ -39,7 +39,7 @@ def find_fences(sets: Sets, notes: Notes) -> dict[Members, dict[Process, list[Ca
     """The fences over each set, by their processes and in their order."""
     found: dict[Members, dict[Process, list[Call]]] = {}
     for process in sets.processes.all:
-        for call in process.recording.calls:
+        for call in process.recording.calls_of_pmix:
             if not isinstance(call.action, Fence):
                 continue
             members = sets.find_members(process, call.action.names)
