@@ -258,9 +258,11 @@ def make_lines(processes: Processes, spelling: Spelling, with_mpi: bool) -> Pmix
             lines.take(call)
             note_directives(call.action, notes)
         with_lines = {it.call for it in part.lines[first:]}
-        known = (Fence, *MPI_CALLS) if with_mpi else (Fence,)
+        noted = recording.calls if with_mpi else of_pmix
         in_plan = [
-            it for it in recording.calls if isinstance(it.action, known) or it in with_lines
+            it
+            for it in noted
+            if not it.is_of_pmix or isinstance(it.action, Fence) or it in with_lines
         ]
         note_overlaps(in_plan, notes)
         note_unawaited(in_plan, notes)
