@@ -7,6 +7,7 @@ mod Placed
 mod Answered
 pub mod Came
 pub mod Checked
+pub mod CheckedAnywhere
 pub mod Failures
 pub mod FileFaults
 pub mod Followed

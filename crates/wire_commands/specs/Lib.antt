@@ -3,6 +3,8 @@ pub mod Plain
 pub mod Answer
 pub mod CallsJson
 pub mod Check
+pub mod CheckAnywhere
+pub mod CheckSame
 pub mod Chains
 pub mod Why
 pub mod Witness

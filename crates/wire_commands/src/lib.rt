@@ -4,6 +4,8 @@
 mod answer;
 mod calls_json;
 mod check;
+mod check_anywhere;
+mod check_same;
 mod complete;
 mod ended;
 mod follow;
@@ -18,6 +20,8 @@ mod witness;
 mod witnesses;
 
 pub use check::check_plan;
+pub use check_anywhere::check_placements;
+pub use check_same::check_replies;
 pub use ended::Ended;
 pub use follow::follow_plan;
 pub use manner::Manner;

@@ -22,12 +22,13 @@ use std::alloc::Global;
 use std::sync::Wait;
 use std::thread::Threads;
 pub use wire_command_line::{
-    Asked, CallPair, CallWords, Command, PairOptions, Refusal, ReplayOptions, Request, asked,
-    read_request, workers_of,
+    Asked, CallPair, CallWords, Command, Judged, PairOptions, Refusal, ReplayOptions, Request,
+    asked, read_request, workers_of,
 };
 pub use wire_commands::{
-    Ended, Manner, Mode, PairAsked, Replayed, Replaying, answer_question, check_plan, follow_plan,
-    migrate_plan, replay_plan, run_plainly, witness_pair, witness_races,
+    Ended, Manner, Mode, PairAsked, Replayed, Replaying, answer_question, check_placements,
+    check_plan, check_replies, follow_plan, migrate_plan, replay_plan, run_plainly, witness_pair,
+    witness_races,
 };
 use wire_sched::Gate;
 pub use wire_script::Size;

@@ -1,0 +1,8 @@
+//! Which calls of a plan in which nothing is found on any placement don't have the same reply on all of them.
+#![tactic(auto)]
+
+mod differing;
+mod search;
+
+pub use differing::Differing;
+pub use search::find_differing;
