@@ -22,19 +22,24 @@ UNAWAITED = (
     "1 calls of the program that don't block and ended before others: in the plan it waited for "
     "them\n"
 )
+PAST_RECORDER = (
+    "2 processes in which plugin.so calls MPI past the recorder: its calls aren't seen\n"
+)
 
 
 @dataclass(frozen=True)
 class Program:
     """A program that was recorded: on how many processes, how many findings its plan has, and how
     many where MPI's order is left out. `said` is what the recorder says where it runs, and
-    `in_part` why a verdict over its recording holds only in part."""
+    `in_part` why a verdict over its recording holds only in part. `words` are what runs it, if that
+    isn't its name."""
 
     processes: int
     findings: int
     without_mpi: int
     said: str = ""
     in_part: str = ""
+    words: tuple[str, ...] = ()
 
     @property
     def says_in_part(self) -> str:
@@ -71,11 +76,24 @@ OTHERS = {
     "mpi4py": Program(3, 0, 3),
     "sleep": Program(2, 0, 0, "", f"the run was cut off: {IN_PART}{NOT_FINALIZED}"),
 }
+# Programs that call MPI in another way than by its plain functions in C: each with its words.
+OTHER_WAYS = {
+    "pmpi": Program(2, 1, 1, words=("unseen", "pmpi")),
+    "barrier": Program(2, 1, 1, words=("unseen", "barrier")),
+    "looked-up": Program(2, 1, 1, words=("unseen", "looked-up")),
+    "plugin": Program(
+        2, 0, 1, IN_PART, f"{IN_PART}{PAST_RECORDER}", ("unseen", "plugin", "plugin.so")
+    ),
+    "mixed": Program(2, 1, 1, words=("mixed", "message")),
+    "mixed-barrier": Program(2, 1, 1, words=("mixed", "barrier")),
+    "fortran": Program(2, 0, 3, words=("fortran",)),
+    "profiled": Program(2, 0, 1, words=("profiled",)),
+}
 # Those of `direct`.
 DIRECT = {
     "unwaited": Program(2, 0, 1, IN_PART, f"{IN_PART}{UNAWAITED}"),
 }
-SHIPPED = {**CASES, **DIRECT, **OTHERS}
+SHIPPED = {**CASES, **DIRECT, **OTHERS, **OTHER_WAYS}
 
 
 def why_other_findings(program: str, plan: str, count: int) -> Optional[str]:

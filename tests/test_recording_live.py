@@ -21,6 +21,7 @@ from recorded import (
     CASES,
     DIRECT,
     IN_PART,
+    OTHER_WAYS,
     OTHERS,
     Program,
     why_other_findings,
@@ -233,6 +234,49 @@ class CasesTest(LiveTest):
         self.assertEqual(ran.returncode, 3, ran.stderr[:300])
         if self.program:
             self.assertIsNone(why_other_findings(self.program, self.plan, 0))
+
+
+class OtherWaysTest(LiveTest):
+    """Programs that call MPI in another way than by its plain functions in C."""
+
+    def hold(self, name: str) -> None:
+        """Tests one of them."""
+        of = OTHER_WAYS[name]
+        path, *words = of.words
+        words = [self.compile(it) if it.endswith(".so") else it for it in words]
+        run = mpirun(of.processes, self.compile(path), *words)
+        ran = self.record_alike(run, "--answers", self.answers)
+        self.assertEqual((ran.returncode, ran.stderr), (0, of.says_in_part))
+        if self.program:
+            self.assertIsNone(why_wrong(self.program, self.plan, self.answers, of.findings))
+
+    def test_other_names(self) -> None:
+        self.hold("pmpi")
+        self.hold("barrier")
+
+    def test_functions_that_are_looked_up(self) -> None:
+        self.hold("looked-up")
+
+    def test_a_library_that_calls_past_the_recorder(self) -> None:
+        self.hold("plugin")
+
+    def test_a_tool(self) -> None:
+        """A tool that the program is linked with still counts what the program sends."""
+        self.compile("libprofiler.so")
+        self.hold("profiled")
+
+    def test_fortran(self) -> None:
+        """Alone and beside C, and its calls come from its lines."""
+        if not shutil.which("mpifort"):
+            self.skipTest("there is no mpifort")
+        self.hold("mixed")
+        self.hold("mixed-barrier")
+        self.hold("fortran")
+        source = read_file(os.path.join(PROGRAMS, "fortran.f90")).splitlines()
+        line = 1 + next(n for n, text in enumerate(source) if 'Publish_name("old"' in text)
+        number = read_scripts(read_file(self.plan))[0].index("publish old port") + 1
+        found = run_recorder("--where", "app:0", str(number), self.plan).stdout
+        self.assertEqual(found, f"old_way_ (fortran.f90:{line})\n")
 
 
 class MessagesTest(LiveTest):

@@ -15,6 +15,7 @@ from tapes import (
     write_plan_of,
 )
 from wire_up_tools.record.planning import Choices
+from wire_up_tools.words import MORE_ORDERED
 
 MARK = "publish blocks m=text:x -"
 COLLECTS = "pmix.collect=number:1:1"
@@ -58,6 +59,16 @@ class FencesTest(OrderTest):
         tapes[1].call(f"fence blocks all {COLLECTS}")
         scripts = [["fence all collect", "publish m x"], ["fence all collect"]]
         self.become(tapes, scripts, "1 calls made while one")
+
+    def test_a_get_without_a_line_in_a_fence(self) -> None:
+        """What isn't in the plan isn't more ordered there."""
+        tapes = Tape(0), Tape(1)
+        fence = tapes[0].begin(f"fence nb all {COLLECTS}")
+        tapes[0].call("get blocks job:* :pmix.job.size -", "0 number:4:2").end(fence)
+        tapes[1].call(f"fence blocks all {COLLECTS}")
+        plan = write_plan_of(tapes)
+        self.assertIn("1 gets of a wildcard rank", plan)
+        self.assertNotIn(MORE_ORDERED, plan)
 
     def test_a_get_that_does_not_block(self) -> None:
         """It is where it ends."""
@@ -269,6 +280,75 @@ class MessagesTest(OrderTest):
                     tape.call("collective ibarrier 1", f"0 all {how}")
                 plan = write_plan_of(tapes, Choices(is_strict=True))
                 self.assertEqual(read_scripts(plan), scripts)
+
+
+class UnseenTest(OrderTest):
+    """Signs that calls of MPI weren't seen."""
+
+    def is_said(self, tapes: Recordings, what: str) -> None:
+        """Tests that the head of a plan says something of tapes; nothing, where it is empty."""
+        titled = f"{MORE_ORDERED}\n#   {what}" if what else ""
+        plan = write_plan_of(tapes)
+        self.assertIn(titled, plan)
+        self.assertEqual(MORE_ORDERED in plan, bool(what))
+
+    def test_a_library_that_calls_past_the_recorder(self) -> None:
+        tapes = make_world(2)
+        tapes[1].say("unseen object /lib/a%20b.so")
+        self.is_said(tapes, "1 processes in which a b.so calls MPI past the recorder")
+        tapes[0].say("unseen call MPI_Send").say("unseen call MPI_Send")
+        self.is_said(tapes, "2 calls of MPI_Send that a library took elsewhere")
+
+    def test_without_mpi(self) -> None:
+        tapes = make_world(1)
+        tapes[0].say("unseen call MPI_Send")
+        self.assertNotIn(MORE_ORDERED, write_plan_of(tapes, Choices(with_mpi=False)))
+
+    def test_messages_that_nothing_got(self) -> None:
+        for tag in (3, 4):
+            tapes = make_world(2)
+            tapes[0].begin("send 1 1 3 4")
+            tapes[0].begin(f"send 1 1 {tag} 4")
+            tapes[1].call("receive 1 0 3", "0 0 3 4")
+            self.is_said(tapes, "1 inboxes in which messages and receives don't fit")
+
+    def test_messages_whose_receive_may_be_there(self) -> None:
+        """It is counted, has no end, or would have come later."""
+        for said in ("other MPI_Mrecv", "other MPI_Isendrecv", ""):
+            tapes = make_world(2)
+            tapes[0].begin("send 1 1 3 4")
+            if said:
+                tapes[1].say(said)
+            else:
+                tapes[1].begin("receive 1 0 3")
+            self.is_said(tapes, "")
+        tapes = make_world(2)
+        tapes[0].begin("send 1 1 3 4")
+        self.is_said([tapes[0].text(), tapes[1].text(is_over=False)], "")
+
+    def test_receives_of_what_was_not_sent(self) -> None:
+        for size, times in ((8, 1), (4, 2)):
+            tapes = make_world(2)
+            tapes[0].begin("send 1 1 3 4")
+            for _ in range(times):
+                tapes[1].call("receive 1 0 3", f"0 0 3 {size}")
+            self.is_said(tapes, "1 inboxes in which messages and receives don't fit")
+
+    def test_sends_that_are_only_counted(self) -> None:
+        """One may have been sent before that which is seen: nothing is matched."""
+        tapes = make_world(2)
+        tapes[0].say("other MPI_Isendrecv").begin("send 1 1 3 4")
+        tapes[1].call("receive 1 0 3", "0 0 3 4")
+        self.become(tapes, [[], []], "1 messages that can't be matched")
+
+    def test_collectives_that_do_not_fit(self) -> None:
+        for name in ("barrier", "bcast"):
+            tapes = make_world(2)
+            tapes[0].call(*BARRIER).call(*BARRIER)
+            tapes[1].call(*BARRIER)
+            if name != "barrier":
+                tapes[1].call(f"collective {name} 1", "0 none")
+            self.is_said(tapes, "1 communicators in which the collectives")
 
 
 class FreeReceivesTest(OrderTest):

@@ -13,7 +13,6 @@
 Which receive got which message is found by messages.py; where that isn't certain, nothing is
 ordered, and the head of the plan says so.
 """
-import re
 from collections.abc import Iterable, Sequence
 from dataclasses import dataclass, replace
 
@@ -35,10 +34,8 @@ from wire_up_tools.record.names import MessageNames, Spelling
 from wire_up_tools.record.open_groups import OpenGroup
 from wire_up_tools.record.pmix_fences import PmixFences
 from wire_up_tools.record.processes import Process, Processes
-from wire_up_tools.record.recordings import Recording
+from wire_up_tools.record.unseen import has_unknown_sends, note_unfit_messages, note_unseen
 
-# Functions of MPI 4 that send, and that are only counted.
-SENDS_UNKNOWN = re.compile(r"MPI_(Isendrecv\w*|Psend\w*|\w*send\w*_c)")
 # Collectives in which all processes wait for all, even if none of them is known to have ended.
 BARRIERS = ("barrier", "ibarrier")
 
@@ -65,11 +62,6 @@ class MpiOrder:
 # --- messages ---
 
 
-def may_lack_sends(recording: Recording) -> bool:
-    """Whether a process may have sent messages that its recording doesn't have."""
-    return not recording.has_finalized or any(map(SENDS_UNKNOWN.fullmatch, recording.others))
-
-
 def order_messages(
     processes: Processes,
     communicators: Communicators,
@@ -78,16 +70,22 @@ def order_messages(
     is_strict: bool,
 ) -> MessageOrder:
     """The order of messages, and the groups whose order isn't certain."""
-    lacking = {it for it in processes.all if may_lack_sends(it.recording)}
+    unknown = {it for it in processes.all if has_unknown_sends(it.recording)}
+    lacking = {it for it in processes.all if not it.recording.has_finalized} | unknown
     inboxes = find_inboxes(processes, communicators)
     certain: list[OpenGroup] = []
     open_groups: list[OpenGroup] = []
     ordered = Ordered(notes=inboxes.notes)
+    note_unseen(processes, ordered.notes)
     for (_, target), inbox in inboxes.found.items():
         is_cut = any(it in lacking for it in inbox.peers)
-        for group in inbox.groups():
+        is_open = not unknown.isdisjoint(inbox.peers)
+        groups = inbox.groups()
+        note_unfit_messages(target, inbox, groups, ordered.notes)
+        for group in groups:
             found = OpenGroup(group, target, inbox.peers)
-            if not group.is_matched(is_cut) or (group.is_from_any and is_cut):
+            is_matched = group.is_matched(is_cut) and not is_open
+            if not is_matched or (group.is_from_any and is_cut):
                 left_out = ordered.notes.left_out
                 left_out["messages that can't be matched for certain"] += group.receive_count
             elif group.is_certain:

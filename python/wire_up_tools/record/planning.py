@@ -1,6 +1,7 @@
 """Makes the draft of a plan from recordings: all stages, one after another."""
 from collections.abc import Sequence
 from dataclasses import dataclass
+from typing import Optional
 
 from wire_up_tools.failures import Refused
 from wire_up_tools.limits import VERSION_1, Limits
@@ -31,11 +32,12 @@ class Choices:
 @dataclass(frozen=True)
 class MpiSummary:
     """How many messages and collectives MPI orders, and how many ends of requests another run may
-    have found open."""
+    have found open. `verdicts` are those with and without --strict, if they differ."""
 
     message_count: int = 0
     collective_count: int = 0
     left_to_luck: int = 0
+    verdicts: Optional[str] = None
 
 
 @dataclass(frozen=True)

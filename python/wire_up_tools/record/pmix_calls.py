@@ -10,6 +10,7 @@ from wire_up_tools.record.calls import (
     AnyRank,
     Call,
     Commit,
+    Fence,
     Get,
     GetEnd,
     Lookup,
@@ -251,11 +252,18 @@ def make_lines(processes: Processes, spelling: Spelling, with_mpi: bool) -> Pmix
         recording = process.recording
         note_recording(recording, notes)
         of_pmix = recording.calls_of_pmix
-        noted = recording.calls if with_mpi else of_pmix
-        note_overlaps(noted, notes)
-        note_unawaited(noted, notes)
+        first = len(part.lines)
         lines = ProcessLines(process, processes, spelling, puts, part, notes)
         for call in of_pmix:
             lines.take(call)
             note_directives(call.action, notes)
+        with_lines = {it.call for it in part.lines[first:]}
+        noted = recording.calls if with_mpi else of_pmix
+        in_plan = [
+            it
+            for it in noted
+            if not it.is_of_pmix or isinstance(it.action, Fence) or it in with_lines
+        ]
+        note_overlaps(in_plan, notes)
+        note_unawaited(in_plan, notes)
     return PmixLines(part, notes)

@@ -79,7 +79,8 @@ class RecordedCommunicator:
 class Recording:
     """What one process did, from the file at `path`; `began` is in seconds since 1970.
 
-    `others` counts the calls that are only counted, by their names. A process that
+    `others` counts the calls that are only counted, by their names, and `unseen` what called MPI
+    past the recorder, by what is said of it. A process that
     `has_finalized` has called nothing after PMIx_Finalize; the last line of a recording that
     `is_cut` was dropped.
     """
@@ -92,6 +93,7 @@ class Recording:
     began: float
     calls: Sequence[Call]
     others: Mapping[str, int]
+    unseen: Mapping[str, int]
     world: Optional[World]
     communicators: Mapping[int, RecordedCommunicator]
     places: Mapping[str, Place]
@@ -109,6 +111,7 @@ class Recording:
 PLAIN = {
     "finalize": re.compile(r"finalize"),
     "other": re.compile(r"other (.+)"),
+    "unseen": re.compile(rf"unseen (call|object) ({WORD})"),
     "world": re.compile(r"world (\d{1,9}) (\d{1,9})"),
     "comm": re.compile(r"comm (\d{1,9}) (\d{1,9}) ([wcgv]-?\d{1,18}) ([\d,-]+)"),
     "inter": re.compile(r"inter (\d{1,9}) (\d{1,9}) (c-?\d{1,18}) ([\d,-]+) ([\d,-]+)"),
@@ -127,6 +130,18 @@ def read_line(groups: Groups) -> Place:
     """A place that says its line by itself, without its number. Raises ValueError."""
     file, function = (make_printable(decode_text(it)) for it in (groups[1], groups[3]))
     return f"{function} ({os.path.basename(file)}:{groups[2]})"
+
+
+# What is said of the process when something called MPI past the recorder, by its kind.
+UNSEEN = {
+    "call": "calls of {} that a library took elsewhere: what it called of MPI isn't seen",
+    "object": "processes in which {} calls MPI past the recorder: its calls aren't seen",
+}
+
+
+def read_unseen(groups: Groups) -> str:
+    """What is said of something that called MPI past the recorder. Raises ValueError."""
+    return UNSEEN[groups[0]].format(make_printable(os.path.basename(decode_text(groups[1]))))
 
 
 # --- files ---
@@ -148,6 +163,7 @@ class Records:
     opened: dict[str, Call] = field(default_factory=dict)
     words: dict[str, str] = field(default_factory=dict)
     others: Counter[str] = field(default_factory=Counter)
+    unseen: Counter[str] = field(default_factory=Counter)
     world: Optional[World] = None
     communicators: dict[int, RecordedCommunicator] = field(default_factory=dict)
     places: dict[str, Place] = field(default_factory=dict)
@@ -195,6 +211,8 @@ class Records:
         self.has_finalized = verb == "finalize"
         if verb == "other":
             self.others[groups[0]] += 1
+        elif verb == "unseen":
+            self.unseen[read_unseen(groups)] += 1
         elif verb == "world":
             self.world = World(int(groups[0]), int(groups[1]), number)
         elif verb in ("comm", "inter"):
@@ -263,6 +281,7 @@ def read_recording(path: str, data: bytes) -> Recording:
         began=head.began,
         calls=records.calls,
         others=records.others,
+        unseen=records.unseen,
         world=records.world,
         communicators=records.communicators,
         places=records.places,
