@@ -5,7 +5,7 @@
  *   probe, matched, later, split, window, inter, merged, jump
  *                     ordered by a probe, a matched probe, a collective that doesn't block, by calls that make a communicator or a window,
  *                     by communicators of two groups, and by a message after a jump out of MPI: no race
- *   limit             the recording gets no more room than 16 KiB
+ *   limit             the recording gets no more room than it has when the first message is sent
  *   sleep             takes six seconds; many and toomany: each process publishes 100 names, or 5000, and takes each away at once
  */
 #include <mpi.h>
@@ -164,7 +164,7 @@ static void limit(void)
 {
     struct rlimit most = {16384, 16384};
     setrlimit(RLIMIT_FSIZE, &most);
-    for (int n = 0; n < 500; n++) {
+    for (int n = 0; n < 4000; n++) {
         if (rank == 0)
             MPI_Send(&x, 1, MPI_INT, 1, 0, MPI_COMM_WORLD);
         if (rank == 1)

@@ -254,10 +254,12 @@ def read_head(path: str, lines: Sequence[str]) -> Head:
 
 
 def read_recording(path: str, data: bytes) -> Recording:
-    """The recording in the bytes of a file. A last line that was cut is dropped.
+    """The recording in the bytes of a file. A last line that was cut is dropped, and so are the
+    zeros that follow what a killed process wrote.
 
     Raises Refused for what is no recording.
     """
+    data = data.rstrip(b"\0")
     if not data:
         raise Refused(f"{path}: is empty, and no recording")
     whole, line_feed, last = data.rpartition(b"\n")
