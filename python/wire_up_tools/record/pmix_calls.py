@@ -14,6 +14,7 @@ from wire_up_tools.record.calls import (
     Fence,
     Get,
     GetEnd,
+    Group,
     Lookup,
     LookupEnd,
     Publish,
@@ -259,7 +260,7 @@ def make_lines(processes: Processes, spelling: Spelling, with_mpi: bool) -> Pmix
             lines.take(call)
             note_directives(call.action, notes)
         with_lines = {it.call for it in part.lines[first:]}
-        known = (Fence, *MPI_CALLS) if with_mpi else (Fence,)
+        known = (Fence, Group, *MPI_CALLS) if with_mpi else (Fence, Group)
         in_plan = [
             it for it in recording.calls if isinstance(it.action, known) or it in with_lines
         ]
