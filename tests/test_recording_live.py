@@ -37,6 +37,9 @@ CORES, MEMORY = 4, 8 << 30
 # How long a signal may take to end a program that sleeps, in seconds.
 SOON = 5.5
 
+# The status of a program that needs sessions where MPI has none.
+NO_SESSIONS = 77
+
 # Whose data each of the four processes waits for in the collectives of `messages`.
 ALL, NONE, BELOW = Sources.ALL, Sources.NONE, Sources.BELOW
 SOURCES: Mapping[str, Sequence[Union[Sources, tuple[int, ...]]]] = {
@@ -264,6 +267,11 @@ class OtherWaysTest(LiveTest):
         """A tool that the program is linked with still counts what the program sends."""
         self.compile("libprofiler.so")
         self.hold("profiled")
+
+    def test_sessions(self) -> None:
+        if subprocess.run([self.compile("sessions")], check=False).returncode == NO_SESSIONS:
+            self.skipTest("this MPI has no sessions")
+        self.hold("sessions")
 
     def test_fortran(self) -> None:
         """Alone and beside C, and its calls come from its lines."""
