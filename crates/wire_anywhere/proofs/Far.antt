@@ -1,12 +1,12 @@
 -- Far races, by the fences and the gets that bring a key away.
-use Rattle.std.proofs.Common.{◌≡◌, ◌≢◌, ◌∙◌, ap, sym, refl, subst, ℕ, suc, ◌<◌, ◌≤◌, List, Some, ◌⊎◌, inl, inr, true, arith}
+use Rattle.std.proofs.Common.{◌≡◌, ◌∙◌, ap, sym, refl, subst, ℕ, suc, ◌<◌, ◌≤◌, List, Some, ◌⊎◌, inl, inr, true, arith}
 use Rattle.std.specs.Prelude.{slice_get}
 use Rattle.std.proofs.lemmas.Bool.{cases_lt, cases_eq}
-use Rattle.std.proofs.lemmas.Option.{same_Some, slice_get_within}
-use Rattle.wire_runs.specs.Plan.{Plan, Event, Arrive, Get, GetNow, kind, node_of, event_count}
+use Rattle.std.proofs.lemmas.Option.{same_Some}
+use Rattle.wire_runs.specs.Plan.{Plan, Event, Arrive, Get, kind, node_of, event_count}
 use Rattle.wire_runs.specs.Fences.{is_member}
 use Rattle.wire_runs.specs.Order.{IsArrival, Live, Before}
-use Rattle.wire_runs.specs.Races.{Delivery, ByFence, ByGet, IsOf, BringsAway, FenceBringsAway, GetBringsAway}
+use Rattle.wire_runs.specs.Races.{Delivery, ByFence, ByGet, IsOf, FenceBringsAway, GetBringsAway}
 use Rattle.wire_runs.specs.Placings.{Carries, HasSurely, IsFarRace}
 use Rattle.wire_runs.specs.FindingsAnywhere.{Placed, IsLeastFar}
 use Rattle.wire_plan.specs.Index.{IsDelivering, AreArrivals}
@@ -15,16 +15,14 @@ use Rattle.wire_runs.proofs.FenceChains.{member_arrives}
 use Rattle.wire_fates.specs.Deliveries.{MayBeLate, IsLate}
 use Rattle.wire_fates.proofs.Arrivals.{same_fence, arrival_of, late_once}
 use Rattle.wire_fates.proofs.Surely.{delivering_within}
-use Rattle.wire_races.specs.KeyRaces.{IsOpen}
 use Rattle.wire_races.specs.GetRaces.{MayRace}
-use Rattle.wire_races.proofs.Deliveries.{past_all}
 use Rattle.wire_runs.proofs.Histories.{joined}
 use Rattle.wire_fates.proofs.Sooner.{sooner_live, sooner_before}
 use Rattle.wire_anywhere.specs.declared.placed.PlacedFinding.{PlacedFinding}
 use Rattle.wire_anywhere.specs.Gets.{AreCarrying}
 use Rattle.wire_anywhere.specs.Carriers.{Lacks, IsFirstLacking}
 use Rattle.wire_anywhere.specs.Adding.{Adds}
-use Rattle.wire_anywhere.specs.Races.{IsUnsure, IsRaceWith, IsFarBy, IsFarAt, AreFarBelow, IsFarByGet, AreFarByGets, AreFarGetsBelow}
+use Rattle.wire_anywhere.specs.Races.{IsUnsure, IsRaceWith, IsFarBy, IsFarAt, AreFarBelow, AreFarByGets, AreFarGetsBelow}
 use Rattle.wire_anywhere.proofs.Growing.{adds_none, adds_same, adds_both}
 use Rattle.wire_anywhere.proofs.Surely.{delivering}
 

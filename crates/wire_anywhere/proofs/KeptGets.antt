@@ -1,5 +1,5 @@
 -- The gets of a key, as the events are looked at one after the other.
-use Rattle.std.proofs.Common.{◌≡◌, ◌≢◌, ◌∙◌, ap, sym, refl, subst, Bool, ℕ, suc, ◌≤◌, List, [], ◌∷◌, ◌++◌, Some, None, true, false, length, map, ◌==◌, arith, inl, inr, eqb-true}
+use Rattle.std.proofs.Common.{◌≡◌, ◌≢◌, ◌∙◌, ap, sym, refl, subst, ℕ, suc, ◌≤◌, List, [], ◌∷◌, ◌++◌, Some, None, true, false, length, map, ◌==◌, arith, inl, inr, eqb-true}
 use Rattle.std.proofs.lemmas.Bool.{cases_eq, cases_Bool, and_parts, true≢false}
 use Rattle.std.proofs.lemmas.Option.{same_Some, none-some}
 use Rattle.std.specs.Map.{lookup}

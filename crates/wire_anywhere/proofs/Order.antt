@@ -1,5 +1,5 @@
 -- The order of the list.
-use Rattle.std.proofs.Common.{◌≡◌, ◌∙◌, ap, sym, refl, subst, ℕ, zero, suc, ◌<◌, Bool, true, List, [], ◌∷◌, ◌↔◌, ◌⊎◌, inl, inr, ⊎_elim, Contains, Option, Some, None, arith}
+use Rattle.std.proofs.Common.{◌≡◌, ◌∙◌, ap, sym, refl, subst, ℕ, zero, suc, Bool, true, List, [], ◌∷◌, ◌↔◌, inl, inr, ⊎_elim, Contains, Option, Some, None, arith}
 use Rattle.std.proofs.lemmas.Bool.{cond_both}
 use Rattle.std.proofs.lemmas.List.Sorted.{Contains-permutation, IsPermutation-sym, ranks_by}
 use Rattle.std.proofs.lemmas.List.Kept.{IsStrictlySortedBy-dedup}
@@ -9,18 +9,18 @@ use Rattle.std.specs.List.Sorted.{IsPermutation, IsStrictlySortedBy}
 use Rattle.std.specs.List.Sorted as order
 use Rattle.std.specs.declared.cmp.Ordering.TheVariants.{Less}
 use Rattle.std.specs.Ordering.{eq_by_cmp, is_lt}
-use Rattle.wire_runs.specs.Plan.{Plan, Event, Kind, Commit, Arrive, Get, GetNow, kind}
+use Rattle.wire_runs.specs.Plan.{Plan, Event, Commit, Arrive, Get, GetNow, kind}
 use Rattle.wire_runs.specs.Races.{Delivery, ByFence, ByGet, IsOf}
-use Rattle.wire_runs.specs.Findings.{Finding, Rewrite, KeyRace, NameRace, IsSooner}
+use Rattle.wire_runs.specs.Findings.{Rewrite, KeyRace, NameRace, IsSooner}
 use Rattle.wire_runs.specs.Placings.{Carries}
-use Rattle.wire_runs.specs.FindingsAnywhere.{Placed, OnAll, OnPair, finding_of, IsKeyRaceOn, IsFoundSomewhere, HasPlaced, IsPlacedSorted}
+use Rattle.wire_runs.specs.FindingsAnywhere.{Placed, OnAll, OnPair, finding_of, IsKeyRaceOn, IsFoundSomewhere, IsPlacedSorted}
 use Rattle.wire_runs.proofs.Basics.{stores_commit}
 use Rattle.wire_runs.proofs.FindingsAnywhere.{one_pair}
 use Rattle.wire_findings.specs.Findings.{shown, lower_name}
-use Rattle.wire_findings.specs.Standings.{told_cmp, AreNamesOf}
+use Rattle.wire_findings.specs.Standings.{AreNamesOf}
 use Rattle.wire_findings.proofs.Calls.{Starts}
-use Rattle.wire_findings.proofs.Told.{IsLike, IsKeyLike, told, by_events}
-use Rattle.wire_findings.proofs.Ordered.{same_place, told_total, sooner, one_there}
+use Rattle.wire_findings.proofs.Told.{IsLike, told, by_events}
+use Rattle.wire_findings.proofs.Ordered.{told_total, sooner, one_there}
 use Rattle.wire_anywhere.specs.declared.placed.PlacedFinding.{PlacedFinding}
 use Rattle.wire_anywhere.specs.declared.placed.Pair.{Pair}
 use Rattle.wire_anywhere.specs.Anywhere.{placed_on, placed_shown, all_placed}

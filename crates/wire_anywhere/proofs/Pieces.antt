@@ -1,5 +1,5 @@
 -- The pieces of the search together are the whole search.
-use Rattle.std.proofs.Common.{◌≡◌, sym, subst, ℕ, ◌<◌, List, [], ◌∷◌, ◌++◌, length, map, Some, Ok, Err, inl, inr, arith, refl}
+use Rattle.std.proofs.Common.{◌≡◌, sym, subst, ℕ, ◌<◌, List, [], ◌∷◌, ◌++◌, length, map, Some, Ok, Err, inl, inr, arith}
 use Rattle.std.specs.Prelude.{slice_get, Vec, Result, MatchResult, IfOk}
 use Rattle.std.specs.declared.alloc.Global.{Global}
 use Rattle.std.specs.List.{AllZip, Contains, range_with_len}

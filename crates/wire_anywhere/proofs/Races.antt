@@ -1,14 +1,13 @@
 -- The races of a get-now, with their pairs.
-use Rattle.std.proofs.Common.{◌≡◌, ◌≢◌, ◌∙◌, ap, sym, refl, subst, ℕ, ◌<◌, List, [], ◌∷◌, ◌++◌, Some, ◌⊎◌, inl, inr, arith}
-use Rattle.std.proofs.lemmas.Bool.{cases_lt}
+use Rattle.std.proofs.Common.{◌≡◌, ◌∙◌, ap, sym, subst, ℕ, ◌<◌, List, [], ◌∷◌, ◌++◌, Some, ◌⊎◌, inl, inr, arith}
 use Rattle.std.proofs.lemmas.Option.{same_Some}
-use Rattle.wire_runs.specs.Plan.{Plan, Event, Kind, Commit, Arrive, Leave, Get, GetNow, kind, event_count, process_count}
+use Rattle.wire_runs.specs.Plan.{Plan, Event, Kind, Commit, Arrive, Get, GetNow, kind, event_count, process_count}
 use Rattle.wire_runs.specs.Order.{Stores, IsArrival}
 use Rattle.wire_runs.specs.EventLists.{IsLower}
 use Rattle.wire_runs.specs.Ends.{call_of, first_event}
 use Rattle.wire_runs.specs.Races.{IsUnordered, IsNearRace, IsPutOnce, GetBringsAway}
 use Rattle.wire_runs.specs.Findings.{Finding, KeyRace}
-use Rattle.wire_runs.specs.FindingsAnywhere.{Placed, OnPair, IsPair, IsLeastFar, IsKeyRaceOn}
+use Rattle.wire_runs.specs.FindingsAnywhere.{Placed, OnPair, IsPair, IsKeyRaceOn}
 use Rattle.wire_runs.proofs.Basics.{event_within, process_within, stores_commit}
 use Rattle.wire_runs.proofs.EventLists.{one_lower, lower_one_way}
 use Rattle.wire_plan.proofs.KeyFacts.{stores_once}

@@ -1,17 +1,16 @@
 -- Who surely has a key before a get-now.
-use Rattle.std.proofs.Common.{◌≡◌, ◌≢◌, ◌∙◌, ap, sym, refl, subst, ℕ, suc, ◌<◌, ◌≤◌, ◌==◌, Bool, true, false, List, [], ◌∷◌, Option, Some, None, is_some, ◌⊎◌, inl, inr, arith, eq-eqb, eqb-true}
+use Rattle.std.proofs.Common.{◌≡◌, ◌≢◌, ◌∙◌, ap, sym, refl, subst, ℕ, suc, ◌<◌, ◌≤◌, ◌==◌, true, false, List, [], ◌∷◌, Option, Some, None, is_some, ◌⊎◌, inl, inr, arith, eq-eqb, eqb-true}
 use Rattle.std.specs.Prelude.{slice_get}
-use Rattle.std.specs.List.{list_any}
 use Rattle.std.proofs.lemmas.Bool.{true≢false, cases_lt, cases_eq, or_cases, or_left, or_right}
 use Rattle.wire_runs.specs.Plan.{Plan, Event, GetNow, kind, node_of, event_count, event_of}
 use Rattle.wire_runs.specs.Fences.{is_member, has_node}
 use Rattle.wire_runs.specs.Order.{IsArrival, Live, Before}
-use Rattle.wire_runs.specs.Races.{Delivery, ByFence, ByGet, IsOf, FenceBringsAway, GetBringsAway}
+use Rattle.wire_runs.specs.Races.{Delivery, ByFence, ByGet, IsOf, FenceBringsAway}
 use Rattle.wire_runs.specs.Placings.{Carries, HasSurely}
 use Rattle.wire_plan.specs.Index.{IsDelivering, AreArrivals}
 use Rattle.wire_runs.proofs.FenceChains.{one_member_tells, member_arrives}
 use Rattle.wire_runs.proofs.Histories.{before_live, joined, same_process}
-use Rattle.wire_fates.proofs.Gets.{IsUpTo, first_before}
+use Rattle.wire_fates.proofs.Gets.{first_before}
 use Rattle.wire_fates.proofs.Surely.{delivering_within}
 use Rattle.wire_anywhere.specs.Gets.{AreCarrying}
 use Rattle.wire_types.specs.declared.Event.{Event as CodeEvent}

@@ -4,7 +4,7 @@ use Rattle.wire_runs.specs.Plan.{Plan, Event}
 use Rattle.wire_runs.specs.Races.{IsSettled}
 use Rattle.wire_runs.specs.Findings.{Finding, Rewrite, KeyRace, NameRace, IsFound}
 use Rattle.wire_runs.specs.Placings.{IsPlacing}
-use Rattle.wire_runs.specs.FindingsAnywhere.{Placed, OnAll, OnPair, finding_of, IsFoundSomewhere, HasPlaced, IsPlacedSorted, IsFindingsAnywhere}
+use Rattle.wire_runs.specs.FindingsAnywhere.{Placed, OnAll, OnPair, finding_of, IsFoundSomewhere, IsPlacedSorted, IsFindingsAnywhere}
 use Rattle.wire_runs.proofs.Anywhere.{settled_anywhere}
 use Rattle.wire_runs.proofs.FindingsAnywhere.{findings_anywhere, one_list_anywhere}
 use Rattle.wire_content.specs.Scripts.{Scripts}

@@ -1,6 +1,6 @@
-use Rattle.std.proofs.Common.{◌≡◌, ◌≤◌, ◌<◌, ◌+◌, ◌∙◌, ℕ, List, ap, map, sym, refl, subst, arith}
+use Rattle.std.proofs.Common.{◌≤◌, ◌<◌, ◌+◌, ◌∙◌, ℕ, List, map, sym, refl, subst, arith}
 use Rattle.std.proofs.lemmas.Bool.{true≢false}
-use Rattle.wire_runs.specs.Plan.{event_of, node_of, event_count}
+use Rattle.wire_runs.specs.Plan.{event_of}
 use Rattle.wire_runs.specs.Order.{IsArrival, Before}
 use Rattle.wire_content.specs.Planned.{plan_of}
 use Rattle.wire_plan.specs.Index.{IsDelivering, AreArrivals}

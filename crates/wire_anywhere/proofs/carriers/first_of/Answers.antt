@@ -1,9 +1,8 @@
-use Rattle.std.proofs.Common.{◌≡◌, ◌∙◌, ◌≤◌, ap, sym, refl, length, map, Some, arith}
-use Rattle.std.specs.Prelude.{slice_get, option_map, is_some}
+use Rattle.std.proofs.Common.{◌∙◌, ap, sym, refl, length, map, arith}
+use Rattle.std.specs.Prelude.{option_map, is_some}
 use Rattle.std.proofs.lemmas.List.{length-map}
 use Rattle.std.proofs.lemmas.Option.{slice_get-map, slice_get_read}
 use Rattle.wire_runs.specs.Plan.{event_of}
-use Rattle.wire_types.specs.declared.Event.{Event as CodeEvent}
 use Rattle.wire_anywhere.proofs.Firsts.{is_first, another_there, nothing_there, past_end}
 use Rattle.wire_anywhere.proofs.carriers.first_of.Goals as goal
 

@@ -1,4 +1,4 @@
-use Rattle.std.proofs.Common.{◌≡◌, ◌∙◌, ◌+◌, sym, Some, arith}
+use Rattle.std.proofs.Common.{◌∙◌, ◌+◌, sym, arith}
 use Rattle.wire_anywhere.proofs.Growing.{none_on_all, one_on_all, all_on_all}
 use Rattle.wire_anywhere.proofs.finding_search.add_placeless.Goals as goal
 

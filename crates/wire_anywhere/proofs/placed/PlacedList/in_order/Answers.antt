@@ -1,4 +1,4 @@
-use Rattle.std.proofs.Common.{◌↔◌, sym, subst, rules}
+use Rattle.std.proofs.Common.{◌↔◌, subst, rules}
 use Rattle.std.specs.Ordering.{is_lt}
 use Rattle.std.proofs.lemmas.Fn.{dedup_same, always_returns_same}
 use Rattle.wire_runs.specs.FindingsAnywhere.{Placed, IsPlacedSorted}
