@@ -26,11 +26,19 @@ use Rattle.wire_commands.specs.CheckAnywhere.{IsSettledEverywhere, EachHasOneEnd
 use Rattle.wire_commands.specs.CheckSame.{TellsDiffering, TellsFindings, IsSameVerdict, IsSameEverywhere}
 use Rattle.wire_commands.specs.Ending.{ended_of}
 
+-- something is counted where something stands
+not_none : {X : Type 0} (x : X) (xs : List X) → (length (x ∷ xs) == 0) ≡ false
+not_none x xs = go (length (x ∷ xs) == 0) refl
+  where
+    go : (b : Bool) → (length (x ∷ xs) == 0) ≡ b → (length (x ∷ xs) == 0) ≡ false
+    go true is = let none : length (x ∷ xs) ≡ 0 = eqb-true (length (x ∷ xs)) 0 is in absurd (omega (arith, none))
+    go false is = is
+
 -- it is clean exactly where nothing is counted
 clean_exactly : {X : Type 0} (xs : List X) → (ended_of (length xs) ≡ Clean) ↔ (xs ≡ [])
 clean_exactly [] = ((λ clean. refl), (λ none. refl))
 clean_exactly (x ∷ xs) = (
-  (λ clean. let bad : Found (length (x ∷ xs)) ≡ Clean = clean in absurd (cc)),
+  (λ clean. let some : ended_of (length (x ∷ xs)) ≡ Found (length (x ∷ xs)) = rw (not_none x xs) refl in let bad : Found (length (x ∷ xs)) ≡ Clean = sym some ∙ clean in absurd (cc)),
   (λ none. let bad : x ∷ xs ≡ [] = none in absurd (cc)),
 )
 

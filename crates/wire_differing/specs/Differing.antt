@@ -1,13 +1,15 @@
 -- Which calls reply differently on different placings.
-use Rattle.std.specs.Prelude.{◌≡◌, ◌≢◌, ◌⊎◌, ℕ, zero, suc, List, [], ◌∷◌, ◌++◌, true, false, Some, is_some}
+use Rattle.std.specs.Prelude.{◌≡◌, ◌≢◌, ℕ, zero, suc, List, [], ◌∷◌, ◌++◌, true, Option, Some, is_some, MatchOption, option_to_list}
 use Rattle.wire_types.specs.declared.Reply.{Reply}
 use Rattle.wire_types.specs.declared.Status.{Status}
 use Rattle.wire_types.specs.declared.Verb.{Verb}
 use Rattle.wire_types.specs.declared.Verb.TheVariants as verb
 use Rattle.wire_types.specs.declared.Value.{Value}
-use Rattle.wire_runs.specs.Plan.{Plan, Event, Get, GetNow, Fixed, kind, event_count, process_count}
+use Rattle.wire_runs.specs.Plan.{Plan, Event, Get, GetNow, Fixed, kind, process_count}
 use Rattle.wire_runs.specs.State.{Answer}
 use Rattle.wire_runs.specs.Ends.{given, call_of}
+use Rattle.wire_runs.specs.Order.{Stores, Before}
+use Rattle.wire_runs.specs.Laws.{plain_end}
 use Rattle.wire_runs.specs.Placings.{paired}
 use Rattle.wire_runs.specs.PlacingLaws.{plain_reply, RepliesAlike}
 use Rattle.wire_differing.specs.declared.differing.Differing.{Differing}
@@ -34,28 +36,42 @@ pub record IsDiffering (plan : Plan) (x : Event) (d : Differing) : Type 0 where
   pub near : RepliesWith (paired plan d.owner.number x.proc) x d.near
   pub alone : RepliesWith (paired plan x.proc x.proc) x d.alone
 
--- nothing is told of the event: it isn't answered, or is a call of a reserved key or name, or replies the same on every placing
+-- nothing is told of the event: it is a call of a reserved key or name, or its reply is the same on every placing
 pub data IsUntold (plan : Plan) (x : Event) : Type 0 where
-  Unanswered : is_some (plain_reply plan x) ≡ false → IsUntold plan x
   Reserved : (reply : Reply) → kind plan x ≡ Some (Fixed reply) → IsUntold plan x
   Alike : RepliesAlike plan x → IsUntold plan x
 
--- what is told of the event
-abbrev pub IsTold : Plan → Event → List Differing → Type 0
-IsTold plan x told = ((d : Differing) × IsDiffering plan x d × (told ≡ d ∷ [])) ⊎ (IsUntold plan x × (told ≡ []))
+abbrev pub IsToldBy : Plan → Event → Option Differing → Type 0
+IsToldBy plan x told = MatchOption told (IsUntold plan x) (λ d. IsDiffering plan x d)
 
 -- what is told of p's first n events, in their order
 abbrev pub AreToldTo : Plan → ℕ → ℕ → List Differing → Type 0
 AreToldTo plan p zero found = found ≡ []
 AreToldTo plan p (suc n) found =
-    (before : List Differing) × (told : List Differing) × AreToldTo plan p n before × IsTold plan (record { proc = p; at = n }) told × (found ≡ before ++ told)
+    (before : List Differing) × (told : Option Differing) × AreToldTo plan p n before × IsToldBy plan (record { proc = p; at = n }) told
+    × (found ≡ before ++ option_to_list told)
 
--- what is told of all events of the first n processes
+-- what is told of the first n processes, of their events that come in the plain run
 abbrev pub AreToldBelow : Plan → ℕ → List Differing → Type 0
 AreToldBelow plan zero found = found ≡ []
 AreToldBelow plan (suc n) found =
-    (before : List Differing) × (told : List Differing) × AreToldBelow plan n before × AreToldTo plan n (event_count plan n) told × (found ≡ before ++ told)
+    (before : List Differing) × (told : List Differing) × AreToldBelow plan n before × AreToldTo plan n ((plain_end plan).done n) told × (found ≡ before ++ told)
 
 -- the answered calls whose reply isn't the same on every placing, in the order of processes and calls
 abbrev pub AreDiffering : Plan → List Differing → Type 0
 AreDiffering plan found = AreToldBelow plan (process_count plan) found
+
+-- The rest is for the contracts of private functions
+
+-- those are added at the end
+abbrev pub Adds : List Differing → List Differing → (List Differing → Type 0) → Type 0
+Adds old new those = (added : List Differing) × those added × (new ≡ old ++ added)
+
+-- x is a commit of p that stores its key, and it is before the get
+pub record IsCommitBefore (plan : Plan) (p key : ℕ) (get x : Event) : Type 0 where
+  pub same : x.proc ≡ p
+  pub stores : Stores plan x key
+  pub before : Before plan x get
+
+abbrev pub NoCommitBefore : Plan → ℕ → ℕ → Event → Type 0
+NoCommitBefore plan p key get = (commit : Event) → commit.proc ≡ p → Stores plan commit key → ¬ (Before plan commit get)

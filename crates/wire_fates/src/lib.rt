@@ -9,7 +9,7 @@ mod key_fates;
 mod name_fates;
 mod settled;
 
-pub use fate::Fate;
+pub use fate::{Fate, fate_of};
 pub use fence_deliveries::{
     KeyRead, all_arrivals, comes_surely, late_source, may_be_late, next_arrival,
 };

@@ -13,7 +13,7 @@ returns-clause-ok g c =
     told_too c.args.telling.form c.args.telling.places.name.now (rows_in c.args.telling.places) c.args.plan.now c.with-marked.result c.answer_settled.result
     c.with-marked.ensures c.answer_settled.ensures.ok
 
-pub returns-in-true-clause-ok : goal.returns-in-true-clause-ok
-returns-in-true-clause-ok g c =
+pub returns-then-not-is_empty-clause-ok : goal.returns-then-not-is_empty-clause-ok
+returns-then-not-is_empty-clause-ok g c =
     found_too c.args.telling.form c.args.telling.places.name.now (rows_in c.args.telling.places) c.args.plan.now c.with-marked.result c.in_ok-found.found c.is_empty.result c.answer_found.result
     c.with-marked.ensures c.is_empty.ensures c.if-not-is_empty.true c.answer_found.ensures.ok c.answer_found.ensures.count
