@@ -104,11 +104,11 @@ def cut_into_lines(source: Optional[IO[bytes]]) -> Iterator[bytes]:
         yield rest
 
 
-def stream_check(asker: Asker) -> Generator[str, None, None]:
-    """The lines that `check` writes, one after another.
+def stream_lines(asker: Asker, command: str, *options: str) -> Generator[str, None, None]:
+    """The lines that a command writes, one after another.
 
     Raises Refused, before the first, if the plan is refused.
     """
-    with contextlib.closing(stream_blocks(asker, "check")) as blocks:
+    with contextlib.closing(stream_blocks(asker, command, *options)) as blocks:
         for block in blocks:
             yield from block.decode("utf-8", "replace").splitlines()

@@ -1,5 +1,6 @@
 """All that a report says, whatever its form."""
 import os
+import time
 from collections.abc import Sequence
 from dataclasses import dataclass
 from typing import Optional
@@ -9,7 +10,7 @@ from wire_up_tools.plan import Plan, read_plan
 from wire_up_tools.report.asking import CLEAN, FOUND, Asker
 from wire_up_tools.report.causes import Cause, find_causes
 from wire_up_tools.report.diagram import Diagram
-from wire_up_tools.report.findings import find_groups, group_lines, has_many
+from wire_up_tools.report.findings import find_groups
 from wire_up_tools.report.orders import Order, find_order
 from wire_up_tools.report.partial import find_reasons, find_verdicts
 from wire_up_tools.report.race_diagram import make_race_diagram
@@ -108,11 +109,10 @@ def make_report(path: str, asker: Asker) -> Report:
 
     Raises Refused where the checker can't be run, refuses the plan, or isn't `wire_up`.
     """
-    version = asker.version()
-    search = begin_search(asker)
-    is_long = has_many(asker)
-    order = find_order(read_plan(asker.data))
-    groups = (group_lines if is_long else find_groups)(asker, order.plan)
+    version, plan = asker.version(), read_plan(asker.data)
+    start = time.monotonic()
+    groups = find_groups(asker, plan)
+    search, order = begin_search(asker, time.monotonic() - start), find_order(plan)
     if not groups:
         return Report(path, version, order, wire_up=find_wire_up(asker, order))
     causes = find_causes(groups)
@@ -122,7 +122,7 @@ def make_report(path: str, asker: Asker) -> Report:
 
 def find_detail(search: Search, order: Order, cause: Cause) -> Detail:
     """What is told of a cause in full."""
-    diagram = make_race_diagram(cause.first, search.asker, order)
+    diagram = make_race_diagram(cause.first, search, order)
     return Detail(cause, diagram, find_runs(search, cause.first))
 
 

@@ -9,6 +9,7 @@ from dataclasses import dataclass
 from typing import Optional
 
 from wire_up_tools.plan import Call, Meeting
+from wire_up_tools.report.language import name_call
 from wire_up_tools.report.orders import Order
 from wire_up_tools.report.phrases import count_of, pick
 
@@ -151,8 +152,7 @@ def row_of_meeting(order: Order, meeting: Meeting) -> Row:
 
 def label_call(call: Call) -> str:
     """What stands beside a call."""
-    what = " collect" if call.collects else f" {call.about}" if call.about else ""
-    return f"{call.number} {call.verb}{what}"
+    return f"{call.number} {name_call(call)}"
 
 
 def make_bars(order: Order, lanes: Mapping[str, int], meetings: Iterable[Meeting]) -> list[Bar]:

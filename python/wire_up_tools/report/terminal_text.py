@@ -4,8 +4,10 @@ import textwrap
 from wire_up_tools.plan import Call
 from wire_up_tools.report import explaining, verdict
 from wire_up_tools.report.contents import ENDINGS, Detail, Report, WireUp
-from wire_up_tools.report.findings import PAIRS
+from wire_up_tools.report.findings import PAIRS, Kind
+from wire_up_tools.report.language import name_kind
 from wire_up_tools.report.markup import REPLACEMENT
+from wire_up_tools.report.messages import explain_late, find_late, say_place
 from wire_up_tools.report.phrases import VALUE_WIDTH, count_of, cut, describe_circle
 from wire_up_tools.report.runs import Outcome, Run, Runs
 from wire_up_tools.report.text_drawing import draw_lines
@@ -40,11 +42,13 @@ def write_detail(report: Report, number: int, detail: Detail) -> list[str]:
     """A cause that is told in full."""
     cause = detail.cause
     one, count = cause.first, verdict.say_count(cause)
+    late = find_late(report.plan, one) if one.kind is not Kind.REWRITE else None
     return [
         f"{number}. {explaining.title(one, cause.abouts)} ({count})",
         *(f"   {describe_call(report, it)}" for it in one.calls),
         "",
         f"   {explaining.explain(one)}",
+        *([f"   {explain_late(late)}"] if late else []),
         f"   Fix: {explaining.fix(one, report.order.uses)}",
         "",
         *draw_lines(detail.diagram),
@@ -55,8 +59,8 @@ def write_detail(report: Report, number: int, detail: Detail) -> list[str]:
 
 def describe_call(report: Report, call: Call) -> str:
     """A call with its line and its place."""
-    place = f", {call.place}" if call.place else ""
-    return f"{call.name} {call.verb}, {report.name}:{call.line}{place}"
+    place = f", {say_place(report.plan, call)}" if call.place else ""
+    return f"{call.name} {name_kind(call)}, {report.name}:{call.line}{place}"
 
 
 def write_runs(runs: Runs) -> list[str]:
@@ -72,7 +76,7 @@ def write_run(run: Run) -> list[str]:
     ends = [
         f"      {it.call} {it.verb}: {cut(it.said, VALUE_WIDTH)}" for it in run.ends[:ENDINGS]
     ]
-    return [f"   If the {call.verb} ({call.name}) comes first:", *ends]
+    return [f"   If the {name_kind(call)} ({call.name}) comes first:", *ends]
 
 
 def write_wire_up(report: Report, wire_up: WireUp) -> list[str]:

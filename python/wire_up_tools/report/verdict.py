@@ -1,7 +1,7 @@
 """The verdict of a report in words: what was found, what it means, and how large the plan is."""
 from wire_up_tools.report.causes import Cause
 from wire_up_tools.report.contents import Report
-from wire_up_tools.report.findings import COUNTED, Kind
+from wire_up_tools.report.findings import MOST_GROUPS, Kind
 from wire_up_tools.report.phrases import count_of
 from wire_up_tools.report.runs import SECONDS, Outcome
 
@@ -23,7 +23,9 @@ WITHOUT_RUNS = {
     Outcome.LARGE: (
         "No runs were looked for: wire_up witness takes no plan past the limits of its version."
     ),
-    Outcome.LATE: f"No runs were looked for: {SECONDS} seconds went to others.",
+    Outcome.LATE: (
+        f"No runs were looked for: {SECONDS} seconds went to others, or the plan is large."
+    ),
 }
 
 
@@ -55,7 +57,8 @@ def say_races(report: Report) -> str:
         said.append(count_of(count - rewrites, "race"))
     if rewrites:
         said.append(count_of(rewrites, "key that is put again", "puts of a key again"))
-    return "at least " * (bool(said) and count >= COUNTED) + " and ".join(said)
+    is_cut = sum(len(it.groups) for it in report.causes) >= MOST_GROUPS
+    return "at least " * is_cut + " and ".join(said)
 
 
 def say_ends(report: Report) -> str:
@@ -84,7 +87,7 @@ def say_waiting(report: Report) -> str:
 def say_size(report: Report) -> str:
     """How large the plan is."""
     plan = report.plan
-    jobs, calls = plan.declared.jobs, count_of(len(plan.calls), "call")
+    jobs, calls = plan.declared.jobs, count_of(plan.call_count, "call")
     in_jobs = f" in {count_of(len(jobs), 'job')}" if len(jobs) > 1 else ""
     kept = ", what gets bring is kept" if plan.declared.keeps else ""
     nodes = count_of(len(plan.declared.nodes), "node")
