@@ -21,6 +21,8 @@ SAYS = {
         "a:1 never puts none",
         "a:2 puts k and never commits it",
     ),
+    "closing-service": ("o 1 publish solver.port", "come from 1 mistake"),
+    "recorded-ring": ("MPI_Send to 1", "MPI_Recv from 0"),
     "names": (
         "Only the first publish of a name holds",
         "Put a fence between the two calls",

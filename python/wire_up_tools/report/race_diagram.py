@@ -28,8 +28,8 @@ from wire_up_tools.report.runs import Search
 CHAIN = 6
 # How many calls before a call of the finding are shown, and how many after it.
 BEFORE, AFTER = 2, 1
-# How many gets are shown of a key that is put again.
-READERS = 2
+# How many gets are shown of a key that is put again, and how many publishes of a name.
+READERS, PUBLISHES = 2, 2
 
 
 def make_race_diagram(finding: Finding, search: Search, order: Order) -> Diagram:
@@ -58,6 +58,8 @@ def list_calls(finding: Finding, search: Search, order: Order) -> list[Call]:
         found += list_around_rewrite(finding, order)
     elif finding.kind is Kind.KEY:
         found += list_around_key(finding, order)
+    else:
+        found += order.uses.publishes.get(finding.about, ())[:PUBLISHES]
     late = find_late(order.plan, finding) if finding.kind is not Kind.REWRITE else None
     found += late.calls if late else []
     if finding.kind is not Kind.REWRITE:
@@ -89,14 +91,17 @@ def list_gets(plan: Plan, owner: str, key: str) -> Iterator[Call]:
 
 
 def list_around_key(finding: Finding, order: Order) -> list[Call]:
-    """The put of the key, and of a fence that brings it the call by a rank of the reader's node."""
+    """The put of the key with its commit, and of a fence that brings it the call by a rank of the
+    reader's node."""
     puts = order.uses.puts.get((finding.owner or "", finding.about), ())
     fence, reader = finding.calls
     if fence.verb != "fence":
         fence, reader = reader, fence
     meeting = order.plan.meeting_of.get(fence)
     calls = meeting.calls if meeting else ()
-    return [*puts[:1], *[it for it in calls if it.rank.node == reader.rank.node][:1]]
+    commits = [it for it in map(order.uses.find_commit, puts[:1]) if it]
+    near = [it for it in calls if it.rank.node == reader.rank.node]
+    return [*puts[:1], *commits, *near[:1]]
 
 
 def list_chain(search: Search, order: Order, first: Call, second: Call) -> Sequence[Call]:

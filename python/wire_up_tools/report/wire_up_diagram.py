@@ -63,7 +63,7 @@ class Bundle:
 
 def make_wire_up_diagram(order: Order, waiting_at: WaitingAt) -> Diagram:
     """The diagram of a plan whose ranks wait for ever at these calls."""
-    shapes = find_shapes(order.plan, waiting_at)
+    shapes = find_shapes(order, waiting_at)
     if len(shapes) > LANES:
         return make_node_diagram(order)
     lanes = {ranks[0].name: lane for lane, ranks in enumerate(shapes)}
@@ -83,12 +83,16 @@ def make_wire_up_diagram(order: Order, waiting_at: WaitingAt) -> Diagram:
 # --- lanes: ranks of one shape ---
 
 
-def find_shapes(plan: Plan, waiting_at: WaitingAt) -> list[list[Rank]]:
+def find_shapes(order: Order, waiting_at: WaitingAt) -> list[list[Rank]]:
     """The ranks by their shapes and by where they wait, in the order of the first of each.
 
-    Where some of a few ranks wait, each stands alone, so that it is seen for whom.
+    Where some of a few ranks wait for others, but in fences, each stands alone, so that it is seen
+    for whom.
     """
-    if len(plan.ranks) <= LANES and any(it is not None for it in waiting_at.values()):
+    plan = order.plan
+    has_waits = any(it is not None for it in waiting_at.values())
+    has_given = any(it.awaited for stops in order.stops.values() for it in stops)
+    if len(plan.ranks) <= LANES and (has_waits or has_given):
         return [[it] for it in plan.ranks]
     found: dict[Hashable, list[Rank]] = {}
     for rank in plan.ranks:
