@@ -38,6 +38,13 @@ class Asker:
         except OSError as why:
             raise Refused(f"{self.checker.path}: {why.strerror}") from None
 
+    def takes(self, command: str, option: str) -> bool:
+        """Whether a command of the checker takes an option. Raises Refused if it can't be run."""
+        try:
+            return self.checker.takes(command, option)
+        except OSError as why:
+            raise Refused(f"{self.checker.path}: {why.strerror}") from None
+
     def ask(self, command: str, *words: str) -> Answer:
         """Asks a command. Raises Refused if the checker can't be run."""
         try:

@@ -13,6 +13,7 @@ from wire_up_tools.report.diagram import Diagram
 from wire_up_tools.report.findings import find_groups
 from wire_up_tools.report.orders import Order, find_order
 from wire_up_tools.report.partial import find_reasons, find_verdicts
+from wire_up_tools.report.placements import Elsewhere, find_elsewhere
 from wire_up_tools.report.race_diagram import make_race_diagram
 from wire_up_tools.report.replies import Failure, find_replies
 from wire_up_tools.report.runs import Runs, Search, begin_search, find_runs
@@ -46,7 +47,8 @@ class WireUp:
 
 @dataclass(frozen=True, eq=False)
 class Report:
-    """What is found in a plan: causes, of which the first are told in full, or else its wire-up.
+    """What is found in a plan: causes, of which the first are told in full, or else its wire-up;
+    and what is found on other placements only, if the checker can tell.
 
     `path` is that of the plan as it was given, and `version` that of the checker.
     """
@@ -57,6 +59,7 @@ class Report:
     causes: Sequence[Cause] = ()
     details: Sequence[Detail] = ()
     wire_up: Optional[WireUp] = None
+    elsewhere: Optional[Elsewhere] = None
 
     @property
     def plan(self) -> Plan:
@@ -113,11 +116,13 @@ def make_report(path: str, asker: Asker) -> Report:
     start = time.monotonic()
     groups = find_groups(asker, plan)
     search, order = begin_search(asker, time.monotonic() - start), find_order(plan)
-    if not groups:
-        return Report(path, version, order, wire_up=find_wire_up(asker, order))
     causes = find_causes(groups)
+    elsewhere = find_elsewhere(search, order, causes)
+    if not causes:
+        wire_up = find_wire_up(asker, order)
+        return Report(path, version, order, wire_up=wire_up, elsewhere=elsewhere)
     details = [find_detail(search, order, it) for it in causes[:CAUSES]]
-    return Report(path, version, order, causes, details)
+    return Report(path, version, order, causes, details, elsewhere=elsewhere)
 
 
 def find_detail(search: Search, order: Order, cause: Cause) -> Detail:

@@ -18,6 +18,7 @@ from wire_up_tools.report.markup import escape, escape_lines
 from wire_up_tools.report.messages import explain_late, find_late, say_place
 from wire_up_tools.report.page_style import STYLE
 from wire_up_tools.report.phrases import VALUE_WIDTH, count_of, cut, describe_circle, pick
+from wire_up_tools.report.placements import Placed
 from wire_up_tools.report.runs import Outcome, Run, Runs
 
 # How many more causes are told in a line each, and how many steps of an order are shown.
@@ -45,10 +46,12 @@ LISTS_ALL = "<code>wire_up check</code> lists all."
 def write_page(report: Report) -> str:
     """The whole page."""
     title = escape(f"{report.name}: {verdict.say_found(report)}")
+    elsewhere = report.elsewhere
     parts = [write_header(report)]
     parts += [write_detail(report, number, it) for number, it in enumerate(report.details, 1)]
     parts += [write_others(report)] if report.others else []
     parts += [write_wire_up(report.wire_up)] if report.wire_up else []
+    parts += [write_placed(report, it) for it in (elsewhere.placed if elsewhere else ())]
     parts.append(write_plan(report))
     return HEAD.format(title=title, style=STYLE) + "\n".join(parts) + FOOT
 
@@ -72,6 +75,7 @@ def write_header(report: Report) -> str:
     ]
     if report.verdicts:
         parts.append(f"<p>The recorder's verdicts: {escape(report.verdicts)}.</p>")
+    parts += [f'<p class="part">{escape(it)}</p>' for it in verdict.say_placements(report)]
     parts += [write_recording(report)] if report.plan.is_recorded else []
     parts += [write_contents(report)] if len(report.causes) > 1 else []
     return "\n".join([*parts, "</header>"])
@@ -84,6 +88,8 @@ def choose_badge(report: Report) -> tuple[str, str]:
         return "found", "races found" if has_race else "keys put again"
     if report.reasons:
         return "partly", "in part"
+    if report.elsewhere and (report.elsewhere.causes or report.elsewhere.fault):
+        return "partly", "as placed here"
     if report.waits:
         return "waits", "ranks wait for ever"
     return ("fails", "calls fail") if report.failed else ("quiet", "no race")
@@ -138,6 +144,24 @@ def write_detail(report: Report, number: int, detail: Detail) -> str:
     parts += [write_pairs(cause.group)] if cause.group.count > 1 else []
     parts += [write_alike(cause)] if len(cause.groups) > 1 else []
     return "\n".join([*parts, "</section>"])
+
+
+def write_placed(report: Report, placed: Placed) -> str:
+    """A cause that is found on another placement only, with its diagram there."""
+    cause, one = placed.cause, placed.cause.first
+    count = write_count(verdict.say_count(cause))
+    where, fix = escape(verdict.say_ranks(placed)), escape(explaining.fix(one, report.order.uses))
+    figure = draw_figure(placed.diagram, f"Diagram: {verdict.say_ranks(placed)}")
+    command = escape(f"wire_up place {','.join(placed.ranks)} {report.name}")
+    parts = [
+        f'<section class="found"><h2>{where}: {write_title(cause)} {count}</h2>',
+        write_calls(report, one.calls),
+        f"<p>{escape(explaining.explain(one))}</p>",
+        f'<p class="fix"><strong>Fix:</strong> {fix}</p>',
+        f'<div class="both">{figure}{write_runs(report, one, placed.runs)}</div>',
+        f"<p>This placement as a plan: <code>{command}</code></p></section>",
+    ]
+    return "\n".join(parts)
 
 
 def write_late(report: Report, finding: Finding) -> list[str]:
@@ -324,6 +348,9 @@ def find_named(report: Report) -> set[int]:
         group, alike = detail.cause.group, detail.cause.groups[: PAIRS + 1]
         findings = (*(it.first for it in alike), *group.others)
         calls += (call for it in findings for call in it.calls)
+    for placed in report.elsewhere.placed if report.elsewhere else ():
+        calls += placed.cause.first.calls
+        found |= placed.diagram.lines
     calls += (call for it in report.others[:MORE_CAUSES] for call in it.first.calls)
     return found.union(it.line for it in calls)
 

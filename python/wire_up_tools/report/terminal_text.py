@@ -9,6 +9,7 @@ from wire_up_tools.report.language import name_kind
 from wire_up_tools.report.markup import REPLACEMENT
 from wire_up_tools.report.messages import explain_late, find_late, say_place
 from wire_up_tools.report.phrases import VALUE_WIDTH, count_of, cut, describe_circle
+from wire_up_tools.report.placements import Placed
 from wire_up_tools.report.runs import Outcome, Run, Runs
 from wire_up_tools.report.text_drawing import draw_lines
 
@@ -26,6 +27,7 @@ def write_text(report: Report) -> str:
     ]
     if report.verdicts:
         lines.append(f"The recorder's verdicts: {report.verdicts}.")
+    lines += verdict.say_placements(report)
     if report.plan.is_recorded:
         lines.append(f"A recording. Left out: {'; '.join(report.left_out) or 'nothing'}.")
     for number, detail in enumerate(report.details, 1):
@@ -34,6 +36,8 @@ def write_text(report: Report) -> str:
         lines += ["", f"{count_of(len(report.others), 'other mistake')}: wire_up check lists all."]
     if report.wire_up:
         lines += ["", *write_wire_up(report, report.wire_up)]
+    for placed in report.elsewhere.placed if report.elsewhere else ():
+        lines += ["", *write_placed(report, placed)]
     folded = (part for line in lines for part in fold(line))
     return "".join(f"{make_printable(it)}\n" for it in folded)
 
@@ -54,6 +58,22 @@ def write_detail(report: Report, number: int, detail: Detail) -> list[str]:
         *draw_lines(detail.diagram),
         "",
         *write_runs(detail.runs),
+    ]
+
+
+def write_placed(report: Report, placed: Placed) -> list[str]:
+    """A cause that is found on another placement only."""
+    cause, one = placed.cause, placed.cause.first
+    title = f"{explaining.title(one, cause.abouts)} ({verdict.say_count(cause)})"
+    return [
+        f"{verdict.say_ranks(placed)}: {title}",
+        *(f"   {describe_call(report, it)}" for it in one.calls),
+        f"   Fix: {explaining.fix(one, report.order.uses)}",
+        "",
+        *draw_lines(placed.diagram),
+        "",
+        *write_runs(placed.runs),
+        f"   This placement as a plan: wire_up place {','.join(placed.ranks)} {report.name}",
     ]
 
 
