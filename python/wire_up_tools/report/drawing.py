@@ -156,14 +156,14 @@ def draw_lane(layout: Layout, lane: int) -> str:
     bottom = f"{layout.height - 6:.0f}"
     line = f'x1="{x:.1f}" x2="{x:.1f}" y1="{HEAD_HEIGHT - 8}" y2="{bottom}"'
     parts = [
-        draw_text(layout, Point(x - NAME_LEFT, 18), Label(names.name, "lane-name")),
-        draw_text(layout, Point(x - NAME_LEFT, 34), Label(names.below, "lane-node")),
+        draw_text(layout, Point(x - NAME_LEFT, 18), Label(names.name, "lane-name", lane=lane)),
+        draw_text(layout, Point(x - NAME_LEFT, 34), Label(names.below, "lane-node", lane=lane)),
         f'<line class="lane" {line}/>',
     ]
     for gap in layout.gaps:
         if gap.lane == lane:
             at = Point(x + LABEL_RIGHT, layout.rows[gap.row] + 32)
-            parts.append(draw_text(layout, at, Label(gap.label, "gap")))
+            parts.append(draw_text(layout, at, Label(gap.label, "gap", lane=lane)))
     return "\n".join(parts)
 
 
@@ -259,12 +259,11 @@ def draw_text(layout: Layout, at: Point, label: Label) -> str:
 
 def find_room(layout: Layout, at: Point, label: Label) -> int:
     """How many characters a label has: up to what stands next in its row, or to the edge."""
-    if label.row is None:
-        return LABEL_WIDTH
-    diagram = layout.diagram
-    lanes = [it.lane for it in diagram.items if it.row == label.row]
-    lanes += [lane for bar in diagram.bars if bar.row == label.row for lane in bar.marks]
-    right = [layout.lanes[it] for it in lanes if it > label.lane]
+    diagram, beside = layout.diagram, set(range(len(layout.lanes)))
+    if label.row is not None:
+        items = {it.lane for it in diagram.items if it.row == label.row}
+        beside = items.union(*(bar.marks for bar in diagram.bars if bar.row == label.row))
+    right = [layout.lanes[it] for it in beside if it > label.lane]
     edge = min(right) - MARGIN if right else layout.width - NAME_LEFT
     return max(LABEL_WIDTH, int((edge - at.x) / CHARACTER))
 
