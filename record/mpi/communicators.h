@@ -38,6 +38,9 @@ void note_child(const struct communicator *parent, int result, const MPI_Comm *m
 void note_child_of_group(const struct communicator *parent, int result, const MPI_Comm *made,
                          int tag);
 
+/* Notes a communicator that was made of a parent, and has the same processes. */
+void note_duplicate(const struct communicator *parent, MPI_Comm comm, const MPI_Comm *made);
+
 /* Notes a window that was made over the processes of a communicator. */
 void note_window(const struct communicator *parent, int result, MPI_Comm comm, const MPI_Win *made);
 

@@ -26,6 +26,8 @@ static const struct {
     {&mpi.comm_remote_group, "PMPI_Comm_remote_group"},
     {&mpi.group_translate_ranks, "PMPI_Group_translate_ranks"},
     {&mpi.group_free, "PMPI_Group_free"},
+    {&mpi.group_size, "PMPI_Group_size"},
+    {&mpi.win_get_group, "PMPI_Win_get_group"},
     {&mpi.type_size, "PMPI_Type_size_x"},
     {&mpi.test_cancelled, "PMPI_Test_cancelled"},
 };

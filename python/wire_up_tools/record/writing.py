@@ -5,6 +5,7 @@ from datetime import datetime, timezone
 from typing import Optional
 
 from wire_up_tools.limits import VERSION_1
+from wire_up_tools.record.calls import LookupEnd
 from wire_up_tools.record.draft import Line
 from wire_up_tools.record.places import Places
 from wire_up_tools.record.planning import Plan
@@ -44,6 +45,8 @@ STATUSES = {
     -61: "PMIX_ERR_LOST_CONNECTION",
     -62: "PMIX_ERR_EXISTS_OUTSIDE_SCOPE",
 }
+# The statuses of lookups that found a name at least.
+SUCCEEDED, NOT_FOUND = (0, -52), -46
 SUCCESS, WAITING, UNREACHED = STATUSES[0], "waiting", "unreached"
 
 
@@ -178,8 +181,10 @@ def write_plan(plan: Plan, places: Optional[Places] = None) -> str:
 
 
 def say_end(line: Line) -> str:
-    """How the call of a line ended."""
+    """How the call of a line ended. A lookup of several names succeeds if one is there."""
     end = line.call.end
+    if line.is_of_program and isinstance(end, LookupEnd) and end.status in SUCCEEDED:
+        return SUCCESS if line.value else STATUSES[NOT_FOUND]
     if line.is_of_program or not (end or line.verb == "publish"):
         status = end.status if end else 0
         return STATUSES.get(status, f"PMIX_STATUS_{status}") if end else WAITING
