@@ -248,6 +248,10 @@ if (call.is_noted)
     "make": Shape(CALL + COUNT_CHILD, """\
 note_child(&parent, result, made);
 """),
+    "make-later": Shape(CALL + COUNT_CHILD, """\
+if (parent.number && result == MPI_SUCCESS)
+    keep_duplicate(*request, &parent, comm, made);
+"""),
     # Each process gets data of every other: it is a collective too.
     "make-gathering": Shape(BEGIN + COUNT_CHILD, """\
 end_collective(&it, result, "all");
@@ -284,6 +288,22 @@ struct collective it = begin_collective(&call, "$kind", handle);
 forget_communicator(handle);
 """, """\
 end_collective(&it, result, "all");
+"""),
+    "start-epoch": Shape(CALL, """\
+keep_epoch(&call, ORIGIN, result, group, window);
+"""),
+    "post-epoch": Shape(CALL, """\
+keep_epoch(&call, TARGET, result, group, window);
+"""),
+    "end-epoch": Shape(CALL + """\
+note_completion(&call, window);
+"""),
+    "wait-epoch": Shape(CALL, """\
+note_awaited(&call, result, window, WAITED);
+"""),
+    "test-epoch": Shape(CALL, """\
+if (result == MPI_SUCCESS && *flag)
+    note_awaited(&call, result, window, POLLED);
 """),
 }
 

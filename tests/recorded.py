@@ -57,6 +57,9 @@ CASES = {
     "later": Program(2, 0, 1),
     "split": Program(2, 0, 1),
     "window": Program(2, 0, 2),
+    "duplicate": Program(2, 0, 1),
+    "epoch": Program(2, 0, 1),
+    "tags": Program(2, 0, 0),
     "inter": Program(4, 0, 1),
     "merged": Program(4, 0, 1),
     "jump": Program(2, 0, 1),
@@ -92,6 +95,7 @@ OTHER_WAYS = {
 }
 # Those of `direct`.
 DIRECT = {
+    "partial": Program(2, 0, 1),
     "unwaited": Program(2, 0, 1, IN_PART, f"{IN_PART}{UNAWAITED}"),
 }
 SHIPPED = {**CASES, **DIRECT, **OTHERS, **OTHER_WAYS}

@@ -205,24 +205,37 @@ void note_child_of_group(const struct communicator *parent, int result, const MP
     note_made((struct making){.parent = parent->number, .how = "g", .nth = tag}, result, made);
 }
 
-void note_window(const struct communicator *parent, int result, MPI_Comm comm, const MPI_Win *made)
+/* Notes what has a handle, and has the processes of a communicator as its members. */
+static void note_alike(const struct communicator *parent, MPI_Comm comm, char how, uintptr_t handle)
 {
     int size = 0;
-    if (result != MPI_SUCCESS)
-        return;
-    forget_communicator((uintptr_t)*made);
+    forget_communicator(handle);
     if (!parent->number)
         return;
     struct text what;
     struct communicator it = *parent;
-    it.handle = (uintptr_t)*made;
+    it.handle = handle;
     it.number = number_communicator();
     it.made = 0;
     mpi.comm_size(comm, &size);
     wire_up_text_open(&what);
-    wire_up_text_add(&what, "comm %u %u v%u ", it.number, parent->number, parent->made);
+    wire_up_text_add(&what, "comm %u %u %c%u ", it.number, parent->number, how, parent->made);
     bool is_known = add_members(&what, comm, mpi.comm_group, size);
     note_described(&what, it, is_known);
+}
+
+void note_window(const struct communicator *parent, int result, MPI_Comm comm, const MPI_Win *made)
+{
+    if (result == MPI_SUCCESS)
+        note_alike(parent, comm, 'v', (uintptr_t)*made);
+}
+
+void note_duplicate(const struct communicator *parent, MPI_Comm comm, const MPI_Comm *made)
+{
+    if (parent->is_inter)
+        forget_communicator((uintptr_t)*made);
+    else
+        note_alike(parent, comm, 'c', (uintptr_t)*made);
 }
 
 /* --- the world --- */

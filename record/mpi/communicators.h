@@ -46,6 +46,9 @@ void leave_session(void);
 /* Notes a communicator that the processes of a group made with a tag, and without a parent. */
 void note_of_session(const struct call *call, int result, const MPI_Comm *made, const char *tag);
 
+/* Notes a communicator that was made of a parent, and has the same processes. */
+void note_duplicate(const struct communicator *parent, MPI_Comm comm, const MPI_Comm *made);
+
 /* Notes a window that was made over the processes of a communicator. */
 void note_window(const struct communicator *parent, int result, MPI_Comm comm, const MPI_Win *made);
 

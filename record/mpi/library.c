@@ -28,6 +28,7 @@ static const struct {
     {&mpi.group_free, "PMPI_Group_free"},
     {&mpi.group_rank, "PMPI_Group_rank"},
     {&mpi.group_size, "PMPI_Group_size"},
+    {&mpi.win_get_group, "PMPI_Win_get_group"},
     {&mpi.type_size, "PMPI_Type_size_x"},
     {&mpi.test_cancelled, "PMPI_Test_cancelled"},
 };

@@ -11,6 +11,7 @@
 #include "mpi/bindings.h"
 #include "mpi/collectives.h"
 #include "mpi/completions.h"
+#include "mpi/epochs.h"
 
 #include <errno.h>
 

@@ -207,13 +207,18 @@ class ProcessLines:
         end = call.end
         found = {it.key: it.value for it in end.found} if isinstance(end, LookupEnd) else {}
         self.note_several(lookup, len(lookup.keys))
-        verb = "lookup-wait" if self.is_waiting(call, lookup, len(lookup.keys)) else "lookup"
+        waits = "lookup-wait" if self.is_waiting(call, lookup, len(lookup.keys)) else "lookup"
         for key in lookup.keys:
             if is_reserved_by_pmix(key):
                 self.leave_out("lookups of reserved keys")
             else:
                 value = found.get(key)
                 is_known = value is not None and value.kind is not ValueKind.NONE
+                if call.status == 0 and not is_known:
+                    self.write_otherwise(
+                        "names without a value in lookups that succeeded: they aren't there"
+                    )
+                verb = waits if is_known or call.status != 0 else "lookup"
                 self.add(call, f"{verb} {self.spelling.names[key]}", value if is_known else None)
 
     def take_unpublish(self, call: Call, unpublish: Unpublish) -> None:

@@ -39,6 +39,7 @@ HEAD = (
 # A record: its sign (+ a call begins, - it ends, = all else), the number of the call, the thread,
 # the time, the number of its place in the program, and what it says.
 RECORD = re.compile(rf"([-+=]) ({NUMBER}) ({NUMBER}) \d{{1,18}}\.\d{{6}} (?:@(\d{{1,9}}) )?(.+)")
+FOREIGN = re.compile(rb"[^ -~\n]")
 LOST = "lost"
 NO_RECORD = "isn't a record"
 
@@ -262,16 +263,16 @@ def read_recording(path: str, data: bytes) -> Recording:
     data = data.rstrip(b"\0")
     if not data:
         raise Refused(f"{path}: is empty, and no recording")
-    whole, line_feed, last = data.rpartition(b"\n")
-    foreign = re.search(rb"[^ -~\n]", whole)
+    end = data.rfind(b"\n") + 1
+    foreign = FOREIGN.search(data, 0, end)
     if foreign:
-        number = whole.count(b"\n", 0, foreign.start()) + 1
+        number = data.count(b"\n", 0, foreign.start()) + 1
         refuse(path, number, "has a byte that no recording has")
-    lines = io.TextIOWrapper(io.BytesIO(data[:len(whole) + len(line_feed)]), "ascii", newline="\n")
-    head = read_head(path, [it[:-1] for it in itertools.islice(lines, len(HEAD))])
-    records = Records(path)
-    for number, line in enumerate(lines, len(HEAD) + 1):
-        records.read(number, line[:-1])
+    lines = io.TextIOWrapper(io.BytesIO(data), "ascii", "replace", newline="\n")
+    whole = (it[:-1] for it in lines if it.endswith("\n"))
+    head, records = read_head(path, [*itertools.islice(whole, len(HEAD))]), Records(path)
+    for number, line in enumerate(whole, len(HEAD) + 1):
+        records.read(number, line)
     return Recording(
         path=path,
         namespace=head.namespace,
@@ -286,7 +287,7 @@ def read_recording(path: str, data: bytes) -> Recording:
         communicators=records.communicators,
         places=records.places,
         has_finalized=records.has_finalized,
-        is_cut=bool(last),
+        is_cut=end < len(data),
     )
 
 

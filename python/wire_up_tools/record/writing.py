@@ -5,7 +5,7 @@ from datetime import datetime, timezone
 from typing import Optional
 
 from wire_up_tools.limits import VERSION_1
-from wire_up_tools.record.calls import Collective, MessageEnd, Probe, Receive, Send
+from wire_up_tools.record.calls import Collective, LookupEnd, MessageEnd, Probe, Receive, Send
 from wire_up_tools.record.draft import Line
 from wire_up_tools.record.places import Places
 from wire_up_tools.record.planning import Plan
@@ -48,6 +48,8 @@ STATUSES = {
 }
 # The comments for which there may be no room.
 LEFT_AWAY = (PLACE_COMMENT, f"{MPI_COMMENT}send", f"{MPI_COMMENT}receive")
+# The statuses of lookups that found a name at least.
+SUCCEEDED, NOT_FOUND = (0, -52), -46
 SUCCESS, WAITING, UNREACHED = STATUSES[0], "waiting", "unreached"
 
 
@@ -199,8 +201,10 @@ def write_plan(plan: Plan, places: Optional[Places] = None) -> str:
 
 
 def say_end(line: Line) -> str:
-    """How the call of a line ended."""
+    """How the call of a line ended. A lookup of several names succeeds if one is there."""
     end = line.call.end
+    if line.is_of_program and isinstance(end, LookupEnd) and end.status in SUCCEEDED:
+        return SUCCESS if line.value else STATUSES[NOT_FOUND]
     if line.is_of_program or not (end or line.verb == "publish"):
         status = end.status if end else 0
         return STATUSES.get(status, f"PMIX_STATUS_{status}") if end else WAITING
