@@ -11,3 +11,4 @@ pub mod Replay
 pub mod Complete
 pub mod Follow
 pub mod Migrate
+pub mod Place
