@@ -13,6 +13,7 @@ pub mod FileFaults
 pub mod Followed
 pub mod Handed
 pub mod Judged
+pub mod Moved
 pub mod Questioned
 pub mod ReplayWritten
 pub mod Texts

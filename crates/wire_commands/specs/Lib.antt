@@ -13,3 +13,4 @@ pub mod Replay
 pub mod Complete
 pub mod Follow
 pub mod Migrate
+pub mod Place
