@@ -3,7 +3,7 @@ use Rattle.std.proofs.Common.{◌≡◌, ◌∙◌, ap, sym, refl, subst, ℕ, s
 use Rattle.std.specs.Prelude.{slice_get}
 use Rattle.std.proofs.lemmas.Bool.{cases_lt, cases_eq}
 use Rattle.std.proofs.lemmas.Option.{same_Some}
-use Rattle.wire_runs.specs.Plan.{Plan, Event, Arrive, Get, kind, node_of, event_count}
+use Rattle.wire_runs.specs.Plan.{Plan, Event, Arrive, Get, kind, node_of, event_count, GetNow}
 use Rattle.wire_runs.specs.Fences.{is_member}
 use Rattle.wire_runs.specs.Order.{IsArrival, Live, Before}
 use Rattle.wire_runs.specs.Races.{Delivery, ByFence, ByGet, IsOf, FenceBringsAway, GetBringsAway}
@@ -11,9 +11,9 @@ use Rattle.wire_runs.specs.Placings.{Carries, HasSurely, IsFarRace}
 use Rattle.wire_runs.specs.FindingsAnywhere.{Placed, IsLeastFar}
 use Rattle.wire_plan.specs.Index.{IsDelivering, AreArrivals}
 use Rattle.wire_plan.proofs.Delivering.{here}
-use Rattle.wire_runs.proofs.FenceChains.{member_arrives}
+use Rattle.wire_runs.proofs.FenceChains.{one_member_tells, member_arrives}
 use Rattle.wire_fates.specs.Deliveries.{MayBeLate, IsLate}
-use Rattle.wire_fates.proofs.Arrivals.{same_fence, arrival_of, late_once}
+use Rattle.wire_fates.proofs.Arrivals.{same_fence, arrival_of, late_once, late_there}
 use Rattle.wire_fates.proofs.Surely.{delivering_within}
 use Rattle.wire_races.specs.GetRaces.{MayRace}
 use Rattle.wire_runs.proofs.Histories.{joined}
@@ -170,6 +170,52 @@ module _ (plan : Plan) (get : Event) (p key : ℕ) where
           let moved : IsLeastFar plan z get p key m = subst (λ v. IsLeastFar plan v get p key m) e far in
           let raced : IsRaceWith z get p key m f = subst (λ v. IsRaceWith v get p key m f) e is in
           inr (z, record { brings = c.brings_away; far = subst (IsLeastFar plan z get p key) (sym c.takes_part) moved; is = subst (λ k. IsRaceWith z get p key k f) (sym c.takes_part) raced })
+
+  -- the end of a fence tells whether it may come late
+  pub may_told : kind plan get ≡ Some (GetNow p key) → (at : ℕ) (d : IsDelivering plan p key (node_of plan p) at) → Live plan (here p (suc at)) → ¬ (Before plan get (here p (suc at))) →
+      MayBeLate plan get (here p at)
+  may_told asks at d end not =
+      let tells = one_member_tells plan d.members d.j p at p key get d.arrival asks in
+      let full = d.brings.away.full in
+      record {
+        fence = record { members = d.members; j = d.j; arrival = d.arrival };
+        all_live = (tells.live full).1 end;
+        before_none = (tells.late full end).1 not;
+      }
+
+  pub told_may : kind plan get ≡ Some (GetNow p key) → (at : ℕ) (d : IsDelivering plan p key (node_of plan p) at) → MayBeLate plan get (here p at) →
+      Live plan (here p (suc at)) × ¬ (Before plan get (here p (suc at)))
+  told_may asks at d m =
+      let tells = one_member_tells plan d.members d.j p at p key get d.arrival asks in
+      let full = d.brings.away.full in
+      let same : (z : Event) → IsArrival plan d.members d.j z → IsArrival plan m.fence.members m.fence.j z =
+      λ z a. arrival_of plan (here p at) z d.members m.fence.members d.j m.fence.j d.arrival m.fence.arrival a in
+      let end = (tells.live full).0 (λ z a. m.all_live z (same z a)) in
+      (end, (tells.late full end).0 (λ z a. m.before_none z (same z a)))
+
+  -- where one arrival isn't before the get, the first of all is late
+  module _ (asks : kind plan get ≡ Some (GetNow p key)) (q at : ℕ) (m : MayBeLate plan get (here q at)) where
+    pub first_is_late : (places : List Event) → ((members : List ℕ) (j : ℕ) → IsArrival plan members j (here q at) → AreArrivals plan members j places) → ¬ (Before plan (here q at) get) →
+        (x : Event) → slice_get places 0 ≡ Some x → IsLate plan get (here q at) x
+    first_is_late places those not x is =
+        let tells = one_member_tells plan m.fence.members m.fence.j q at p key get m.fence.arrival asks in
+        let are = those m.fence.members m.fence.j m.fence.arrival in
+        late_there plan get (here q at) m.fence places those x m (record {
+          k = 0;
+          is = is;
+          not_before = tells.none not x (are.only 0 x is);
+          others = λ k z lt there. absurd (omega (arith, lt));
+        })
+
+    -- and where it is, none is late
+    pub sure_not_late : Before plan (here q at) get → (x : Event) → IsLate plan get (here q at) x → ⊥
+    sure_not_late before x l =
+        let tells = one_member_tells plan l.may.fence.members l.may.fence.j q at p key get l.may.fence.arrival asks in
+        l.not_before (tells.sure.1 before x l.of_it)
+
+    pub nobody_late : (places : List Event) → ((members : List ℕ) (j : ℕ) → IsArrival plan members j (here q at) → AreArrivals plan members j places) →
+        ((k : ℕ) (z : Event) → slice_get places k ≡ Some z → ⊥) → (x : Event) → IsLate plan get (here q at) x → ⊥
+    nobody_late places those none x l = let there = (those l.may.fence.members l.may.fence.j l.may.fence.arrival).all x l.of_it in none there.0 x there.1
 
   least_one : (x : Event) (m k : ℕ) → IsLeastFar plan x get p key m → IsLeastFar plan x get p key k → m ≡ k
   least_one x m k a b = elim (cases_lt m k) [

@@ -1,12 +1,14 @@
 //! Far races: of a get-now and a delivery of its key to another process, where these two share a node apart from
 //! the owner's.
 
-ghost use Rattle.std.specs.Prelude.{◌≡◌, ◌↔◌, OnOk, IsTrue, map};
+ghost use Rattle.std.specs.Prelude.{◌≡◌, ◌↔◌, ℕ, List, suc, OnOk, IsTrue, MatchOption, map};
 ghost use Rattle.wire_runs.specs.Plan.{event_of, event_count, node_of};
+ghost use Rattle.wire_runs.specs.Plan as runs;
+ghost use Rattle.wire_runs.specs.Order.{IsArrival};
 ghost use Rattle.wire_runs.specs.Placings.{HasSurely};
 ghost use Rattle.wire_content.specs.Planned.{plan_of};
-ghost use Rattle.wire_plan.specs.Index.{IsDelivering};
-ghost use Rattle.wire_fates.specs.Deliveries.{MayBeLate};
+ghost use Rattle.wire_plan.specs.Index.{IsDelivering, AreArrivals};
+ghost use Rattle.wire_fates.specs.Deliveries.{MayBeLate, IsLate};
 ghost use Rattle.wire_races.specs.KeyRaces.{IsOpen};
 ghost use Rattle.wire_races.specs.GetRaces.{MayRace};
 ghost use Rattle.wire_anywhere.specs.Adding.{Adds};
@@ -19,9 +21,46 @@ use crate::gets::GetTable;
 use crate::placed::PlacedList;
 use crate::racing_pairs::add_race;
 use std::alloc::AllocError;
-use wire_fates::{KeyRead, all_arrivals, late_source, may_be_late, next_arrival};
+use wire_fates::{KeyRead, all_arrivals, next_arrival};
 use wire_marks::MarkedPlan;
 use wire_types::Event;
+
+/// Whether the fence of the owner's arrival, whose end is the owner's event after it, may come late: all arrivals there
+/// are live, and a get-now is before none of them. The end tells.
+fn may_be_late(marked: &MarkedPlan<'_>, asked: KeyRead, arrival: Event, end: Event) -> bool
+    requires get { IsOpen (plan_of marked.now) (event_of asked.get_now) asked.owner.number asked.key }
+    requires proc { arrival.proc ≡ asked.owner }
+    requires delivers { let plan = plan_of marked.now in IsDelivering plan asked.owner.number asked.key (node_of plan asked.owner.number) arrival.at }
+    requires end_proc { end.proc ≡ asked.owner }
+    requires end_at { end.at ≡ suc arrival.at }
+    ensures { IsTrue result ↔ MayBeLate (plan_of marked.now) (event_of asked.get_now) (event_of arrival) }
+{
+    marked.live(end) && !marked.before(asked.get_now, end)
+}
+
+/// The first arrival that isn't before a get-now at the fence of the owner's arrival, which may come late. Where the
+/// owner's isn't before the get, none is.
+fn late_source(
+    marked: &MarkedPlan<'_>,
+    asked: KeyRead,
+    arrival: Event,
+    arrivals: &[Event],
+) -> Option<Event>
+    requires get { IsOpen (plan_of marked.now) (event_of asked.get_now) asked.owner.number asked.key }
+    requires may { MayBeLate (plan_of marked.now) (event_of asked.get_now) (event_of arrival) }
+    requires those { (members : List ℕ) (j : ℕ) → IsArrival (plan_of marked.now) members j (event_of arrival) →
+        AreArrivals (plan_of marked.now) members j (map event_of arrivals.now) }
+    ensures { MatchOption result ((x : runs.Event) → IsLate (plan_of marked.now) (event_of asked.get_now) (event_of arrival) x → ⊥)
+        (λ x. IsLate (plan_of marked.now) (event_of asked.get_now) (event_of arrival) (event_of x)) }
+{
+    if marked.before(arrival, asked.get_now) {
+        return None;
+    }
+    match arrivals.first() {
+        Some(first) => Some(*first),
+        None => None,
+    }
+}
 
 /// Adds the far race of a get-now with the fence of an arrival, if there is one: with the first arrival that isn't
 /// before the get, shown by the first member that lacks the key.
@@ -41,10 +80,11 @@ fn add_late(
         (IsFarAt (plan_of marked.now) (event_of asked.get_now) asked.owner.number asked.key arrival.at)) }
 {
     let plan = marked.plan();
-    let Some(source) = late_source(marked, asked.get_now, arrival) else {
+    let arrivals = all_arrivals(plan, arrival);
+    let Some(source) = late_source(marked, asked, arrival, arrivals) else {
         return Ok(());
     };
-    let Some(other) = first_lacking(marked, gets, asked, all_arrivals(plan, arrival)) else {
+    let Some(other) = first_lacking(marked, gets, asked, arrivals) else {
         return Ok(());
     };
     add_race(plan, found, source, asked, other)
@@ -71,11 +111,15 @@ fn add_all_late(
         let Some(arrival) = next_arrival(plan, asked.owner, asked.key, home, from) else {
             return Ok(());
         };
-        if !may_be_late(marked, asked.get_now, arrival) {
+        let end = Event {
+            proc: asked.owner,
+            at: arrival.at + 1,
+        };
+        if !may_be_late(marked, asked, arrival, end) {
             return Ok(());
         }
         add_late(marked, gets, found, asked, arrival)?;
-        from = arrival.at + 1;
+        from = end.at;
     }
     Ok(())
 }

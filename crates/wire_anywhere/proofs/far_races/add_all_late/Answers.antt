@@ -67,3 +67,10 @@ add_late-requires-clause-delivers c =
     let home = rw c.plan-plan.ensures at c.node_of-home.ensures in
     let next = rw c.plan-plan.ensures at c.in-Some.ensures in
     subst (λ n. IsDelivering plan c.args.asked.owner.number c.args.asked.key n c.in-Some.arrival.at) home next.delivers
+
+pub may_be_late-requires-clause-delivers : goal.may_be_late-requires-clause-delivers
+may_be_late-requires-clause-delivers c =
+    let plan = plan_of c.args.marked.now in
+    let home = rw c.plan-plan.ensures at c.node_of-home.ensures in
+    let next = rw c.plan-plan.ensures at c.in-Some.ensures in
+    subst (λ n. IsDelivering plan c.args.asked.owner.number c.args.asked.key n c.in-Some.arrival.at) home next.delivers

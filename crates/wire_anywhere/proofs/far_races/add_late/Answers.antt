@@ -24,10 +24,10 @@ returns-in_default-first_lacking c =
     let p = c.args.asked.owner.number in
     let at = c.args.arrival.at in
     let x = event_of c.in-Some.source in
-    let places = map event_of c.all_arrivals.result.now in
+    let places = map event_of c.all_arrivals-arrivals.result.now in
     let late = subst (λ q. IsLate plan get (record { proc = q.number; at = at }) x) c.requires.proc c.in-Some.ensures in
     let those = subst (λ q. (members : List ℕ) (j : ℕ) → IsArrival plan members j (record { proc = q.number; at = at }) → AreArrivals plan members j places) c.requires.proc
-    (rw c.plan-plan.ensures at c.all_arrivals.ensures) in
+    (rw c.plan-plan.ensures at c.all_arrivals-arrivals.ensures) in
     not_far plan get p c.args.asked.key c.args.found.now at x late
     (none_far plan get p c.args.asked.key c.requires.unsure at x c.requires.delivers late places those c.in_default-first_lacking.ensures)
 
@@ -42,10 +42,10 @@ add_race-requires-clause-another c = λ e.
     let at = c.args.arrival.at in
     let x = event_of c.in-Some.source in
     let m = c.in-Some-first_lacking.other.number in
-    let places = map event_of c.all_arrivals.result.now in
+    let places = map event_of c.all_arrivals-arrivals.result.now in
     let late = subst (λ q. IsLate plan get (record { proc = q.number; at = at }) x) c.requires.proc c.in-Some.ensures in
     let those = subst (λ q. (members : List ℕ) (j : ℕ) → IsArrival plan members j (record { proc = q.number; at = at }) → AreArrivals plan members j places) c.requires.proc
-    (rw c.plan-plan.ensures at c.all_arrivals.ensures) in
+    (rw c.plan-plan.ensures at c.all_arrivals-arrivals.ensures) in
     far_not_reader plan x get p c.args.asked.key m
     (far_here plan get p c.args.asked.key c.requires.unsure at x c.requires.delivers late places those m c.in-Some-first_lacking.ensures).far (sym e)
 
@@ -57,9 +57,12 @@ returns c =
     let at = c.args.arrival.at in
     let x = event_of c.in-Some.source in
     let m = c.in-Some-first_lacking.other.number in
-    let places = map event_of c.all_arrivals.result.now in
+    let places = map event_of c.all_arrivals-arrivals.result.now in
     let late = subst (λ q. IsLate plan get (record { proc = q.number; at = at }) x) c.requires.proc c.in-Some.ensures in
     let those = subst (λ q. (members : List ℕ) (j : ℕ) → IsArrival plan members j (record { proc = q.number; at = at }) → AreArrivals plan members j places) c.requires.proc
-    (rw c.plan-plan.ensures at c.all_arrivals.ensures) in
+    (rw c.plan-plan.ensures at c.all_arrivals-arrivals.ensures) in
     let far = far_here plan get p c.args.asked.key c.requires.unsure at x c.requires.delivers late places those m c.in-Some-first_lacking.ensures in
     on_ok_weaker c.add_race.result (λ h. one_late plan get p c.args.asked.key c.args.found.now c.add_race.new.found at x m c.requires.delivers late far h) (rw c.plan-plan.ensures at c.add_race.ensures)
+
+pub late_source-requires-clause-those : goal.late_source-requires-clause-those
+late_source-requires-clause-those c = rw c.plan-plan.ensures at c.all_arrivals-arrivals.ensures
