@@ -10,7 +10,7 @@ use std::thread::Threads;
 use wire_command_line::{CallPair, Command, Judged, PairOptions, ReplayOptions, Request};
 use wire_commands::{
     Ended, Manner, Mode, PairAsked, Replaying, answer_question, check_placements, check_plan,
-    check_replies, follow_plan, migrate_plan, replay_plan, witness_pair, witness_races,
+    check_replies, follow_plan, migrate_plan, place_plan, replay_plan, witness_pair, witness_races,
 };
 use wire_sched::OpenGate;
 use wire_types::{Fault, FromRead, Sink, Source};
@@ -51,6 +51,7 @@ pub fn work_of(command: Command<'_>) -> Work {
         Command::Follow(_) => Work::Following,
         Command::Why(_) | Command::Witness(_) | Command::Witnesses(_) => Work::Searching,
         Command::Migrate => Work::Migrating,
+        Command::Place(_) => Work::Placing,
     }
 }
 
@@ -69,6 +70,14 @@ pub fn calls_of<'a>(command: Command<'a>) -> Option<CallPair<'a>> {
     match command {
         Command::Why(calls) => Some(calls),
         Command::Witness(options) => Some(options.calls),
+        _ => None,
+    }
+}
+
+/// The word that lists the ranks to be placed.
+pub fn ranks_of<'a>(command: Command<'a>) -> Option<&'a str> {
+    match command {
+        Command::Place(ranks) => Some(ranks),
         _ => None,
     }
 }
@@ -106,6 +115,10 @@ pub fn run_command<R: Read, W: Sink>(
         }
         Command::Migrate => {
             migrate_plan(rt.alloc(), request.size, reader, writer)?;
+            Ok(DONE)
+        }
+        Command::Place(ranks) => {
+            place_plan(rt.alloc(), request.size, reader, writer, ranks)?;
             Ok(DONE)
         }
         Command::Witness(options) => {

@@ -18,7 +18,7 @@ use Rattle.wire_command_line.specs.Workers.{most_said, workers_said}
 use Rattle.wire_command_line.specs.declared.request.CallPair.{CallPair}
 use Rattle.wire_command_line.specs.declared.request.CallWords.{CallWords}
 use Rattle.wire_command_line.specs.declared.request.Command.{Command}
-use Rattle.wire_command_line.specs.declared.request.Command.TheVariants.{Check, Replay, Follow, Why, Migrate, Witness}
+use Rattle.wire_command_line.specs.declared.request.Command.TheVariants.{Check, Replay, Follow, Why, Migrate, Place, Witness}
 use Rattle.wire_command_line.specs.declared.request.Command.TheVariants.{Witnesses}
 use Rattle.wire_command_line.specs.declared.request.Judged.{Judged}
 use Rattle.wire_command_line.specs.declared.request.Judged.TheVariants.{Written, Anywhere, Same}
@@ -97,6 +97,7 @@ IsCommand name rows (Replay asked) =
 IsCommand name rows (Follow order) = (name ≡ codes "follow") × (Some order.now ≡ first_of (codes "ORDER") rows)
 IsCommand name rows (Why calls) = (name ≡ codes "why") × NamesCalls rows calls
 IsCommand name rows Migrate = name ≡ codes "migrate"
+IsCommand name rows (Place ranks) = (name ≡ codes "place") × (Some ranks.now ≡ first_of (codes "RANKS") rows)
 IsCommand name rows (Witness asked) =
     (name ≡ codes "witness") × NamesCalls rows asked.calls × (Some asked.orders ≡ orders_said rows) × (first_of (codes "most") rows ≡ None)
 IsCommand name rows (Witnesses most) =
@@ -125,7 +126,9 @@ pub record IsRequestBy (command : Option (Text × List Row)) (request : Request)
 -- the name is that of one of the program's commands, and the words that it needs are given
 abbrev pub is_full : Text → List Row → Bool
 is_full name rows =
-    list_any (bytes_eq name) (codes "check" ∷ codes "replay" ∷ codes "follow" ∷ codes "why" ∷ codes "migrate" ∷ codes "witness" ∷ []) && has_needed name rows
+    list_any (bytes_eq name)
+    (codes "check" ∷ codes "replay" ∷ codes "follow" ∷ codes "why" ∷ codes "migrate" ∷ codes "place" ∷ codes "witness" ∷ [])
+    && has_needed name rows
 
 -- the words of `witness` are those of two calls; one order alone has no form, and no `--most` goes with them
 abbrev pub is_of_pair : List Row → Bool

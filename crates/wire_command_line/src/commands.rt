@@ -192,6 +192,25 @@ fn migrate_command<'a>() -> Subcommand<'a>
     }
 }
 
+fn place_command<'a>() -> Subcommand<'a>
+    ensures { line_said result ≡ spec.place_line }
+{
+    Subcommand {
+        name: "place",
+        about: "Writes the same plan with some ranks on one node, and all others on another",
+        arguments: &[
+            Argument {
+                name: "RANKS",
+                kind: Kind::NeededWord,
+                help: "The ranks on a node of their own, with commas between them, as app:0,app:3",
+            },
+            LARGE,
+            EXPLAIN,
+            PLAN,
+        ],
+    }
+}
+
 fn witness_command<'a>() -> Subcommand<'a>
     ensures { line_said result ≡ spec.witness_line }
 {
@@ -263,7 +282,7 @@ fn with_command<'a>(
 }
 
 /// The commands, in the order in which help lists them.
-fn commands<'a>() -> [Subcommand<'a>; 6]
+fn commands<'a>() -> [Subcommand<'a>; 7]
     ensures { with_commands spec.program_alone result ≡ spec.program_line }
 {
     [
@@ -272,6 +291,7 @@ fn commands<'a>() -> [Subcommand<'a>; 6]
         follow_command(),
         why_command(),
         migrate_command(),
+        place_command(),
         witness_command(),
     ]
 }

@@ -216,6 +216,11 @@ fn read_command<'a>(name: &str, found: &ArgMatches<'a>) -> Result<Command<'a>, L
     if is_same(name, "migrate") {
         return Ok(Command::Migrate);
     }
+    if is_same(name, "place") {
+        return find_word(found, "RANKS")
+            .map(Command::Place)
+            .ok_or(Lack::Word);
+    }
     if is_same(name, "witness") {
         return read_witness(found);
     }

@@ -63,6 +63,8 @@ pub enum Command<'a> {
     Why(CallPair<'a>),
     /// To write a plan under version 2 of the format.
     Migrate,
+    /// To write a plan with these ranks on one node, and all others on another.
+    Place(&'a str),
     /// `witness` with two calls: to show their race by two runs.
     Witness(PairOptions<'a>),
     /// `witness` without calls: to tell which races two runs show. So many are tried, 1,000,000,000 for every greater

@@ -67,19 +67,19 @@ impl Process {
         self.node
     }
 
-    /// Puts it on the node of this number.
-    pub(crate) fn move_to(&mut self, node: u32)
-        ensures { self.new ≡ record self.old { node = node } }
-    {
-        self.node = node;
-    }
-
     /// Its calls, in their order.
     pub fn calls(&self) -> &[Call]
         ensures { result.now ≡ self.now.calls }
     {
         self.calls.as_slice()
     }
+}
+
+/// Puts a process on the node of this number.
+pub(crate) fn move_to(process: &mut Process, node: u32)
+    ensures { process.new ≡ record process.old { node = node } }
+{
+    process.node = node;
 }
 
 impl PartialEq for Process {

@@ -7,7 +7,7 @@ ghost use Rattle.wire_content.specs.Placed.{AreAloneTogether, moved_from, node_b
 ghost use Rattle.wire_content.specs.Planned.{plan_of};
 ghost use Rattle.wire_content.specs.Tabled.{scripts_from_parts};
 
-use crate::process::Process;
+use crate::process::{Process, move_to};
 use crate::set_word::presence;
 use crate::sets::Sets;
 use crate::texts::Texts;
@@ -72,7 +72,7 @@ fn place_each(processes: &mut Vec<Process>, named: &[bool])
     ensures { processes.new.items ≡ moved_from 0 (λ p. if slice_index_or named.now p false then 1 else 0) processes.old.items }
 {
     for number in 0..processes.len() {
-        processes[number].move_to(node_for(named, number));
+        move_to(&mut processes[number], node_for(named, number));
     }
 }
 
@@ -150,7 +150,7 @@ impl Scripts {
         ensures err { IfErr result (λ e. e ≡ Fault.Memory) }
     {
         let Scripts {
-            format,
+            format: header,
             nodes,
             jobs,
             tables,
@@ -159,7 +159,7 @@ impl Scripts {
         place_all(alloc, &mut processes, ranks)?;
         let nodes = nodes.into_two(alloc)?;
         Ok(Scripts {
-            format,
+            format: header,
             nodes,
             jobs,
             tables,
