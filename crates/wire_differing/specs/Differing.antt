@@ -55,7 +55,8 @@ AreToldTo plan p (suc n) found =
 abbrev pub AreToldBelow : Plan → ℕ → List Differing → Type 0
 AreToldBelow plan zero found = found ≡ []
 AreToldBelow plan (suc n) found =
-    (before : List Differing) × (told : List Differing) × AreToldBelow plan n before × AreToldTo plan n ((plain_end plan).done n) told × (found ≡ before ++ told)
+    (before : List Differing) × (told : List Differing) × AreToldBelow plan n before × AreToldTo plan n ((plain_end plan).done n) told
+    × (found ≡ before ++ told)
 
 -- the answered calls whose reply isn't the same on every placing, in the order of processes and calls
 abbrev pub AreDiffering : Plan → List Differing → Type 0

@@ -138,8 +138,9 @@ fn told_committed(marked: &MarkedPlan<'_>, asked: KeyRead) -> Option<Differing>
     Some(differing_now(plan, asked, near, Status::Success))
 }
 
-/// A get that is answered at once, in the plain run, if its reply isn't the same on every placement: if it is of another
-/// process's key whose commit is before it, and the put isn't for all nodes, or its process doesn't surely have the key.
+/// A get that is answered at once, in the plain run, if its reply isn't the same on every placement: if it is of
+/// another process's key whose commit is before it, and the put isn't for all nodes, or its process doesn't surely have
+/// the key.
 fn told_get_now(marked: &MarkedPlan<'_>, asked: KeyRead) -> Option<Differing>
     requires settled { IsSettledAnywhere (plan_of marked.now) }
     requires answered { IsDone (plain_end (plan_of marked.now)) (event_of asked.get_now) }
