@@ -141,7 +141,9 @@ class Run:
         elif len(words) < 4 or words[1] != self.hall.word:
             heard.channel.connection.shutdown(2)
         elif words[0] == "failed":
-            raise Refused(f"PMIx_Init replied {words[3]}: was it started by a PMIx server?")
+            raise Refused(
+                f"PMIx_Init replied {words[3]}: did a PMIx server start it, and has the disk room?"
+            )
         elif words[2] == STARTER:
             self.start_jobs(heard.channel)
         else:
