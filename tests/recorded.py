@@ -92,6 +92,7 @@ OTHER_WAYS = {
     "fortran": Program(2, 0, 3, words=("fortran",)),
     "profiled": Program(2, 0, 1, words=("profiled",)),
     "sessions": Program(2, 0, 2, words=("sessions",)),
+    "large": Program(2, 0, 2, words=("large",)),
 }
 # Those of `direct`.
 DIRECT = {
