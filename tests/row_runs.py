@@ -8,6 +8,7 @@ from typing import NamedTuple, Union
 
 from rows import (
     NOTHING,
+    Anywhere,
     Asked,
     Canonical,
     Checked,
@@ -25,7 +26,7 @@ from running import FAULTS
 
 NAMES = (
     "reports fences names keeps sweeps findings refusals follows questions texts limits witnesses"
-    " forms placed"
+    " forms placed anywhere"
 ).split()
 # The functions of the library that are run by themselves.
 PLAIN, READ = "plain", "read"
@@ -160,6 +161,14 @@ class RowRuns:
         yield RowRun(["place", row.ranks], row.plan, answered(row.answer))
         if isinstance(row.answer, bytes):
             yield RowRun(["place", row.ranks], row.answer, answered(row.answer))
+
+    def of_anywhere(self, row: Anywhere) -> Runs:
+        found, _, differing = row.verdict.partition(b"findings ")
+        is_clean = not found and differing.endswith(b"differing 0\n")
+        words = ["check", "--anywhere"]
+        yield RowRun([*words, "--same"], row.plan, Ended(int(not is_clean), row.verdict))
+        verdict = row.verdict if found else NOTHING
+        yield RowRun(words, row.plan, Ended(int(bool(found)), verdict))
 
     def of_formed(self, row: Formed) -> Runs:
         checked, report = found(row.plan, row.findings, ["--json"]), Ended(wrote=row.report)

@@ -13,6 +13,8 @@ plans (model.py).
   writes.
 - `place` writes the canonical text that the second reader has, with some ranks on one node and all
   others on another.
+- Of a plan of at most 4 ranks, `check --anywhere --same` writes what `check` and `replay` of all
+  placements of its ranks make of it.
 - Without findings `replay` writes the same with 1, 2, 7 and 64 workers, its JSON form says the
   same, and so does the report of a random complete order. With findings it writes those that
   `check` writes, and the order of `--anyway`, followed, gives its report. `--complete` changes no
@@ -38,6 +40,7 @@ from collections.abc import Callable, Sequence
 from dataclasses import dataclass
 from typing import NamedTuple, Optional, Union
 
+import everywhere
 import grammar
 import model
 import placements
@@ -46,8 +49,8 @@ from random_plans import NUMBERS, damaged, styled
 SECONDS = 10
 # Longer files aren't handed over one byte at a time, and no complete order of theirs is looked for.
 MOST_BYTES, MOST_STEPS = 4_000, 24
-# Longer plans aren't held to the model.
-MOST_EVENTS = 60
+# Longer plans aren't held to the model, and plans of more ranks not to all their placements.
+MOST_EVENTS, MOST_RANKS = 60, 4
 WORKERS = (1, 2, 7, 64)
 FAULT = re.compile(rb"wire_up: fault (\d+) (\w+)( \d+)?\n")
 FAILED_CALL = re.compile(rb"wire_up: \S+:\d+ \d+ [a-z-]+ (?:[A-Z_]+|waiting|unreached)\n")
@@ -196,6 +199,7 @@ class Look:
         self.hold("check", checked.wrote, lambda it: it.findings())
         self.at_version_2()
         self.at_place()
+        self.at_anywhere()
         large = self.runner.run("check", "--large", self.path)
         same("another answer with large limits", checked, large)
         self.at_questions()
@@ -245,6 +249,15 @@ class Look:
             return
         text = grammar.canonical(placements.placed(self.scripts, ranks))
         same("another placed text", Ran(0, text, b""), self.runner.run("place", word, self.path))
+
+    def at_anywhere(self) -> None:
+        """All placements of a few ranks."""
+        if not self.model or len(self.scripts.procs) > MOST_RANKS:
+            return
+        run, words = self.runner.run, ("check", "--anywhere", "--same", self.path)
+        held = everywhere.Everywhere(self.scripts, lambda it, plan: run(*it, given=plan).wrote)
+        same("another answer than of all placements", held.verdict(), run(*words).wrote)
+        self.runner.held["check --anywhere"] += 1
 
     def at_inputs(self, command: str) -> Ran:
         """What a command answers; the same from all places and in all spellings."""

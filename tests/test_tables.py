@@ -105,6 +105,9 @@ class Tables(ProgramCase):
     def test_placed(self) -> None:
         self.hold_table("placed")
 
+    def test_anywhere(self) -> None:
+        self.hold_table("anywhere")
+
 
 if __name__ == "__main__":
     unittest.main()

@@ -106,7 +106,17 @@ class Placed(NamedTuple):
     answer: Union[bytes, Fault]
 
 
-Row = Union[Reported, Checked, Refused, Followed, Asked, Canonical, Large, Shown, Formed, Placed]
+class Anywhere(NamedTuple):
+    """A plan, and what `check --anywhere --same` writes of it."""
+
+    name: str
+    plan: bytes
+    verdict: bytes
+
+
+Row = Union[
+    Reported, Checked, Refused, Followed, Asked, Canonical, Large, Shown, Formed, Placed, Anywhere
+]
 
 # The findings of a plan in which there is nothing to find.
 NOTHING = b"findings 0\n"

@@ -15,6 +15,7 @@ ghost use Rattle.wire_commands.specs.Check.{EndsInOneState, IsVerdict, StopsBefo
 ghost use Rattle.wire_commands.specs.CheckAnywhere.{EndsInOneStateAnywhere, IsVerdictAnywhere};
 ghost use Rattle.wire_commands.specs.Follow.{BreaksOffFollowed, StopsBefore, WritesFollowed};
 ghost use Rattle.wire_commands.specs.Migrate.{BreaksOffMigrated, StopsBeforeMigrated, WritesMigrated};
+ghost use Rattle.wire_commands.specs.Place.{BreaksOffPlaced, StopsBeforePlaced, WritesPlaced};
 ghost use Rattle.wire_commands.specs.Plain.{BreaksOffReport, ReadAs, Refuses, WritesReport};
 ghost use Rattle.wire_commands.specs.Replay.{BreaksOffReplay, StopsBeforeReplay, WritesOneEnd, WritesReplay};
 ghost use Rattle.wire_commands.specs.Why.{Answers, StopsBeforeAnswer, WritesAnswer};
@@ -28,8 +29,8 @@ pub use wire_command_line::{
 };
 pub use wire_commands::{
     Ended, Manner, Mode, PairAsked, Replayed, Replaying, answer_question, check_placements,
-    check_plan, check_replies, follow_plan, migrate_plan, replay_plan, run_plainly, witness_pair,
-    witness_races,
+    check_plan, check_replies, follow_plan, migrate_plan, place_plan, replay_plan, run_plainly,
+    witness_pair, witness_races,
 };
 use wire_sched::Gate;
 pub use wire_script::Size;
@@ -223,4 +224,26 @@ pub fn migrate<R: Source, W: Sink>(
     ensures unfailed { IfErr result (λ e. e ≢ Memory → e ≢ Read → R.failures reader.new ≡ R.failures reader.old) }
 {
     migrate_plan(alloc, Size::OfVersion, reader, writer)
+}
+
+/// Puts some ranks of a plan on a node of their own, as [`place_plan`] says.
+pub fn place<R: Source, W: Sink>(
+    alloc: Global,
+    reader: &mut R,
+    writer: &mut W,
+    word: &str,
+) -> Result<(), Fault>
+    ensures ok { OnOk result (WritesPlaced Size.OfVersion (R.coming reader.old) word.now (W.written writer.old) (W.written writer.new)) }
+    ensures quiet { OnOk result ((R.failures reader.new ≡ R.failures reader.old) × (W.failures writer.new ≡ W.failures writer.old)) }
+
+    // Either nothing was written, or the front of the text that the fault counts.
+    ensures err { IfErr result (λ e. (StopsBeforePlaced Size.OfVersion (R.coming reader.old) word.now e × (writer.new ≡ writer.old))
+        ⊎ (BreaksOffPlaced Size.OfVersion (R.coming reader.old) word.now (W.written writer.old) (W.written writer.new) e
+        × (W.failures writer.new ≡ one_more (W.failures writer.old)))) }
+
+    // A failed read is answered only where the reader failed.
+    ensures read_failed { result ≡ Err Read → R.failures reader.new ≡ one_more (R.failures reader.old) }
+    ensures unfailed { IfErr result (λ e. e ≢ Memory → e ≢ Read → R.failures reader.new ≡ R.failures reader.old) }
+{
+    place_plan(alloc, Size::OfVersion, reader, writer, word)
 }
