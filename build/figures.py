@@ -26,7 +26,8 @@ from build.timing import Command, Taken, best_of, findings_in, floor, mebibytes
 PAGE = os.path.join(TOP, "docs", "figures.md")
 RUNS, LARGE_RUNS = 5, 2
 SMALL_RANKS, SMALL_ROUNDS = 4, 6
-# The ranks up to which a replay is measured: it takes the square of them in memory, 2 GiB for so many.
+# The ranks up to which a replay is measured: it takes the square of them in memory, 2 GiB for so
+# many.
 MOST_REPLAYED = 16_384
 # How many of the crates are told whose proofs take longest.
 DEAREST = 5

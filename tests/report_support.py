@@ -83,6 +83,16 @@ def write_shapes() -> str:
     return "".join(f"{it}\n" for it in lines)
 
 
+def write_many_groups(keys: int, names: int) -> str:
+    """A plan in which one rank puts and publishes, and two others ask without waiting."""
+    puts = "".join(f"put global key{it} v\n" for it in range(keys))
+    publishes = "".join(f"publish svc{it} v\n" for it in range(names))
+    gets = "".join(f"get-now app:0 key{it}\n" for it in range(keys))
+    lookups = "".join(f"lookup svc{it}\n" for it in range(names))
+    owner = f"rank n0\n{puts}commit\n{publishes}"
+    return f"rehearsal 2\nnode n0\njob app\n{owner}" + f"rank n0\n{gets}{lookups}" * 2
+
+
 EVIL = b"<script>document.title='in'</script>&amp;\"'><img/src=x/onerror=alert(1)>"
 HOSTILE = (
     b"# Recorded by wire_up-record <i>on\xff\x00\x1b[31m a day</i>\n"
@@ -127,6 +137,7 @@ WRITTEN: dict[str, Callable[[], bytes]] = {
     "empty": lambda: b"rehearsal 1\n",
     "shapes": lambda: write_shapes().encode(),
     "cards": lambda: write_cards(6, 2, 5).encode(),
+    "manygroups": lambda: write_many_groups(60, 3).encode(),
     "large": lambda: write_cards(2048, 64, 46).encode(),
     "large-fence": lambda: write_cards(2048, 64, 46, "fence all collect").encode(),
 }

@@ -1,4 +1,5 @@
 """Tests the order of lines in a plan: that of fences, of calls that don't block, and of MPI."""
+import time
 import unittest
 from collections.abc import Sequence
 from typing import Optional
@@ -21,6 +22,10 @@ COLLECTS = "pmix.collect=number:1:1"
 BARRIER = ("collective barrier 1", "0 all")
 # Lines of the messages between ranks 0 and 1, by their number.
 SENT, WAITS = "publish mpi.0.1.{} sent", "lookup-wait mpi.0.1.{}"
+
+# How many messages have tags of their own, and how long their plan may take, in seconds of a
+# processor: some ten times what it takes.
+TAGS, MOST_SECONDS = 20_000, 30
 
 
 class OrderTest(unittest.TestCase):
@@ -467,6 +472,20 @@ class ShorteningTest(unittest.TestCase):
         first, second = ["publish m0 x", SENT.format(1)], [WAITS.format(1), "lookup m0"]
         self.assertEqual(read_scripts(plan), [first, second])
         self.assertIn("lines of MPI's order", plan)
+
+    def test_a_tag_for_each_message(self) -> None:
+        """Many messages of any source, each with a tag of its own, take no longer for each."""
+        tapes = make_world(3)
+        for tag in range(TAGS):
+            tapes[1 + tag % 2].begin(f"send 1 0 {tag} 4")
+            tapes[0].call(f"receive 1 any {tag}", f"0 {1 + tag % 2} {tag} 4")
+        tapes[1].call(MARK)
+        tapes[2].call("lookup blocks :m -", "-46 -")
+        texts, before = [it.text() for it in tapes], time.process_time()
+        plan = write_plan_of(texts)
+        self.assertLess(time.process_time() - before, MOST_SECONDS)
+        self.assertEqual(read_scripts(plan), [[], ["publish m x"], ["lookup m"]])
+        self.assertIn(f"{TAGS} lines of MPI's order, since they can't change a finding", plan)
 
     def test_many_gets(self) -> None:
         """Those of what is surely there go, and those alone: not one that waits for something, one

@@ -1,54 +1,118 @@
 """Tests the SARIF 2.1.0 that `wire_up-report` writes."""
 import json
+import os
+import re
+import tempfile
 import unittest
 from typing import Any
 
 import report_support
+import support
+
+# What a URI can have: no space, no control character, and % only before two digits.
+URI = re.compile(r"(?:[A-Za-z0-9._~:/?#@!$&'()*+,;=\[\]-]|%[0-9A-F]{2})+")
+# A plan with a key that has what SARIF gives a meaning.
+BRACES = (
+    b"rehearsal 1\nnode n\njob a\nrank n\nput global k{0}[x](1)\\ v\ncommit\n"
+    b"rank n\nget-now a:0 k{0}[x](1)\\\n"
+)
 
 
-def read_sarif(made: report_support.Made) -> Any:
-    """The SARIF that was written beside a page."""
-    return json.loads(report_support.read(made.sarif))
+def read_sarif(path: str) -> Any:
+    """The one run of the SARIF in a file."""
+    said = json.loads(report_support.read(path))
+    assert said["version"] == "2.1.0" and said["$schema"].endswith("sarif-2.1.0.json")
+    (run,) = said["runs"]
+    return run
+
+
+def read_text(text: str) -> str:
+    """What the text of a message says to one who reads SARIF. Raises ValueError for a placeholder,
+    a link, or what the standard doesn't allow."""
+    plain = re.sub(r"\{\{|\}\}|\\[\[\]\\]", "", text)
+    if re.search(r"[{}\[\]\\]", plain):
+        raise ValueError(text)
+    return re.sub(r"\\([\[\]\\])", r"\1", text).replace("{{", "{").replace("}}", "}")
 
 
 @report_support.for_each_plan
 class SarifTest(report_support.PlanCase):
-    """The SARIF of each plan has the fields that the schema needs, and a result for each group."""
+    """The SARIF of each plan has the fields that the standard requires, and a result for each
+    group."""
 
     def check(self, name: str) -> None:
         made = report_support.make_page(name)
-        said = read_sarif(made)
-        self.assertEqual(said["version"], "2.1.0")
-        self.assertTrue(said["$schema"].endswith("sarif-2.1.0.json"))
-        (run,) = said["runs"]
+        run = read_sarif(made.sarif)
         driver = run["tool"]["driver"]
         self.assertEqual(driver["name"], "wire_up")
+        ids = [it["id"] for it in driver["rules"]]
+        self.assertEqual(len(set(ids)), len(ids))
         self.assertEqual(bool(run["results"]), made.ran.returncode == 1)
         for result in run["results"]:
-            self.assertEqual(driver["rules"][result["ruleIndex"]]["id"], result["ruleId"])
-            self.check_result(result)
+            self.assertEqual(ids[result["ruleIndex"]], result["ruleId"])
+            self.check_result(run, result)
 
-    def check_result(self, result: Any) -> None:
+    def check_result(self, run: Any, result: Any) -> None:
         """Tests the fields of a result, with its two calls."""
         self.assertEqual(result["level"], "warning")
-        self.assertTrue(result["message"]["text"])
+        self.assertTrue(read_text(result["message"]["text"]))
         self.assertEqual(len(result["locations"]), 2)
+        self.assertEqual([it["id"] for it in result["relatedLocations"]], [1, 2])
+        self.assertTrue(all(result["partialFingerprints"].values()))
         for location in result["locations"] + result["relatedLocations"]:
             where = location["physicalLocation"]
-            self.assertIsInstance(where["artifactLocation"]["uri"], str)
+            self.check_file(run, where["artifactLocation"])
             self.assertGreaterEqual(where["region"]["startLine"], 1)
-            self.assertIsInstance(location["message"]["text"], str)
+            self.assertTrue(read_text(location["message"]["text"]))
+
+    def check_file(self, run: Any, file: Any) -> None:
+        """Tests that a file has an absolute URI, or one relative to a folder that is named."""
+        self.assertRegex(file["uri"], rf"\A{URI.pattern}\Z")
+        if "uriBaseId" in file:
+            self.assertFalse(file["uri"].startswith(("/", "..", "file:")))
+            self.assertRegex(run["originalUriBaseIds"][file["uriBaseId"]]["uri"], "^file:///.*/$")
+        else:
+            self.assertTrue(file["uri"].startswith("file:///"), file["uri"])
 
 
 class SourceTest(unittest.TestCase):
     """Where the plan has places, SARIF names the source by paths below the folder of --source."""
 
     def test_places_of_a_recording(self) -> None:
-        said = read_sarif(report_support.make_page("recorded-wild1"))
-        found = [it["physicalLocation"] for it in said["runs"][0]["results"][0]["locations"]]
+        run = read_sarif(report_support.make_page("recorded-wild1").sarif)
+        found = [it["physicalLocation"] for it in run["results"][0]["locations"]]
         places = [(it["artifactLocation"]["uri"], it["region"]["startLine"]) for it in found]
         cases = "record/programs/cases.c"
         self.assertEqual(places, [(cases, 30), (cases, 23)])
+
+    def test_a_folder_that_is_not_there(self) -> None:
+        ran = report_support.run_report("--source", "no/such", "-o", "-", report_support.EARLY)
+        self.assertEqual((ran.returncode, ran.stdout), (125, ""))
+        self.assertEqual(ran.stderr, "wire_up-report: no/such: there is no such folder\n")
+
+
+class EscapesTest(unittest.TestCase):
+    """A text says what it says: SARIF finds no placeholder and no link in it."""
+
+    def test_a_key_with_braces_and_brackets(self) -> None:
+        with tempfile.TemporaryDirectory(prefix="wire-up-report-") as room:
+            plan = report_support.write(os.path.join(room, "a plan"), BRACES)
+            made = os.path.join(room, "made.sarif")
+            ran = report_support.run_report("-o", os.devnull, "--sarif", made, plan)
+            self.assertEqual(ran.returncode, 1, ran.stderr)
+            (result,) = read_sarif(made)["results"]
+        self.assertIn(" k{0}[x](1)\\ ", read_text(result["message"]["text"]))
+        where = result["locations"][0]["physicalLocation"]["artifactLocation"]
+        self.assertEqual(where, {"uri": f"file://{os.path.realpath(room)}/a%20plan"})
+
+    def test_a_plan_below_the_source(self) -> None:
+        with tempfile.TemporaryDirectory(prefix="wire-up-report-") as room:
+            made = os.path.join(room, "made.sarif")
+            words = ("-o", os.devnull, "--sarif", made, "--source", support.TOP)
+            report_support.run_report(*words, report_support.EARLY)
+            run = read_sarif(made)
+        where = run["results"][0]["locations"][0]["physicalLocation"]["artifactLocation"]
+        self.assertEqual(where, {"uri": "examples/early-get.plan", "uriBaseId": "SRCROOT"})
 
 
 if __name__ == "__main__":

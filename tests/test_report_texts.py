@@ -32,14 +32,8 @@ SAYS = {
         "Left out: 36 gets of a wildcard rank",
         "use lookup-wait in place of lookup",
     ),
-    "recorded-sleep": (
-        "no race, in part: the run was cut off",
-        "what would have followed isn't known: 2 processes whose recordings end before",
-    ),
-    "recorded-unwaited": (
-        "no race, in part",
-        "a race can be missed: 1 calls of the program that don't block",
-    ),
+    "recorded-sleep": ("no race seen, in part (2 recordings are cut off: what came then",),
+    "recorded-unwaited": ("no race seen, in part (1 calls of the program that don't block",),
     "early-get": ("early-get.plan:7", "use get in place of get-now", "<race> app:1"),
     "foreign-fence": ("Let the reader meet in the fence itself", "3 fence: comes <race> app:1"),
     "kept-card": (
@@ -48,7 +42,7 @@ SAYS = {
         "<race> app:2",
     ),
     "standstill": (
-        "no race, but 2 ranks wait for ever",
+        "no race; 2 ranks wait for ever",
         "app:0 waits for app:1, which waits for app:0.",
     ),
     "large": ("31,744 races", "takes no plan past the limits of its version"),

@@ -19,6 +19,11 @@ CUT_OFF = "The run was cut off, so that a verdict holds only in part:"
 LEFT_OUT = "Left out:"
 MORE_ORDERED = "More ordered than the program, so that a race can be missed:"
 WRITTEN_OTHERWISE = "Written otherwise:"
+# What the head says of ends that were left to luck, after their number, and how it ends where
+# their order is taken. And how the line begins that has the verdicts with and without --strict.
+LEFT_TO_LUCK = "ends of requests that another run may have found open"
+TAKEN = "their order is taken all the same, and --strict takes nothing from them"
+VERDICTS = "Verdicts: "
 
 
 def is_reserved(word: str) -> bool:

@@ -51,13 +51,13 @@ by_events : (plan : Plan) (x y : Event) (a b : Option Kind) (f : Finding) → ki
 by_events plan x y a b f e h t = ap (λ (o : Option Kind). told x y o (kind plan y)) e ∙ (ap (told x y a) h ∙ t)
 
 key_told : (plan : Plan) (x y : Event) (p k : ℕ) → IsFound plan (KeyRace x y p k) → told x y (kind plan x) (kind plan y) ≡ KeyRace x y p k
-key_told plan x y p k (low, inl (inl r)) = by_events plan x y _ _ _ (node_commit plan x y k r.1) (r.1.is) (ap (λ (q : ℕ). KeyRace x y q k) r.0)
+key_told plan x y p k (low, inl (inl r)) = by_events plan x y _ _ _ (node_commit plan x y k r.1) (r.1.near.is) (ap (λ (q : ℕ). KeyRace x y q k) r.0)
 key_told plan x y p k (low, inl (inr r)) = from (delivery_source plan x y p k r)
   where
     from : ArrivesOrGets plan x → told x y (kind plan x) (kind plan y) ≡ KeyRace x y p k
     from (Arriving members collect is) = by_events plan x y _ _ _ is r.is refl
     from (Getting owner key is) = by_events plan x y _ _ _ is r.is refl
-key_told plan x y p k (low, inr (inl r)) = by_events plan x y _ _ _ r.1.is (node_commit plan y x k r.1) (ap (λ (q : ℕ). KeyRace x y q k) r.0)
+key_told plan x y p k (low, inr (inl r)) = by_events plan x y _ _ _ r.1.near.is (node_commit plan y x k r.1) (ap (λ (q : ℕ). KeyRace x y q k) r.0)
 key_told plan x y p k (low, inr (inr r)) = from (delivery_source plan y x p k r)
   where
     from : ArrivesOrGets plan y → told x y (kind plan x) (kind plan y) ≡ KeyRace x y p k

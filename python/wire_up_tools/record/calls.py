@@ -270,10 +270,13 @@ class CollectiveEnd(End):
     found_by: Optional[FoundBy]
 
 
-@dataclass(frozen=True, eq=False)
+@dataclass(eq=False)
 class Call:
     """A call: what it does, the lines of its recording at which it began and ended, its thread,
-    the number of its place in the program, and how it ended. What isn't recorded is None."""
+    the number of its place in the program, and how it ended. What isn't recorded is None.
+
+    Nothing changes it once its recording is read.
+    """
 
     __slots__ = ("action", "begins", "thread", "place", "ends", "end")
 
@@ -283,6 +286,15 @@ class Call:
     place: Optional[str]
     ends: Optional[int]
     end: Optional[End]
+
+    def finish(self, ends: int, end: End) -> None:
+        """Takes how it ended, at a line."""
+        self.ends, self.end = ends, end
+
+    @property
+    def is_of_pmix(self) -> bool:
+        """Whether it is a call of PMIx."""
+        return not isinstance(self.action, MPI_CALLS)
 
     @property
     def status(self) -> Optional[int]:

@@ -65,6 +65,8 @@ def note_directives(action: Action, notes: Notes) -> None:
 
 def note_overlaps(calls: Sequence[Call], notes: Notes) -> None:
     """Notes the calls that were made while one was open that the plan puts before them."""
+    if not any(stands_early(it.action) for it in calls if it.is_of_pmix):
+        return
     open_until: list[int] = []
     for call in calls:
         if open_until:
@@ -79,8 +81,8 @@ def note_overlaps(calls: Sequence[Call], notes: Notes) -> None:
 
 def note_unawaited(calls: Sequence[Call], notes: Notes) -> None:
     """Notes the calls of the program that didn't block, ended, and were followed by others."""
-    last = max((it.begins for it in calls), default=0)
-    unawaited = (it for it in calls if it.ends and it.ends < last)
+    last = calls[-1].begins if calls else 0
+    unawaited = (it for it in calls if it.is_of_pmix and it.ends and it.ends < last)
     count = sum(find_ending(it.action) is Ending.CALLS_PROGRAM for it in unawaited)
     notes.more_ordered[
         "calls of the program that don't block and ended before others: in the plan it waited for "

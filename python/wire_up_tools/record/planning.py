@@ -1,6 +1,7 @@
 """Makes the draft of a plan from recordings: all stages, one after another."""
 from collections.abc import Sequence
 from dataclasses import dataclass
+from typing import Optional
 
 from wire_up_tools.failures import Refused
 from wire_up_tools.limits import VERSION_1, Limits
@@ -9,7 +10,7 @@ from wire_up_tools.record.meetings import Sets
 from wire_up_tools.record.mpi_order import MpiOrder, order_by_mpi
 from wire_up_tools.record.names import Spelling, find_spelling
 from wire_up_tools.record.notes import Notes
-from wire_up_tools.record.open_groups import order_open_groups
+from wire_up_tools.record.open_groups import note_open_groups, order_open_groups
 from wire_up_tools.record.pmix_calls import make_lines
 from wire_up_tools.record.pmix_fences import PmixFences, make_fences
 from wire_up_tools.record.pmix_waits import find_waits
@@ -31,11 +32,12 @@ class Choices:
 @dataclass(frozen=True)
 class MpiSummary:
     """How many messages and collectives MPI orders, and how many ends of requests another run may
-    have found open."""
+    have found open. `verdicts` are those with and without --strict, if they differ."""
 
     message_count: int = 0
     collective_count: int = 0
     left_to_luck: int = 0
+    verdicts: Optional[str] = None
 
 
 @dataclass(frozen=True)
@@ -76,14 +78,14 @@ def order_program(
 ) -> MpiOrder:
     """The order that MPI gives to the lines of a program, with that of messages which could have
     come otherwise."""
-    lines = [line for part in program for line in part.lines]
-    order = order_by_mpi(sets, spelling, lines, fences, is_strict)
+    order = order_by_mpi(sets, spelling, program, fences, is_strict)
     messages = order.messages
     if messages.open_groups:
         known = [*program, messages.ordered.part, order.collectives.part]
-        groups, names = messages.open_groups, messages.names
-        more = order_open_groups(sets.processes, known, groups, names, is_strict)
+        groups = messages.horizon.choose_groups(messages.open_groups, messages.ordered.notes)
+        more = order_open_groups(sets.processes, known, groups, messages.names, is_strict)
         messages.ordered.add(more)
+        messages.ordered.add(note_open_groups(messages.open_groups))
     return order
 
 

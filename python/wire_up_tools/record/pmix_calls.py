@@ -6,7 +6,6 @@ from dataclasses import dataclass, field
 from typing import Optional, Union
 
 from wire_up_tools.record.calls import (
-    MPI_CALLS,
     NO,
     AnyRank,
     Call,
@@ -253,16 +252,18 @@ def make_lines(processes: Processes, spelling: Spelling, with_mpi: bool) -> Pmix
     for process in processes.all:
         recording = process.recording
         note_recording(recording, notes)
-        of_pmix = [it for it in recording.calls if not isinstance(it.action, MPI_CALLS)]
+        of_pmix = recording.calls_of_pmix
         first = len(part.lines)
         lines = ProcessLines(process, processes, spelling, puts, part, notes)
         for call in of_pmix:
             lines.take(call)
             note_directives(call.action, notes)
         with_lines = {it.call for it in part.lines[first:]}
-        known = (Fence, Group, *MPI_CALLS) if with_mpi else (Fence, Group)
+        noted = recording.calls if with_mpi else of_pmix
         in_plan = [
-            it for it in recording.calls if isinstance(it.action, known) or it in with_lines
+            it
+            for it in noted
+            if not it.is_of_pmix or isinstance(it.action, (Fence, Group)) or it in with_lines
         ]
         note_overlaps(in_plan, notes)
         note_unawaited(in_plan, notes)

@@ -93,7 +93,7 @@ def find_fences(sets: Sets, notes: Notes) -> CallsBySet:
     found: CallsBySet = {}
     for process in sets.processes.all:
         groups = OpenGroups()
-        for call in process.recording.calls:
+        for call in process.recording.calls_of_pmix:
             if not isinstance(call.action, (Fence, Group)):
                 continue
             names = groups.find(call)

@@ -119,7 +119,7 @@ def find_told_ranks(namespace: bytes, recordings: Sequence[Recording]) -> Iterat
             yield Told(it.rank, it.path, PROCESS_LINE)
         if it.world and it.namespace == namespace:
             yield Told(it.world.size - 1, it.path, it.world.line)
-        for call in it.calls:
+        for call in it.calls_of_pmix:
             ranks: Iterator[int] = iter(())
             if isinstance(call.action, Fence):
                 ranks = find_ranks_in_fence(call, call.action, namespace)

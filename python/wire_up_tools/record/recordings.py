@@ -1,14 +1,17 @@
 """Reads recordings: files that say what one process called, one for each process."""
+import io
+import itertools
 import os
 import re
 from collections import Counter
 from collections.abc import Mapping, Sequence
 from dataclasses import dataclass, field
+from functools import cached_property
 from typing import NoReturn, Optional, Union
 
 from wire_up_tools.failures import Refused
 from wire_up_tools.limits import Limits
-from wire_up_tools.record.calls import Action, Call, End
+from wire_up_tools.record.calls import Call
 from wire_up_tools.record.forms import (
     WORD,
     Groups,
@@ -97,6 +100,11 @@ class Recording:
     has_finalized: bool
     is_cut: bool
 
+    @cached_property
+    def calls_of_pmix(self) -> Sequence[Call]:
+        """The calls of PMIx alone: they are few beside those of MPI."""
+        return [it for it in self.calls if it.is_of_pmix]
+
 
 # --- what isn't a call ---
 
@@ -145,30 +153,15 @@ def refuse(path: str, number: int, why: str) -> NoReturn:
 
 
 @dataclass
-class Opened:
-    """A call that has begun: its index among the calls of its recording, and what is known."""
-
-    __slots__ = ("index", "action", "begins", "thread", "place")
-
-    index: int
-    action: Action
-    begins: int
-    thread: str
-    place: Optional[str]
-
-    def finish(self, ends: Optional[int], end: Optional[End]) -> Call:
-        """The call with its end, if it has one."""
-        return Call(self.action, self.begins, self.thread, self.place, ends, end)
-
-
-@dataclass
 class Records:
     """The records of a file, as far as they are read: what has ended, what is open, and the
-    rest. `calls` are in the order in which they began, and None while they are open."""
+    rest. `calls` are in the order in which they began, and those in `opened` haven't ended yet,
+    by their numbers. A word that many calls have is kept once, in `words`."""
 
     path: str
-    calls: list[Optional[Call]] = field(default_factory=list)
-    opened: dict[str, Opened] = field(default_factory=dict)
+    calls: list[Call] = field(default_factory=list)
+    opened: dict[str, Call] = field(default_factory=dict)
+    words: dict[str, str] = field(default_factory=dict)
     others: Counter[str] = field(default_factory=Counter)
     unseen: Counter[str] = field(default_factory=Counter)
     world: Optional[World] = None
@@ -186,7 +179,9 @@ class Records:
         sign, call, thread, place, text = record.groups()
         try:
             if sign == "+":
-                self.begin(call, Opened(len(self.calls), read_begin(text), number, thread, place))
+                thread = self.words.setdefault(thread, thread)
+                place = self.words.setdefault(place, place) if place else None
+                self.begin(call, Call(read_begin(text), number, thread, place, None, None))
             elif sign == "-":
                 self.end(call, number, text)
             else:
@@ -194,12 +189,12 @@ class Records:
         except (ValueError, KeyError):
             refuse(self.path, number, NO_RECORD)
 
-    def begin(self, call: str, opened: Opened) -> None:
+    def begin(self, number: str, call: Call) -> None:
         """Takes a call that begins. Raises Refused."""
-        if call in self.opened:
-            refuse(self.path, opened.begins, "begins a call that is open")
-        self.opened[call] = opened
-        self.calls.append(None)
+        if number in self.opened:
+            refuse(self.path, call.begins, "begins a call that is open")
+        self.opened[number] = call
+        self.calls.append(call)
         self.has_finalized = False
 
     def end(self, call: str, number: int, text: str) -> None:
@@ -207,8 +202,7 @@ class Records:
         opened = self.opened.pop(call, None)
         if not opened:
             refuse(self.path, number, "ends a call that isn't open")
-        end = read_end(opened.action.verb, text)
-        self.calls[opened.index] = opened.finish(number, end)
+        opened.finish(number, read_end(opened.action.verb, text))
 
     def note(self, number: int, text: str) -> None:
         """Takes what isn't a call, of a line. Raises ValueError or KeyError."""
@@ -227,12 +221,6 @@ class Records:
             self.places[groups[0]] = Address(decode_text(groups[1]), int(groups[2], 16))
         elif verb == "line":
             self.places[groups[0]] = read_line(groups)
-
-    def finish(self) -> list[Call]:
-        """All calls; those that are still open have no end."""
-        for opened in self.opened.values():
-            self.calls[opened.index] = opened.finish(None, None)
-        return [it for it in self.calls if it]
 
 
 @dataclass(frozen=True)
@@ -277,10 +265,11 @@ def read_recording(path: str, data: bytes) -> Recording:
     if foreign:
         number = whole.count(b"\n", 0, foreign.start()) + 1
         refuse(path, number, "has a byte that no recording has")
-    lines = whole.decode("ascii").split("\n") if line_feed else []
-    head, records = read_head(path, lines), Records(path)
-    for number, line in enumerate(lines[len(HEAD):], len(HEAD) + 1):
-        records.read(number, line)
+    lines = io.TextIOWrapper(io.BytesIO(data[:len(whole) + len(line_feed)]), "ascii", newline="\n")
+    head = read_head(path, [it[:-1] for it in itertools.islice(lines, len(HEAD))])
+    records = Records(path)
+    for number, line in enumerate(lines, len(HEAD) + 1):
+        records.read(number, line[:-1])
     return Recording(
         path=path,
         namespace=head.namespace,
@@ -288,7 +277,7 @@ def read_recording(path: str, data: bytes) -> Recording:
         host=head.host,
         library=head.library,
         began=head.began,
-        calls=records.finish(),
+        calls=records.calls,
         others=records.others,
         unseen=records.unseen,
         world=records.world,

@@ -17,7 +17,7 @@ from wire_up_tools.record.places import find_call_place, find_places, read_place
 from wire_up_tools.record.planning import Choices, Plan, make_plan
 from wire_up_tools.record.recordings import Recording, read_recordings
 from wire_up_tools.record.running import BY_SIGNAL, find_libraries, make_environment, run
-from wire_up_tools.record.verdicts import say_verdicts
+from wire_up_tools.record.verdicts import compare_verdicts
 from wire_up_tools.record.writing import write_answers, write_plan
 
 
@@ -90,9 +90,8 @@ def say_part(notes: Notes) -> None:
             say(f"{before}{in_part}: {count_notes(noted)}")
 
 
-def write_output(plan: Plan, recordings: Sequence[Recording], output: Output) -> str:
-    """Writes a plan, and what is asked for besides. Answers the text of the plan. Raises Refused,
-    OSError."""
+def write_output(plan: Plan, recordings: Sequence[Recording], output: Output) -> None:
+    """Writes a plan, and what is asked for besides. Raises Refused, OSError."""
     folders = dict.fromkeys(os.path.dirname(it.path) for it in recordings)
     places = find_places(plan.draft, read_places(folders))
     if output.kept:
@@ -102,7 +101,15 @@ def write_output(plan: Plan, recordings: Sequence[Recording], output: Output) ->
     if output.answers:
         write_whole(output.answers, answers)
     say_part(plan.notes)
-    return text
+
+
+def add_verdicts(plan: Plan, recordings: Sequence[Recording], checker: Checker) -> Plan:
+    """A plan that has the verdicts with and without --strict, where they differ. Raises Refused."""
+    choices = plan.choices
+    other = make_plan(recordings, replace(choices, is_strict=not choices.is_strict))
+    plain, strict = (other, plan) if choices.is_strict else (plan, other)
+    verdicts = compare_verdicts(checker, write_plan(plain), write_plan(strict))
+    return replace(plan, mpi=replace(plan.mpi, verdicts=verdicts))
 
 
 def make(output: Output, paths: Sequence[str], folder: str) -> None:
@@ -115,12 +122,12 @@ def make(output: Output, paths: Sequence[str], folder: str) -> None:
     choices = Choices(output.with_mpi, output.is_strict, LARGE if is_large else VERSION_1)
     recordings = read_recordings(paths, choices.most)
     plan = make_plan(recordings, choices)
-    text = write_output(plan, recordings, output)
-    if plan.mpi.left_to_luck:
-        other = write_plan(make_plan(recordings, replace(choices, is_strict=not output.is_strict)))
-        plain, strict = (other, text) if output.is_strict else (text, other)
-        if path is not None:
-            say_verdicts(Checker(path, is_large), plain, strict, plan.mpi.left_to_luck)
+    if plan.mpi.left_to_luck and path is not None:
+        plan = add_verdicts(plan, recordings, Checker(path, is_large))
+    write_output(plan, recordings, output)
+    if plan.mpi.verdicts:
+        of_luck = f"which takes nothing from {plan.mpi.left_to_luck} ends of requests"
+        say(f"{plan.mpi.verdicts}, {of_luck}")
 
 
 def make_folder(output: Output) -> str:

@@ -13,10 +13,13 @@ from wire_up_tools.record.recordings import refuse_past
 from wire_up_tools.words import (
     CUT_OFF,
     LEFT_OUT,
+    LEFT_TO_LUCK,
     MORE_ORDERED,
     PLACE_COMMENT,
     RECORDED_BY,
+    TAKEN,
     UNKNOWN_PLACE,
+    VERDICTS,
     WRITTEN_OTHERWISE,
     make_printable,
     show,
@@ -78,12 +81,11 @@ def say_mpi(plan: Plan) -> Iterator[str]:
         )
         yield f"# `{plan.spelling.mpi_mark}`, and the fences below a line `# MPI: ..`."
     if mpi.left_to_luck:
-        taken = "their order is taken all the same, and --strict takes nothing from them"
-        what = "nothing is taken from them" if choices.is_strict else taken
-        yield (
-            f"# {mpi.left_to_luck} ends of requests that another run may have found open "
-            f"(a poll that succeeded, one of several): {what}."
-        )
+        what = "nothing is taken from them" if choices.is_strict else TAKEN
+        why = "a poll that succeeded, one of several"
+        yield f"# {mpi.left_to_luck} {LEFT_TO_LUCK} ({why}): {what}."
+    if mpi.verdicts:
+        yield f"# {VERDICTS}{mpi.verdicts}"
     if not choices.with_mpi or not any(it.recording.world for it in plan.processes.all):
         yield (
             "# MPI's order isn't recorded: if MPI orders the calls of a race, it is reported "

@@ -2,11 +2,13 @@
 
 - `command_line` begins. `contents` gathers all that a report says, whatever its form.
 - `asking` asks the checker; `findings`, `chains`, `runs` and `replies` read what it answers.
+- `causes` puts the groups of the checker that have one cause into one mistake.
 - `uses` says who puts which key, `orders` what waits for what, and `waits` why ranks wait for
   ever.
 - `race_diagram`, `wire_up_diagram` and `node_diagram` choose what stands in a `diagram`.
 - `drawing` draws a diagram as SVG, and `text_drawing` as text.
-- `explaining` and `verdict` have the words, with `phrases` for numbers and names.
+- `explaining` and `verdict` have the words, with `phrases` for numbers and names; `partial` says
+  why a verdict holds only in part.
 - `html_page` writes a page, with `markup` and `page_style`; `terminal_text` writes text for a
   terminal, and `sarif` SARIF.
 """

@@ -1,10 +1,11 @@
 """Asks the checker about one plan, and judges how it ended."""
+import contextlib
 import json
 import subprocess
 import tempfile
-from collections.abc import Generator
+from collections.abc import Generator, Iterator
 from dataclasses import dataclass
-from typing import Any
+from typing import IO, Any, Optional
 
 from wire_up_tools.checker import Answer, Checker
 from wire_up_tools.failures import Refused
@@ -12,6 +13,8 @@ from wire_up_tools.plan import Call
 
 # The exit statuses of an answer: nothing is found, or something is.
 CLEAN, FOUND = 0, 1
+# How many bytes of an answer are read at once.
+BLOCK = 1 << 20
 
 
 @dataclass(frozen=True)
@@ -67,23 +70,45 @@ def name_pair(first: Call, second: Call) -> list[str]:
     return [first.rank.name, str(first.number), second.rank.name, str(second.number)]
 
 
-def stream_check(asker: Asker) -> Generator[str, None, None]:
-    """The lines that `check` writes, one after another: there may be millions.
+def stream_blocks(asker: Asker, command: str, *options: str) -> Generator[bytes, None, None]:
+    """What a command writes, in blocks of whole lines: there may be millions.
 
     Raises Refused, before the first, if the plan is refused.
     """
     with tempfile.TemporaryFile() as plan, tempfile.TemporaryFile() as errors:
         plan.write(asker.data)
         plan.seek(0)
-        words = [asker.checker.path, "check", *["--large"] * asker.checker.is_large]
-        with subprocess.Popen(
-            words, stdin=plan, stdout=subprocess.PIPE, stderr=errors, text=True, errors="replace"
-        ) as ran:
+        large = ["--large"] * asker.checker.is_large
+        words = [asker.checker.path, command, *large, *options]
+        with subprocess.Popen(words, stdin=plan, stdout=subprocess.PIPE, stderr=errors) as ran:
             try:
-                for line in ran.stdout or ():
-                    yield line.rstrip("\n")
+                yield from cut_into_lines(ran.stdout)
                 status = ran.wait()
             finally:
                 ran.kill()
         errors.seek(0)
         asker.judge(status, errors.read().decode("utf-8", "replace"))
+
+
+def cut_into_lines(source: Optional[IO[bytes]]) -> Iterator[bytes]:
+    """The bytes of a source in blocks that end with a line; the last may not."""
+    rest = b""
+    while source and (read := source.read(BLOCK)):
+        whole, end, begun = read.rpartition(b"\n")
+        if end:
+            yield rest + whole + end
+            rest = begun
+        else:
+            rest += read
+    if rest:
+        yield rest
+
+
+def stream_check(asker: Asker) -> Generator[str, None, None]:
+    """The lines that `check` writes, one after another.
+
+    Raises Refused, before the first, if the plan is refused.
+    """
+    with contextlib.closing(stream_blocks(asker, "check")) as blocks:
+        for block in blocks:
+            yield from block.decode("utf-8", "replace").splitlines()

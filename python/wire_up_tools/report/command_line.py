@@ -105,6 +105,8 @@ def choose_checker(asked: Optional[str], folder: str) -> str:
 
 def write_report(options: Options, folder: str) -> int:
     """Makes and writes a report. Answers the status. Raises Refused or OSError."""
+    if options.source is not None and not os.path.isdir(options.source):
+        raise Refused(f"{options.source}: there is no such folder")
     with open(options.plan, "rb") as plan:
         data = plan.read()
     checker = Checker(choose_checker(options.checker, folder), options.is_large)

@@ -7,40 +7,45 @@ from typing import Optional
 from wire_up_tools import words
 from wire_up_tools.plan import Plan, read_plan
 from wire_up_tools.report.asking import CLEAN, FOUND, Asker
+from wire_up_tools.report.causes import Cause, find_causes
 from wire_up_tools.report.diagram import Diagram
-from wire_up_tools.report.findings import Group, find_groups, group_lines, has_many
+from wire_up_tools.report.findings import find_groups, group_lines, has_many
 from wire_up_tools.report.orders import Order, find_order
+from wire_up_tools.report.partial import find_reasons, find_verdicts
 from wire_up_tools.report.race_diagram import make_race_diagram
-from wire_up_tools.report.replies import find_waiting
+from wire_up_tools.report.replies import Failure, find_replies
 from wire_up_tools.report.runs import Runs, Search, begin_search, find_runs
 from wire_up_tools.report.waits import Wait, find_circle, find_waits
 from wire_up_tools.report.wire_up_diagram import make_wire_up_diagram
 
-# How many groups are told in full, and of two runs how many calls that end differently.
-GROUPS, ENDINGS = 40, 8
+# How many causes are told in full, and of two runs how many calls that end differently.
+CAUSES, ENDINGS = 40, 8
 
 
 @dataclass(frozen=True, eq=False)
 class Detail:
-    """A group that is told in full: its diagram, and the two runs that show its first finding."""
+    """A cause that is told in full: its diagram, and the two runs that show its first finding."""
 
-    group: Group
+    cause: Cause
     diagram: Diagram
     runs: Runs
 
 
 @dataclass(frozen=True, eq=False)
 class WireUp:
-    """What becomes of a plan without findings: who waits for ever, and its diagram."""
+    """What becomes of a plan without findings: who waits for ever, how many calls fail and the
+    first of these, and its diagram."""
 
     waits: Sequence[Wait]
     circle: Sequence[str]
+    failed: int
+    failures: Sequence[Failure]
     diagram: Diagram
 
 
 @dataclass(frozen=True, eq=False)
 class Report:
-    """What is found in a plan: groups, of which the first are told in full, or else its wire-up.
+    """What is found in a plan: causes, of which the first are told in full, or else its wire-up.
 
     `path` is that of the plan as it was given, and `version` that of the checker.
     """
@@ -48,7 +53,7 @@ class Report:
     path: str
     version: str
     order: Order
-    groups: Sequence[Group] = ()
+    causes: Sequence[Cause] = ()
     details: Sequence[Detail] = ()
     wire_up: Optional[WireUp] = None
 
@@ -65,12 +70,12 @@ class Report:
     @property
     def status(self) -> int:
         """The exit status: whether something was found."""
-        return FOUND if self.groups else CLEAN
+        return FOUND if self.causes else CLEAN
 
     @property
-    def others(self) -> Sequence[Group]:
-        """The groups that aren't told in full."""
-        return self.groups[GROUPS:]
+    def others(self) -> Sequence[Cause]:
+        """The causes that aren't told in full."""
+        return self.causes[CAUSES:]
 
     @property
     def waits(self) -> Sequence[Wait]:
@@ -78,19 +83,19 @@ class Report:
         return self.wire_up.waits if self.wire_up else ()
 
     @property
-    def cut_off(self) -> Sequence[str]:
-        """Where the run was cut off, by the head of a recorded plan."""
-        return self.plan.list_in_head(words.CUT_OFF)
+    def failed(self) -> int:
+        """How many calls fail in a plan without findings."""
+        return self.wire_up.failed if self.wire_up else 0
 
     @property
-    def ordered_more(self) -> Sequence[str]:
-        """What is more ordered than the program, by the head of a recorded plan."""
-        return self.plan.list_in_head(words.MORE_ORDERED)
+    def reasons(self) -> Sequence[str]:
+        """Why the verdict holds only in part, by the head of a recorded plan."""
+        return find_reasons(self.plan)
 
     @property
-    def holds_in_part(self) -> bool:
-        """Whether the verdict holds only in part."""
-        return bool(self.cut_off or self.ordered_more)
+    def verdicts(self) -> Optional[str]:
+        """The verdicts with and without the order of polls, if they differ."""
+        return find_verdicts(self.plan)
 
     @property
     def left_out(self) -> Sequence[str]:
@@ -110,18 +115,20 @@ def make_report(path: str, asker: Asker) -> Report:
     groups = (group_lines if is_long else find_groups)(asker, order.plan)
     if not groups:
         return Report(path, version, order, wire_up=find_wire_up(asker, order))
-    details = [find_detail(search, order, it) for it in groups[:GROUPS]]
-    return Report(path, version, order, groups, details)
+    causes = find_causes(groups)
+    details = [find_detail(search, order, it) for it in causes[:CAUSES]]
+    return Report(path, version, order, causes, details)
 
 
-def find_detail(search: Search, order: Order, group: Group) -> Detail:
-    """What is told of a group in full."""
-    diagram = make_race_diagram(group.first, search.asker, order)
-    return Detail(group, diagram, find_runs(search, group.first))
+def find_detail(search: Search, order: Order, cause: Cause) -> Detail:
+    """What is told of a cause in full."""
+    diagram = make_race_diagram(cause.first, search.asker, order)
+    return Detail(cause, diagram, find_runs(search, cause.first))
 
 
 def find_wire_up(asker: Asker, order: Order) -> WireUp:
     """What becomes of a plan without findings."""
-    waiting_at = find_waiting(asker)
-    waits = find_waits(order, waiting_at)
-    return WireUp(waits, find_circle(waits), make_wire_up_diagram(order, waiting_at))
+    replies = find_replies(asker, order.plan)
+    waits = find_waits(order, replies.waiting_at)
+    diagram = make_wire_up_diagram(order, replies.waiting_at)
+    return WireUp(waits, find_circle(waits), replies.failed, replies.failures, diagram)

@@ -1,8 +1,12 @@
 """What a finding is called, what it means, and how it is mended: as docs/races.md has it."""
+from collections.abc import Sequence
+
 from wire_up_tools.report.findings import Finding, Kind
 from wire_up_tools.report.uses import Uses
 
 LOOKUPS = ("lookup", "lookup-wait")
+# How many keys or names a title has.
+SHOWN = 3
 
 MEANING_OF_REWRITE = (
     "When a rank puts a key again, its next commit replaces the old value. "
@@ -71,19 +75,31 @@ FIX_BY_FENCE = (
 )
 
 
-def title(finding: Finding) -> str:
-    """What a group of findings is, in one line, by its first."""
-    about, (one, other) = finding.about, finding.verbs
+def title(finding: Finding, abouts: Sequence[str] = ()) -> str:
+    """What findings of one cause are, in one line, by the first, and by all keys or names if they
+    have several."""
+    (one, other), what = finding.verbs, say_what(finding, abouts)
+    has_many = len(abouts) > 1
     if finding.kind is Kind.REWRITE:
-        return f"The key {about} is put again"
+        return f"{what[0].upper()}{what[1:]} {'are' if has_many else 'is'} put again"
     if finding.kind is Kind.KEY:
-        return f"A get-now of the key {about} can come before the {finding.bringer} that brings it"
+        brings = f"the {finding.bringer} that brings {'them' if has_many else 'it'}"
+        return f"A get-now of {what} can come before {brings}"
     if one in LOOKUPS and other == "publish":
         article = "the" if one == "lookup" else "a"
-        return f"A {one} of the name {about} can come before {article} publish"
+        return f"A {one} of {what} can come before {article} publish"
     if one == other:
-        return f"Two {one}es of the name {about} can come in either order"
-    return f"A {one} and an {other} of the name {about} can come in either order"
+        return f"Two {one}es of {what} can come in either order"
+    return f"A {one} and an {other} of {what} can come in either order"
+
+
+def say_what(finding: Finding, abouts: Sequence[str]) -> str:
+    """The key or the name of findings, or how many they have and the first of them."""
+    noun = "name" if finding.kind is Kind.NAME else "key"
+    if len(abouts) < 2:
+        return f"the {noun} {finding.about}"
+    shown = ", ".join([*abouts[:SHOWN], *([".."] if len(abouts) > SHOWN else [])])
+    return f"{len(abouts):,} {noun}s ({shown})"
 
 
 def explain(finding: Finding) -> str:

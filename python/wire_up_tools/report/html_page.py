@@ -3,11 +3,13 @@
 The page loads nothing and runs no script, whatever a plan holds.
 """
 import datetime
+import itertools
 from collections.abc import Iterable, Sequence
 
 from wire_up_tools import words
 from wire_up_tools.plan import Call
 from wire_up_tools.report import explaining, verdict
+from wire_up_tools.report.causes import Cause
 from wire_up_tools.report.contents import ENDINGS, Detail, Report, WireUp
 from wire_up_tools.report.drawing import draw_figure
 from wire_up_tools.report.findings import PAIRS, Finding, Group, Kind
@@ -16,8 +18,8 @@ from wire_up_tools.report.page_style import STYLE
 from wire_up_tools.report.phrases import VALUE_WIDTH, count_of, cut, describe_circle, pick
 from wire_up_tools.report.runs import Outcome, Run, Runs
 
-# How many more groups are told in a line each, and how many steps of an order are shown.
-MORE_GROUPS, STEPS = 400, 2000
+# How many more causes are told in a line each, and how many steps of an order are shown.
+MORE_CAUSES, STEPS = 400, 2000
 # A plan of more lines is cut to what is named, with so many lines around it.
 WHOLE_PLAN, AROUND = 400, 2
 # How many characters of a line of the plan are shown.
@@ -53,29 +55,36 @@ def write_page(report: Report) -> str:
 
 
 def write_header(report: Report) -> str:
-    """The verdict, what holds only in part, and the list of the groups."""
+    """The verdict, what holds only in part, and the list of the causes."""
     kind, badge = choose_badge(report)
     version, today = report.version, datetime.date.today()
     meta = f"{verdict.say_size(report)} · checked by wire_up {version} · {today:%d %b %Y}"
     title = f"{escape(report.name)}: {verdict.say_found(report)}"
+    title += f' <span class="why">{escape(verdict.say_reasons(report))}</span>' * bool(
+        report.reasons
+    )
     parts = [
         f'<header class="{kind}"><div class="top"><h1>{title}</h1>',
         f'<span class="badge">{badge}</span></div><p>{escape(verdict.say_verdict(report))}</p>'
         f'<p class="meta">{escape(meta)}</p>',
     ]
-    parts += [f'<p class="part">{escape(it)}</p>' for it in verdict.say_parts(report)]
+    if report.verdicts:
+        parts.append(f"<p>The recorder's verdicts: {escape(report.verdicts)}.</p>")
     parts += [write_recording(report)] if report.plan.is_recorded else []
-    parts += [write_contents(report)] if len(report.groups) > 1 else []
+    parts += [write_contents(report)] if len(report.causes) > 1 else []
     return "\n".join([*parts, "</header>"])
 
 
 def choose_badge(report: Report) -> tuple[str, str]:
     """The kind of the verdict, and its words."""
-    if report.groups:
-        has_race = any(it.first.kind is not Kind.REWRITE for it in report.groups)
+    if report.causes:
+        has_race = any(it.first.kind is not Kind.REWRITE for it in report.causes)
         return "found", "races found" if has_race else "keys put again"
-    kind, badge = ("waits", "ranks wait for ever") if report.waits else ("quiet", "no race")
-    return kind, f"{badge}, in part" if report.holds_in_part else badge
+    if report.reasons:
+        return "partly", "in part"
+    if report.waits:
+        return "waits", "ranks wait for ever"
+    return ("fails", "calls fail") if report.failed else ("quiet", "no race")
 
 
 def write_recording(report: Report) -> str:
@@ -88,12 +97,17 @@ def write_recording(report: Report) -> str:
 
 
 def write_contents(report: Report) -> str:
-    """A list of the groups that are told in full."""
+    """A list of the causes that are told in full."""
     rows = []
     for number, detail in enumerate(report.details, 1):
-        link = f'<a href="#group-{number}">{escape(explaining.title(detail.group.first))}</a>'
-        rows.append(f"<li>{link} {write_count(f'{detail.group.count:,}')}</li>")
+        link = f'<a href="#cause-{number}">{write_title(detail.cause)}</a>'
+        rows.append(f"<li>{link} {write_count(f'{detail.cause.count:,}')}</li>")
     return f"<ol>{''.join(rows)}</ol>"
+
+
+def write_title(cause: Cause) -> str:
+    """What a cause is, in one line."""
+    return escape(explaining.title(cause.first, cause.abouts))
 
 
 def write_count(said: str) -> str:
@@ -101,24 +115,25 @@ def write_count(said: str) -> str:
     return f'<span class="count">{said}</span>'
 
 
-# --- a group ---
+# --- a cause ---
 
 
 def write_detail(report: Report, number: int, detail: Detail) -> str:
-    """A group of findings that is told in full."""
-    group, one = detail.group, detail.group.first
-    title = f"{number}. {escape(explaining.title(one))} {write_count(verdict.say_count(group))}"
+    """A cause that is told in full."""
+    cause, one = detail.cause, detail.cause.first
+    title = f"{number}. {write_title(cause)} {write_count(verdict.say_count(cause))}"
     fix = escape(explaining.fix(one, report.order.uses))
     calls = " and ".join(f"{it.name} {it.verb}" for it in one.calls)
     figure = draw_figure(detail.diagram, f"Diagram: {calls}")
     parts = [
-        f'<section id="group-{number}" class="found"><h2>{title}</h2>',
+        f'<section id="cause-{number}" class="found"><h2>{title}</h2>',
         write_calls(report, one.calls),
         f"<p>{escape(explaining.explain(one))}</p>",
         f'<p class="fix"><strong>Fix:</strong> {fix}</p>',
         f'<div class="both">{figure}{write_runs(report, one, detail.runs)}</div>',
     ]
-    parts += [write_pairs(group)] if group.count > 1 else []
+    parts += [write_pairs(cause.group)] if cause.group.count > 1 else []
+    parts += [write_alike(cause)] if len(cause.groups) > 1 else []
     return "\n".join([*parts, "</section>"])
 
 
@@ -201,34 +216,59 @@ def write_pairs(group: Group) -> str:
     return f'<details><summary>{title}</summary><ul class="mono">{rows}</ul>{more}</details>'
 
 
+def write_alike(cause: Cause) -> str:
+    """The groups of a cause after the first: what they are about, and their first calls."""
+    noun = "name" if cause.first.kind is Kind.NAME else "key"
+    rows = [
+        f"<li>{escape(it.first.about)} {write_count(f'{it.count:,}')}: {link_to_calls(it)}</li>"
+        for it in itertools.islice(cause.groups, 1, PAIRS + 1)
+    ]
+    rest = len(cause.groups) - 1 - len(rows)
+    more = f"<p>{rest:,} more: {LISTS_ALL}</p>" if rest else ""
+    title = f"{count_of(len(cause.groups) - 1, f'other {noun}')} with the same cause"
+    rows_in = f'<ul class="mono">{"".join(rows)}</ul>'
+    return f"<details><summary>{title}</summary>{rows_in}{more}</details>"
+
+
+def link_to_calls(group: Group) -> str:
+    """Links to the calls of the first finding of a group."""
+    return " and ".join(link_to_call(it, it.name) for it in group.first.calls)
+
+
 def write_others(report: Report) -> str:
-    """The groups that aren't told in full."""
-    rows = [write_other(it) for it in report.others[:MORE_GROUPS]]
+    """The causes that aren't told in full."""
+    rows = [
+        f"<li>{write_title(it)} {write_count(f'{it.count:,}')}: {link_to_calls(it.group)}</li>"
+        for it in report.others[:MORE_CAUSES]
+    ]
     rest = len(report.others) - len(rows)
-    more = f"<p>And {count_of(rest, 'other group')}: {LISTS_ALL}</p>" if rest else ""
-    title = f"{count_of(len(report.others), 'other group')}, without diagrams"
+    more = f"<p>And {count_of(rest, 'other mistake')}: {LISTS_ALL}</p>" if rest else ""
+    title = f"{count_of(len(report.others), 'other mistake')}, without diagrams"
     return f'<section class="long"><h2>{title}</h2><ul>{"".join(rows)}</ul>{more}</section>'
-
-
-def write_other(group: Group) -> str:
-    """A group in one line."""
-    calls = " and ".join(link_to_call(it, it.name) for it in group.first.calls)
-    title = escape(explaining.title(group.first))
-    return f"<li>{title} {write_count(f'{group.count:,}')}: {calls}</li>"
 
 
 # --- a plan without findings ---
 
 
 def write_wire_up(wire_up: WireUp) -> str:
-    """The diagram of a wire-up, and who waits for ever."""
+    """The diagram of a wire-up, which calls fail, and who waits for ever."""
     parts = []
     if wire_up.diagram.rows:
         figure = draw_figure(wire_up.diagram, "Diagram of the wire-up")
         parts += ["<section><h2>The wire-up</h2>", figure, "</section>"]
-    if wire_up.waits:
-        parts.append(write_waits(wire_up))
+    parts += [write_failures(wire_up)] if wire_up.failed else []
+    parts += [write_waits(wire_up)] if wire_up.waits else []
     return "\n".join(parts)
+
+
+def write_failures(wire_up: WireUp) -> str:
+    """The calls that fail, with their replies."""
+    title = count_of(wire_up.failed, "call fails", "calls fail")
+    shown = wire_up.failures
+    rows = "".join(f"<li>{link_with_place(it.call)}: {escape(it.reply)}</li>" for it in shown)
+    rest = wire_up.failed - len(shown)
+    more = f"<p>And {count_of(rest, 'other call')}.</p>" if rest else ""
+    return f"<section><h2>{title}</h2><ul>{rows}</ul>{more}</section>"
 
 
 def write_waits(wire_up: WireUp) -> str:
@@ -266,12 +306,14 @@ def write_plan(report: Report) -> str:
 def find_named(report: Report) -> set[int]:
     """The lines of the plan to which the page has links."""
     calls = [it.call for it in report.waits[:PAIRS]]
+    calls += [it.call for it in (report.wire_up.failures if report.wire_up else ())]
     found = set(report.wire_up.diagram.lines if report.wire_up else ())
     for detail in report.details:
         found |= detail.diagram.lines
-        findings = (detail.group.first, *detail.group.others)
+        group, alike = detail.cause.group, detail.cause.groups[: PAIRS + 1]
+        findings = (*(it.first for it in alike), *group.others)
         calls += (call for it in findings for call in it.calls)
-    calls += (call for it in report.others[:MORE_GROUPS] for call in it.first.calls)
+    calls += (call for it in report.others[:MORE_CAUSES] for call in it.first.calls)
     return found.union(it.line for it in calls)
 
 

@@ -3,10 +3,10 @@
 STYLE = """
 :root{color-scheme:light dark;--paper:#fff;--card:#f6f7f8;--ink:#1b1d20;--soft:#565c63;\
 --line:#c3c8ce;
---loud:#d55e00;--loud-ink:#9c4300;--quiet:#0072b2;--wait:#e69f00}
+--loud:#d55e00;--loud-ink:#9c4300;--quiet:#0072b2;--wait:#e69f00;--good:#00855c}
 @media (prefers-color-scheme:dark){:root{--paper:#15171a;--card:#1e2125;--ink:#e6e8ea;\
 --soft:#a3a9b0;--line:#454b52;
---loud:#ff8433;--loud-ink:#ff9d5c;--quiet:#56b4e9;--wait:#f0b429}}
+--loud:#ff8433;--loud-ink:#ff9d5c;--quiet:#56b4e9;--wait:#f0b429;--good:#2fbf8f}}
 *{box-sizing:border-box}
 body{margin:0 auto;padding:1rem;max-width:124rem;background:var(--paper);color:var(--ink);\
 font:16px/1.5 system-ui,sans-serif;overflow-wrap:anywhere}
@@ -19,12 +19,14 @@ font-size:.875rem}
 header,section{border:1px solid var(--line);border-radius:.5rem;padding:1rem;margin:0 auto 1rem;\
 max-width:74rem;background:var(--card)}
 section:has(.broad){max-width:none}
-header{border-left:.5rem solid var(--quiet)}header.found{border-left-color:var(--loud)}
+header{border-left:.5rem solid var(--good)}header.found{border-left-color:var(--loud)}
 .top{display:flex;flex-wrap:wrap;gap:.5rem 1rem;justify-content:space-between;align-items:center}
-.badge{border:2px solid var(--quiet);border-radius:1rem;padding:.05rem .7rem;font-size:.875rem;\
+.why{font-size:1rem;font-weight:400}
+.badge{border:2px solid var(--good);border-radius:1rem;padding:.05rem .7rem;font-size:.875rem;\
 font-weight:600;white-space:nowrap}
 .found .badge{border-color:var(--loud);color:var(--loud-ink)}\
-header.waits{border-left-color:var(--wait)}.waits .badge{border-color:var(--wait)}
+header:is(.waits,.fails,.partly){border-left-color:var(--wait)}\
+:is(.waits,.fails,.partly) .badge{border-color:var(--wait)}
 .meta,figcaption,.count{color:var(--soft);font-size:.875rem}\
 .count{font-weight:400;white-space:nowrap}
 table{border-collapse:collapse;margin:.4rem 0}
@@ -67,7 +69,7 @@ circle.racing{fill:var(--loud)}rect.waiting{fill:var(--wait);stroke:var(--ink)}
 .arrow{stroke:var(--ink);stroke-width:1.2}.tip{fill:var(--ink)}\
 .race{stroke:var(--loud);stroke-width:3.5;stroke-dasharray:7 5}
 @media print{:root{--paper:#fff;--card:#fff;--ink:#000;--soft:#333;--line:#999;--loud:#000;\
---loud-ink:#000;--quiet:#000;--wait:#fff}
+--loud-ink:#000;--quiet:#000;--wait:#fff;--good:#000}
 .wide{overflow:visible;background:none}svg{max-width:100%;height:auto}\
 section,header{break-inside:avoid}section.long{break-inside:auto}}
 """

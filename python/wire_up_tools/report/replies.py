@@ -1,24 +1,62 @@
-"""What becomes of the calls of a plan without findings, as `wire_up replay --json` tells it."""
+"""What becomes of the calls of a plan without findings, as `wire_up replay` tells it."""
+import contextlib
+import re
 from collections.abc import Mapping
+from dataclasses import dataclass, field
 from typing import Optional
 
-from wire_up_tools.report.asking import Asker, read_json
+from wire_up_tools.plan import Call, Plan
+from wire_up_tools.report.asking import Asker, stream_blocks
 
 # At which call each rank waits for ever, by the name of the rank; None for one that doesn't wait.
 WaitingAt = Mapping[str, Optional[int]]
+# How many calls that fail are listed.
+LISTED = 40
+# A call that doesn't succeed, and the last line.
+OTHER_END = re.compile(rb"^(\S+:\d+) (\d+) \S+ (?!PMIX_SUCCESS\b)(\S+)", re.MULTILINE)
+LAST = re.compile(rb"(?:^|\n)waiting \d+\n\Z")
+WAITING, UNREACHED = b"waiting", b"unreached"
 
 
-def find_waiting(asker: Asker) -> WaitingAt:
-    """Asks at which call each rank waits for ever. Raises Refused if no report is written."""
-    answer = asker.ask("replay", "--json")
-    asker.judge(answer.status, answer.stderr)
+@dataclass(frozen=True)
+class Failure:
+    """A call that fails, and its reply."""
+
+    call: Call
+    reply: str
+
+
+@dataclass
+class Replies:
+    """What becomes of the calls: where ranks wait for ever, how many calls fail, and the first of
+    these."""
+
+    waiting_at: dict[str, Optional[int]]
+    failed: int = 0
+    failures: list[Failure] = field(default_factory=list)
+
+    def add(self, plan: Plan, rank: str, number: int, reply: bytes) -> None:
+        """Takes how a call ends that doesn't succeed."""
+        if reply == WAITING:
+            self.waiting_at[rank] = number
+        elif reply != UNREACHED:
+            self.failed += 1
+            if len(self.failures) < LISTED:
+                self.failures.append(Failure(plan.find_call(rank, number), reply.decode()))
+
+
+def find_replies(asker: Asker, plan: Plan) -> Replies:
+    """Asks what becomes of the calls of a plan. Raises Refused if no report is written."""
+    replies = Replies({rank.name: None for rank in plan.ranks})
+    last = b""
     try:
-        ranks = read_json(answer)["ranks"]
-        return {it["proc"]: find_end([call["reply"] for call in it["calls"]]) for it in ranks}
-    except (LookupError, TypeError):
+        with contextlib.closing(stream_blocks(asker, "replay")) as blocks:
+            for block in blocks:
+                last = block
+                for rank, number, reply in OTHER_END.findall(block):
+                    replies.add(plan, rank.decode(), int(number), reply)
+    except (LookupError, ValueError):
         raise asker.refuse("report") from None
-
-
-def find_end(replies: list[str]) -> Optional[int]:
-    """The number of the call that waits, by the replies to all calls of a rank."""
-    return replies.index("waiting") + 1 if "waiting" in replies else None
+    if not LAST.search(last):
+        raise asker.refuse("report")
+    return replies

@@ -1,4 +1,4 @@
-"""Writes the findings of a report as SARIF 2.1.0: a result for each group."""
+"""Writes the findings of a report as SARIF 2.1.0: a result for each cause."""
 import collections
 import json
 import os
@@ -10,8 +10,9 @@ from typing import Any, Optional
 
 from wire_up_tools.plan import Call
 from wire_up_tools.report import explaining
+from wire_up_tools.report.causes import Cause
 from wire_up_tools.report.contents import Report
-from wire_up_tools.report.findings import Finding, Group, Kind
+from wire_up_tools.report.findings import Finding, Kind
 from wire_up_tools.report.phrases import count_of
 
 SCHEMA = "https://json.schemastore.org/sarif-2.1.0.json"
@@ -30,26 +31,44 @@ RULES = {
 # How a place ends: with the name of a file and a line.
 PLACE = re.compile(r".*\((.+):([1-9]\d{0,8})\)")
 
+# What relative paths are relative to.
+ROOT = "SRCROOT"
+# What a text of SARIF gives a meaning, and how it is written to stand for itself.
+ESCAPES = str.maketrans({"{": "{{", "}": "}}", "\\": "\\\\", "[": "\\[", "]": "\\]"})
+
 # The paths of files below a folder, by their names.
 Paths = Mapping[str, Sequence[str]]
 
 
 @dataclass(frozen=True)
+class Source:
+    """The folder of the files that places name, if it is known, and the paths of these below it."""
+
+    folder: Optional[str]
+    paths: Paths
+
+
+@dataclass(frozen=True)
 class Location:
-    """Where a call stands: the path of a file, and a line of it from 1."""
+    """Where a call stands: the path of a file, and a line of it from 1.
+
+    A path is absolute, or relative to the folder of the source."""
 
     path: str
     line: int
 
 
-def write_sarif(report: Report, source: Optional[str]) -> str:
-    """The whole text. `source` is the folder of the files that places name, if it is known."""
-    paths = find_files(source) if source else {}
+def write_sarif(report: Report, folder: Optional[str]) -> str:
+    """The whole text. `folder` is that of the files that places name, if it is known."""
+    source = Source(folder, find_files(folder) if folder else {})
     rules = [{"id": it, "shortDescription": {"text": said}} for it, said in RULES.items()]
     driver = {"name": "wire_up", "version": report.version, "rules": rules}
-    results = [make_result(report, it, paths) for it in report.groups]
-    runs = [{"tool": {"driver": driver}, "results": results}]
-    return json.dumps({"version": "2.1.0", "$schema": SCHEMA, "runs": runs}, indent=1) + "\n"
+    results = [make_result(report, it, source) for it in report.causes]
+    run: dict[str, Any] = {"tool": {"driver": driver}, "results": results}
+    if folder:
+        run["originalUriBaseIds"] = {ROOT: {"uri": f"{make_absolute(folder)}/"}}
+    said = {"version": "2.1.0", "$schema": SCHEMA, "runs": [run]}
+    return json.dumps(said, indent=1) + "\n"
 
 
 def find_files(folder: str) -> Paths:
@@ -62,22 +81,26 @@ def find_files(folder: str) -> Paths:
     return found
 
 
-def make_result(report: Report, group: Group, paths: Paths) -> dict[str, Any]:
-    """The result of a group: its first finding, with its calls in the program and in the plan."""
-    one, rule = group.first, choose_rule(group.first)
+def make_result(report: Report, cause: Cause, source: Source) -> dict[str, Any]:
+    """The result of a cause: its first finding, with its calls in the program and in the plan."""
+    one, rule = cause.first, choose_rule(cause.first)
     names = {it: f"{it.name} {it.verb}" for it in one.calls}
     fix = explaining.fix(one, report.order.uses)
-    title = f"{explaining.title(one)} ({count_of(group.count, 'finding')})."
+    title = f"{explaining.title(one, cause.abouts)} ({count_of(cause.count, 'finding')})."
     in_plan = [
-        {"id": number, **make_location(locate_in_plan(report, it), f"{names[it]} in the plan")}
+        {
+            "id": number,
+            **make_location(source, locate_in_plan(report, it, source), f"{names[it]} in the plan"),
+        }
         for number, it in enumerate(one.calls, 1)
     ]
+    in_program = [make_location(source, locate(report, it, source), names[it]) for it in one.calls]
     return {
         "ruleId": rule,
         "ruleIndex": list(RULES).index(rule),
         "level": "warning",
-        "message": {"text": f"{title} {explaining.explain(one)} Fix: {fix}"},
-        "locations": [make_location(locate(report, it, paths), names[it]) for it in one.calls],
+        "message": make_message(f"{title} {explaining.explain(one)} Fix: {fix}"),
+        "locations": in_program,
         "relatedLocations": in_plan,
         "partialFingerprints": {"group/v1": one.mistake},
     }
@@ -90,25 +113,46 @@ def choose_rule(finding: Finding) -> str:
     return "name-race" if finding.kind is Kind.NAME else "rewrite"
 
 
-def locate(report: Report, call: Call, paths: Paths) -> Location:
+def make_message(said: str) -> dict[str, str]:
+    """A message whose text says what it says: no part of it is a placeholder or a link."""
+    return {"text": said.translate(ESCAPES)}
+
+
+def locate(report: Report, call: Call, source: Source) -> Location:
     """Where a call stands in the program, if the plan has its place, else in the plan.
 
     A place has only the name of a file: its path is found if one file alone has that name.
     """
     read = PLACE.fullmatch(call.place or "")
     if not read:
-        return locate_in_plan(report, call)
-    found = paths.get(read[1], ())
+        return locate_in_plan(report, call, source)
+    found = source.paths.get(read[1], ())
     return Location(found[0] if len(found) == 1 else read[1], int(read[2]))
 
 
-def locate_in_plan(report: Report, call: Call) -> Location:
-    """Where a call stands in the plan."""
-    return Location(report.path, call.line)
+def locate_in_plan(report: Report, call: Call, source: Source) -> Location:
+    """Where a call stands in the plan, which may be below the folder of the source."""
+    path = os.path.realpath(report.path)
+    if source.folder:
+        relative = os.path.relpath(path, os.path.realpath(source.folder))
+        path = path if relative.split(os.sep)[0] == os.pardir else relative
+    return Location(path, call.line)
 
 
-def make_location(where: Location, said: str) -> dict[str, Any]:
+def make_location(source: Source, where: Location, said: str) -> dict[str, Any]:
     """A location with a message."""
+    place = {"artifactLocation": name_file(source, where), "region": {"startLine": where.line}}
+    return {"physicalLocation": place, "message": make_message(said)}
+
+
+def name_file(source: Source, where: Location) -> dict[str, str]:
+    """The file of a location, by an absolute URI or one that is relative to the source."""
+    if os.path.isabs(where.path):
+        return {"uri": make_absolute(where.path)}
     uri = urllib.parse.quote(os.fsencode(where.path))
-    place = {"artifactLocation": {"uri": uri}, "region": {"startLine": where.line}}
-    return {"physicalLocation": place, "message": {"text": said}}
+    return {"uri": uri, "uriBaseId": ROOT} if source.folder else {"uri": uri}
+
+
+def make_absolute(path: str) -> str:
+    """The absolute URI of a file or folder."""
+    return f"file://{urllib.parse.quote(os.fsencode(os.path.realpath(path)))}"

@@ -18,17 +18,18 @@ WIDTH, DEEPEST_FOLDED = 100, 3
 def write_text(report: Report) -> str:
     """The whole report, in which nothing is a command to a terminal."""
     lines = [
-        f"{report.name}: {verdict.say_found(report)}",
+        f"{report.name}: {verdict.say_line(report)}",
         verdict.say_verdict(report),
         f"{verdict.say_size(report)}; checked by wire_up {report.version}",
     ]
-    lines += verdict.say_parts(report)
+    if report.verdicts:
+        lines.append(f"The recorder's verdicts: {report.verdicts}.")
     if report.plan.is_recorded:
         lines.append(f"A recording. Left out: {'; '.join(report.left_out) or 'nothing'}.")
     for number, detail in enumerate(report.details, 1):
         lines += ["", *write_detail(report, number, detail)]
     if report.others:
-        lines += ["", f"{count_of(len(report.others), 'other group')}: wire_up check lists all."]
+        lines += ["", f"{count_of(len(report.others), 'other mistake')}: wire_up check lists all."]
     if report.wire_up:
         lines += ["", *write_wire_up(report, report.wire_up)]
     folded = (part for line in lines for part in fold(line))
@@ -36,10 +37,11 @@ def write_text(report: Report) -> str:
 
 
 def write_detail(report: Report, number: int, detail: Detail) -> list[str]:
-    """A group of findings that is told in full."""
-    one, count = detail.group.first, verdict.say_count(detail.group)
+    """A cause that is told in full."""
+    cause = detail.cause
+    one, count = cause.first, verdict.say_count(cause)
     return [
-        f"{number}. {explaining.title(one)} ({count})",
+        f"{number}. {explaining.title(one, cause.abouts)} ({count})",
         *(f"   {describe_call(report, it)}" for it in one.calls),
         "",
         f"   {explaining.explain(one)}",
@@ -76,6 +78,7 @@ def write_run(run: Run) -> list[str]:
 def write_wire_up(report: Report, wire_up: WireUp) -> list[str]:
     """The diagram of a wire-up, and who waits for ever."""
     lines = draw_lines(wire_up.diagram) if wire_up.diagram.rows else []
+    lines += write_failures(report, wire_up)
     count = len(wire_up.waits)
     if count:
         lines += ["", f"{count_of(count, 'rank waits', 'ranks wait')} for ever:"]
@@ -84,6 +87,16 @@ def write_wire_up(report: Report, wire_up: WireUp) -> list[str]:
     lines += [f"   And {count_of(count - PAIRS, 'other rank')}."] if count > PAIRS else []
     circle = wire_up.circle
     return lines + ([f"   In a circle: {describe_circle(circle)}."] if circle else [])
+
+
+def write_failures(report: Report, wire_up: WireUp) -> list[str]:
+    """The calls that fail."""
+    if not wire_up.failed:
+        return []
+    calls = [f"   {describe_call(report, it.call)}: {it.reply}" for it in wire_up.failures]
+    rest = wire_up.failed - len(calls)
+    more = [f"   And {count_of(rest, 'other call')}."] if rest else []
+    return ["", f"{count_of(wire_up.failed, 'call fails', 'calls fail')}:", *calls, *more]
 
 
 def make_printable(text: str) -> str:

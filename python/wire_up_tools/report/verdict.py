@@ -1,6 +1,7 @@
 """The verdict of a report in words: what was found, what it means, and how large the plan is."""
+from wire_up_tools.report.causes import Cause
 from wire_up_tools.report.contents import Report
-from wire_up_tools.report.findings import COUNTED, Group, Kind
+from wire_up_tools.report.findings import COUNTED, Kind
 from wire_up_tools.report.phrases import count_of
 from wire_up_tools.report.runs import SECONDS, Outcome
 
@@ -22,55 +23,57 @@ WITHOUT_RUNS = {
     Outcome.LARGE: (
         "No runs were looked for: wire_up witness takes no plan past the limits of its version."
     ),
-    Outcome.LATE: f"No runs were looked for: {SECONDS} seconds went to other groups.",
+    Outcome.LATE: f"No runs were looked for: {SECONDS} seconds went to others.",
 }
 
 
 def say_found(report: Report) -> str:
-    """What was found, counted, and whether that holds only in part."""
-    in_part = ", in part" if report.holds_in_part else ""
-    cut_off = ": the run was cut off" if report.cut_off else ""
-    return f"{count_found(report)}{in_part}{cut_off}"
+    """What was found, counted, and which calls fail or never end."""
+    said = say_races(report)
+    if said:
+        return f"{said}; others may be missed" if report.reasons else said
+    said = "no race seen, in part" if report.reasons else "no race"
+    return "; ".join([said, *filter(None, [say_ends(report)])])
 
 
-def say_parts(report: Report) -> list[str]:
-    """Why the verdict holds only in part."""
-    said = []
-    if report.cut_off:
-        said.append(
-            "The run was cut off, so this holds only in part: what would have followed isn't "
-            f"known: {'; '.join(report.cut_off)}."
-        )
-    if report.ordered_more:
-        said.append(
-            "This holds only in part. The plan is more ordered than the program, so a race can be "
-            f"missed: {'; '.join(report.ordered_more)}."
-        )
-    return said
+def say_reasons(report: Report) -> str:
+    """Why the verdict holds only in part, in brackets; nothing where it holds whole."""
+    return f"({'; '.join(report.reasons)})" if report.reasons else ""
 
 
-def count_found(report: Report) -> str:
-    """What was found, counted."""
-    count = sum(it.count for it in report.groups)
-    rewrites = sum(it.count for it in report.groups if it.first.kind is Kind.REWRITE)
+def say_line(report: Report) -> str:
+    """What was found, with why that holds only in part."""
+    return " ".join(filter(None, [say_found(report), say_reasons(report)]))
+
+
+def say_races(report: Report) -> str:
+    """The findings, counted; nothing where there are none."""
+    count = sum(it.count for it in report.causes)
+    rewrites = sum(it.count for it in report.causes if it.first.kind is Kind.REWRITE)
     said = []
     if count > rewrites:
         said.append(count_of(count - rewrites, "race"))
     if rewrites:
         said.append(count_of(rewrites, "key that is put again", "puts of a key again"))
-    if said:
-        return "at least " * (count >= COUNTED) + " and ".join(said)
-    return f"no race, but {say_waiting(report)}" if report.waits else "no race"
+    return "at least " * (bool(said) and count >= COUNTED) + " and ".join(said)
+
+
+def say_ends(report: Report) -> str:
+    """How many calls fail, and how many ranks wait for ever; nothing where none does."""
+    fails = [count_of(report.failed, "call fails", "calls fail")] if report.failed else []
+    return ", ".join([*fails, *([say_waiting(report)] if report.waits else [])])
 
 
 def say_verdict(report: Report) -> str:
     """The verdict in a sentence."""
-    if report.groups:
-        has_many = sum(it.count for it in report.groups) > 1
-        kinds = f"They come from {count_of(len(report.groups), 'mistake')}. " if has_many else ""
+    if report.causes:
+        has_many = sum(it.count for it in report.causes) > 1
+        kinds = f"They come from {count_of(len(report.causes), 'mistake')}. " if has_many else ""
         return f"{kinds}The replies of some calls may depend on which rank is fast."
-    end = f"{say_waiting(report)} in every run" if report.waits else "no rank waits for ever"
-    return f"Whichever ranks are fast, every call ends in the same way, and {end}."
+    ends = say_ends(report).replace(", ", " and ")
+    end = ends or "no call fails and no rank waits for ever"
+    whole = "As far as the plan goes, w" if report.reasons else "W"
+    return f"{whole}hichever ranks are fast, every call ends in the same way: {end}."
 
 
 def say_waiting(report: Report) -> str:
@@ -88,6 +91,6 @@ def say_size(report: Report) -> str:
     return f"{count_of(len(plan.ranks), 'rank')} on {nodes}{in_jobs}, {calls}{kept}"
 
 
-def say_count(group: Group) -> str:
-    """How many findings a group has."""
-    return count_of(group.count, "put" if group.first.kind is Kind.REWRITE else "race")
+def say_count(cause: Cause) -> str:
+    """How many findings a cause has."""
+    return count_of(cause.count, "put" if cause.first.kind is Kind.REWRITE else "race")

@@ -1,0 +1,83 @@
+"""One more level above the groups of the checker: groups of one cause are one mistake.
+
+Groups have one cause if their findings are of one kind with the same verbs, and
+
+- of keys: one call brings all of them, or calls at one place of the program do;
+- of names: one `unpublish *` takes all of them away; or the names differ in numbers alone, and the
+  calls are at the same places, or of the same ranks where no places are known;
+- of keys that are put again: their ranks and places are the same.
+"""
+import collections
+import itertools
+import re
+from collections.abc import Hashable, Iterable, Sequence
+from dataclasses import dataclass
+
+from wire_up_tools.plan import Call
+from wire_up_tools.report.findings import Finding, Group, Kind
+from wire_up_tools.words import EVERY_NAME
+
+
+@dataclass(frozen=True, eq=False)
+class Cause:
+    """Groups that are one mistake: the largest first, whose first finding stands for all."""
+
+    groups: Sequence[Group]
+
+    @property
+    def group(self) -> Group:
+        """The group that is told in full."""
+        return self.groups[0]
+
+    @property
+    def first(self) -> Finding:
+        """The finding that stands for all."""
+        return self.group.first
+
+    @property
+    def count(self) -> int:
+        """How many findings it has."""
+        return sum(it.count for it in self.groups)
+
+    @property
+    def abouts(self) -> Sequence[str]:
+        """The keys or names that its findings are about."""
+        return list(dict.fromkeys(it.first.about for it in self.groups))
+
+
+def find_causes(groups: Iterable[Group]) -> list[Cause]:
+    """The causes of groups: the largest of each kind first, then the second of each, and so on."""
+    found: dict[Hashable, list[Group]] = collections.defaultdict(list)
+    for group in groups:
+        found[name_cause(group.first)].append(group)
+    causes = sorted(map(Cause, found.values()), key=lambda it: -it.count)
+    by_kind: dict[Hashable, list[Cause]] = collections.defaultdict(list)
+    for cause in causes:
+        by_kind[name_kind(cause.first)].append(cause)
+    in_turn = itertools.zip_longest(*by_kind.values())
+    return [it for causes_in_turn in in_turn for it in causes_in_turn if it]
+
+
+def name_kind(finding: Finding) -> Hashable:
+    """What kind a finding is: also by its verbs."""
+    return finding.kind, *finding.verbs
+
+
+def name_cause(finding: Finding) -> Hashable:
+    """What findings of one cause have alike."""
+    kind, calls = name_kind(finding), finding.calls
+    if finding.kind is Kind.KEY:
+        bringer = next(it for it in calls if it.verb == finding.bringer)
+        return kind, bringer.place or bringer.name
+    sweep = next((it.name for it in calls if it.about == EVERY_NAME), None)
+    if sweep:
+        return kind, sweep
+    places = tuple(name_place(it) for it in calls)
+    if finding.kind is Kind.REWRITE:
+        return kind, finding.owner, *places
+    return kind, re.sub(r"\d+", "#", finding.about), *sorted(places)
+
+
+def name_place(call: Call) -> str:
+    """Where a call comes from: its place in the program, or its rank where that isn't known."""
+    return call.place or call.rank.name

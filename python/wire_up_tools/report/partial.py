@@ -1,0 +1,66 @@
+"""Why a verdict holds only in part: what the head of a recorded plan says that can hide a race."""
+import re
+from typing import Optional
+
+from wire_up_tools import words
+from wire_up_tools.plan import Plan
+from wire_up_tools.report.phrases import count_of, list_names
+
+# What is left out and can hide no race: it changes nothing that others see; or it is a part of
+# MPI's order, and without it the plan is less ordered than the program.
+HARMLESS = re.compile(
+    r"gets of a wildcard rank|.* of reserved keys|.*, since they can't change a finding"
+    r"|calls of (MPI_\w+|PMIx_(Store_internal|Job_control|Query_info|Log)(_nb)?)"
+    r"|directives pmix\.timeout"
+    r"|(collectives|messages|receives) .*"
+)
+POLLED = re.compile(rf"(\d+) {words.LEFT_TO_LUCK} .*: {words.TAKEN}\.")
+# How a recording that was cut off shows among the lists of the head.
+CUT_OFF = re.compile(r"(\d+) (processes whose recordings end before|last lines of recordings)\b.*")
+
+
+def find_reasons(plan: Plan) -> list[str]:
+    """Why the verdict on a plan holds only in part; none where it holds whole."""
+    if not plan.is_recorded:
+        return []
+    cut_off, left_out = say_cut_off(plan), say_left_out(plan)
+    reasons = [cut_off, say_polled(plan), *plan.list_in_head(words.MORE_ORDERED), left_out]
+    return [it for it in reasons if it]
+
+
+def find_verdicts(plan: Plan) -> Optional[str]:
+    """The verdicts with and without the order of polls, where the recorder says that they
+    differ."""
+    said = (it for it in plan.declared.head if it.startswith(words.VERDICTS))
+    return next((it.removeprefix(words.VERDICTS) for it in said), None)
+
+
+def say_polled(plan: Plan) -> Optional[str]:
+    """Of how many polls the order of one run is taken, and what the verdict is without."""
+    found = (POLLED.fullmatch(it) for it in plan.declared.head)
+    count = next((int(it[1]) for it in found if it), 0)
+    if not count:
+        return None
+    verdicts = find_verdicts(plan)
+    both = f": {verdicts}" if verdicts else ""
+    return f"the order of {count_of(count, 'polled request')} is that of this run{both}"
+
+
+def say_cut_off(plan: Plan) -> Optional[str]:
+    """How many recordings were cut off."""
+    heads = (words.CUT_OFF, words.LEFT_OUT, words.WRITTEN_OTHERWISE)
+    listed = (it for head in heads for it in plan.list_in_head(head))
+    found = (CUT_OFF.fullmatch(it) for it in listed)
+    count = max((int(it[1]) for it in found if it), default=0)
+    if not count:
+        return None
+    said = count_of(count, "recording is", "recordings are")
+    return f"{said} cut off: what came then isn't known"
+
+
+def say_left_out(plan: Plan) -> Optional[str]:
+    """What was left out that can hide a race."""
+    counted = (it.partition(" ") for it in plan.list_in_head(words.LEFT_OUT))
+    found = [f"{count} {what}" for count, _, what in counted if not HARMLESS.fullmatch(what)]
+    found = [it for it in found if not CUT_OFF.fullmatch(it)]
+    return f"not in the plan: {list_names(found)}" if found else None
